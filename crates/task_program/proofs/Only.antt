@@ -36,14 +36,14 @@ none_stays : (marks : List Mark) → fold open_after None marks ≡ no_blocks
 none_stays [] = refl
 none_stays (mark ∷ marks) = none_stays marks
 
-none_open : (marks : List Mark) → fold open_after None marks ≡ Some [] → ⊥
+pub none_open : (marks : List Mark) → fold open_after None marks ≡ Some [] → ⊥
 none_open marks h = let wrong : no_blocks ≡ Some [] = sym (none_stays marks) ∙ h in absurd cc
 
 length-map : (f : Block → Bool) (blocks : List Block) → length (map f blocks) ≡ length blocks
 length-map f [] = refl
 length-map f (block ∷ blocks) = ap suc (length-map f blocks)
 
-cond_open : (room : Bool) (blocks : List Bool) (later : List Mark) → fold open_after (cond room (Some blocks) None) later ≡ Some [] → (room ≡ true) × (fold open_after (Some blocks) later ≡ Some [])
+pub cond_open : (room : Bool) (blocks : List Bool) (later : List Mark) → fold open_after (cond room (Some blocks) None) later ≡ Some [] → (room ≡ true) × (fold open_after (Some blocks) later ≡ Some [])
 cond_open true blocks later h = (refl, h)
 cond_open false blocks later h = absurd (none_open later h)
 

@@ -12,6 +12,7 @@ pub mod Faults
 pub mod Canonical
 pub mod Opened
 pub mod Programs
+pub mod Nested
 pub mod Grammar
 pub mod WorkedTexts
 pub mod Within

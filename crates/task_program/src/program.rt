@@ -2,6 +2,7 @@
 ghost use Rattle.std.specs.Prelude.{◌≡◌, length, slice_get, option_map};
 ghost use Rattle.std.specs.Option.{option_copied};
 ghost use Rattle.task_program.specs.Statements.{marks_of};
+ghost use Rattle.task_program.specs.Nested.{IsNested};
 ghost use Rattle.task_program.specs.Programs.{IsProgram};
 
 use crate::names::Names;
@@ -39,6 +40,7 @@ impl Program {
     pub fn body(&self) -> &[Stmt]
         ensures marks { marks_of result.now ≡ self.now.marks }
         ensures program { IsProgram self.now }
+        ensures nested { IsNested self.now.marks }
     {
         self.body.as_slice()
     }

@@ -38,9 +38,10 @@ impl Model for Items {
 }
 
 impl Items {
-    ghost use Rattle.std.specs.Prelude.{[], ◌∷◌, ◌++◌, length, OnOk, OnErr};
+    ghost use Rattle.std.specs.Prelude.{[], ◌∷◌, ◌++◌, length, IfOk, OnOk, OnErr};
 
-    pub(crate) fn new(alloc: Global) -> Items
+    /// No items.
+    pub fn new(alloc: Global) -> Items
         ensures { result ≡ [] }
     {
         Items {
@@ -67,6 +68,15 @@ impl Items {
         ensures { result.now ≡ self.now }
     {
         self.items.as_slice()
+    }
+
+    /// An equal list. The one error is want of memory.
+    pub fn copy(&self) -> Result<Items, AllocError>
+        ensures { IfOk result (λ items. items ≡ self.now) }
+    {
+        Ok(Items {
+            items: self.items.clone()?,
+        })
     }
 }
 

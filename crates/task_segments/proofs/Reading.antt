@@ -1,0 +1,64 @@
+-- What the marks of a program keep, in the counts of a table's moments.
+use Rattle.std.proofs.Common.{◌≡◌, ℕ, ◌+◌, ◌≤◌, ◌^◌, cond, refl, List, [], ◌∷◌, ◌++◌, arith}
+use Rattle.std.specs.List.{sum_by, count_by}
+use Rattle.std.proofs.lemmas.List.Sums.{sum_by-cons, sum_by-append}
+use Rattle.task_program.specs.Limits.{tasks_begun, segments_opened, work_done, tasks_of, segments_of, work_of, most_tasks, most_segments, most_total_work}
+use Rattle.task_program.specs.Marks.{Mark}
+use Rattle.task_program.specs.Marks.Mark.{Begins, Ends, Works, Waits, GroupBegins, GroupEnds}
+use Rattle.task_program.specs.Nested.{IsNested}
+use Rattle.task_program.specs.Nested.IsNested.{Nothing, Work, Wait, Task, Group}
+use Rattle.task_program.specs.ProgramText.{ProgramText}
+use Rattle.task_program.specs.Programs.{IsProgram}
+use Rattle.task_program.proofs.Nested.{is_nested}
+use Rattle.task_segments.specs.Moments.{begins_task, opens}
+use Rattle.task_segments.proofs.Steps.{count-cons}
+
+-- the root's beginning opens one more segment
+pub record IsReading (marks : List Mark) : Type 0 where
+  pub nested : IsNested marks
+  pub tasks : count_by begins_task marks ≤ most_tasks
+  pub segments : count_by opens marks + 1 ≤ most_segments
+  pub work : work_of marks ≤ most_total_work
+
+task_counted : (mark : Mark) → tasks_begun mark ≡ cond (begins_task mark) 1 0
+task_counted (Begins d i) = refl
+task_counted Ends = refl
+task_counted (Works cost) = refl
+task_counted Waits = refl
+task_counted GroupBegins = refl
+task_counted GroupEnds = refl
+
+pub tasks_counted : (marks : List Mark) → tasks_of marks ≡ count_by begins_task marks
+tasks_counted [] = refl
+tasks_counted (mark ∷ marks) = omega (arith, task_counted mark, tasks_counted marks, sum_by-cons tasks_begun mark marks, count-cons begins_task mark marks)
+
+-- a block's body between its two marks
+between : (f : Mark → ℕ) (begins ends : Mark) (body rest : List Mark) → sum_by f (begins ∷ (body ++ ends ∷ rest)) ≡ f begins + sum_by f body + f ends + sum_by f rest
+between f begins ends body rest = omega (arith, sum_by-cons f begins (body ++ ends ∷ rest), sum_by-append f body (ends ∷ rest), sum_by-cons f ends rest)
+
+opened : Mark → ℕ
+opened mark = cond (opens mark) 1 0
+
+segments_same : (marks : List Mark) → IsNested marks → sum_by segments_opened marks ≡ sum_by opened marks
+unfolding opened
+segments_same _ Nothing = refl
+segments_same _ (Work cost rest h) = omega (arith, segments_same rest h, sum_by-cons segments_opened (Works cost) rest, sum_by-cons opened (Works cost) rest)
+segments_same _ (Wait rest h) = omega (arith, segments_same rest h, sum_by-cons segments_opened Waits rest, sum_by-cons opened Waits rest)
+segments_same _ (Task d i body rest g h) =
+    omega (arith, segments_same body g, segments_same rest h, between segments_opened (Begins d i) Ends body rest, between opened (Begins d i) Ends body rest)
+segments_same _ (Group body rest g h) =
+    omega (arith, segments_same body g, segments_same rest h, between segments_opened GroupBegins GroupEnds body rest, between opened GroupBegins GroupEnds body rest)
+
+pub segments_counted : (marks : List Mark) → IsNested marks → segments_of marks ≡ count_by opens marks + 1
+unfolding opened
+segments_counted marks h = let same : sum_by segments_opened marks ≡ count_by opens marks = segments_same marks h in omega arith
+
+pub reading : (program : ProgramText) → IsProgram program → IsReading program.marks
+reading program h =
+    let n = is_nested program h in
+    record {
+      nested = n;
+      tasks = omega (arith, h.tasks, tasks_counted program.marks);
+      segments = omega (arith, h.segments, segments_counted program.marks n);
+      work = h.work
+    }
