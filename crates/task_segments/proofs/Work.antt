@@ -1,0 +1,85 @@
+-- The costs of all segments are the work of the program.
+use Rattle.std.proofs.Common.{◌≡◌, ℕ, zero, suc, ◌+◌, ◌<◌, ◌≤◌, ◌^◌, inl, inr, Bool, true, false, cond, List, [], ◌∷◌, map, refl, sym, ap, subst, ◌∙◌, arith}
+use Rattle.std.specs.List.{range_with_len, sum, sum_by}
+use Rattle.std.proofs.lemmas.Bool.{cases_eq}
+use Rattle.std.proofs.lemmas.Bool.Decides.{nat_tests}
+use Rattle.std.proofs.lemmas.List.FromFn.{sum_by-map-range_with_len_more}
+use Rattle.std.proofs.lemmas.List.Sums.{sum_by-cons, sum-map}
+use Rattle.task_program.specs.Limits.{work_done}
+use Rattle.task_program.specs.Marks.{Mark}
+use Rattle.task_program.specs.Marks.Mark.{Begins, Ends, Works, Waits, GroupBegins, GroupEnds}
+use Rattle.task_segments.specs.declared.table.Segment.{Segment}
+use Rattle.task_segments.specs.Moments.{segments_so_far, opening, cost_of, is_latest, read, last_moment}
+use Rattle.task_segments.specs.Programs.{IsProgramTable}
+use Rattle.task_segments.specs.Table.{Table, segment_row, table_at}
+
+-- the costs of the first segments together
+total : List Mark → ℕ → ℕ
+total e zero = 0
+total e (suc n) = total e n + cost_of n e
+
+total_is : (e : List Mark) (n : ℕ) → sum_by (λ (row : Segment). row.cost) (map (λ s. segment_row e s (opening s e)) (range_with_len 0 n)) ≡ total e n
+unfolding total
+total_is e zero = refl
+total_is e (suc n) =
+    let next : suc n ≡ n + 1 = omega arith in
+    ap (λ (k : ℕ). sum_by (λ (row : Segment). row.cost) (map (λ s. segment_row e s (opening s e)) (range_with_len 0 k))) next
+    ∙ sum_by-map-range_with_len_more (λ (row : Segment). row.cost) (λ s. segment_row e s (opening s e)) 0 n n (omega arith)
+    ∙ ap (λ k. k + cost_of n e) (total_is e n)
+
+none : (n : ℕ) → total [] n ≤ 0
+unfolding total
+none zero = omega arith
+none (suc n) = omega (arith, none n)
+
+-- work counts for the latest segment alone
+gains : (cost : ℕ) (e : List Mark) (n : ℕ) → n < segments_so_far e → total (Works cost ∷ e) n ≡ total e n
+unfolding total
+gains cost e zero l = refl
+gains cost e (suc n) l =
+    let k : is_latest n e ≡ false = grind (arith, nat_tests) in
+    let h = gains cost e n (omega arith) in
+    let c : cost_of n (Works cost ∷ e) ≡ cost_of n e = rw k (omega arith) in
+    omega (arith, h, c)
+
+-- a case of the sum: one more mark that is no work
+same : (m : Mark) (e : List Mark) → ((s : ℕ) → cost_of s (m ∷ e) ≡ cost_of s e) → (n : ℕ) → total (m ∷ e) n ≡ total e n
+unfolding total
+same m e h zero = refl
+same m e h (suc n) = omega (arith, same m e h n, h n)
+
+adds : (cost : ℕ) (e : List Mark) (n : ℕ) → total (Works cost ∷ e) n ≤ total e n + cost
+unfolding total
+adds cost e zero = omega arith
+adds cost e (suc n) = elim (cases_eq (segments_so_far e) (n + 1)) [
+    inl x ↦ (
+      let k : is_latest n e ≡ true = grind (arith, nat_tests) in
+      let h = gains cost e n (omega arith) in
+      let c : cost_of n (Works cost ∷ e) ≡ cost + cost_of n e = rw k refl in
+      omega (arith, h, c))
+  | inr x ↦ (
+      let k : is_latest n e ≡ false = grind (arith, nat_tests) in
+      let h = adds cost e n in
+      let c : cost_of n (Works cost ∷ e) ≡ cost_of n e = rw k (omega arith) in
+      omega (arith, h, c))
+  ]
+
+-- the sum is at most the work, however many numbers are counted
+sums : (e : List Mark) (n : ℕ) → total e n ≤ sum_by work_done e
+sums [] n = none n
+sums (Begins d i ∷ e) n = omega (arith, same (Begins d i) e (λ s. refl) n, sums e n, sum_by-cons work_done (Begins d i) e)
+sums (Ends ∷ e) n = omega (arith, same Ends e (λ s. refl) n, sums e n, sum_by-cons work_done Ends e)
+sums (Works cost ∷ e) n = omega (arith, adds cost e n, sums e n, sum_by-cons work_done (Works cost) e)
+sums (Waits ∷ e) n = omega (arith, same Waits e (λ s. refl) n, sums e n, sum_by-cons work_done Waits e)
+sums (GroupBegins ∷ e) n = omega (arith, same GroupBegins e (λ s. refl) n, sums e n, sum_by-cons work_done GroupBegins e)
+sums (GroupEnds ∷ e) n = omega (arith, same GroupEnds e (λ s. refl) n, sums e n, sum_by-cons work_done GroupEnds e)
+
+work_read : (e marks : List Mark) → sum_by work_done (read e marks) ≡ sum_by work_done e + sum_by work_done marks
+work_read e [] = omega arith
+work_read e (m ∷ marks) = omega (arith, work_read (m ∷ e) marks, sum_by-cons work_done m e, sum_by-cons work_done m marks)
+
+pub little_work : (table : Table) → IsProgramTable table → sum (map (λ (row : Segment). row.cost) table.segments) ≤ 10 ^ 15
+little_work table h =
+    let e = last_moment h.program.marks in
+    let k = ap (λ (t : Table). sum (map (λ (row : Segment). row.cost) t.segments)) h.is in
+    omega (arith, k, sum-map (λ (row : Segment). row.cost) (table_at e).segments, total_is e (segments_so_far e), sums e (segments_so_far e), work_read (Begins false [] ∷ []) h.program.marks, h.is_program.work)

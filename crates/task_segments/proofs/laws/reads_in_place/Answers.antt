@@ -1,0 +1,5 @@
+use Rattle.task_segments.proofs.InPlace.{read_in_place}
+use Rattle.task_segments.proofs.laws.reads_in_place.Goals as goal
+
+pub returns : goal.returns
+returns c = read_in_place c.args.table.now c.nested.ensures.nested c.grouped.ensures
