@@ -14,14 +14,14 @@ use Rattle.task_program.specs.Limits.{most_bytes, most_token_bytes}
 use Rattle.task_program.specs.Tokens.{texts, Token, tokens_of, line_at_end}
 use Rattle.task_program.specs.Words.{is_number, value_of, is_text}
 use Rattle.task_program.specs.Within.{IsWithin}
-use Rattle.task_program.specs.Programs.{IsProgram, IsSound}
+use Rattle.task_program.specs.Programs.{IsProgram}
 use Rattle.task_program.specs.Grammar.{Written, texts_of, Means, mentions, IsShort, HasTree}
 use Rattle.task_program.specs.Answers.{Gives}
 use Rattle.task_program.specs.ProgramText.{ProgramText}
 use Rattle.task_program.specs.Faults.{State, Block, form_fault, place_fault, step, after_at, reading, ended, end_at, go_on, start, program_of}
 use Rattle.task_program.proofs.Keeping.{passes, formed, unless_ok, ok_is, step_keeps}
 use Rattle.task_program.proofs.Shorter.{shorter, same_mentions}
-use Rattle.task_program.proofs.Sound.{step_sound}
+use Rattle.task_program.proofs.Sound.{IsSound, step_sound}
 use Rattle.task_program.proofs.Found.{Explains, Explained, place_goes}
 
 -- these tokens are a program's

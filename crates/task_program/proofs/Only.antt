@@ -12,7 +12,8 @@ use Rattle.task_program.specs.Marks.{Mark}
 use Rattle.task_program.specs.Marks.Mark.{Begins, Ends, Works, Waits, GroupBegins, GroupEnds}
 use Rattle.task_program.specs.Limits.{tasks_begun, segments_opened, work_done, tasks_of, segments_of, work_of, most_token_bytes, most_tasks, most_segments, most_nesting, most_work, most_total_work}
 use Rattle.task_program.specs.Names.{with_name}
-use Rattle.task_program.specs.Programs.{open_after, open_after_mark, deeper, FitsLimits, is_task}
+use Rattle.task_program.specs.Programs.{open_after, open_after_mark, deeper, FitsLimits}
+use Rattle.task_program.proofs.Sound.{is_task}
 use Rattle.task_program.specs.Tokens.{texts, Token, tokens_of, line_at_end}
 use Rattle.task_program.specs.Words.{value_of}
 use Rattle.task_program.specs.ProgramText.{ProgramText}

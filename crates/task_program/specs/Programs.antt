@@ -10,8 +10,6 @@ use Rattle.task_program.specs.Names.{with_name}
 use Rattle.task_program.specs.Tokens.{texts, tokens_of}
 use Rattle.task_program.specs.Words.{is_word}
 use Rattle.task_program.specs.ProgramText.{ProgramText}
-use Rattle.task_program.specs.Faults.{State, Block}
-use Rattle.task_program.specs.Faults.Block.{TaskBlock, GroupBlock}
 
 abbrev pub deeper : Bool → List Bool → Option (List Bool)
 deeper is_task blocks = if nat_lt (length blocks) most_nesting then Some (is_task ∷ blocks) else None
@@ -63,14 +61,3 @@ pub record IsProgram (program : ProgramText) : Type 0 where
   pub ordered : program.names ≡ fold with_name [] (flat_map (mentioned program.names) program.marks)
   -- the tokens of the canonical text are no more bytes than a text's may be
   pub size : sum_by length (texts (tokens_of (canonical program))) ≤ most_token_bytes
-
-abbrev pub is_task : Block → Bool
-is_task (TaskBlock line) = true
-is_task (GroupBlock line) = false
-
--- the same of what was read so far
-pub record IsSound (state : State) : Type 0 where
-  pub nested : open_blocks state.tree.marks ≡ Some (map is_task state.tree.blocks)
-  pub marks_fit : All (FitsLimits (length state.names)) state.tree.marks
-  pub items_fit : All (IsNamed (length state.names)) state.head.items
-  pub names_fit : All IsName state.names

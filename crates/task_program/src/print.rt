@@ -1,4 +1,4 @@
-//! The canonical text of a program.
+//! The canonical text of a program, in this project's own format.
 ghost use Rattle.std.specs.Prelude.{◌≡◌, ◌≤◌, length, ◌++◌, ◌∷◌, [], OnOk, IfOk, true, false, codes};
 ghost use Rattle.std.specs.List.{flat_map};
 ghost use Rattle.std.specs.String.{string_bytes};
@@ -8,10 +8,11 @@ ghost use Rattle.task_program.specs.Marks.Mark.{Works, Begins, Ends, GroupBegins
 ghost use Rattle.task_program.specs.Words.{type_word};
 ghost use Rattle.task_program.specs.Statements.{marks_of, marks_of_one};
 
+use crate::AllocFault;
 use crate::names::Names;
 use crate::program::Program;
 use crate::statement::{DependKind, Item, Stmt};
-use std::alloc::{AllocError, Global};
+use std::alloc::Global;
 
 fn type_word(kind: DependKind) -> &'static str
     ensures { result.now ≡ type_word kind }
@@ -24,14 +25,14 @@ fn type_word(kind: DependKind) -> &'static str
     }
 }
 
-fn put_work(out: &mut String, cost: u64) -> Result<(), AllocError>
+fn put_work(out: &mut String, cost: u64) -> Result<(), AllocFault>
     ensures { OnOk result (string_bytes out.new ≡ string_bytes out.old ++ line_of [] (Works cost)) }
 {
     write!(out, "work {cost}\n")
 }
 
 /// A name, by its number.
-fn put_name(out: &mut String, names: &Names, item: Item) -> Result<(), AllocError>
+fn put_name(out: &mut String, names: &Names, item: Item) -> Result<(), AllocFault>
     ensures { OnOk result (string_bytes out.new ≡ string_bytes out.old ++ name_of names.now item) }
 {
     if let Some(name) = names.name(item.name as usize) {
@@ -41,7 +42,7 @@ fn put_name(out: &mut String, names: &Names, item: Item) -> Result<(), AllocErro
 }
 
 /// What stands between an item of one type and the next item.
-fn put_joint(out: &mut String, kind: DependKind, next: DependKind) -> Result<(), AllocError>
+fn put_joint(out: &mut String, kind: DependKind, next: DependKind) -> Result<(), AllocFault>
     ensures { OnOk result (string_bytes out.new ≡ string_bytes out.old ++ joint kind next) }
 {
     if kind == next {
@@ -59,7 +60,7 @@ fn put_items_after(
     names: &Names,
     kind: DependKind,
     items: &[Item],
-) -> Result<(), AllocError>
+) -> Result<(), AllocFault>
     ensures { OnOk result (string_bytes out.new ≡ string_bytes out.old ++ items_after names.now kind items.now) }
 {
     let mut kind = kind;
@@ -71,7 +72,7 @@ fn put_items_after(
     out.push_str(")")
 }
 
-fn put_depends(out: &mut String, names: &Names, items: &[Item]) -> Result<(), AllocError>
+fn put_depends(out: &mut String, names: &Names, items: &[Item]) -> Result<(), AllocFault>
     ensures { OnOk result (string_bytes out.new ≡ string_bytes out.old ++ depend_clauses names.now items.now) }
 {
     if let [first, rest @ ..] = items {
@@ -89,7 +90,7 @@ fn put_task(
     names: &Names,
     undeferred: bool,
     items: &[Item],
-) -> Result<(), AllocError>
+) -> Result<(), AllocFault>
     ensures { OnOk result (string_bytes out.new ≡ string_bytes out.old ++ line_of names.now (Begins undeferred items.now)) }
 {
     out.push_str("task")?;
@@ -100,20 +101,20 @@ fn put_task(
     out.push_str(" {\n")
 }
 
-fn put_group(out: &mut String) -> Result<(), AllocError>
+fn put_group(out: &mut String) -> Result<(), AllocFault>
     ensures { OnOk result (string_bytes out.new ≡ string_bytes out.old ++ line_of [] GroupBegins) }
 {
     out.push_str("taskgroup {\n")
 }
 
-fn put_end(out: &mut String) -> Result<(), AllocError>
+fn put_end(out: &mut String) -> Result<(), AllocFault>
     ensures { OnOk result (string_bytes out.new ≡ string_bytes out.old ++ line_of [] Ends) }
 {
     out.push_str("}\n")
 }
 
 #[cycle(printing)]
-fn put_statement(out: &mut String, names: &Names, statement: &Stmt) -> Result<(), AllocError>
+fn put_statement(out: &mut String, names: &Names, statement: &Stmt) -> Result<(), AllocFault>
     ensures { OnOk result (string_bytes out.new ≡ string_bytes out.old ++ flat_map (line_of names.now) (marks_of_one statement.now)) }
 {
     match statement {
@@ -133,7 +134,7 @@ fn put_statement(out: &mut String, names: &Names, statement: &Stmt) -> Result<()
 }
 
 #[cycle(printing)]
-fn put_statements(out: &mut String, names: &Names, statements: &[Stmt]) -> Result<(), AllocError>
+fn put_statements(out: &mut String, names: &Names, statements: &[Stmt]) -> Result<(), AllocFault>
     ensures { OnOk result (string_bytes out.new ≡ string_bytes out.old ++ flat_map (line_of names.now) (marks_of statements.now)) }
 {
     'statements: for statement in statements {
@@ -142,8 +143,11 @@ fn put_statements(out: &mut String, names: &Names, statements: &[Stmt]) -> Resul
     Ok(())
 }
 
-/// The canonical text of a program.
-pub fn print_program(alloc: Global, program: &Program) -> Result<Vec<u8>, AllocError>
+/// The canonical text of a program: the line `omptasks 1`, and then each statement on lines of its own, without
+/// indentation or comments, each token followed by at most one blank. A number has no leading zeros. A task has
+/// ` if(0)` where it is undeferred, then one ` depend(TYPE: a, b)` for each longest run of neighbouring items of one
+/// type. The text has at most 2,097,152 bytes and reads back as an equal program. The one error is want of memory.
+pub fn print_program(alloc: Global, program: &Program) -> Result<Vec<u8>, AllocFault>
     ensures text { IfOk result (λ text. text.items ≡ canonical program.now) }
     // It reads back as an equal program.
     ensures reads_back { IfOk result (λ text. HasTree text.items program.now) }

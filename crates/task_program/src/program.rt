@@ -9,7 +9,9 @@ use crate::names::Names;
 use crate::statement::{Body, Stmt};
 use std::marker::Model;
 
-/// A program. Contracts see its marks, and the names that the items number.
+/// A program: the statements of its root task, and the names that the depend items number, in the order of their
+/// first mention. It keeps the limits that `ReadKind` names, that on bytes outside blanks for its canonical text.
+/// Contracts see its marks and its names.
 #[derive(Drop)]
 pub struct Program {
     body: Body,
@@ -36,7 +38,7 @@ impl Program {
         Program { body, names }
     }
 
-    /// The statements.
+    /// The statements of the root task.
     pub fn body(&self) -> &[Stmt]
         ensures marks { marks_of result.now ≡ self.now.marks }
         ensures program { IsProgram self.now }
@@ -51,14 +53,14 @@ impl Program {
         &self.names
     }
 
-    /// How many names there are.
+    /// How many names there are. They are numbered from 0 in the order of their first mention.
     pub fn names(&self) -> u32
         ensures { result ≡ length self.now.names }
     {
         self.names.len()
     }
 
-    /// The name of this number, as a text.
+    /// The name of this number; none where no name has the number.
     pub fn name(&self, number: u32) -> Option<&str>
         ensures { option_copied result ≡ slice_get self.now.names number }
     {

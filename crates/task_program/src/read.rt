@@ -1,4 +1,4 @@
-//! Reading a program from its text.
+//! Reading a program from its text, in this project's own format.
 ghost use Rattle.std.specs.Prelude.{◌≡◌, IfOk, Ok};
 ghost use Rattle.task_program.specs.Grammar.{HasTree};
 ghost use Rattle.task_program.specs.Answers.{Gives};
@@ -12,7 +12,31 @@ use crate::reader::Reader;
 use crate::scanner::Scanner;
 use std::alloc::Global;
 
-/// Reads a program.
+const MOST_BYTES: usize = 4_194_304;
+
+/// Reads a program of this grammar:
+///
+/// ```text
+/// program   = "omptasks" 1 statement* end
+/// statement = "work" number
+///           | "task" clause* "{" statement* "}"
+///           | "taskwait"
+///           | "taskgroup" "{" statement* "}"
+/// clause    = "if" "(" number ")"
+///           | "depend" "(" type ":" name { "," name } ")"
+/// type      = "in" | "out" | "inout" | "inoutset"
+/// ```
+///
+/// A token is a longest run of ASCII letters, digits and `_`, or one of `(` `)` `{` `}` `:` `,`. A run that begins
+/// with a digit is a number, of digits only; any other is a word, of at most 31 bytes. Blanks are space, tab, CR and
+/// LF; a comment runs from `#` to the next LF and may hold any bytes. A name is any word. A task has at most one
+/// `if`, of 0 or 1, and clauses stand in any order.
+///
+/// The first wrong token decides the fault, and for one token the tests come in this order: `BadByte`, `BadNumber` for
+/// a run of digits and others, `BadWord` for a long word, `TooLong`, `BadHeader`, `Unopened`, `BadWord`,
+/// `BadNumber` for a value, `TooDeep`, `TooManyTasks`, `TooManySegments`, `TooManyItems`, `WorkTooLarge`. A text of
+/// too many bytes is `TooLong` before all else. `OutOfMemory` may be answered at any growth, in place of a fault
+/// that would come later.
 pub fn read_program(alloc: Global, text: &[u8]) -> Result<Program, ReadFault>
     // What is read is the tree of the text.
     ensures found { IfOk result (λ program. HasTree text.now program) }
@@ -27,7 +51,7 @@ pub fn read_program(alloc: Global, text: &[u8]) -> Result<Program, ReadFault>
 fn read_all(alloc: Global, text: &[u8]) -> Result<Program, ReadFault>
     ensures { Gives (λ program. program) result (program_of text.now) }
 {
-    if text.len() > 4_194_304 {
+    if text.len() > MOST_BYTES {
         return Err(ReadFault {
             kind: ReadKind::TooLong,
             line: 1,

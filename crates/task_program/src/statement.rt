@@ -3,26 +3,32 @@ ghost use Rattle.std.specs.Prelude.{◌≡◌, IsTrue};
 ghost use Rattle.std.specs.List.{list_any};
 ghost use Rattle.task_program.specs.Conflict.{items_conflict, conflict, kind_conflict};
 
-use std::alloc::{AllocError, Global};
+use crate::AllocFault;
+use std::alloc::Global;
 use std::marker::Model;
 
-/// The type of a depend item.
+/// The type of a depend item: the dependence type of a `depend` clause.
 #[derive(Clone, Copy, Debug, PartialEq, Eq)]
 pub enum DependKind {
+    /// `in`
     DependIn,
+    /// `out`
     DependOut,
+    /// `inout`
     DependInOut,
+    /// `inoutset`
     DependInOutSet,
 }
 
-/// A depend item: a location, by its number, and how the task depends on it.
+/// A depend item: a location, by the number of its name, and how the task depends on it.
 #[derive(Clone, Copy, Debug, PartialEq, Eq)]
 pub struct Item {
     pub kind: DependKind,
     pub name: u32,
 }
 
-/// The depend items of a task, in the order of the text.
+/// The depend items of a task, clause by clause in the order of the text, repeated ones too. A program has at most
+/// 32 for each task.
 #[derive(Drop)]
 pub struct Items {
     items: Vec<Item>,
@@ -49,7 +55,7 @@ impl Items {
         }
     }
 
-    pub(crate) fn push(&mut self, item: Item) -> Result<(), AllocError>
+    pub(crate) fn push(&mut self, item: Item) -> Result<(), AllocFault>
         ensures ok { OnOk result (self.new ≡ self.old ++ item ∷ []) }
         ensures err { OnErr result (self.new ≡ self.old) }
     {
@@ -63,7 +69,7 @@ impl Items {
         self.items.len()
     }
 
-    /// The items, as a slice.
+    /// The items, in their order.
     pub fn as_slice(&self) -> &[Item]
         ensures { result.now ≡ self.now }
     {
@@ -80,17 +86,22 @@ impl Items {
     }
 }
 
-/// A statement.
+/// A statement of a task.
 #[derive(Drop)]
 #[cycle(body)]
 pub enum Stmt {
+    /// `work`: this cost, at most 10^12 in a program.
     Work(u64),
+    /// The construct `task`.
     Task(TaskStmt),
+    /// The construct `taskwait`, without clauses.
     Wait,
+    /// The construct `taskgroup`, with its statements.
     Group(Body),
 }
 
-/// A task that is created here, with its code.
+/// A task that is created here: whether it is undeferred (an `if` clause of value 0), its depend items, and its
+/// code.
 #[derive(Drop)]
 #[cycle(body)]
 pub struct TaskStmt {
@@ -99,7 +110,8 @@ pub struct TaskStmt {
     pub body: Body,
 }
 
-/// The statements of a task or of a group. Contracts see their marks.
+/// The statements of a task or of a group. Contracts see the list of their marks: a task or a group is a mark where
+/// it begins, the marks of its statements, and a mark where it ends; any other statement is one mark.
 #[derive(Drop)]
 #[cycle(body)]
 pub struct Body {
@@ -132,7 +144,7 @@ impl Body {
         Body { statements }
     }
 
-    /// The statements, as a slice.
+    /// The statements, in their order.
     pub fn as_slice(&self) -> &[Stmt]
         ensures { self.now ≡ marks_of result.now }
     {
@@ -140,7 +152,9 @@ impl Body {
     }
 }
 
-/// Whether some item of one conflicts with some item of the other.
+/// Whether some item of one list conflicts with some item of the other. Two items conflict where they name one
+/// location, unless both are `in` or both are `inoutset`: the dependence rules of the OpenMP API 5.2, `depend` clause.
+/// It takes no memory.
 pub fn conflicts(earlier: &[Item], later: &[Item]) -> bool
     ensures { result ≡ items_conflict earlier.now later.now }
 {

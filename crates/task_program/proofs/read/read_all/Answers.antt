@@ -14,7 +14,7 @@ use Rattle.task_program.proofs.read.read_all.Goals as goal
 pub returns-in_err-place : goal.returns-in_err-place
 returns-in_err-place c =
     let fault = c.in_err-place.field-0.0 in
-    let whole = of_tokens c.args.text.now c.if-text-gt4194304.false in
+    let whole = of_tokens c.args.text.now c.if-text-gt-MOST_BYTES.false in
     let fails_so = fails (tokens_left c.tokens.scanner) (tokens_left c.next_token.new.self) (token_seen c.in-Some.token) (end_line c.tokens.scanner) (state_of c.tokens.reader c.tokens.place) fault (program_of c.args.text.now) c.in-Some.ensures.first c.in_err-place.ensures (c.tokens.invariant.same ∙ whole) in
     let passed_on = err_from_is_err_and c.from_residual.result c.from_residual.ensures.1 in
     rw (passed_on.1, passed_on.2) fails_so
@@ -31,13 +31,13 @@ tokens-preserved c =
 
 pub returns : goal.returns
 returns c =
-    let whole = of_tokens c.args.text.now c.if-text-gt4194304.false in
+    let whole = of_tokens c.args.text.now c.if-text-gt-MOST_BYTES.false in
     let ended_so = ends (tokens_left c.tokens.scanner) (end_line c.tokens.scanner) (state_of c.tokens.reader c.tokens.place) (program_of c.args.text.now) c.in_default.ensures.first (c.tokens.invariant.same ∙ whole) in
     let answer : ℕ → Result ProgramText ReadFault = λ line. ended (end_at c.tokens.place c.tokens.reader.tree.blocks line) (state_of c.tokens.reader c.tokens.place) in
     subst (λ (total : Result ProgramText ReadFault). Gives (λ program. program) c.finish.result total) (ap answer c.in_default.ensures.at_end ∙ ended_so) c.finish.ensures
 
 pub finish-requires : goal.finish-requires
 finish-requires c =
-    let whole = of_tokens c.args.text.now c.if-text-gt4194304.false in
+    let whole = of_tokens c.args.text.now c.if-text-gt-MOST_BYTES.false in
     let ended_so = ends (tokens_left c.tokens.scanner) (end_line c.tokens.scanner) (state_of c.tokens.reader c.tokens.place) (program_of c.args.text.now) c.in_default.ensures.first (c.tokens.invariant.same ∙ whole) in
     record { whole = program_at_end c.args.text.now (state_of c.tokens.reader c.tokens.place) (end_line c.tokens.scanner) ended_so }
