@@ -3,7 +3,8 @@ ghost use Rattle.std.specs.Prelude.{◌≡◌, IsTrue};
 ghost use Rattle.std.specs.List.{list_any};
 ghost use Rattle.task_program.specs.Conflict.{items_conflict, conflict, kind_conflict};
 
-use std::alloc::{AllocError, Global};
+use crate::AllocFault;
+use std::alloc::Global;
 use std::marker::Model;
 
 /// The type of a depend item.
@@ -49,7 +50,7 @@ impl Items {
         }
     }
 
-    pub(crate) fn push(&mut self, item: Item) -> Result<(), AllocError>
+    pub(crate) fn push(&mut self, item: Item) -> Result<(), AllocFault>
         ensures ok { OnOk result (self.new ≡ self.old ++ item ∷ []) }
         ensures err { OnErr result (self.new ≡ self.old) }
     {
@@ -71,7 +72,7 @@ impl Items {
     }
 
     /// An equal list. The one error is want of memory.
-    pub fn copy(&self) -> Result<Items, AllocError>
+    pub fn copy(&self) -> Result<Items, AllocFault>
         ensures { IfOk result (λ items. items ≡ self.now) }
     {
         Ok(Items {
