@@ -60,5 +60,5 @@ reading program h =
       nested = n;
       tasks = omega (arith, h.tasks, tasks_counted program.marks);
       segments = omega (arith, h.segments, segments_counted program.marks n);
-      work = h.work
+      work = h.work;
     }
