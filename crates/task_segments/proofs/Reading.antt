@@ -1,8 +1,8 @@
 -- What the marks of a program keep, in the counts of a table's moments.
-use Rattle.std.proofs.Common.{◌≡◌, ℕ, ◌+◌, ◌≤◌, ◌^◌, cond, refl, List, [], ◌∷◌, ◌++◌, arith}
+use Rattle.std.proofs.Common.{◌≡◌, ℕ, ◌+◌, ◌≤◌, cond, refl, List, [], ◌∷◌, ◌++◌, arith}
 use Rattle.std.specs.List.{sum_by, count_by}
 use Rattle.std.proofs.lemmas.List.Sums.{sum_by-cons, sum_by-append}
-use Rattle.task_program.specs.Limits.{tasks_begun, segments_opened, work_done, tasks_of, segments_of, work_of, most_tasks, most_segments, most_total_work}
+use Rattle.task_program.specs.Limits.{tasks_begun, segments_opened, tasks_of, segments_of, work_of, most_tasks, most_segments, most_total_work}
 use Rattle.task_program.specs.Marks.{Mark}
 use Rattle.task_program.specs.Marks.Mark.{Begins, Ends, Works, Waits, GroupBegins, GroupEnds}
 use Rattle.task_program.specs.Nested.{IsNested}
@@ -60,5 +60,5 @@ reading program h =
       nested = n;
       tasks = omega (arith, h.tasks, tasks_counted program.marks);
       segments = omega (arith, h.segments, segments_counted program.marks n);
-      work = h.work
+      work = h.work;
     }
