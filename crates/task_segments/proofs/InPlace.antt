@@ -5,13 +5,13 @@ use Rattle.std.proofs.lemmas.Option.{same_Some}
 use Rattle.task_segments.specs.declared.table.Closing.{Closing}
 use Rattle.task_segments.specs.declared.table.Closing.TheVariants.{Creates, Waits, EndsGroup, EndsTask}
 use Rattle.task_segments.specs.Table.{Table, Task, segment, task, no_task}
-use Rattle.task_segments.specs.Precedence.{IsSegment, IsTask, Continues, IsEarlierChild, Encloses}
+use Rattle.task_segments.specs.Precedence.{IsSegment, IsTask, Continues, Creation, IsEarlierChild, Encloses}
 use Rattle.task_segments.specs.Schedule.{IsJoined}
 use Rattle.task_segments.specs.Nesting.{IsChild, IsNestedTable, IsGroupedTable, HasInnermost}
-use Rattle.task_segments.specs.InPlace.{EndsBefore, IsOf, IsCreated, IsReadInPlace}
+use Rattle.task_segments.specs.InPlace.{EndsBefore, IsOf, IsCreated, Opens, IsReadInPlace}
 use Rattle.task_segments.proofs.Reaches.{joined}
 use Rattle.task_segments.proofs.Along.{along, continued, next_is_nearest}
-use Rattle.task_segments.proofs.Order.{after_child, after_created, continues_up, creator_within, next_is, none_next, not_root, not_root_made, one_next, same_place, siblings_apart}
+use Rattle.task_segments.proofs.Order.{after_child, after_created, continues_up, creator_within, last_of_all, next_is, none_next, not_root, not_root_made, one_next, reached, same_place, siblings_apart}
 
 -- a number past the end has no parent and no creator
 past_the_end : (tasks : List Task) (u : ℕ) → length tasks ≤ u → get_or tasks u no_task ≡ no_task
@@ -39,6 +39,14 @@ some_segment table h = let k = (h.segments 0 h.root.is_task).is_last in omega ar
 -- a segment of a task, which then is one
 pub owned : (table : Table) → IsNestedTable table → (u s : ℕ) → IsOf table u s → IsTask table u
 owned table h u s i = subst (λ n. IsTask table n) i.of_task (h.tasks s i.is_segment)
+
+pub root_last : (table : Table) → IsNestedTable table → (s : ℕ) → IsSegment table s → s ≤ (task table 0).last
+root_last table h s i =
+    let u = (segment table s).task in
+    let is_u = h.tasks s i in
+    let within = ((h.segments u is_u).between s i refl).1 in
+    let above = last_of_all (suc u) table h u (omega arith) is_u in
+    omega arith
 
 pub from_first : (table : Table) → IsNestedTable table → (u s : ℕ) → IsOf table u s → (task table u).first ≤ s
 from_first table h u s i = ((h.segments u (owned table h u s i)).between s i.is_segment i.of_task).0
@@ -149,6 +157,20 @@ creator_of table h u p s i e f =
       of_task = ap (λ (n : ℕ). (segment table n).task) (sym m.creator) ∙ m.child.of_creator ∙ same;
     }
 
+first_follows_none : (table : Table) → IsNestedTable table → (a b t : ℕ) → Continues table a t → Creation table b t → ⊥
+first_follows_none table h a b t next creation = first_follows table h creation.child a creation.is_child (subst (Continues table a) (sym creation.first) next)
+
+creation_once : (table : Table) → IsNestedTable table → (a b t : ℕ) → Creation table a t → Creation table b t → a ≡ b
+creation_once table h a b t x y =
+    let same = first_of_one table h x.child y.child x.is_child y.is_child (x.first ∙ sym y.first) in
+    same_Some _ _ (sym x.creator ∙ ap (λ (u : ℕ). (task table u).creator) same ∙ y.creator)
+
+pub opens_once : (table : Table) → IsNestedTable table → (a b t : ℕ) → Opens table a t → Opens table b t → a ≡ b
+opens_once table h a b t (inl x) (inl y) = follows_one table h a b t x y
+opens_once table h a b t (inl x) (inr y) = absurd (first_follows_none table h a b t x y)
+opens_once table h a b t (inr x) (inl y) = absurd (first_follows_none table h b a t y x)
+opens_once table h a b t (inr x) (inr y) = creation_once table h a b t x y
+
 -- the segment after the creator is the child's first: so the creator does not go on with that number
 next_other : (table : Table) → IsNestedTable table → (u s : ℕ) → IsTask table u → (task table u).creator ≡ Some s → Continues table s (s + 1) → ⊥
 next_other table h u s i e next =
@@ -252,6 +274,7 @@ read_in_place table h g = record {
   root_creator = h.root.creator;
   root_first = h.root.first;
   root_group = g.root;
+  root_last = root_last table h;
   some_segment = some_segment table h;
   with_parent = with_parent table;
   with_creator = with_creator table;
@@ -283,6 +306,8 @@ read_in_place table h g = record {
   created_before = created_before table h;
   creates = h.creates;
   created = λ s child i e. (creator_within table h child s i e, created table h s child i e);
+  opens = reached table h;
+  opens_once = opens_once table h;
   siblings = siblings_apart table h;
   children = children table h;
   waited = waited table h;

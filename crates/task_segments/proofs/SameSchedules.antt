@@ -2,7 +2,7 @@
 -- they have the same chains, legal schedules, spans, least ends, least starts and slacks.
 use Rattle.std.proofs.Common.{ℕ, suc, ◌+◌, ◌<◌, ◌≤◌, ◌≡◌, ◌↔◌, List, [], ◌∷◌, length, refl, sym, subst, arith}
 use Rattle.std.proofs.lemmas.List.Sums.{sum_by-cons}
-use Rattle.task_segments.specs.Schedule.{IsChain, IsJoined, IsLegal, at, end_of, chain_sum, AreSegments, IsSpan, IsLeastEnd, IsLeastStart, IsSlack}
+use Rattle.task_segments.specs.Schedule.{IsChain, IsJoined, IsLegal, at, chain_sum, AreSegments, IsSpan, IsLeastEnd, IsLeastStart, IsSlack}
 use Rattle.task_segments.proofs.Reaches.{Reaches, one, reach_map, joined, reaches, waits_along}
 use Rattle.task_segments.proofs.Reaches.Reaches.{Stays, Goes}
 use Rattle.task_segments.proofs.Schedules.{AreSegments-cons}
@@ -52,7 +52,7 @@ least_end_map costs R Q there back end h = record { starts = h.starts; legal = t
 pub least_start_map : (costs : List ℕ) (R Q : ℕ → ℕ → Type 0) → ((starts : List ℕ) → IsLegal costs R starts → IsLegal costs Q starts) → ((starts : List ℕ) → IsLegal costs Q starts → IsLegal costs R starts) → (s start : ℕ) → IsLeastStart costs R s start → IsLeastStart costs Q s start
 least_start_map costs R Q there back s start h = record { starts = h.starts; legal = there h.starts h.legal; starts_so = h.starts_so; least = λ other legal. h.least other (back other legal) }
 
--- .. and the same slacks
+-- and the same slacks
 pub slack_map : (costs : List ℕ) (R Q : ℕ → ℕ → Type 0) → ((starts : List ℕ) → IsLegal costs R starts → IsLegal costs Q starts) → ((starts : List ℕ) → IsLegal costs Q starts → IsLegal costs R starts) → (s slack : ℕ) → IsSlack costs R s slack → IsSlack costs Q s slack
 slack_map costs R Q there back s slack h = record {
   end = h.end;
@@ -63,7 +63,7 @@ slack_map costs R Q there back s slack h = record {
   legal = there h.starts h.legal;
   ends = h.ends;
   delayed = h.delayed;
-  greatest = λ other legal ends. h.greatest other (back other legal) ends
+  greatest = λ other legal ends. h.greatest other (back other legal) ends;
 }
 
 module _ (R Q : ℕ → ℕ → Type 0) (forward : (s t : ℕ) → R s t → s < t) (within : (s t : ℕ) → Q s t → R s t) (ways : (s t : ℕ) → R s t → Reaches Q s t) where
@@ -79,7 +79,7 @@ module _ (R Q : ℕ → ℕ → Type 0) (forward : (s t : ℕ) → R s t → s <
   pub legal_joined : (costs starts : List ℕ) → IsLegal costs Q starts → IsLegal costs R starts
   legal_joined costs starts legal = record {
     each = legal.each;
-    kept = λ s t inside edge. waits_along costs Q starts legal inner_forward s t (forward s t edge) (ways s t edge) inside
+    kept = λ s t inside edge. waits_along costs Q starts legal inner_forward s t (forward s t edge) (ways s t edge) inside;
   }
 
   pub same_legal : (costs starts : List ℕ) → IsLegal costs R starts ↔ IsLegal costs Q starts

@@ -1,9 +1,9 @@
 -- What follows for the segments of every table from each child being read in place: facts of two or three numbers
 -- each, in the form in which steps through a table ask for them.
-use Rattle.std.specs.Prelude.{ℕ, ◌+◌, ◌<◌, ◌≤◌, ◌≡◌, Some, None}
+use Rattle.std.specs.Prelude.{ℕ, ◌+◌, ◌<◌, ◌≤◌, ◌≡◌, ◌⊎◌, Some, None}
 use Rattle.task_segments.specs.Table.{Table, segment, task}
 use Rattle.task_segments.specs.declared.table.Closing.TheVariants.{Creates, Waits, EndsGroup, EndsTask}
-use Rattle.task_segments.specs.Precedence.{IsSegment, IsTask, Continues, IsEarlierChild, Encloses}
+use Rattle.task_segments.specs.Precedence.{IsSegment, IsTask, Continues, Creation, IsEarlierChild, Encloses}
 use Rattle.task_segments.specs.Schedule.{IsJoined}
 
 -- the segment before t in its task ends a group
@@ -27,13 +27,18 @@ pub record IsCreated (table : Table) (u : ℕ) : Type 0 where
   pub is_creator : (task table u).creator ≡ Some creator
   pub of_parent : IsOf table parent creator
 
+-- t opens where s ends
+abbrev pub Opens : Table → ℕ → ℕ → Type 0
+Opens table s t = Continues table s t ⊎ Creation table s t
+
 pub record IsReadInPlace (table : Table) : Type 0 where
-  -- the root begins the table
+  -- the root begins the table and ends it
   pub root : IsTask table 0
   pub root_parent : (task table 0).parent ≡ None
   pub root_creator : (task table 0).creator ≡ None
   pub root_first : (task table 0).first ≡ 0
   pub root_group : (task table 0).innermost_group ≡ None
+  pub root_last : (s : ℕ) → IsSegment table s → s ≤ (task table 0).last
   pub some_segment : IsSegment table 0
   -- a number with a parent or a creator is a task's
   pub with_parent : (u p : ℕ) → (task table u).parent ≡ Some p → IsTask table u
@@ -73,6 +78,9 @@ pub record IsReadInPlace (table : Table) : Type 0 where
   pub created_before : (u s : ℕ) → IsTask table u → (task table u).creator ≡ Some s → s < (task table u).last
   pub creates : (s child : ℕ) → IsSegment table s → (segment table s).closing ≡ Creates child → IsTask table child × ((task table child).creator ≡ Some s)
   pub created : (s child : ℕ) → IsTask table child → (task table child).creator ≡ Some s → IsSegment table s × ((segment table s).closing ≡ Creates child)
+  -- each segment but the first opens at the end of one segment: of the one before it in its task, or of its task's creator
+  pub opens : (t : ℕ) → 0 < t → IsSegment table t → (s : ℕ) × Opens table s t
+  pub opens_once : (a b t : ℕ) → Opens table a t → Opens table b t → a ≡ b
   -- of two siblings the earlier one has ended where the later one is created, and a child where its parent goes on
   pub siblings : (u v p s : ℕ) → u < v → IsTask table v → (task table u).parent ≡ Some p → (task table v).parent ≡ Some p → (task table v).creator ≡ Some s → (task table u).last < s
   pub children : (u p s t : ℕ) → (task table u).parent ≡ Some p → (task table u).creator ≡ Some s → IsOf table p t → s < t → (task table u).last < t
