@@ -1,0 +1,2 @@
+mod Parse
+mod Worked

@@ -1,0 +1,4 @@
+pub mod Program
+pub mod Request
+pub mod Reading
+pub mod WorkedWords

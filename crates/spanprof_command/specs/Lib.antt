@@ -1,0 +1,5 @@
+pub mod Report
+pub mod Reports
+pub mod Command
+pub mod OneReport
+pub mod Earliest

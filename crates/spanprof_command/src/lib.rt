@@ -1,0 +1,16 @@
+//! The commands: from words and bytes to a text and a status.
+#![tactic(auto)]
+
+mod answers;
+mod earliest;
+mod engine;
+pub mod laws;
+mod report;
+
+pub use engine::command;
+pub use report::Status;
+
+#[cfg(test)]
+mod devices;
+#[cfg(test)]
+mod tests;
