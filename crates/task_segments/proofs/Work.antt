@@ -1,11 +1,11 @@
 -- The costs of all segments are the work of the program.
-use Rattle.std.proofs.Common.{◌≡◌, ℕ, zero, suc, ◌+◌, ◌<◌, ◌≤◌, ◌^◌, inl, inr, Bool, true, false, cond, List, [], ◌∷◌, map, refl, sym, ap, subst, ◌∙◌, arith}
+use Rattle.std.proofs.Common.{◌≡◌, ℕ, zero, suc, ◌+◌, ◌<◌, ◌≤◌, ◌^◌, inl, inr, true, false, List, [], ◌∷◌, map, refl, ap, ◌∙◌, arith}
 use Rattle.std.specs.List.{range_with_len, sum, sum_by}
 use Rattle.std.proofs.lemmas.Bool.{cases_eq}
 use Rattle.std.proofs.lemmas.Bool.Decides.{nat_tests}
 use Rattle.std.proofs.lemmas.List.FromFn.{sum_by-map-range_with_len_more}
 use Rattle.std.proofs.lemmas.List.Sums.{sum_by-cons, sum-map}
-use Rattle.task_program.specs.Limits.{work_done}
+use Rattle.task_program.specs.Limits.{work_done, work_of}
 use Rattle.task_program.specs.Marks.{Mark}
 use Rattle.task_program.specs.Marks.Mark.{Begins, Ends, Works, Waits, GroupBegins, GroupEnds}
 use Rattle.task_segments.specs.declared.table.Segment.{Segment}
@@ -52,7 +52,7 @@ adds : (cost : ℕ) (e : List Mark) (n : ℕ) → total (Works cost ∷ e) n ≤
 unfolding total
 adds cost e zero = omega arith
 adds cost e (suc n) = elim (cases_eq (segments_so_far e) (n + 1)) [
-    inl x ↦ (
+  | inl x ↦ (
       let k : is_latest n e ≡ true = grind (arith, nat_tests) in
       let h = gains cost e n (omega arith) in
       let c : cost_of n (Works cost ∷ e) ≡ cost + cost_of n e = rw k refl in
@@ -62,10 +62,10 @@ adds cost e (suc n) = elim (cases_eq (segments_so_far e) (n + 1)) [
       let h = adds cost e n in
       let c : cost_of n (Works cost ∷ e) ≡ cost_of n e = rw k (omega arith) in
       omega (arith, h, c))
-  ]
+]
 
 -- the sum is at most the work, however many numbers are counted
-sums : (e : List Mark) (n : ℕ) → total e n ≤ sum_by work_done e
+sums : (e : List Mark) (n : ℕ) → total e n ≤ work_of e
 sums [] n = none n
 sums (Begins d i ∷ e) n = omega (arith, same (Begins d i) e (λ s. refl) n, sums e n, sum_by-cons work_done (Begins d i) e)
 sums (Ends ∷ e) n = omega (arith, same Ends e (λ s. refl) n, sums e n, sum_by-cons work_done Ends e)
@@ -74,7 +74,7 @@ sums (Waits ∷ e) n = omega (arith, same Waits e (λ s. refl) n, sums e n, sum_
 sums (GroupBegins ∷ e) n = omega (arith, same GroupBegins e (λ s. refl) n, sums e n, sum_by-cons work_done GroupBegins e)
 sums (GroupEnds ∷ e) n = omega (arith, same GroupEnds e (λ s. refl) n, sums e n, sum_by-cons work_done GroupEnds e)
 
-work_read : (e marks : List Mark) → sum_by work_done (read e marks) ≡ sum_by work_done e + sum_by work_done marks
+work_read : (e marks : List Mark) → work_of (read e marks) ≡ work_of e + work_of marks
 work_read e [] = omega arith
 work_read e (m ∷ marks) = omega (arith, work_read (m ∷ e) marks, sum_by-cons work_done m e, sum_by-cons work_done m marks)
 

@@ -1,0 +1,15 @@
+-- What two rows are compared by.
+use Rattle.task_segments.specs.Table.{Task}
+use Rattle.task_segments.specs.declared.copies.Place.{Place}
+
+-- what the table says of a task, but for its depend items
+abbrev pub place_of : Task → Place
+place_of task = record {
+  parent = task.parent;
+  creator = task.creator;
+  undeferred = task.undeferred;
+  first = task.first;
+  last = task.last;
+  innermost_group = task.innermost_group;
+  siblings_before = task.siblings_before;
+}
