@@ -1,0 +1,121 @@
+-- The places of siblings: how many were generated before each.
+use Rattle.std.proofs.Common.{ℕ, ◌+◌, ◌<◌, ◌≡◌, ◌↔◌, Bool, true, false, cond, List, [], ◌∷◌, ◌++◌, map, reverse, length, get_or, Option, Contains, refl, sym, ◌∙◌, ap, subst, arith}
+use Rattle.std.specs.List.{flat_map}
+use Rattle.std.specs.List.Sorted.{IsStrictlyIncreasing}
+use Rattle.std.proofs.lemmas.List.{length-reverse, length-map, reverse-append, map-append, get_or_append_left}
+use Rattle.std.proofs.Math.Seq.{get_or-append_seam}
+use Rattle.task_program.specs.declared.statement.DependKind.{DependKind}
+use Rattle.task_program.specs.declared.statement.Item.{Item}
+use Rattle.depend_table.specs.declared.table.Call.{Call}
+use Rattle.depend_table.specs.Lists.{Lists}
+use Rattle.depend_table.specs.Marks.{IsMarked, IsMarkedNumber}
+use Rattle.depend_table.specs.Siblings.{Sibling, IsAmong, IsKept}
+use Rattle.depend_table.specs.Siblings.IsAmong.{Newest, Below}
+use Rattle.depend_table.specs.Generations.{HasRank}
+use Rattle.depend_table.specs.Entries.{Names, entry_at, entry_after, joins_to, predecessors_of, sibling_of, newest_first, tasks_of, AreTied, IsTableOf}
+use Rattle.depend_table.proofs.Entered.{IsKeptPlace, predecessors_for, predecessors_are_kept, kept_are_predecessors, tied_after, newest_first-push}
+use Rattle.depend_table.proofs.Lists.{increasing_push, lists_same}
+use Rattle.depend_table.proofs.Members.{reverse-cons, contains_member, member_contains, member_map, member_of_map, member_reverse}
+
+-- the tasks of siblings, the newest last
+abbrev pub oldest_first : List Sibling → List ℕ
+oldest_first siblings = reverse (map (λ sibling. sibling.task) siblings)
+
+pub length-oldest : (siblings : List Sibling) → length (oldest_first siblings) ≡ length siblings
+length-oldest siblings = length-reverse (map (λ (sibling : Sibling). sibling.task) siblings) ∙ length-map siblings (λ (sibling : Sibling). sibling.task)
+
+-- a sibling's task stands at its place
+pub record IsPlaced (siblings : List Sibling) (x : Sibling) (older : List Sibling) : Type 0 where
+  pub below : length older < length siblings
+  pub found : get_or (oldest_first siblings) (length older) 0 ≡ x.task
+
+pub placed : (siblings : List Sibling) (x : Sibling) (older : List Sibling) → IsAmong siblings x older → IsPlaced siblings x older
+placed siblings x older Newest = record {
+  below = omega arith;
+  found =
+      ap (λ (xs : List ℕ). get_or xs (length older) 0) (reverse-cons x.task (map (λ (sibling : Sibling). sibling.task) older))
+      ∙ ap (λ n. get_or (oldest_first older ++ x.task ∷ []) n 0) (sym (length-oldest older))
+      ∙ get_or-append_seam (oldest_first older) x.task [] 0;
+}
+placed siblings x older (Below {x = z} {y} {siblings = rest} {older = before} among) =
+    let p = placed rest x older among in
+    let below = p.below in
+    let one_more : length siblings ≡ length rest + 1 = omega arith in
+    record {
+      below = omega arith;
+      found =
+          ap (λ (xs : List ℕ). get_or xs (length older) 0) (reverse-cons y.task (map (λ (sibling : Sibling). sibling.task) rest))
+          ∙ get_or_append_left (oldest_first rest) (y.task ∷ []) 0 (length older) (omega (arith, length-oldest rest))
+          ∙ p.found;
+    }
+
+-- the accepted calls, as siblings
+pub oldest_first-calls : (calls : List Call) → oldest_first (newest_first calls) ≡ tasks_of calls
+oldest_first-calls [] = refl
+oldest_first-calls (call ∷ calls) =
+    ap oldest_first (ap (map sibling_of) (reverse-cons call calls) ∙ map-append sibling_of (reverse calls) (call ∷ []))
+    ∙ ap (λ (xs : List ℕ). reverse xs) (map-append (λ (sibling : Sibling). sibling.task) (newest_first calls) (sibling_of call ∷ []))
+    ∙ reverse-append (map (λ (sibling : Sibling). sibling.task) (newest_first calls)) (call.task ∷ [])
+    ∙ ap (λ (xs : List ℕ). call.task ∷ xs) (oldest_first-calls calls)
+
+pub length-newest : (calls : List Call) → length (newest_first calls) ≡ length calls
+length-newest calls = length-map (reverse calls) sibling_of ∙ length-reverse calls
+
+-- the generations are of places of siblings
+ranked_within : (name : ℕ) (siblings : List Sibling) (level place : ℕ) → HasRank name siblings level place → place < length siblings
+ranked_within name siblings level place r =
+    let below = (placed siblings r.sibling r.older r.among).below in
+    let at_place = r.placed in
+    omega arith
+
+pub predecessors_within : (names : Names) (siblings : List Sibling) (name : ℕ) (sharing : Option DependKind) (place : ℕ) → AreTied names siblings → Contains (predecessors_of (entry_at names name) sharing) place → place < length siblings
+predecessors_within names siblings name sharing place tied = by_join (joins_to (entry_at names name).sharing sharing)
+  where
+    by_join : (test : Bool) → Contains (cond test (entry_at names name).previous (entry_at names name).current) place → place < length siblings
+    by_join true c = let p = ((tied name).is_previous place).0 c in ranked_within name siblings p.0 place p.2
+    by_join false c = ranked_within name siblings (tied name).top place (((tied name).is_current place).0 c)
+
+-- the tasks at the marked places are the kept ones
+pub kept_listed : (names : Names) (calls : List Call) (items : List Item) (marks : List Bool) (kept : List ℕ) → IsTableOf names calls → ((place : ℕ) → IsMarked marks place ↔ Contains (flat_map (predecessors_for names items) items) place) → Lists (IsMarkedNumber marks (tasks_of calls) (length calls)) kept → Lists (IsKept (newest_first calls) items) kept
+kept_listed names calls items marks kept table marked lists =
+    lists_same (IsMarkedNumber marks (tasks_of calls) (length calls)) (IsKept (newest_first calls) items) kept lists there back
+  where
+    there : (s : ℕ) → IsMarkedNumber marks (tasks_of calls) (length calls) s → IsKept (newest_first calls) items s
+    there s m =
+        let k = predecessors_are_kept names (newest_first calls) items m.place table.tied ((marked m.place).0 m.marked) in
+        let p = placed (newest_first calls) k.kept.earlier k.kept.older k.kept.among in
+        record {
+          earlier = k.kept.earlier;
+          older = k.kept.older;
+          among = k.kept.among;
+          number = sym p.found ∙ ap (λ (xs : List ℕ). get_or xs (length k.kept.older) 0) (oldest_first-calls calls) ∙ ap (λ n. get_or (tasks_of calls) n 0) k.kept.placed ∙ m.found;
+          name = k.name;
+          conflicts = k.kept.conflicts;
+          one_less = k.kept.one_less;
+        }
+
+    back : (s : ℕ) → IsKept (newest_first calls) items s → IsMarkedNumber marks (tasks_of calls) (length calls) s
+    back s k =
+        let p = placed (newest_first calls) k.earlier k.older k.among in
+        let below = p.below in
+        let at_place : IsKeptPlace (newest_first calls) items (length k.older) = record { name = k.name; kept = record { earlier = k.earlier; older = k.older; among = k.among; placed = refl; conflicts = k.conflicts; one_less = k.one_less } } in
+        record {
+          place = length k.older;
+          below = omega (arith, length-newest calls);
+          marked = (marked (length k.older)).1 (kept_are_predecessors names (newest_first calls) items (length k.older) table.tied at_place);
+          found = ap (λ (xs : List ℕ). get_or xs (length k.older) 0) (sym (oldest_first-calls calls)) ∙ p.found ∙ k.number;
+        }
+
+-- one more call
+pub table_after : (names later : Names) (calls : List Call) (call : Call) → IsTableOf names calls → ((s : Sibling) → Contains (newest_first calls) s → s.task < call.task) → ((name : ℕ) → entry_at later name ≡ entry_after (length calls) call.items.items call.items.items name (entry_at names name)) → IsTableOf later (calls ++ call ∷ [])
+table_after names later calls call table above same = record {
+  ascending = subst IsStrictlyIncreasing (sym (map-append (λ (c : Call). c.task) calls (call ∷ []))) (increasing_push (tasks_of calls) call.task table.ascending below);
+  tied = subst (AreTied later) (sym (newest_first-push calls call)) (tied_after names later (newest_first calls) (sibling_of call) table.tied (λ name. same name ∙ ap (λ n. entry_after n call.items.items call.items.items name (entry_at names name)) (sym (length-newest calls))));
+}
+  where
+    below : (n : ℕ) → Contains (tasks_of calls) n → n < call.task
+    below n c =
+        let m = member_of_map (λ (c : Call). c.task) calls n (member_contains (tasks_of calls) n c) in
+        let is : m.0.task ≡ n = m.2 in
+        let less : m.0.task < call.task = above (sibling_of m.0) (contains_member (member_map sibling_of (member_reverse calls m.0 m.1))) in
+        omega arith

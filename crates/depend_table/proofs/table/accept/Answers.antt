@@ -1,0 +1,26 @@
+use Rattle.std.proofs.Common.{ℕ, ◌≡◌, ◌<◌, List, length, Contains, ap, ◌∙◌, sym, subst, rules}
+use Rattle.std.proofs.lemmas.List.Elements.{All-contains}
+use Rattle.task_program.specs.declared.statement.Item.{Item}
+use Rattle.depend_table.specs.declared.table.Call.{Call}
+use Rattle.depend_table.specs.Siblings.{Sibling}
+use Rattle.depend_table.specs.Entries.{Entry, entry_at, entry_after, newest_first, IsTableOf}
+use Rattle.depend_table.proofs.Places.{table_after}
+use Rattle.depend_table.proofs.table.accept.Goals as goal
+
+pub returns-clause-table : goal.returns-clause-table
+returns-clause-table c =
+    let names = c.args.names.now in
+    let calls = c.args.calls.now.items in
+    let items = c.args.items.now in
+    let call : Call = record { task = c.args.task; items = c.in_ok-copy.copy } in
+    let copied : call.items.items ≡ items = c.in_ok-copy.ensures.items in
+    let place : c.len-place.result ≡ length calls = search rules in
+    let above : (s : Sibling) → Contains (newest_first calls) s → s.task < c.args.task =
+    λ s held. All-contains (λ (x : Sibling). x.task < c.args.task) (newest_first calls) s c.requires.above held in
+    let same : (name : ℕ) → entry_at c.enter_all.new.names name ≡ entry_after (length calls) call.items.items call.items.items name (entry_at names name) =
+    λ name.
+    c.enter_all.ensures name
+    ∙ ap (λ (e : Entry). entry_after c.len-place.result items items name e) (c.in_ok-make_all_room.ensures.same name)
+    ∙ ap (λ n. entry_after n items items name (entry_at names name)) place
+    ∙ ap (λ (is : List Item). entry_after (length calls) is is name (entry_at names name)) (sym copied) in
+    subst (IsTableOf c.enter_all.new.names) (sym c.in_ok-push.ensures.items) (table_after names c.enter_all.new.names calls call c.requires.table above same)
