@@ -1,0 +1,24 @@
+use Rattle.std.proofs.Common.{sym, subst, arith}
+use Rattle.std.proofs.lemmas.Bool.{both_ways}
+use Rattle.depend_table.specs.Kept.{IsKeptEdge}
+use Rattle.depend_table.specs.Lists.{Lists}
+use Rattle.dispatch_core.specs.Run.{Run, IsOpen}
+use Rattle.dispatch_core.proofs.Ends.{open_known}
+use Rattle.dispatch_core.proofs.dispatch.Core.preds_of.Goals as goal
+
+pub returns-then-segment-len : goal.returns-then-segment-len
+returns-then-segment-len g c h =
+    let P : Run → Type 0 = λ run. IsOpen run.table run.history c.args.segment in
+    let known = open_known c.self.inside.table c.self.inside.history.items c.args.segment c.self.invariant.sound_table (subst P (sym c.self.view_is) h) in
+    absurd (omega (arith, known, c.len.ensures))
+
+pub returns-then-not-is_open : goal.returns-then-not-is_open
+returns-then-not-is_open g c h = absurd (both_ways c.is_open.result c.if-not-is_open.true (c.is_open.ensures.1 h))
+
+pub preds-requires : goal.preds-requires
+preds-requires g c = omega (arith, c.len.ensures, c.self.invariant.are_kept.each)
+
+pub returns : goal.returns
+returns g c =
+    let Q : Run → Type 0 = λ run. Lists (λ p. IsKeptEdge run.table p c.args.segment) c.preds.result.now in
+    (c.is_open.ensures.0 c.if-not-is_open.false, subst Q c.self.view_is (c.self.invariant.are_kept.lists c.args.segment c.preds.result.now c.preds.ensures))

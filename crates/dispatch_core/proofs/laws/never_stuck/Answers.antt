@@ -1,0 +1,5 @@
+use Rattle.dispatch_core.proofs.NeverStuck.{some_ready}
+use Rattle.dispatch_core.proofs.laws.never_stuck.Goals as goal
+
+pub returns : goal.returns
+returns c history = some_ready c.args.table.now history c.sound.ensures

@@ -1,0 +1,6 @@
+use Rattle.std.proofs.Common.{◌≡◌, take}
+use Rattle.dispatch_core.specs.Facts.{costs_of}
+use Rattle.dispatch_core.proofs.places.costs.Given as goal
+
+abbrev pub invariant-loop-segment : goal.invariant-loop-segment
+invariant-loop-segment l = l.list.items ≡ take l.segment (costs_of l.table)

@@ -1,0 +1,39 @@
+-- What a core keeps beside its history.
+use Rattle.std.specs.Prelude.{ℕ, ◌+◌, ◌*◌, ◌≤◌, ◌≡◌, Bool, true, List, Option, Some, length, slice_get, count_by, is_some}
+use Rattle.task_segments.specs.Table.{Table}
+use Rattle.dispatch_core.specs.declared.event.Event.{Event}
+use Rattle.dispatch_core.specs.Counters.{TellFinished, AreKept, AreCounts}
+use Rattle.dispatch_core.specs.Entry.{entry}
+use Rattle.dispatch_core.specs.Facts.{costs_of, IsSoundTable}
+use Rattle.dispatch_core.specs.Run.{HasStarted, Runs, IsLegal}
+use Rattle.dispatch_core.specs.Values.{IsValue}
+
+-- a flag for each segment: whether it is started
+pub record AreStarted (table : Table) (history : List Event) (started : List Bool) : Type 0 where
+  pub each : length started ≡ length table.segments
+  pub is_started : (s : ℕ) → slice_get started s ≡ Some true → HasStarted history s
+  pub has_started : (s : ℕ) → HasStarted history s → slice_get started s ≡ Some true
+
+-- for each of 64 workers the segment that it runs, if any
+pub record AreRunning (history : List Event) (running : List (Option ℕ)) : Type 0 where
+  pub each : length running ≡ 64
+  pub is_run : (worker s : ℕ) → entry running worker ≡ Some s → Runs history worker s
+  pub runs : (worker s : ℕ) → Runs history worker s → entry running worker ≡ Some s
+
+-- for each segment its value, once it is finished
+pub record AreValues (table : Table) (history : List Event) (value_of : ℕ → ℕ → ℕ → ℕ) (values : List (Option ℕ)) : Type 0 where
+  pub tell : TellFinished (length table.segments) history values
+  pub is_value : (s value : ℕ) → entry values s ≡ Some value → IsValue table value_of s value
+
+pub record IsSound (value_of : ℕ → ℕ → ℕ → ℕ) (table : Table) (history : List Event) (capacity : ℕ) (started : List Bool)
+    (running : List (Option ℕ)) (values : List (Option ℕ)) (preds : List (List ℕ)) (counts : List ℕ) (costs : List ℕ) : Type 0 where
+  pub sound_table : IsSoundTable table
+  pub legal : IsLegal table history
+  pub are_started : AreStarted table history started
+  pub are_running : AreRunning history running
+  pub are_values : AreValues table history value_of values
+  pub are_kept : AreKept table preds
+  pub are_counts : AreCounts values preds counts
+  pub are_costs : costs ≡ costs_of table
+  pub counted : length history ≡ count_by (λ b. b) started + count_by is_some values
+  pub reserved : 2 * length table.segments ≤ capacity

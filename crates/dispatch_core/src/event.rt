@@ -1,0 +1,43 @@
+//! Events of a run, and why one is refused.
+use crate::kernel::{Kernel, SegResult};
+
+/// A worker, by its number, starts a segment, by its number, or finishes it.
+#[derive(Clone, Copy, Debug, PartialEq, Eq)]
+pub enum Event {
+    Start { worker: u32, segment: u32 },
+    Finish { worker: u32, segment: u32 },
+}
+
+/// Why a start is refused: the first of these that holds.
+#[derive(Clone, Copy, Debug, PartialEq, Eq)]
+pub enum StartRefusal {
+    /// The worker is none of 64.
+    UnknownWorker,
+    /// The segment is past the program's last.
+    UnknownSegment,
+    /// The worker runs a segment.
+    WorkerBusy,
+    /// The segment was started.
+    AlreadyStarted,
+    /// `pred` is the smallest unfinished segment that must precede it.
+    NotReady { pred: u32 },
+}
+
+/// Why a finish is refused: the first of these that holds.
+#[derive(Clone, Copy, Debug, PartialEq, Eq)]
+pub enum FinishKind {
+    /// The worker does not run that segment.
+    NotRunning,
+    /// The result was computed for another cost than the segment's.
+    WrongCost,
+    /// The result was computed on another input than the segment's.
+    WrongInput,
+    OutOfMemory,
+}
+
+/// A finish that is refused: why, and the result that comes back.
+#[derive(Drop)]
+pub struct FinishRefusal<K: Kernel> {
+    pub kind: FinishKind,
+    pub result: SegResult<K>,
+}

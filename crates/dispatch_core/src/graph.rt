@@ -1,0 +1,102 @@
+//! Recorded graphs: segments with costs, each with its predecessors.
+ghost use Rattle.std.specs.Prelude.{ℕ, List, ◌≡◌, ◌<◌, ◌≤◌, ◌^◌, length, sum, sum_by, slice_index_or, map};
+ghost use Rattle.dispatch_core.specs.Recorded.{Recorded, IsGraph, predecessors_of};
+
+use std::marker::Model;
+
+/// A recorded graph: for each segment, by its number from 0, its cost and the numbers of its predecessors.
+/// Contracts see these two lists.
+#[derive(Drop)]
+pub struct Graph {
+    costs: Vec<u64>,
+    predecessors: Vec<Vec<u32>>,
+}
+
+impl Model for Graph {
+    ghost use Rattle.dispatch_core.specs.Recorded.{Recorded, IsGraph};
+    ghost use Rattle.dispatch_core.specs.Graph.{recorded};
+
+    ghost Value = { Recorded };
+
+    ghost view = { recorded };
+
+    ghost invariant = { λ a. IsGraph (recorded a) };
+}
+
+/// The graph with these costs and predecessors.
+pub(crate) fn make_graph(costs: Vec<u64>, predecessors: Vec<Vec<u32>>) -> Graph
+    requires { IsGraph (record { costs = costs.items; predecessors = map (λ v. v.items) predecessors.items }) }
+    ensures { result ≡ record { costs = costs.items; predecessors = map (λ v. v.items) predecessors.items } }
+{
+    Graph {
+        costs,
+        predecessors,
+    }
+}
+
+impl Graph {
+    /// How many segments there are. Its second clause tells callers what is true of every graph.
+    pub fn len(&self) -> u32
+        ensures count { result ≡ length self.now.costs }
+        ensures is_graph { IsGraph self.now }
+    {
+        self.costs.len() as u32
+    }
+
+    /// The cost of a segment.
+    pub fn cost(&self, segment: u32) -> u64
+        requires { segment < length self.now.costs }
+        ensures { result ≡ slice_index_or self.now.costs segment 0 }
+    {
+        self.costs[segment as usize]
+    }
+
+    /// The predecessors of a segment, ascending.
+    pub fn preds(&self, segment: u32) -> &[u32]
+        requires { segment < length self.now.costs }
+        ensures { result.now ≡ predecessors_of self.now segment }
+    {
+        self.predecessors[segment as usize].as_slice()
+    }
+
+    /// How many pairs of a predecessor and a segment there are.
+    pub fn edges(&self) -> u64
+        ensures { result ≡ sum_by length self.now.predecessors }
+    {
+        edge_count(self.predecessors.as_slice())
+    }
+
+    /// The total of the costs.
+    pub fn work(&self) -> u64
+        ensures { result ≡ sum self.now.costs }
+    {
+        self.costs.iter().sum()
+    }
+
+    /// Puts other costs, one for each segment, in the place of these. The predecessors stay.
+    pub fn set_costs(&mut self, costs: &[u64])
+        requires each { length costs.now ≡ length self.old.costs }
+        requires little { sum costs.now ≤ 10 ^ 15 }
+        ensures { self.new ≡ record self.old { costs = costs.now } }
+    {
+        copy_costs(&mut self.costs, costs);
+    }
+}
+
+fn copy_costs(to: &mut Vec<u64>, from: &[u64])
+    requires { length from.now ≡ length to.old.items }
+    ensures { to.new.items ≡ from.now }
+{
+    to.as_mut_slice().copy_from_slice(from);
+}
+
+fn edge_count(lists: &[Vec<u32>]) -> u64
+    requires { sum_by (λ v. length v.items) lists.now < 2 ^ 64 }
+    ensures { result ≡ sum_by (λ v. length v.items) lists.now }
+{
+    let mut total = 0u64;
+    for list in lists {
+        total += list.len() as u64;
+    }
+    total
+}

@@ -1,0 +1,115 @@
+//! Lists with a place for each segment or worker.
+ghost use Rattle.std.specs.Prelude.{◌≤◌, ◌++◌, ◌∷◌, [], vec_len, vec_capacity, OnOk, if◌then◌else◌};
+ghost use Rattle.std.specs.Prelude.{ℕ, Some, ◌≡◌, ◌<◌, ◌%◌, ◌^◌, length, slice_get, slice_set, sum_by, unwrap_or};
+ghost use Rattle.dispatch_core.specs.Entry.{entry};
+ghost use Rattle.dispatch_core.specs.Facts.{costs_of};
+ghost use Rattle.std.specs.Prelude.{List, IfOk, map, replicate};
+ghost use Rattle.dispatch_core.specs.First.{AreFirst};
+
+use crate::counters::Counters;
+use crate::event::Event;
+use std::alloc::Global;
+use task_program::AllocFault;
+use task_segments::table::SegTable;
+
+/// Adds an event to a history that has room for it.
+pub fn push_event(history: &mut Vec<Event>, event: Event)
+    requires { vec_len history.old < vec_capacity history.old }
+    ensures items { history.new.items ≡ history.old.items ++ event ∷ [] }
+    ensures capacity { vec_capacity history.old ≤ vec_capacity history.new }
+{
+    match history.push(event) {
+        Ok(()) => {}
+        Err(_) => unreachable!(),
+    }
+}
+
+/// Adds a number to a list, if it is to be kept.
+pub fn push_if(list: &mut Vec<u32>, number: u32, keep: bool) -> Result<(), AllocFault>
+    ensures { OnOk result (list.new.items ≡ (if keep then list.old.items ++ number ∷ [] else list.old.items)) }
+{
+    if keep {
+        list.push(number)?;
+    }
+    Ok(())
+}
+
+/// What stands at a place, if anything.
+pub fn worker_entry(list: &[Option<u32>], at: u32) -> Option<u32>
+    ensures { result ≡ entry list.now at }
+{
+    list.get(at as usize).copied().flatten()
+}
+
+/// What stands at a place, if anything.
+pub fn value_entry(list: &[Option<u64>], at: u32) -> Option<u64>
+    ensures { result ≡ entry list.now at }
+{
+    list.get(at as usize).copied().flatten()
+}
+
+/// The flag at a place.
+pub fn flag(list: &[bool], at: u32) -> bool
+    requires { at < length list.now }
+    ensures { slice_get list.now at ≡ Some result }
+{
+    list[at as usize]
+}
+
+/// The sum of the values at these places, modulo 2^64.
+pub fn sum_at(places: &[u32], values: &[Option<u64>]) -> u64
+    ensures { result ≡ sum_by (λ at. unwrap_or (entry values.now at) 0) places.now % 2 ^ 64 }
+{
+    let mut total = 0u64;
+    for at in places {
+        total = total.wrapping_add(value_entry(values, *at).unwrap_or(0));
+    }
+    total
+}
+
+/// What a core keeps beside its table.
+#[derive(Drop)]
+pub struct Places {
+    pub history: Vec<Event>,
+    pub started: Vec<bool>,
+    pub running: Vec<Option<u32>>,
+    pub values: Vec<Option<u64>>,
+    pub counters: Counters,
+    pub costs: Vec<u64>,
+}
+
+/// The places at the start of a run.
+pub fn make_places(alloc: Global, table: &SegTable) -> Result<Places, AllocFault>
+    ensures { IfOk result (AreFirst table.now) }
+{
+    let segments = table.len();
+    Ok(Places {
+        history: Vec::with_capacity(alloc, 2 * segments as usize)?,
+        started: repeated(alloc, false, segments)?,
+        running: repeated(alloc, None, 64)?,
+        values: repeated(alloc, None, segments)?,
+        counters: Counters::new(alloc, table)?,
+        costs: costs(alloc, table)?,
+    })
+}
+
+/// A list of as many copies.
+fn repeated<T: Copy + Drop>(alloc: Global, one: T, count: u32) -> Result<Vec<T>, AllocFault>
+    ensures { IfOk result (λ list. list.items ≡ replicate count one) }
+{
+    let mut list = Vec::new(alloc);
+    for _ in 0..count {
+        list.push(one)?;
+    }
+    Ok(list)
+}
+
+fn costs(alloc: Global, table: &SegTable) -> Result<Vec<u64>, AllocFault>
+    ensures { IfOk result (λ list. list.items ≡ costs_of table.now) }
+{
+    let mut list = Vec::new(alloc);
+    for segment in 0..table.len() {
+        list.push(table.cost(segment))?;
+    }
+    Ok(list)
+}

@@ -1,0 +1,179 @@
+//! Runs that are given: every segment in order, or a list of events.
+ghost use Rattle.std.specs.Prelude.{ℕ, Some, ◌≡◌, ◌<◌, ◌≤◌, ◌+◌, ◌++◌, ◌∷◌, [], length, IfOk, IfErr, OnOk, OnErr, take};
+ghost use Rattle.dispatch_core.specs.Run.{Run, Runs, IsLegal};
+ghost use Rattle.dispatch_core.specs.Values.{IsInput};
+ghost use Rattle.dispatch_core.specs.Refusals.{IsCost};
+ghost use Rattle.dispatch_core.specs.Mix.{mix_value};
+ghost use Rattle.dispatch_core.specs.Graph.{IsGraphOf};
+ghost use Rattle.dispatch_core.specs.Replays.{AreDone, RefusesStep, RefusesReplay, fault_at};
+
+use crate::dispatch::{Core, NewFault};
+use crate::event::{Event, FinishKind, StartRefusal};
+use crate::facts::sound;
+use crate::graph::Graph;
+use crate::kernel::{MixKernel, SegResult};
+use std::alloc::{AllocError, Global};
+use task_program::AllocFault;
+use task_segments::table::SegTable;
+
+/// Why an event is refused.
+#[derive(Clone, Copy, Debug, PartialEq, Eq)]
+pub enum ReplayRefusal {
+    OfStart(StartRefusal),
+    NotRunning,
+}
+
+/// Why a list of events is refused: its first refused event, by its index from 0.
+#[derive(Clone, Copy, Debug, PartialEq, Eq)]
+pub enum ReplayFault {
+    At {
+        index: usize,
+        refusal: ReplayRefusal,
+    },
+    OutOfMemory,
+}
+
+/// Why one event was not made.
+#[derive(Clone, Copy, Debug, PartialEq, Eq)]
+enum StepFault {
+    Refused(ReplayRefusal),
+    NoMemory,
+}
+
+/// The program's graph, by a run of every segment in the order of numbers on worker 0. It is refused for want of
+/// memory alone, and then the table comes back.
+pub fn in_order(alloc: Global, table: SegTable) -> Result<Graph, NewFault>
+    ensures ok { IfOk result (IsGraphOf table) }
+    ensures err { IfErr result (λ fault. fault.table ≡ table) }
+{
+    let mut core = Core::<MixKernel>::new(alloc, table)?;
+    for segment in 0..core.table().len() {
+        if run_next(&mut core, segment).is_err() {
+            return Err(NewFault {
+                table: core.into_table(),
+            });
+        }
+    }
+    match core.into_graph() {
+        Ok(graph) => Ok(graph),
+        Err(_) => unreachable!(),
+    }
+}
+
+/// Runs the next segment from its start to its finish. It is refused for memory alone.
+fn run_next(core: &mut Core<MixKernel>, segment: u32) -> Result<(), AllocFault>
+    requires known { segment < length core.old.table.segments }
+    requires next { AreDone core.old.history segment }
+    ensures table { core.new.table ≡ core.old.table }
+    ensures ok { OnOk result (AreDone core.new.history (segment + 1)) }
+{
+    sound(core.table());
+    let _ = core.history();
+    match core.start(0, segment) {
+        Ok(_) => {}
+        Err(_) => unreachable!(),
+    }
+    match core.task_of(0, segment) {
+        Some((cost, input)) => finish_computed(core, 0, segment, cost, input),
+        None => unreachable!(),
+    }
+}
+
+/// Finishes a running segment with the mixing kernel's value. It is refused for memory alone, and then nothing is changed.
+fn finish_computed(
+    core: &mut Core<MixKernel>,
+    worker: u32,
+    segment: u32,
+    cost: u64,
+    input: u64,
+) -> Result<(), AllocFault>
+    requires runs { Runs core.old.history worker segment }
+    requires cost { IsCost core.old.table segment cost }
+    requires input { IsInput core.old.table mix_value segment input }
+    ensures ok { OnOk result (core.new ≡ record { table = core.old.table; history = core.old.history ++ Event.Finish worker segment ∷ [] }) }
+    ensures same { OnErr result (core.new ≡ core.old) }
+{
+    let kind = match core.finish(worker, mixed_result(segment, cost, input)) {
+        Ok(_) => return Ok(()),
+        Err(refusal) => refusal.kind,
+    };
+    match kind {
+        FinishKind::OutOfMemory => Err(AllocError),
+        _ => unreachable!(),
+    }
+}
+
+/// The mixing kernel's result.
+fn mixed_result(segment: u32, cost: u64, input: u64) -> SegResult<MixKernel>
+    ensures { result ≡ record { segment = segment; cost = cost; input = input; value = mix_value segment cost input } }
+{
+    match SegResult::compute(&MixKernel, segment, cost, input) {
+        Ok(outcome) => outcome,
+        Err(_) => unreachable!(),
+    }
+}
+
+/// The core after a list of events, run with the mixing kernel, or the first of them that may not follow those before
+/// it. Where it is refused, for that or for want of memory, the table comes back.
+pub fn replay(
+    alloc: Global,
+    table: SegTable,
+    events: &[Event],
+) -> Result<Core<MixKernel>, (ReplayFault, SegTable)>
+    ensures ok { IfOk result (λ core. core ≡ record { table = table; history = events.now }) }
+    ensures legal { OnOk result (IsLegal table events.now) }
+    ensures refused { IfErr result (λ fault. RefusesReplay table events.now fault.0) }
+    ensures back { IfErr result (λ fault. fault.1 ≡ table) }
+{
+    let mut core = match Core::<MixKernel>::new(alloc, table) {
+        Ok(core) => core,
+        Err(fault) => return Err((ReplayFault::OutOfMemory, fault.table)),
+    };
+    for index in 0..events.len() {
+        let _ = core.history();
+        match make_event(&mut core, events[index]) {
+            Ok(()) => {}
+            Err(fault) => return Err((replay_fault(index, fault), core.into_table())),
+        }
+    }
+    let _ = core.history();
+    Ok(core)
+}
+
+fn replay_fault(index: usize, fault: StepFault) -> ReplayFault
+    ensures { result ≡ fault_at index fault }
+{
+    match fault {
+        StepFault::Refused(refusal) => ReplayFault::At { index, refusal },
+        StepFault::NoMemory => ReplayFault::OutOfMemory,
+    }
+}
+
+/// Makes one event.
+fn make_event(core: &mut Core<MixKernel>, event: Event) -> Result<(), StepFault>
+    ensures next { OnOk result (core.new ≡ record { table = core.old.table; history = core.old.history ++ event ∷ [] }) }
+    ensures refused { IfErr result (RefusesStep core.old.table core.old.history event) }
+    ensures same { OnErr result (core.new ≡ core.old) }
+{
+    match event {
+        Event::Start { worker, segment } => match core.start(worker, segment) {
+            Ok(_) => Ok(()),
+            Err(refusal) => Err(StepFault::Refused(ReplayRefusal::OfStart(refusal))),
+        },
+        Event::Finish { worker, segment } => make_finish(core, worker, segment),
+    }
+}
+
+fn make_finish(core: &mut Core<MixKernel>, worker: u32, segment: u32) -> Result<(), StepFault>
+    ensures next { OnOk result (core.new ≡ record { table = core.old.table; history = core.old.history ++ Event.Finish worker segment ∷ [] }) }
+    ensures refused { IfErr result (RefusesStep core.old.table core.old.history (Event.Finish worker segment)) }
+    ensures same { OnErr result (core.new ≡ core.old) }
+{
+    match core.task_of(worker, segment) {
+        None => Err(StepFault::Refused(ReplayRefusal::NotRunning)),
+        Some((cost, input)) => match finish_computed(core, worker, segment, cost, input) {
+            Ok(()) => Ok(()),
+            Err(_) => Err(StepFault::NoMemory),
+        },
+    }
+}
