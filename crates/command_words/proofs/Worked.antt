@@ -7,4 +7,4 @@ use Rattle.command_words.specs.WorkedWords.{AreReadSo}
 
 pub are_read_so : AreReadSo
 unfolding program clap_on_literals request_of
-are_read_so = record { no_words = refl; name_alone = refl; span = refl; show = refl; capital = refl; unknown = refl; help = refl; help_flag = refl; short_help = refl; version = refl; twice = refl; help_of_show = refl }
+are_read_so = record { no_words = refl; name_alone = refl; span = refl; show = refl; replay = refl; capital = refl; unknown = refl; help = refl; help_flag = refl; short_help = refl; version = refl; twice = refl; help_of_show = refl }

@@ -18,4 +18,5 @@ no_commands =
 unfoldable pub program : App
 program =
     let span = and_then no_commands (plain (codes "span")) in
-    and_then span (plain (codes "show"))
+    let show = and_then span (plain (codes "show")) in
+    and_then show (plain (codes "replay"))

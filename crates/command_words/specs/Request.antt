@@ -4,13 +4,14 @@ use Rattle.std.specs.Str.{bytes_eq}
 use Rattle.clap.specs.Words.{Kinds, Row, Text, fault_of, subcommand_of}
 use Rattle.command_words.specs.Program.{program}
 use Rattle.command_words.specs.declared.request.Request.{Request}
-use Rattle.command_words.specs.declared.request.Request.TheVariants.{Span, Show}
+use Rattle.command_words.specs.declared.request.Request.TheVariants.{Span, Show, Replay}
 
 -- what a command of this name asks for
 abbrev pub request_named : Text → Option Request
 request_named name =
     if bytes_eq name (codes "span") then Some Span
     else if bytes_eq name (codes "show") then Some Show
+    else if bytes_eq name (codes "replay") then Some Replay
     else None
 
 -- without a command it is `span`

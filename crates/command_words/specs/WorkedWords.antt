@@ -2,7 +2,7 @@
 use Rattle.std.specs.Prelude.{◌≡◌, List, ◌∷◌, [], Some, None, codes}
 use Rattle.clap.specs.Words.{Text}
 use Rattle.command_words.specs.Request.{request_of}
-use Rattle.command_words.specs.declared.request.Request.TheVariants.{Span, Show}
+use Rattle.command_words.specs.declared.request.Request.TheVariants.{Span, Show, Replay}
 
 -- one word after the program's name
 abbrev pub with_word : Text → List Text
@@ -13,6 +13,7 @@ pub record AreReadSo : Type 0 where
   pub name_alone : request_of (codes "spanprof" ∷ []) ≡ Some Span
   pub span : request_of (with_word (codes "span")) ≡ Some Span
   pub show : request_of (with_word (codes "show")) ≡ Some Show
+  pub replay : request_of (with_word (codes "replay")) ≡ Some Replay
   pub capital : request_of (with_word (codes "Show")) ≡ None
   pub unknown : request_of (with_word (codes "shown")) ≡ None
   pub help : request_of (with_word (codes "help")) ≡ None

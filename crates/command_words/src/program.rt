@@ -12,7 +12,8 @@ pub(crate) fn program<'a>(alloc: Global) -> Result<Command<'a>, AllocError>
     ensures { IfOk result (λ command. app_of command ≡ program) }
 {
     let command = with(no_commands(alloc), Command::new(alloc, "span"))?;
-    with(command, Command::new(alloc, "show"))
+    let command = with(command, Command::new(alloc, "show"))?;
+    with(command, Command::new(alloc, "replay"))
 }
 
 /// Neither `help` nor `--help` is a word of the program.

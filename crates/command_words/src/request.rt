@@ -16,6 +16,8 @@ pub enum Request {
     Span,
     /// The canonical text of a program.
     Show,
+    /// What a run of a program records, by the events of a replay document.
+    Replay,
 }
 
 /// Why the words ask for nothing.
@@ -55,6 +57,7 @@ fn request_named(name: &str) -> Result<Request, WordsFault>
     match name {
         "span" => Ok(Request::Span),
         "show" => Ok(Request::Show),
+        "replay" => Ok(Request::Replay),
         _ => Err(WordsFault::WrongWords),
     }
 }

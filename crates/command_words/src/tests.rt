@@ -19,6 +19,7 @@ fn commands(rt: HostRuntime) -> Result<(), Fail> {
     assert!(rt; read(alloc, &["spanprof"])? == Ok(Request::Span));
     assert!(rt; read(alloc, &["spanprof", "span"])? == Ok(Request::Span));
     assert!(rt; read(alloc, &["spanprof", "show"])? == Ok(Request::Show));
+    assert!(rt; read(alloc, &["spanprof", "replay"])? == Ok(Request::Replay));
     Ok(())
 }
 
@@ -35,8 +36,8 @@ fn wrong_words(rt: HostRuntime) -> Result<(), Fail> {
         "Span",
         "sho",
         "",
-        "replay",
         "run",
+        "replays",
     ] {
         let read = read(alloc, &["spanprof", word])?;
         assert!(rt; read == Err(WordsFault::WrongWords), "{word}");

@@ -1,3 +1,6 @@
 mod Asked
 mod OneReport
 mod Passes
+mod OneReplay
+mod OpenRows
+mod Spelling

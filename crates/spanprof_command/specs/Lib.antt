@@ -1,5 +1,10 @@
 pub mod Report
+pub mod OnProgram
 pub mod Reports
 pub mod Command
 pub mod OneReport
+pub mod Events
+pub mod EventSteps
+pub mod Replaying
+pub mod Recounting
 pub mod Earliest

@@ -1,18 +1,16 @@
 -- The report of words and an input: one text and one status.
-use Rattle.std.specs.Prelude.{◌≡◌, ◌⊎◌, ◌<◌, ◌≤◌, ℕ, List, ◌++◌, Option, Some, None, Err, codes, length, sum}
+use Rattle.std.specs.Prelude.{◌≡◌, ◌⊎◌, ◌<◌, ◌≤◌, ℕ, List, ◌++◌, Option, Some, None, codes, length, sum}
 use Rattle.command_words.specs.Request.{request_of}
 use Rattle.command_words.specs.declared.request.Request.{Request}
-use Rattle.command_words.specs.declared.request.Request.TheVariants.{Span, Show}
+use Rattle.command_words.specs.declared.request.Request.TheVariants.{Span, Show, Replay}
 use Rattle.task_program.specs.Canonical.{canonical}
-use Rattle.task_program.specs.Faults.{program_of}
-use Rattle.task_program.specs.Grammar.{HasTree}
 use Rattle.task_program.specs.ProgramText.{ProgramText}
-use Rattle.task_program.specs.declared.fault.ReadFault.{ReadFault}
 use Rattle.task_segments.specs.Precedence.{MustPrecede}
 use Rattle.task_segments.specs.Schedule.{IsLeastEnd, IsSpan}
-use Rattle.task_segments.specs.Table.{Table, table_of}
-use Rattle.task_segments.specs.Table.{costs_of}
-use Rattle.spanprof_command.specs.Report.{Output, input_too_long, number_line, refused, wrong_words}
+use Rattle.task_segments.specs.Table.{Table, costs_of, table_of}
+use Rattle.spanprof_command.specs.OnProgram.{OnProgram}
+use Rattle.spanprof_command.specs.Replaying.{AnswersReplay}
+use Rattle.spanprof_command.specs.Report.{Output, input_too_long, number_line, wrong_words}
 use Rattle.spanprof_command.specs.declared.report.Status.TheVariants.{Done}
 
 -- the canonical text
@@ -32,26 +30,11 @@ pub record Measures (table : Table) (output : Output) : Type 0 where
 abbrev pub Spans : ProgramText → Output → Type 0
 Spans program output = Measures (table_of program.marks) output
 
--- the input has a tree, of which a command says something
-pub record Accepts (Says : ProgramText → Output → Type 0) (input : List ℕ) (output : Output) : Type 0 where
-  pub program : ProgramText
-  pub tree : HasTree input program
-  pub says : Says program output
-
--- the input has none, and the line of its first fault is written
-pub record Refuses (input : List ℕ) (output : Output) : Type 0 where
-  pub fault : ReadFault
-  pub is_fault : program_of input ≡ Err fault
-  pub says : output ≡ refused fault
-
--- what a command on a program answers to an input
-abbrev pub OnProgram : (ProgramText → Output → Type 0) → List ℕ → Output → Type 0
-OnProgram Says input output = Accepts Says input output ⊎ Refuses input output
-
 -- what each command answers to an input
 abbrev pub Answers : Request → List ℕ → Output → Type 0
 Answers Span input output = OnProgram Spans input output
 Answers Show input output = OnProgram Shows input output
+Answers Replay input output = AnswersReplay input output
 
 -- an input of more than 8 MiB is refused, whatever it holds
 pub record RefusesLength (input : List ℕ) (output : Output) : Type 0 where

@@ -1,10 +1,13 @@
 //! What each command answers to an input.
-ghost use Rattle.std.specs.Prelude.{◌≡◌, ◌≢◌, IfOk};
+ghost use Rattle.std.specs.Prelude.{◌≡◌, ◌≢◌, IfOk, MatchResult};
+ghost use Rattle.task_program.specs.Grammar.{HasTree};
 ghost use Rattle.task_program.specs.declared.fault.ReadKind.TheVariants.{OutOfMemory};
 ghost use Rattle.spanprof_command.specs.Report.{kind_name, refused};
+ghost use Rattle.spanprof_command.specs.OnProgram.{OnProgram, Refuses};
 ghost use Rattle.spanprof_command.specs.Reports.{Answers, Measures, Shows, Spans};
 
 use crate::earliest::{span_of, work_of};
+use crate::replaying::replay_report;
 use crate::report::{Report, Status};
 use command_words::request::Request;
 use std::alloc::{AllocError, Global};
@@ -19,18 +22,28 @@ use task_segments::table::SegTable;
 pub(crate) fn answer(alloc: Global, request: Request, input: &[u8]) -> Result<Report, AllocError>
     ensures { IfOk result (λ report. Answers request input.now report) }
 {
-    let program = match read_program(alloc, input) {
-        Ok(program) => program,
+    match request {
+        Request::Span => span_report(alloc, input),
+        Request::Show => show_report(alloc, input),
+        Request::Replay => replay_report(alloc, input),
+    }
+}
+
+/// The program of a text, or the line of its first fault.
+pub(crate) fn read_or_refuse(
+    alloc: Global,
+    text: &[u8],
+) -> Result<Result<Program, Report>, AllocError>
+    ensures { IfOk result (λ read. MatchResult read (λ program. HasTree text.now program) (λ report. Refuses text.now report)) }
+{
+    match read_program(alloc, text) {
+        Ok(program) => Ok(Ok(program)),
         Err(fault) => {
             if fault.kind == ReadKind::OutOfMemory {
                 return Err(AllocError);
             }
-            return refusal(alloc, fault);
+            Ok(Err(refusal(alloc, fault)?))
         }
-    };
-    match request {
-        Request::Span => span_report(alloc, &program),
-        Request::Show => show_report(alloc, &program),
     }
 }
 
@@ -64,11 +77,13 @@ fn kind_name(kind: ReadKind) -> &'static str
     }
 }
 
-fn span_report(alloc: Global, program: &Program) -> Result<Report, AllocError>
-    ensures { IfOk result (λ report. Spans program.now report) }
+fn span_report(alloc: Global, input: &[u8]) -> Result<Report, AllocError>
+    ensures { IfOk result (λ report. OnProgram Spans input.now report) }
 {
-    let table = cut(alloc, program)?;
-    measures(alloc, &table)
+    match read_or_refuse(alloc, input)? {
+        Ok(program) => measures(alloc, &cut(alloc, &program)?),
+        Err(report) => Ok(report),
+    }
 }
 
 fn measures(alloc: Global, table: &SegTable) -> Result<Report, AllocError>
@@ -81,9 +96,11 @@ fn measures(alloc: Global, table: &SegTable) -> Result<Report, AllocError>
     Ok(Report::new(text.into_bytes(), Status::Done))
 }
 
-fn show_report(alloc: Global, program: &Program) -> Result<Report, AllocError>
-    ensures { IfOk result (λ report. Shows program.now report) }
+fn show_report(alloc: Global, input: &[u8]) -> Result<Report, AllocError>
+    ensures { IfOk result (λ report. OnProgram Shows input.now report) }
 {
-    let text = print_program(alloc, program)?;
-    Ok(Report::new(text, Status::Done))
+    match read_or_refuse(alloc, input)? {
+        Ok(program) => Ok(Report::new(print_program(alloc, &program)?, Status::Done)),
+        Err(report) => Ok(report),
+    }
 }

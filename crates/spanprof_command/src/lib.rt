@@ -4,7 +4,9 @@
 mod answers;
 mod earliest;
 mod engine;
+mod events;
 pub mod laws;
+mod replaying;
 mod report;
 
 pub use engine::command;

@@ -1,5 +1,7 @@
 //! Commands over devices in memory.
+mod events;
 mod faults;
+mod replays;
 mod rows;
 
 use crate::devices::{Faults, Sink, Source};

@@ -20,3 +20,5 @@ pub mod Answers
 pub mod ReaderSeen
 pub mod OneTree
 pub mod ReadBack
+pub mod Document
+pub mod PlainWords
