@@ -93,7 +93,6 @@ fn clauses(rt: HostRuntime) -> Result<(), Fail> {
         ),
         ("task final(1) { }", ReadKind::BadWord),
         ("task }", ReadKind::BadWord),
-        ("task work 1", ReadKind::BadWord),
     ];
     for (body, kind) in rows {
         let text = lines(rt.alloc(), &[(body, 1)])?;
