@@ -20,3 +20,4 @@ pub mod Readiness
 pub mod NeverStuck
 pub mod Ends
 pub mod GivenRuns
+pub mod Complete

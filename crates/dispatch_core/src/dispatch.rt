@@ -107,12 +107,8 @@ impl<K: Kernel> Core<K> {
     pub fn is_finished(&self) -> bool
         ensures { IsTrue result ↔ IsFinished self.now.table self.now.history }
     {
-        for segment in 0..self.table.len() {
-            if !self.has_finished(segment) {
-                return false;
-            }
-        }
-        true
+        // A segment has one start and one finish.
+        self.history.len() == 2 * self.table.len() as usize
     }
 
     /// The kept predecessors of a segment, ascending, once it is open: where it is the first of all, or the one before

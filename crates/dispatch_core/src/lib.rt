@@ -15,3 +15,5 @@ mod opener;
 mod places;
 mod record;
 pub mod replay;
+#[cfg(test)]
+mod tests;

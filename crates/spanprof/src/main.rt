@@ -5,9 +5,8 @@ use command_io::write_text;
 use counted_io::Counted;
 use spanprof_command::{Status, command};
 use std::alloc::AllocGlobal;
-use std::env;
-use std::io;
 use std::process::ExitCode;
+use std::{env, io};
 
 /// The words of the command line, of which the first is the program's name.
 fn words(rt: &HostRuntime) -> io::Result<Vec<String>> {

@@ -61,3 +61,9 @@ pub record SendsFront (output : Output) (before after : Option (List ℕ)) (Writ
 
 abbrev pub Sends : Output → Option (List ℕ) → Option (List ℕ) → Type 0 → Status → Type 0
 Sends output before after WriterFailed status = SendsWhole output before after status ⊎ SendsFront output before after WriterFailed status
+
+-- the command sent what it intended
+pub record Ends (words : List (List ℕ)) (left left_after : Option (List ℕ)) (ReaderFailed : Type 0) (held held_after : Option (List ℕ)) (WriterFailed : Type 0) (status : Status) : Type 0 where
+  pub output : Output
+  pub intended : Intends words left left_after ReaderFailed output
+  pub sent : Sends output held held_after WriterFailed status

@@ -2,7 +2,7 @@ ghost use Rattle.std.specs.Prelude.{◌≡◌, ◌+◌, ◌-◌, ◌^◌, ◌<�
 ghost use Rattle.counted_io.specs.Counted.{inner_of, faults_of};
 ghost use Rattle.command_io.specs.Input.{ConsumesAtMost};
 ghost use Rattle.command_words.specs.Request.{request_of};
-ghost use Rattle.spanprof_command.specs.Command.{AnswersInput, Intends, ReportsInput, Sends};
+ghost use Rattle.spanprof_command.specs.Command.{AnswersInput, Ends, ReportsInput, Sends};
 ghost use Rattle.spanprof_command.specs.declared.engine.NoReport.TheVariants.{OutOfMemory};
 ghost use Rattle.spanprof_command.specs.Report.{Output, out_of_memory, read_fault};
 
@@ -17,7 +17,13 @@ use std::io::{Read, Write};
 /// How many interrupted reads and writes of one command are tried again.
 const MOST_RETRIES: u32 = 1000;
 
-/// Does what the words ask for: reads the input to its end, makes the whole text, and writes it.
+/// Does what the words ask for, of which the first is the program's name: reads the input to its
+/// end, makes the whole text in memory, writes it and flushes once.
+///
+/// An input of more than 8,388,608 bytes is refused. Reads and writes that are interrupted are tried
+/// again, together at most 1,000 times. Want of memory and a reader that fails have lines of their
+/// own. Where the writer fails, takes no byte or is interrupted too often, what went out is a front
+/// of the text, and the status is `Fault`.
 pub fn command<H: AllocGlobal, R: Read, W: Write>(
     rt: &H,
     words: &[String],
@@ -27,9 +33,9 @@ pub fn command<H: AllocGlobal, R: Read, W: Write>(
     requires reader { faults_of reader.old < 2 ^ 63 }
     requires writer { faults_of writer.old < 2 ^ 63 }
 
-    ensures answers { (output : Output)
-        × Intends (map string_bytes words.now) (R.remaining (inner_of reader.old)) (R.remaining (inner_of reader.new)) (faults_of reader.old < faults_of reader.new) output
-        × Sends output (W.contents (inner_of writer.old)) (W.contents (inner_of writer.new)) (faults_of writer.old < faults_of writer.new) result }
+    ensures answers { Ends (map string_bytes words.now)
+        (R.remaining (inner_of reader.old)) (R.remaining (inner_of reader.new)) (faults_of reader.old < faults_of reader.new)
+        (W.contents (inner_of writer.old)) (W.contents (inner_of writer.new)) (faults_of writer.old < faults_of writer.new) result }
 
     // In every case.
     ensures reads_nothing { request_of (map string_bytes words.now) ≡ None → reader.new ≡ reader.old }

@@ -9,7 +9,7 @@ use Rattle.task_segments.specs.declared.table.Closing.{Closing}
 use Rattle.task_segments.specs.declared.table.Closing.TheVariants.{Creates, EndsGroup, EndsTask}
 use Rattle.task_segments.specs.declared.table.Closing.TheVariants as closings
 use Rattle.task_segments.specs.declared.table.Segment.{Segment}
-use Rattle.task_segments.specs.Precedence.{Continues, Creation, Resumption, Dependence, Wait, GroupEnd, TasksDepend}
+use Rattle.task_segments.specs.Precedence.{Resumption, Dependence, Wait, GroupEnd, TasksDepend}
 use Rattle.task_segments.specs.Table.{Table, Task, table_of}
 
 abbrev pub item : DependKind → ℕ → Item

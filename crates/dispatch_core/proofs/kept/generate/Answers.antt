@@ -1,12 +1,11 @@
 use Rattle.std.proofs.Common.{ℕ, ◌+◌, ◌<◌, ◌≡◌, ◌∷◌, List, Some, length, sym, ap, subst, arith, ◌∙◌}
-use Rattle.std.specs.Prelude.{slice_get, slice_set, Contains, All}
+use Rattle.std.specs.Prelude.{slice_get, slice_set, All}
 use Rattle.std.proofs.lemmas.Option.{none-some, same_Some}
 use Rattle.task_segments.specs.Table.{Table, task}
 use Rattle.depend_table.specs.Kept.{children_below}
-use Rattle.depend_table.specs.Lists.{Lists}
 use Rattle.depend_table.specs.Siblings.{Sibling, IsKept}
 use Rattle.dispatch_core.specs.Filling.{AreChildren}
-use Rattle.std.specs.Prelude.{◌↔◌}
+use Rattle.depend_table.specs.Lists.{Lists}
 use Rattle.task_program.specs.declared.statement.Item.{Item}
 use Rattle.std.proofs.lemmas.Option.{slice_get-get_or}
 use Rattle.dispatch_core.proofs.Children.{children_small}

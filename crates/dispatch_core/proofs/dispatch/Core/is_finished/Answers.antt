@@ -1,25 +1,18 @@
-use Rattle.std.proofs.Common.{ℕ, ◌≡◌, ap, refl, arith, length, subst, inl, inr}
-use Rattle.std.proofs.lemmas.Bool.{both_ways, cases_lt}
-use Rattle.dispatch_core.specs.Run.{Run, HasFinished}
+use Rattle.std.proofs.Common.{◌*◌, ◌≡◌, ◌↔◌, subst, arith}
+use Rattle.std.proofs.lemmas.Bool.{eq-eqb, eqb-true}
+use Rattle.dispatch_core.specs.Run.{Run, IsFinished}
+use Rattle.dispatch_core.proofs.Complete.{complete, completed}
 use Rattle.dispatch_core.proofs.dispatch.Core.is_finished.Goals as goal
-
-pub returns-then-not-has_finished : goal.returns-then-not-has_finished
-returns-then-not-has_finished g c =
-    let same = ap (λ (run : Run). length run.table.segments) c.self.view_is in (
-      λ h. absurd (both_ways _ refl h),
-      λ all. absurd (both_ways c.has_finished.result c.if-not-has_finished.true (c.has_finished.ensures.1 (all c.loop-segment.segment (omega (arith, same, c.len-segment-end.ensures, c.loop-segment-test.true))))),
-    )
 
 pub returns : goal.returns
 returns g c =
-    let same = ap (λ (run : Run). length run.table.segments) c.self.view_is in
-    (λ h s known. c.loop-segment.invariant s (omega (arith, same, c.len-segment-end.ensures, c.loop-segment-test.false)), λ h. refl)
-
-pub loop-segment-preserved : goal.loop-segment-preserved
-loop-segment-preserved g c s below =
-    elim (cases_lt s c.loop-segment.segment) [
-      | inl before ↦ c.loop-segment.invariant s before
-      | inr after ↦
-          let same : c.loop-segment.segment ≡ s = omega (arith, below, after) in
-          subst (λ (t : ℕ). HasFinished c.args.self.now.history t) same (c.has_finished.ensures.0 c.if-not-has_finished.false)
-    ]
+    let inside = c.self.inside in
+    let sound = c.self.invariant in
+    let P : Run → Type 0 = λ run. (c.len.result ≡ 2 * c.len-2.result) ↔ IsFinished run.table run.history in
+    let whole : P c.args.self.now = subst P c.self.view_is (
+      λ twice. complete inside.table inside.history.items inside.started.items inside.values.items sound.are_started sound.are_values.tell sound.counted (omega (arith, twice, c.len.ensures, c.len-2.ensures)),
+      λ finished.
+          let all = completed inside.table inside.history.items inside.started.items inside.values.items sound.legal sound.are_started sound.are_values.tell sound.counted finished in
+          omega (arith, all, c.len.ensures, c.len-2.ensures),
+    ) in
+    (λ is. whole.0 (eqb-true c.len.result (2 * c.len-2.result) is), λ finished. eq-eqb c.len.result (2 * c.len-2.result) (whole.1 finished))

@@ -1,5 +1,5 @@
 #!/usr/bin/env bash
-# Refuses growths in turn: `bench/refused_growths.sh CRATE [MOST]`. For N = 1 to MOST (30 where it is left out) the
+# Refuses growths in turn: `checks/refused_growths_of_tests.sh CRATE [MOST]`. For N = 1 to MOST (30 where it is left out) the
 # crate's tests run, unproved, with the Nth growth of each refused; those in its tests/memory.rt must pass each time.
 # Other tests may fail then, since they ask for ample memory.
 set -euo pipefail

@@ -1,0 +1,89 @@
+#!/usr/bin/env python3
+"""Writes the texts that run.sh times, each near a limit of the program text.
+
+    make_texts.py FOLDER
+"""
+
+import sys
+from pathlib import Path
+
+TEXT_BYTES = 4_194_304
+TOKEN_BYTES = 1_048_576
+TASKS = 4_096
+SEGMENTS = 16_384
+NESTING = 64
+HEADER = "omptasks 1\n"
+WORKED = "work 5 task { work 3 } work 2 taskwait work 1\n"
+
+
+def gaps():
+    """4 MiB, of which all but a small program is blanks and comments."""
+    comment = "# a comment that fills the text\n" + " " * 31 + "\n"
+    head = HEADER + WORKED
+    return head + comment * ((TEXT_BYTES - len(head)) // len(comment))
+
+
+def tokens():
+    """1 MiB of tokens: work statements with nearly no gaps."""
+    statement = "work 1234567890\n"
+    return HEADER + statement * ((TOKEN_BYTES - 9) // (len(statement) - 2))
+
+
+def shared_items():
+    """All tasks are siblings, with 32 items each on the same 32 names."""
+    kinds = ("in", "inoutset", "inout", "in", "inoutset")
+    names = ", ".join("n%d" % n for n in range(32))
+    each = ("task depend(%s: %s) { work 1 }\n" % (kinds[n % 5], names) for n in range(TASKS))
+    return HEADER + "".join(each)
+
+
+def own_items():
+    """All tasks are siblings, with 32 items each on names that no other has."""
+    def task(n):
+        return "task depend(out: %s) { work 1 }\n" % ", ".join("n%x" % (32 * n + i) for i in range(32))
+
+    return HEADER + "".join(task(n) for n in range(TASKS))
+
+
+def waits():
+    """As many segments as there may be, without a task."""
+    return HEADER + "work 1 taskwait\n" * (SEGMENTS - 1)
+
+
+def largest():
+    """As many tasks, segments and bytes of tokens as there may be together."""
+    waits_left = SEGMENTS - 1 - 2 * TASKS
+    body = "task depend(in: a, b) depend(out: c) { work 3 }\ntaskwait\n" * TASKS
+    body += "taskwait\n" * (waits_left - TASKS)
+    spent = len("".join((HEADER + body).split()))
+    return HEADER + body + "work 1234567\n" * ((TOKEN_BYTES - spent) // 11)
+
+
+def deep():
+    """Sixty-four blocks deep, sixty-four times."""
+    return HEADER + ("task {\n" * NESTING + "work 1\n" + "}\n" * NESTING) * (TASKS // NESTING)
+
+
+def fan():
+    """Half of the children change one location in any order, half read it."""
+    changes = "task depend(inoutset: x) { work 1 }\n" * (TASKS // 2 - 1)
+    return HEADER + changes + "task depend(in: x) { work 1 }\n" * (TASKS // 2)
+
+
+def chain():
+    """Each child waits for the one before it."""
+    return HEADER + "task depend(inout: x) { work 1 }\n" * TASKS
+
+
+TEXTS = (gaps, tokens, shared_items, own_items, waits, largest, deep, fan, chain)
+
+
+def main():
+    folder = Path(sys.argv[1])
+    folder.mkdir(parents=True, exist_ok=True)
+    for text in TEXTS:
+        (folder / (text.__name__ + ".tasks")).write_text(text())
+
+
+if __name__ == "__main__":
+    main()
