@@ -1,5 +1,6 @@
 //! Reading a program from its text, in this project's own format.
-ghost use Rattle.std.specs.Prelude.{◌≡◌, IfOk, Ok};
+ghost use Rattle.std.specs.Prelude.{◌≡◌, ◌<◌, Err, IfOk, Ok, length};
+ghost use Rattle.task_program.specs.declared.fault.ReadKind.TheVariants.{TooLong};
 ghost use Rattle.task_program.specs.Grammar.{HasTree};
 ghost use Rattle.task_program.specs.Answers.{Gives};
 ghost use Rattle.task_program.specs.ProgramText.{ProgramText};
@@ -44,12 +45,15 @@ pub fn read_program(alloc: Global, text: &[u8]) -> Result<Program, ReadFault>
     ensures only { (program : ProgramText) → HasTree text.now program → Gives (λ x. x) result (Ok program) }
     // The program of the text or its first fault, unless memory runs out.
     ensures exact { Gives (λ program. program) result (program_of text.now) }
+    // A text of too many bytes is so whatever memory there is.
+    ensures too_long { 4194304 < length text.now → result ≡ Err (record { kind = TooLong; line = 1 }) }
 {
     read_all(alloc, text)
 }
 
 fn read_all(alloc: Global, text: &[u8]) -> Result<Program, ReadFault>
-    ensures { Gives (λ program. program) result (program_of text.now) }
+    ensures exact { Gives (λ program. program) result (program_of text.now) }
+    ensures too_long { 4194304 < length text.now → result ≡ Err (record { kind = TooLong; line = 1 }) }
 {
     if text.len() > MOST_BYTES {
         return Err(ReadFault {

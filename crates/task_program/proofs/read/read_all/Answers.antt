@@ -11,8 +11,8 @@ use Rattle.task_program.proofs.FoundWhole.{program_at_end}
 use Rattle.task_program.proofs.Loop.{goes_on, fails, ends, of_tokens}
 use Rattle.task_program.proofs.read.read_all.Goals as goal
 
-pub returns-in_err-place : goal.returns-in_err-place
-returns-in_err-place c =
+pub returns-in_err-place-clause-exact : goal.returns-in_err-place-clause-exact
+returns-in_err-place-clause-exact c =
     let fault = c.in_err-place.field-0.0 in
     let whole = of_tokens c.args.text.now c.if-text-gt-MOST_BYTES.false in
     let fails_so = fails (tokens_left c.tokens.scanner) (tokens_left c.next_token.new.self) (token_seen c.in-Some.token) (end_line c.tokens.scanner) (state_of c.tokens.reader c.tokens.place) fault (program_of c.args.text.now) c.in-Some.ensures.first c.in_err-place.ensures (c.tokens.invariant.same ∙ whole) in
@@ -29,8 +29,8 @@ tokens-preserved c =
       within = step_keeps _ _ _ c.tokens.invariant.within one;
     }
 
-pub returns : goal.returns
-returns c =
+pub returns-clause-exact : goal.returns-clause-exact
+returns-clause-exact c =
     let whole = of_tokens c.args.text.now c.if-text-gt-MOST_BYTES.false in
     let ended_so = ends (tokens_left c.tokens.scanner) (end_line c.tokens.scanner) (state_of c.tokens.reader c.tokens.place) (program_of c.args.text.now) c.in_default.ensures.first (c.tokens.invariant.same ∙ whole) in
     let answer : ℕ → Result ProgramText ReadFault = λ line. ended (end_at c.tokens.place c.tokens.reader.tree.blocks line) (state_of c.tokens.reader c.tokens.place) in
