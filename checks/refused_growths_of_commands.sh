@@ -82,4 +82,11 @@ refuse_each show
 printf 'omptasks 1\ntask {' > "$folder/text"
 refuse_each span
 refuse_each show
+document() { printf 'omptasks 1\nwork 5 task { work 3 } work 2 taskwait work 1\n---\n%s\n' "$1" > "$folder/text"; }
+document 'start 0 0 finish 0 0 start 0 2 finish 0 2 start 1 1 finish 1 1 start 0 3 finish 0 3'
+refuse_each replay
+document 'start 0 0 finish 0 0 start 0 2 finish 0 2 start 0 3'
+refuse_each replay
+document 'start 0 0 start'
+refuse_each replay
 echo "each growth refused in turn: the whole text, or the line for want of memory"

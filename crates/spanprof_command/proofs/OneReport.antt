@@ -4,14 +4,16 @@ use Rattle.command_words.specs.Request.{request_of}
 use Rattle.command_words.specs.declared.request.Request.{Request}
 use Rattle.command_words.specs.declared.request.Request.TheVariants.{Span, Show, Replay}
 use Rattle.task_program.proofs.Only.{one_tree, only}
+use Rattle.task_program.specs.Document.{program_part, rest_part}
 use Rattle.task_program.specs.Faults.{program_of}
 use Rattle.task_program.specs.ProgramText.{ProgramText}
 use Rattle.task_program.specs.declared.fault.ReadFault.{ReadFault}
 use Rattle.task_segments.specs.Precedence.{MustPrecede}
 use Rattle.task_segments.specs.Table.{Table, costs_of, table_of}
 use Rattle.task_segments.proofs.Schedules.{span-unique}
-use Rattle.spanprof_command.proofs.OneReplay.{one_replay}
+use Rattle.spanprof_command.proofs.OneReplay.{one_said}
 use Rattle.spanprof_command.specs.OneReport.{HasOneReport}
+use Rattle.spanprof_command.specs.Replaying.{SaysOfEvents}
 use Rattle.spanprof_command.specs.Report.{Output, number_line, refused}
 use Rattle.spanprof_command.specs.declared.report.Status.TheVariants.{Done}
 use Rattle.spanprof_command.specs.OnProgram.{Accepts, OnProgram, Refuses}
@@ -62,7 +64,7 @@ spans_one program one other h g = one_measured (table_of program.marks) one othe
 one_answer : (asked : Request) (input : List ℕ) (one other : Output) → Answers asked input one → Answers asked input other → one ≡ other
 one_answer Span input one other h g = one_on_program Spans spans_one input one other h g
 one_answer Show input one other h g = one_on_program Shows shows_one input one other h g
-one_answer Replay input one other h g = one_replay input one other h g
+one_answer Replay input one other h g = one_on_program (SaysOfEvents (rest_part input)) (one_said (rest_part input)) (program_part input) one other h g
 
 one_within : (asked : Request) (input : List ℕ) (one other : Output) → AnswersWithin asked input one → AnswersWithin asked input other → one ≡ other
 one_within asked input one other (inl h) (inl g) = h.says ∙ sym g.says
