@@ -37,11 +37,13 @@ def filled(text, filler, most):
 
 CHILDREN = HEADER + "task { }\n" * 4095
 WAITS = HEADER + "taskwait\n" * 16383
+MANY_PAIRS = "task depend(in: a) { }\n" * 2048 + "task depend(inoutset: a) { }\n" * 2047
 
 DOCUMENTS = {
     "16,384 segments in a row": WAITS + "---\n" + in_order(16384),
     "4,095 children, one worker": CHILDREN + "---\n" + in_order(8191),
     "4,095 children, 32 shared items each": HEADER + of_items(4095, 32) + "---\n" + in_order(8191),
+    "4,192,256 kept pairs of siblings": HEADER + MANY_PAIRS + "---\n" + in_order(8191),
     "4,095 children and a wait": CHILDREN + "taskwait\n---\n" + in_order(8192),
     "a refusal after 32,768 events": WAITS + "---\n" + in_order(16384) + "start 0 16383\n",
     "65,536 events, the second refused": WAITS + "---\n" + "start 0 0\n" * MOST_EVENTS,
