@@ -1,9 +1,11 @@
 #!/usr/bin/env python3
-"""Writes the texts that run.sh times, each near a limit of the program text.
+"""Writes the texts that run.sh times, each near a limit of the program text: NAME.tasks, and NAME.replay, which has
+behind the text a whole run on one worker, in the order of the segments' numbers.
 
     make_texts.py FOLDER
 """
 
+import re
 import sys
 from pathlib import Path
 
@@ -78,11 +80,23 @@ def chain():
 TEXTS = (gaps, tokens, shared_items, own_items, waits, largest, deep, fan, chain)
 
 
+def segments(text):
+    """A segment, two more for each task and one for each wait and group."""
+    words = re.findall(r"\w+", re.sub(r"#.*", "", text))
+    return 1 + 2 * words.count("task") + words.count("taskwait") + words.count("taskgroup")
+
+
+def run_in_order(text):
+    return "".join("start 0 %d\nfinish 0 %d\n" % (s, s) for s in range(segments(text)))
+
+
 def main():
     folder = Path(sys.argv[1])
     folder.mkdir(parents=True, exist_ok=True)
-    for text in TEXTS:
-        (folder / (text.__name__ + ".tasks")).write_text(text())
+    for make in TEXTS:
+        text = make()
+        (folder / (make.__name__ + ".tasks")).write_text(text)
+        (folder / (make.__name__ + ".replay")).write_text(text + "\n---\n" + run_in_order(text))
 
 
 if __name__ == "__main__":

@@ -1,7 +1,7 @@
 #!/usr/bin/env bash
 # Builds the program and times each command on each text of make_texts.py: the best of five runs, in milliseconds.
 #
-#     bench/run.sh [COMMAND..]      the commands to time; span and show if none is given
+#     bench/run.sh [COMMAND..]      the commands to time; span, show and replay if none is given
 set -euo pipefail
 
 top=$(cd "$(dirname "$0")/.." && pwd)
@@ -13,7 +13,7 @@ if [ -z "${PROGRAM:-}" ]; then
     PROGRAM=$top/crates/spanprof/out/spanprof
 fi
 commands=("$@")
-[ ${#commands[@]} -gt 0 ] || commands=(span show)
+[ ${#commands[@]} -gt 0 ] || commands=(span show replay)
 python3 "$top/bench/make_texts.py" "$texts"
 
 best_of_five() {
@@ -33,7 +33,9 @@ echo
 for text in "$texts"/*.tasks; do
     printf '%-14s %10d' "$(basename "$text" .tasks)" "$(stat -c %s "$text")"
     for command in "${commands[@]}"; do
-        printf ' %10s' "$(best_of_five "$command" "$text")"
+        input=$text
+        [ "$command" != replay ] || input=${text%.tasks}.replay
+        printf ' %10s' "$(best_of_five "$command" "$input")"
     done
     echo
 done
