@@ -1,4 +1,7 @@
 //! Worked runs, as the rules of tasks give them by hand.
+mod memory;
+mod runs;
+
 use crate::dispatch::Core;
 use crate::event::{Event, FinishKind, StartRefusal};
 use crate::graph::Graph;
@@ -121,20 +124,13 @@ fn results_refused_in_a_run(rt: HostRuntime) -> Result<(), Fail> {
     ];
     for (worker, segment, cost, input, kind) in cases {
         let outcome = SegResult::compute(&MixKernel, segment, cost, input).map_err(|_| "fault")?;
-        match core.finish(worker, outcome) {
-            Ok(_) => assert!(rt; false, "accepted"),
-            Err(refusal) => {
-                assert_eq!(rt; refusal.kind, kind);
-                assert_eq!(rt; refusal.result.segment(), segment);
-            }
-        }
+        let refusal = core.finish(worker, outcome).err().ok_or("accepted")?;
+        assert_eq!(rt; refusal.kind, kind);
+        assert_eq!(rt; refusal.result.segment(), segment);
         assert_eq!(rt; core.history().len(), 3);
     }
     let outcome = SegResult::compute(&MixKernel, 1, 3, input).map_err(|_| "fault")?;
-    let ready = match core.finish(0, outcome) {
-        Ok(ready) => ready,
-        Err(_) => return Err("refused".into()),
-    };
+    let ready = core.finish(0, outcome).map_err(|_| "refused")?;
     assert_eq!(rt; ready.len(), 0);
     Ok(())
 }
