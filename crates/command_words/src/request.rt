@@ -23,7 +23,9 @@ pub enum Request {
 /// Why the words ask for nothing.
 #[derive(Clone, Copy, Debug, PartialEq, Eq)]
 pub enum WordsFault {
+    /// They are no words of a command.
     WrongWords,
+    /// A growth was refused.
     OutOfMemory,
 }
 

@@ -4,7 +4,9 @@ use crate::kernel::{Kernel, SegResult};
 /// A worker, by its number, starts a segment, by its number, or finishes it.
 #[derive(Clone, Copy, Debug, PartialEq, Eq)]
 pub enum Event {
+    /// The worker starts the segment.
     Start { worker: u32, segment: u32 },
+    /// The worker has reached the end of the segment that it runs.
     Finish { worker: u32, segment: u32 },
 }
 
@@ -32,6 +34,7 @@ pub enum FinishKind {
     WrongCost,
     /// The result was computed on another input than the segment's.
     WrongInput,
+    /// There is no memory for the list of segments that become ready.
     OutOfMemory,
 }
 

@@ -19,17 +19,21 @@ use task_segments::table::SegTable;
 /// Why an event is refused.
 #[derive(Clone, Copy, Debug, PartialEq, Eq)]
 pub enum ReplayRefusal {
+    /// It is a start, refused for this reason.
     OfStart(StartRefusal),
+    /// It is a finish, and its worker does not run that segment, or there is none of that number.
     NotRunning,
 }
 
 /// Why a list of events is refused: its first refused event, by its index from 0.
 #[derive(Clone, Copy, Debug, PartialEq, Eq)]
 pub enum ReplayFault {
+    /// The event of this index is the first that may not follow those before it.
     At {
         index: usize,
         refusal: ReplayRefusal,
     },
+    /// A growth was refused.
     OutOfMemory,
 }
 

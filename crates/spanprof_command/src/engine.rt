@@ -1,3 +1,4 @@
+//! The engine of all commands: words, input, text and status, in that order.
 ghost use Rattle.std.specs.Prelude.{◌≡◌, ◌+◌, ◌-◌, ◌^◌, ◌<◌, ◌≤◌, List, ℕ, None, map, string_bytes, IfOk};
 ghost use Rattle.counted_io.specs.Counted.{inner_of, faults_of};
 ghost use Rattle.command_io.specs.Input.{ConsumesAtMost};
