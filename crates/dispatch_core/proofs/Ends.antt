@@ -84,7 +84,7 @@ sound_first value_of table capacity history started running values preds counts 
     (subst (λ (x : List ℕ). IsSound value_of table [] capacity (replicate (length table.segments) false) (replicate 64 None) (replicate (length table.segments) None) preds counts x) (sym c)
     (sound_at_start value_of table capacity preds counts sound room kept n)))))
 
-precedes_of : (table : Table) (p s : ℕ) → Continues table p s ⊎ Creation table p s → MustPrecede table p s
+pub precedes_of : (table : Table) (p s : ℕ) → Continues table p s ⊎ Creation table p s → MustPrecede table p s
 precedes_of table p s (inl next) = inl next
 precedes_of table p s (inr created) = inr (inl created)
 
@@ -100,7 +100,7 @@ graph_at_end table preds costs kept same = record {
 }
 
 -- a segment past the last has no predecessors
-no_more : (graph : Recorded) (t s : ℕ) → length graph.predecessors ≤ t → ¬ Precedes graph s t
+pub no_more : (graph : Recorded) (t s : ℕ) → length graph.predecessors ≤ t → ¬ Precedes graph s t
 no_more graph t s past member =
     let within : member.0 < length (predecessors_of graph t) = member.1 in
     absurd (omega (arith, within, ap (λ (l : List ℕ). length l) (get_or_past graph.predecessors t [] past)))

@@ -21,3 +21,5 @@ pub mod NeverStuck
 pub mod Ends
 pub mod GivenRuns
 pub mod Complete
+pub mod Carried
+pub mod Once

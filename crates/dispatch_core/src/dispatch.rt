@@ -1,5 +1,5 @@
 //! The core: starts and finishes are accepted exactly where they are legal, and the record is kept.
-ghost use Rattle.std.specs.Prelude.{ℕ, Bool, Option, List, Some, None, ◌≡◌, ◌<◌, ◌≤◌, ◌↔◌, ◌++◌, ◌∷◌, [], length, IsTrue, IsSome, IsNone, IfOk, IfErr, OnErr, OnOk, IsOk, IfSome, MatchOption, MatchResult};
+ghost use Rattle.std.specs.Prelude.{ℕ, Bool, Option, List, Some, None, ◌≡◌, ◌<◌, ◌≤◌, ◌↔◌, ◌++◌, ◌∷◌, ◌*◌, [], length, IsTrue, IsSome, IsNone, IfOk, IfErr, OnErr, OnOk, IsOk, IfSome, MatchOption, MatchResult};
 ghost use Rattle.task_segments.specs.Table.{Table};
 ghost use Rattle.task_segments.specs.Precedence.{MustPrecede};
 ghost use Rattle.depend_table.specs.Kept.{IsKeptEdge};
@@ -87,10 +87,11 @@ impl<K: Kernel> Core<K> {
         &self.table
     }
 
-    /// The accepted events, in order. Its second clause tells callers that they are legal.
+    /// The accepted events, in order. Its other clauses tell callers that they are legal, and at most two for each segment.
     pub fn history(&self) -> &[Event]
         ensures events { result.now ≡ self.now.history }
         ensures legal { IsLegal self.now.table self.now.history }
+        ensures short { length self.now.history ≤ 2 * length self.now.table.segments }
     {
         self.history.as_slice()
     }

@@ -1,10 +1,13 @@
 //! Laws of runs.
-ghost use Rattle.std.specs.Prelude.{ℕ, List, ◌≡◌, ◌<◌, length};
+ghost use Rattle.std.specs.Prelude.{ℕ, List, ◌≡◌, ◌<◌, ◌↔◌, length, Some, slice_get};
 ghost use Rattle.task_segments.specs.Table.{Table};
+ghost use Rattle.task_segments.specs.Precedence.{MustPrecede};
+ghost use Rattle.task_segments.specs.Schedule as schedule;
+ghost use Rattle.depend_table.specs.Kept.{IsKeptEdge};
 ghost use Rattle.dispatch_core.specs.declared.event.Event.{Event};
 ghost use Rattle.dispatch_core.specs.Graph.{IsGraphOf};
-ghost use Rattle.dispatch_core.specs.Recorded.{Recorded};
-ghost use Rattle.dispatch_core.specs.Run.{Runs, IsFinished, IsReady};
+ghost use Rattle.dispatch_core.specs.Recorded.{Recorded, Precedes};
+ghost use Rattle.dispatch_core.specs.Run.{Runs, IsFinished, IsReady, IsLegal, IsRunning};
 ghost use Rattle.dispatch_core.specs.Values.{IsValue, IsInput};
 
 use crate::facts::sound;
@@ -27,3 +30,30 @@ pub fn one_value()
 pub fn one_graph()
     ensures { (table : Table) (one other : Recorded) → IsGraphOf table one → IsGraphOf table other → one ≡ other }
 {}
+
+/// What runs in a legal history runs on one of 64 workers, is a segment, is open, and all that must precede it is
+/// finished.
+pub fn what_runs(table: &SegTable)
+    ensures { (history : List Event) (worker s : ℕ) → IsLegal table.now history → Runs history worker s → IsRunning table.now history worker s }
+{
+    sound(table);
+}
+
+/// In a legal history each segment is started once and finished once.
+pub fn each_once()
+    ensures starts { (table : Table) (history : List Event) (i j one other s : ℕ) → IsLegal table history → slice_get history i ≡ Some (Event.Start one s) → slice_get history j ≡ Some (Event.Start other s) → i ≡ j }
+    ensures finishes { (table : Table) (history : List Event) (i j one other s : ℕ) → IsLegal table history → slice_get history i ≡ Some (Event.Finish one s) → slice_get history j ≡ Some (Event.Finish other s) → i ≡ j }
+{}
+
+/// The edges of a program's graph are the kept edges, and it has the legal schedules, the span, the least end, the least
+/// starts and the slacks of the whole relation.
+pub fn same_schedules(table: &SegTable)
+    ensures edges { (graph : Recorded) (s t : ℕ) → IsGraphOf table.now graph → Precedes graph s t ↔ IsKeptEdge table.now s t }
+    ensures legal { (graph : Recorded) (starts : List ℕ) → IsGraphOf table.now graph → schedule.IsLegal graph.costs (MustPrecede table.now) starts ↔ schedule.IsLegal graph.costs (Precedes graph) starts }
+    ensures span { (graph : Recorded) (span : ℕ) → IsGraphOf table.now graph → schedule.IsSpan graph.costs (MustPrecede table.now) span ↔ schedule.IsSpan graph.costs (Precedes graph) span }
+    ensures least_end { (graph : Recorded) (end : ℕ) → IsGraphOf table.now graph → schedule.IsLeastEnd graph.costs (MustPrecede table.now) end ↔ schedule.IsLeastEnd graph.costs (Precedes graph) end }
+    ensures least_start { (graph : Recorded) (s start : ℕ) → IsGraphOf table.now graph → schedule.IsLeastStart graph.costs (MustPrecede table.now) s start ↔ schedule.IsLeastStart graph.costs (Precedes graph) s start }
+    ensures slack { (graph : Recorded) (s slack : ℕ) → IsGraphOf table.now graph → schedule.IsSlack graph.costs (MustPrecede table.now) s slack ↔ schedule.IsSlack graph.costs (Precedes graph) s slack }
+{
+    sound(table);
+}
