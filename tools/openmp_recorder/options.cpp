@@ -1,0 +1,56 @@
+#include "options.hpp"
+
+#include <cstdio>
+#include <cstdlib>
+
+namespace {
+constexpr uint64_t largest = 1000000000000000;
+
+Options &chosen = *new Options;  // never destroyed, since it is read after the destructors of globals have run
+
+void wrong(const char *name, const char *value, const char *allowed) {
+  fprintf(stderr, "spanprof recorder: %s=%s is not understood (%s); it is left out\n", name, value, allowed);
+}
+
+void number(const char *name, uint64_t &into) {
+  const char *value = getenv(name);
+  if (!value) return;
+  char *end;
+  uint64_t n = strtoull(value, &end, 10);
+  if (*value < '0' || *value > '9' || *end || n > largest) wrong(name, value, "a whole number up to 10^15");
+  else into = n;
+}
+
+void unit() {
+  const char *value = getenv("SPANPROF_UNIT");
+  if (!value) return;
+  std::string name = value;
+  uint64_t n = name == "ns" ? 1 : name == "us" ? 1000 : name == "ms" ? 1000000 : 0;
+  if (!n) number("SPANPROF_UNIT", n);
+  if (!n || n > 1000000000) return wrong("SPANPROF_UNIT", value, "ns, us, ms, or nanoseconds up to 1000000000");
+  chosen.unit = static_cast<int64_t>(n);
+  chosen.unit_name = name == "ns" || name == "us" || name == "ms" ? name : name + " ns";
+}
+
+void flag(const char *name, const char *no, const char *yes, bool &into) {
+  const char *value = getenv(name);
+  if (!value) return;
+  if (std::string(value) == yes) into = true;
+  else if (std::string(value) == no) into = false;
+  else wrong(name, value, (std::string(no) + " or " + yes).c_str());
+}
+}  // namespace
+
+const Options &read_options() {
+  if (const char *out = getenv("SPANPROF_OUT")) chosen.out = out;
+  unit();
+  flag("SPANPROF_CLOCK", "wall", "cpu", chosen.processor_clock);
+  flag("SPANPROF_LINES", "0", "1", chosen.lines);
+  number("SPANPROF_RECORDS", chosen.records);
+  number("SPANPROF_REGIONS", chosen.regions);
+  number("SPANPROF_FOLD_DEPTH", chosen.fold_depth);
+  number("SPANPROF_FOLD_COST", chosen.fold_cost);
+  return chosen;
+}
+
+const Options &options() { return chosen; }

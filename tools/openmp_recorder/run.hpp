@@ -1,0 +1,112 @@
+// A recorded run, as tasks with their steps and as events of their segments, region by region.
+#pragma once
+#include <cstdint>
+#include <map>
+#include <memory>
+#include <vector>
+
+#include "records.hpp"
+
+struct Task;
+struct Region;
+
+enum class Kind : uint8_t { Work, Create, Wait, GroupBegin, GroupEnd };
+
+struct Step {
+  Kind kind;
+  int64_t cost = 0;            // of Work, in nanoseconds
+  Task *child = nullptr;       // of Create
+  const void *code = nullptr;  // of Wait and the groups
+};
+
+enum class Fold : uint8_t {
+  No,
+  Body,  // the task's body is one `work`
+  Whole  // the task is `work` of its parent
+};
+
+// A wait for dependences: of the undeferred task that follows, or a `taskwait` with `depend`.
+struct Wait {
+  const void *code;
+  int64_t over;  // the clock when it was over, so far as is known
+  std::vector<DependItem> items;
+};
+
+struct Task {
+  Region *region = nullptr;
+  Task *parent = nullptr;
+  bool part = false;  // the code of an implicit task between two barriers
+  const void *code = nullptr;
+  bool undeferred = false;
+  std::vector<DependItem> items;
+  std::vector<Step> steps;
+  unsigned segment = 0;  // the one that is open, counted within the task
+  unsigned children = 0;
+
+  // while the records are read
+  bool running = false, waiting = false, over = false;
+  int64_t since = 0;
+  size_t started = 0;          // the event with which the running segment began
+  std::unique_ptr<Wait> wait;  // for dependences, and not settled
+  const void *loop = nullptr;  // the taskloop that it is in
+
+  // while it is written
+  unsigned depth = 0;         // of tasks within each other; 0 for a part
+  unsigned outer_groups = 0;  // of the parent, open where the task is created
+  unsigned inner_groups = 0;  // the most that are open at once in its own code
+  unsigned blocks = 0;        // open in its own code outside its own groups
+  int64_t total = 0;          // with everything below it
+  Fold fold = Fold::No;
+  bool shown = true;
+  std::vector<uint32_t> numbers;  // of its segments in the text; none where a segment is part of a later one
+};
+
+constexpr uint32_t none = UINT32_MAX;
+
+struct Event {
+  bool start;
+  unsigned worker;
+  Task *task;
+  unsigned segment;
+  bool taken_back = false;
+};
+
+enum class Remark : uint8_t {
+  OneThread,
+  MutexInOutSet,
+  AllMemory,
+  UnknownItem,
+  Detach,
+  Cancel,
+  Target,
+  NestedRegion,
+  SeveralParts
+};
+
+struct Seen {
+  unsigned times = 0;
+  const void *code = nullptr;
+};
+
+struct Part {
+  Task *task;
+  unsigned phase;  // barriers before it
+  size_t first;    // its first event
+};
+
+struct Region {
+  const void *code = nullptr;
+  unsigned threads = 0;
+  std::vector<std::unique_ptr<Task>> tasks;  // in the order of creation
+  std::vector<Part> parts;
+  std::vector<Event> events;
+  std::map<Remark, Seen> remarks;
+  Task *root = nullptr;  // what is written
+};
+
+struct Run {
+  std::map<uint32_t, std::unique_ptr<Region>> regions;  // by number, so in order
+  Seen outside;                                         // tasks created outside any region
+};
+
+Run read_records();

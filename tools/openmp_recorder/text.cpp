@@ -1,0 +1,190 @@
+#include "text.hpp"
+
+#include <errno.h>
+#include <omp-tools.h>
+
+#include <map>
+
+#include "options.hpp"
+#include "source.hpp"
+
+namespace {
+// Where the writer is in a task's own code.
+struct Place {
+  Task &task;
+  unsigned indent;
+  unsigned segment = 0;  // the open one, counted within the task
+  int64_t cost = 0;      // of the open segment, not written yet
+  unsigned folded = 0;   // tasks whose cost is in it
+};
+
+class Writer {
+ public:
+  Text text;
+  void body(Task &t, unsigned indent);
+
+ private:
+  uint32_t opened = 0;
+  std::map<const void *, size_t> names;
+
+  void line(unsigned indent, const std::string &words, const std::string &comment = "");
+  void flush(Place &p);
+  void open(Place &p) { p.task.numbers[p.segment] = opened++; }
+  void step(Place &p, const Step &step);
+  void create(Place &p, Task &child);
+  std::string items(const Task &t);
+};
+
+const char *type_of(int type) {
+  switch (type) {
+    case ompt_dependence_type_in: return "in";
+    case ompt_dependence_type_out: return "out";
+    case ompt_dependence_type_mutexinoutset:
+    case ompt_dependence_type_inoutset: return "inoutset";
+    default: return "inout";
+  }
+}
+
+unsigned tasks_below(const Task &t) {
+  unsigned count = 0;
+  std::vector<const Task *> left{&t};
+  while (!left.empty()) {
+    const Task *next = left.back();
+    left.pop_back();
+    for (auto &step : next->steps)
+      if (step.kind == Kind::Create) count++, left.push_back(step.child);
+  }
+  return count;
+}
+
+void Writer::line(unsigned indent, const std::string &words, const std::string &comment) {
+  text.words.append(2 * indent, ' ');
+  text.words += words;
+  if (!comment.empty()) text.words += "  # " + comment;
+  text.words += '\n';
+}
+
+void Writer::flush(Place &p) {
+  int64_t unit = options().unit, rounded = (p.cost + unit / 2) / unit;
+  if (rounded || p.folded)
+    line(p.indent, "work " + std::to_string(rounded), p.folded ? std::to_string(p.folded) + " tasks folded" : "");
+  text.work += rounded;
+  p.cost = 0;
+  p.folded = 0;
+}
+
+std::string Writer::items(const Task &t) {
+  std::string clauses, last;
+  for (auto &item : t.items) {
+    std::string type = type_of(item.type);
+    std::string name = "a" + std::to_string(names.emplace(item.location, names.size()).first->second);
+    if (type == last) clauses.insert(clauses.size() - 1, ", " + name);
+    else clauses += " depend(" + type + ": " + name + ")";
+    last = type;
+  }
+  return clauses;
+}
+
+void Writer::create(Place &p, Task &child) {
+  if (child.fold == Fold::Whole) {  // the segment goes on, under the number that it has
+    p.cost += child.total;
+    p.folded += 1 + tasks_below(child);
+    p.task.numbers[p.segment + 1] = p.task.numbers[p.segment];
+    p.task.numbers[p.segment++] = none;
+    return;
+  }
+  flush(p);
+  line(p.indent, std::string("task") + (child.undeferred ? " if(0)" : "") + items(child) + " {",
+       child.part ? "one of the region's threads" : place(child.code));
+  body(child, p.indent + 1);
+  line(p.indent, "}");
+  p.segment++;
+  open(p);
+}
+
+void Writer::step(Place &p, const Step &step) {
+  if (step.kind == Kind::Work) p.cost += step.cost;
+  else if (step.kind == Kind::Create) create(p, *step.child);
+  else flush(p);
+  switch (step.kind) {
+    case Kind::Wait:
+      line(p.indent, "taskwait", place(step.code));
+      p.segment++;
+      return open(p);
+    case Kind::GroupBegin: return line(p.indent++, "taskgroup {", place(step.code));
+    case Kind::GroupEnd:
+      line(--p.indent, "}");
+      p.segment++;
+      return open(p);
+    case Kind::Work:
+    case Kind::Create: return;
+  }
+}
+
+void Writer::body(Task &t, unsigned indent) {
+  t.numbers.assign(t.segment + 1, none);
+  Place p{t, indent};
+  if (t.fold == Fold::Body) {
+    p.segment = t.segment;
+    p.cost = t.total;
+    p.folded = tasks_below(t);
+    open(p);
+  } else {
+    open(p);
+    for (auto &one : t.steps) step(p, one);
+  }
+  flush(p);
+}
+}  // namespace
+
+Text program_text(Region &region) {
+  const Options &o = options();
+  std::vector<const void *> codes{region.code};
+  for (auto &t : region.tasks) {
+    if (!t->shown || t->fold == Fold::Whole) continue;
+    codes.push_back(t->code);
+    for (auto &step : t->steps) codes.push_back(step.code);
+  }
+  if (o.lines) look_up(codes);
+  Writer writer;
+  std::string at = place(region.code);
+  writer.text.words = "# recorded from " + std::string(program_invocation_short_name) + ", the parallel region" +
+                      (at.empty() ? "" : " at " + at) + ", on " + std::to_string(region.threads) +
+                      (region.threads == 1 ? " thread\n" : " threads\n") + "# measured costs in " + o.unit_name +
+                      " of " + (o.processor_clock ? "processor time" : "wall time") + "\nomptasks 1\n";
+  writer.body(*region.root, 0);
+  return writer.text;
+}
+
+std::string over_the_length(const std::string &words) {
+  size_t bytes = 0;
+  bool comment = false;
+  for (char c : words) {
+    if (c == '#' || c == '\n') comment = c == '#';
+    bytes += !comment && c != ' ' && c != '\n';
+  }
+  if (bytes > 1048576)
+    return std::to_string(bytes) + " bytes outside comments, and spanprof takes 1048576; give tasks fewer depend items";
+  if (words.size() > 4194304)
+    return std::to_string(words.size()) + " bytes, and spanprof takes 4194304; set SPANPROF_LINES=0";
+  return "";
+}
+
+Events event_lines(const Region &region) {
+  Events out;
+  std::map<unsigned, unsigned> workers;
+  size_t finished = 0, segments = 0;
+  for (auto &t : region.tasks)
+    for (uint32_t number : t->numbers) segments += number != none;
+  for (auto &event : region.events) {
+    if (event.taken_back || event.segment >= event.task->numbers.size() || event.task->numbers[event.segment] == none)
+      continue;
+    unsigned worker = workers.emplace(event.worker, workers.size()).first->second;
+    out.words += (event.start ? "start " : "finish ") + std::to_string(worker) + " " +
+                 std::to_string(event.task->numbers[event.segment]) + "\n";
+    finished += !event.start;
+  }
+  out.workers = workers.size();
+  out.whole = finished == segments;
+  return out;
+}

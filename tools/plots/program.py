@@ -1,0 +1,105 @@
+"""A program text as segments, each with the place in the source that its comments tell, and what spanprof answers.
+
+The environment's SPANPROF is the program (crates/spanprof/out/spanprof); it may be several words.
+"""
+import os
+import re
+import shlex
+import signal
+import subprocess
+import sys
+
+signal.signal(signal.SIGPIPE, signal.SIG_DFL)  # so that `| head` ends it quietly
+
+PROGRAM = shlex.split(os.environ.get("SPANPROF", "crates/spanprof/out/spanprof"))
+
+
+def ask(words, text):
+    """What spanprof prints for these words and this input."""
+    try:
+        done = subprocess.run(PROGRAM + list(words), input=text, capture_output=True, text=True)
+    except FileNotFoundError:
+        sys.exit("%s is not there; set SPANPROF to the program" % PROGRAM[0])
+    if done.returncode:
+        sys.exit("%s: %s" % (words[0], done.stdout.strip()))
+    return done.stdout
+
+
+def rows(table):
+    """The rows of a CSV without quotes, as dictionaries of texts."""
+    lines = table.split("\n")
+    heads = lines[0].split(",")
+    return [dict(zip(heads, line.split(","))) for line in lines[1:] if line]
+
+
+class Segment:
+    def __init__(self, task, task_place, after, after_place):
+        self.cost, self.task, self.task_place, self.after, self.after_place = 0, task, task_place, after, after_place
+
+    def place(self):
+        """Where its code stands: the construct that it follows, or the task that it begins."""
+        if self.after:
+            return "after %s at %s" % (self.after, self.after_place) if self.after_place else "after a %s" % self.after
+        if self.task == 0:
+            return "the beginning"
+        return "task at %s" % self.task_place if self.task_place else "a task"
+
+
+def words_of(text):
+    """The tokens of a text, each with the comment of its line."""
+    for line in text.split("\n"):
+        code, _, comment = line.partition("#")
+        for word in re.findall(r"[A-Za-z0-9_]+|[{}]|[^\sA-Za-z0-9_{}]", code):
+            yield word, comment.strip()
+
+
+def segments(text):
+    """The segments in the order of their numbers. A comment belongs to the construct that stands on its line."""
+    words = list(words_of(text))
+    if len(words) > 1 and words[1][0].lstrip("0") == "2":  # loops; the canonical text has none
+        words = list(words_of(ask(["show"], text)))
+    out = [Segment(0, "", "", "")]
+    running = [(0, "", 0)]  # task, its place, its open segment
+    blocks = []             # of each open block: what it is, and its place
+    tasks, i = 0, 2  # the header is two tokens
+    while i < len(words):
+        word, comment = words[i]
+        task, place, current = running[-1]
+        if word == "work":
+            i += 1
+            out[current].cost += int(words[i][0])
+        elif word == "task":
+            while words[i][0] != "{":
+                i += 1
+            tasks += 1
+            comment = words[i][1]
+            blocks.append(("task", comment))
+            running.append((tasks, comment, len(out)))
+            out.append(Segment(tasks, comment, "", ""))
+        elif word == "taskgroup":
+            i += 1
+            blocks.append(("taskgroup", comment))
+        else:
+            kind, where = ("taskwait", comment) if word == "taskwait" else blocks.pop()
+            if kind == "task":
+                running.pop()
+                task, place, current = running[-1]
+            out.append(Segment(task, place, "creating a task" if kind == "task" else kind, where))
+            running[-1] = (task, place, len(out) - 1)
+        i += 1
+    return out
+
+
+def predecessors(text, count):
+    """The recorded predecessors of each segment, by a run of all segments in their order."""
+    events = "".join("start 0 %d finish 0 %d\n" % (s, s) for s in range(count))
+    lines = ask(["replay"], text + "\n---\n" + events).split("\n")[2:]
+    return [[int(p) for p in line.split()[2:]] for line in lines if line]
+
+
+def read(path):
+    """The program text in a file; of a replay document or certificate the part before its mark."""
+    with open(path, encoding="utf-8", errors="replace", newline="") as file:
+        text = re.split(r"(?m)^---\r?$", file.read())[0]
+    ask(["span"], text)  # ends here where it is no program
+    return text
