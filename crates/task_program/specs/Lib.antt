@@ -2,6 +2,7 @@ pub mod Marks
 pub mod ProgramText
 pub mod Statements
 pub mod Conflict
+pub mod Quick
 pub mod Shrinking
 pub mod Tokens
 pub mod Scanned
