@@ -1,0 +1,57 @@
+#!/usr/bin/env bash
+# Explores every interleaving of the waiting of 2 and of 3 workers, in the model checks/waiting/waiting.pml. With 2
+# workers it has up to 6 segments, with 3 up to 4. Nobody may sleep for ever, nor after the end, nor be passed over while
+# a token lies in a lane and all others are in their kernels; and every run ends. Each wrong form of the model must fail. It needs
+# spin and a C compiler, three minutes of processor time and 2 GB of memory.
+set -euo pipefail
+cd "$(dirname "$0")/waiting"
+for need in spin cc; do
+    command -v "$need" > /dev/null || { echo "skipped: there is no $need"; exit 0; }
+done
+model=$PWD/waiting.pml
+folder=$(mktemp -d)
+trap 'rm -rf "$folder"' EXIT
+cd "$folder"
+
+# explore KIND NAMES.. : builds the model with these names defined and explores it, for its states or for its cycles
+explore() {
+    local kind=$1 build=-DSAFETY search=
+    shift
+    if [ "$kind" = cycles ]; then build=-DNP search=-l; fi
+    rm -f pan* ./*.trail
+    spin "${@/#/-D}" -a "$model" > made
+    cc -O2 -DCOLLAPSE -DNOFAIR "$build" -o pan pan.c
+    ./pan $search -m1000000 -w26 -n > told
+    if grep -q 'search depth too small\|out of memory' told; then cat told; exit 1; fi
+    errors=$(sed -n 's/.*errors: //p' told)
+    stored=$(awk '/states, stored/ { print $1 }' told)
+}
+
+must_hold() {
+    explore "$@"
+    echo "$*: $stored states, $errors errors"
+    if [ "$errors" != 0 ]; then echo FAILED; exit 1; fi
+}
+
+must_fail() {
+    explore states "$@"
+    echo "$*: refused after $stored states"
+    if [ "$errors" = 0 ]; then echo "FAILED: a wrong form is not found out"; exit 1; fi
+}
+
+for wrong in FLAG_FIRST COUNT_LAST SILENT_END ASLEEP_FIRST; do
+    must_fail WORKERS=2 SEGMENTS=3 FAULTS=0 "$wrong"
+    must_fail WORKERS=3 SEGMENTS=3 FAULTS=0 "$wrong"
+done
+for segments in 1 2 3 4 5 6; do
+    must_hold states WORKERS=2 SEGMENTS=$segments FAULTS=2
+done
+must_hold cycles WORKERS=2 SEGMENTS=5 FAULTS=2
+must_hold states WORKERS=2 SEGMENTS=4 FAULTS=2 SPURIOUS
+for segments in 1 2 3; do
+    must_hold states WORKERS=3 SEGMENTS=$segments FAULTS=1
+done
+must_hold states WORKERS=3 SEGMENTS=4 FAULTS=0
+must_hold cycles WORKERS=3 SEGMENTS=3 FAULTS=0
+must_hold states WORKERS=3 SEGMENTS=3 FAULTS=0 SPURIOUS
+echo "all interleavings explored: nobody sleeps for ever, and each wrong form is refused"

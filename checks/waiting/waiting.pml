@@ -1,0 +1,254 @@
+/*
+ * How the workers of a run wait for tokens: crates/worker_run/src/signal.rt, with what crew.rt, station.rt and
+ * dispatcher.rt do around it, one atomic access to shared memory a step. checks/waiting.sh has spin explore every
+ * interleaving.
+ *
+ * The program is any program of SEGMENTS segments: a finish makes ready as many further segments as spin likes, but at
+ * least one where otherwise nothing would be ready, in a lane or running, and the run is not finished. Tokens are
+ * counted and not told apart. A kernel may fault, a finish may be refused, and so may the start of a thread.
+ *
+ * With one of these names defined the model is wrong, and spin must find it out:
+ *   FLAG_FIRST       a worker reads the flag before the count of news
+ *   COUNT_LAST       a worker reads the count of news after it has looked at the lanes
+ *   SILENT_END       the end sets the flag and wakes, and adds no news
+ *   ASLEEP_FIRST     who has put tokens asks whether anyone sleeps before it adds the news
+ */
+#ifndef WORKERS
+#define WORKERS 2
+#endif
+#ifndef SEGMENTS
+#define SEGMENTS 4
+#endif
+#ifndef FAULTS
+#define FAULTS 1
+#endif
+
+/* Signal */
+bool over;
+byte news;
+byte asleep;
+
+/* Who sleeps on the count of news, and whether the wake-up of an end is through. */
+bool parked[WORKERS];
+bool woken;
+
+/* The lanes: how many tokens have left each at its front, and how many were put at its back. */
+byte front[WORKERS];
+byte back[WORKERS];
+
+/* The core: its lock, how many segments are ready or running, and how many are neither yet. */
+bool locked;
+byte open = 1;
+byte later = SEGMENTS - 1;
+
+/* Faults that may still come, who is in its kernel, who has ended, and whether all threads are started or refused. */
+byte faults = FAULTS;
+bool computes[WORKERS];
+bool ended[WORKERS];
+bool started;
+
+/* Signal::end, three steps */
+inline end_all() {
+    over = true;
+#ifndef SILENT_END
+    news++;
+#endif
+    d_step { wake_all(); woken = true }
+}
+
+inline wake_all() {
+    parked[0] = false;
+    parked[1] = false;
+#if WORKERS > 2
+    parked[2] = false;
+#endif
+}
+
+/* any one of those that sleep */
+inline wake_one() {
+    if
+    :: parked[0] -> parked[0] = false
+    :: parked[1] -> parked[1] = false
+#if WORKERS > 2
+    :: parked[2] -> parked[2] = false
+#endif
+    :: else
+    fi
+}
+
+/* Signal::tell */
+inline tell(tokens) {
+    if
+    :: tokens < 2
+    :: else ->
+#ifdef ASLEEP_FIRST
+        someone = (asleep > 0);
+        news++;
+#else
+        news++;
+        someone = (asleep > 0);
+#endif
+        if
+        :: !someone
+        :: someone && tokens == 2 -> atomic { wake_one() }
+        :: someone && tokens > 2 -> d_step { wake_all() }
+        fi
+    fi
+}
+
+proctype worker(byte me) {
+    byte seen;      /* the count of news, as read */
+    byte lane;      /* the lane that is looked at */
+    byte at;        /* its front, as read */
+    byte tokens;    /* what a finish has made ready */
+    bool unsure;
+    bool someone;
+
+again:  /* Crew::work */
+    unsure = false;
+#ifdef FLAG_FIRST
+    if :: over -> goto leave :: else fi;
+    seen = news;
+#else
+    seen = news;                                    /* Signal::news */
+    if :: over -> goto leave :: else fi;            /* Signal::is_over */
+#endif
+
+    /* Station::find: LaneOwner::take looks at the front, moves it on, and puts it back where a thief was quicker. */
+    if
+    :: front[me] >= back[me] -> goto steal
+    :: else
+    fi;
+    d_step { at = front[me]; front[me] = at + 1 };
+    if
+    :: at < back[me] -> goto start
+    :: else -> front[me] = at
+    fi;
+
+steal:  /* Station::steal: LaneThief::try_steal reads the front, then the back, and then moves the front if it is as read. */
+    lane = (me + 1) % WORKERS;
+    do
+    :: lane == me -> break
+    :: else ->
+        at = front[lane];
+        if
+        :: back[lane] <= at
+        :: else ->
+            if
+            :: d_step { front[lane] == at -> front[lane] = at + 1 }; goto start
+            :: d_step { front[lane] != at -> unsure = true }
+            fi
+        fi;
+        lane = (lane + 1) % WORKERS
+    od;
+    if :: unsure -> goto again :: else fi;          /* Found::Unsure */
+
+#ifdef COUNT_LAST
+    seen = news;
+#endif
+    /* Signal::wait. Many looks without news are as one. */
+    if :: news != seen -> goto again :: else fi;
+    asleep++;
+    /* AtomicU64::park compares and falls asleep in one step. */
+    atomic {
+        if
+        :: news == seen -> assert(!woken); parked[me] = true
+        :: else
+        fi
+    };
+#ifdef SPURIOUS
+    parked[me] = false;
+#else
+    !parked[me];
+#endif
+    asleep--;
+    goto again;
+
+start:  /* Crew::run_segment: Dispatcher::start, then the kernel */
+    atomic { !locked -> computes[me] = true; at = 0; lane = 0 };
+    if
+    :: d_step { computes[me] = false }
+    :: d_step { faults > 0 -> faults--; computes[me] = false };
+        end_all();
+        goto leave
+    fi;
+
+    /* Crew::hand_in: Dispatcher::finish, which ends all behind the lock where the run is finished or it is refused */
+    atomic { !locked -> locked = true };
+    if
+    :: faults > 0 -> faults--;
+        end_all();
+        locked = false;
+        goto leave
+    :: atomic { true ->
+            open--;
+            select(tokens : 0 .. later);
+            if
+            :: tokens == 0 && open == 0 && later > 0 -> tokens = 1
+            :: else
+            fi;
+            later = later - tokens;
+            open = open + tokens
+        }
+    fi;
+    if
+    :: open == 0 -> end_all()
+    :: else
+    fi;
+    locked = false;
+    at = 0;
+    do
+    :: at < tokens -> d_step { back[me]++; at++ }   /* LaneOwner::put */
+    :: else -> break
+    od;
+    tell(tokens);
+    d_step { at = 0; tokens = 0; someone = false };
+    goto again;
+
+leave:
+    ended[me] = true
+}
+
+/* work_all: starts the threads one by one, and none after one that is refused */
+init {
+    byte next;
+    back[0] = 1;                                    /* open_stations */
+    do
+    :: next < WORKERS -> run worker(next); next++
+    :: next < WORKERS && faults > 0 ->
+        faults--;
+        end_all();
+        do
+        :: next < WORKERS -> d_step { ended[next] = true; next++ }
+        :: else -> break
+        od
+    :: else -> break
+    od;
+    started = true
+}
+
+#if WORKERS > 2
+#define ALL(what) (what(0) && what(1) && what(2))
+#define ANY(what) (what(0) || what(1) || what(2))
+#else
+#define ALL(what) (what(0) && what(1))
+#define ANY(what) (what(0) || what(1))
+#endif
+#define SLEEPS(w) (parked[w])
+#define RESTS(w) (parked[w] || ended[w])
+#define RESTS_OR_COMPUTES(w) (parked[w] || ended[w] || computes[w])
+#define HAS_TOKEN(w) (front[w] < back[w])
+
+/* Nobody is left to wake a sleeper: it sleeps for ever, unless the system lets it return for no reason. */
+#define STUCK (started && ANY(SLEEPS) && ALL(RESTS))
+
+/* A worker sleeps, a token lies in a lane, and all who are awake are in their kernels. */
+#define PASSED_OVER (ANY(SLEEPS) && ANY(HAS_TOKEN) && ALL(RESTS_OR_COMPUTES))
+
+active proctype watch() {
+end:
+    if
+    :: atomic { STUCK -> assert(false) }
+    :: atomic { PASSED_OVER -> assert(false) }
+    fi
+}
