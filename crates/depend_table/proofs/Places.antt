@@ -1,19 +1,20 @@
 -- The places of siblings: how many were generated before each.
-use Rattle.std.proofs.Common.{ℕ, ◌+◌, ◌<◌, ◌≡◌, ◌↔◌, Bool, true, false, cond, List, [], ◌∷◌, ◌++◌, map, reverse, length, get_or, Option, Contains, refl, sym, ◌∙◌, ap, subst, arith}
+use Rattle.std.proofs.Common.{ℕ, ◌+◌, ◌<◌, ◌≡◌, ◌↔◌, Bool, true, false, cond, List, [], ◌∷◌, ◌++◌, map, reverse, length, get_or, Option, All, Contains, refl, sym, ◌∙◌, ap, subst, arith}
 use Rattle.std.specs.List.{flat_map}
 use Rattle.std.specs.List.Sorted.{IsStrictlyIncreasing}
 use Rattle.std.proofs.lemmas.List.{length-reverse, length-map, reverse-append, map-append, get_or_append_left}
+use Rattle.std.proofs.lemmas.List.Elements.{Contains-get_or}
 use Rattle.std.proofs.Math.Seq.{get_or-append_seam}
 use Rattle.task_program.specs.declared.statement.DependKind.{DependKind}
 use Rattle.task_program.specs.declared.statement.Item.{Item}
 use Rattle.depend_table.specs.declared.table.Call.{Call}
 use Rattle.depend_table.specs.Lists.{Lists}
-use Rattle.depend_table.specs.Marks.{IsMarked, IsMarkedNumber}
+use Rattle.depend_table.specs.Marks.{AreWithin, IsMarked, IsMarkedNumber}
 use Rattle.depend_table.specs.Siblings.{Sibling, IsAmong, IsKept}
 use Rattle.depend_table.specs.Siblings.IsAmong.{Newest, Below}
-use Rattle.depend_table.specs.Generations.{HasRank}
-use Rattle.depend_table.specs.Entries.{Names, entry_at, entry_after, joins_to, predecessors_of, sibling_of, newest_first, tasks_of, AreTied, IsTableOf}
-use Rattle.depend_table.proofs.Entered.{IsKeptPlace, predecessors_for, predecessors_are_kept, kept_are_predecessors, tied_after, newest_first-push}
+use Rattle.depend_table.specs.Generations.{HasRank, AreGenerations, mentions, sharing_at}
+use Rattle.depend_table.specs.Entries.{Names, Entry, entry_at, entry_after, entered, joins_to, predecessors_of, predecessors_for, sibling_of, newest_first, tasks_of, AreTied, IsInOrder, IsTableOf}
+use Rattle.depend_table.proofs.Entered.{IsKeptPlace, predecessors_are_kept, kept_are_predecessors, tied_after, newest_first-push}
 use Rattle.depend_table.proofs.Lists.{increasing_push, lists_same}
 use Rattle.depend_table.proofs.Members.{reverse-cons, contains_member, member_contains, member_map, member_of_map, member_reverse}
 
@@ -75,12 +76,18 @@ predecessors_within names siblings name sharing place tied = by_join (joins_to (
     by_join true c = let p = ((tied name).is_previous place).0 c in ranked_within name siblings p.0 place p.2
     by_join false c = ranked_within name siblings (tied name).top place (((tied name).is_current place).0 c)
 
+pub predecessors_below : (names : Names) (calls : List Call) (name : ℕ) (sharing : Option DependKind) → IsTableOf names calls → All (λ place. place < length calls) (predecessors_of (entry_at names name) sharing)
+predecessors_below names calls name sharing table k d h =
+    let places = predecessors_of (entry_at names name) sharing in
+    let below = predecessors_within names (newest_first calls) name sharing (get_or places k d) table.tied (Contains-get_or places k d h) in
+    omega (arith, length-newest calls)
+
 -- the tasks at the marked places are the kept ones
-pub kept_listed : (names : Names) (calls : List Call) (items : List Item) (marks : List Bool) (kept : List ℕ) → IsTableOf names calls → ((place : ℕ) → IsMarked marks place ↔ Contains (flat_map (predecessors_for names items) items) place) → Lists (IsMarkedNumber marks (tasks_of calls) (length calls)) kept → Lists (IsKept (newest_first calls) items) kept
-kept_listed names calls items marks kept table marked lists =
-    lists_same (IsMarkedNumber marks (tasks_of calls) (length calls)) (IsKept (newest_first calls) items) kept lists there back
+pub kept_listed : (names : Names) (calls : List Call) (items : List Item) (first : ℕ) (marks : List Bool) (end : ℕ) (kept : List ℕ) → IsTableOf names calls → ((place : ℕ) → IsMarked first marks place ↔ Contains (flat_map (predecessors_for names items) items) place) → ((place : ℕ) → IsMarked first marks place → place < end) → Lists (IsMarkedNumber first marks (tasks_of calls) end) kept → Lists (IsKept (newest_first calls) items) kept
+kept_listed names calls items first marks end kept table marked within lists =
+    lists_same (IsMarkedNumber first marks (tasks_of calls) end) (IsKept (newest_first calls) items) kept lists there back
   where
-    there : (s : ℕ) → IsMarkedNumber marks (tasks_of calls) (length calls) s → IsKept (newest_first calls) items s
+    there : (s : ℕ) → IsMarkedNumber first marks (tasks_of calls) end s → IsKept (newest_first calls) items s
     there s m =
         let k = predecessors_are_kept names (newest_first calls) items m.place table.tied ((marked m.place).0 m.marked) in
         let p = placed (newest_first calls) k.kept.earlier k.kept.older k.kept.among in
@@ -94,23 +101,68 @@ kept_listed names calls items marks kept table marked lists =
           one_less = k.kept.one_less;
         }
 
-    back : (s : ℕ) → IsKept (newest_first calls) items s → IsMarkedNumber marks (tasks_of calls) (length calls) s
+    back : (s : ℕ) → IsKept (newest_first calls) items s → IsMarkedNumber first marks (tasks_of calls) end s
     back s k =
         let p = placed (newest_first calls) k.earlier k.older k.among in
-        let below = p.below in
         let at_place : IsKeptPlace (newest_first calls) items (length k.older) = record { name = k.name; kept = record { earlier = k.earlier; older = k.older; among = k.among; placed = refl; conflicts = k.conflicts; one_less = k.one_less } } in
+        let at_mark = (marked (length k.older)).1 (kept_are_predecessors names (newest_first calls) items (length k.older) table.tied at_place) in
         record {
           place = length k.older;
-          below = omega (arith, length-newest calls);
-          marked = (marked (length k.older)).1 (kept_are_predecessors names (newest_first calls) items (length k.older) table.tied at_place);
+          below = within (length k.older) at_mark;
+          marked = at_mark;
           found = ap (λ (xs : List ℕ). get_or xs (length k.older) 0) (sym (oldest_first-calls calls)) ∙ p.found ∙ k.number;
         }
+
+-- the places stay in order
+one_in_order : (place : ℕ) → IsStrictlyIncreasing (place ∷ [])
+one_in_order place k h = absurd (omega arith)
+
+entered_in_order : (name : ℕ) (siblings : List Sibling) (sharing : Option DependKind) (entry : Entry) → AreGenerations name siblings entry.sharing entry.current entry.previous → IsInOrder entry → IsInOrder (entered (length siblings) sharing entry)
+entered_in_order name siblings sharing entry generations in_order = by_join (joins_to entry.sharing sharing)
+  where
+    joined : Entry
+    joined = record entry { current = entry.current ++ length siblings ∷ [] }
+
+    begun : Entry
+    begun = record { sharing = sharing; current = length siblings ∷ []; previous = entry.current }
+
+    by_join : (test : Bool) → IsInOrder (cond test joined begun)
+    by_join true = record {
+      current = increasing_push entry.current (length siblings) in_order.current (λ place c. ranked_within name siblings generations.top place ((generations.is_current place).0 c));
+      previous = in_order.previous;
+    }
+    by_join false = record { current = one_in_order (length siblings); previous = in_order.current }
+
+after_in_order : (name : ℕ) (siblings : List Sibling) (items : List Item) (entry : Entry) → AreGenerations name siblings entry.sharing entry.current entry.previous → IsInOrder entry → IsInOrder (entry_after (length siblings) items items name entry)
+after_in_order name siblings items entry generations in_order = by_test (mentions name items)
+  where
+    by_test : (test : Bool) → IsInOrder (cond test (entered (length siblings) (sharing_at name items) entry) entry)
+    by_test true = entered_in_order name siblings (sharing_at name items) entry generations in_order
+    by_test false = in_order
+
+pub predecessors_in_order : (names : Names) (calls : List Call) (name : ℕ) (sharing : Option DependKind) → IsTableOf names calls → IsStrictlyIncreasing (predecessors_of (entry_at names name) sharing)
+predecessors_in_order names calls name sharing table = by_join (joins_to (entry_at names name).sharing sharing)
+  where
+    by_join : (test : Bool) → IsStrictlyIncreasing (cond test (entry_at names name).previous (entry_at names name).current)
+    by_join true = (table.in_order name).previous
+    by_join false = (table.in_order name).current
+
+-- the same entries under other growths
+pub table_same : (names later : Names) (calls : List Call) → IsTableOf names calls → ((name : ℕ) → entry_at later name ≡ entry_at names name) → IsTableOf later calls
+table_same names later calls table same = record {
+  ascending = table.ascending;
+  tied = λ name. subst (λ (e : Entry). AreGenerations name (newest_first calls) e.sharing e.current e.previous) (sym (same name)) (table.tied name);
+  in_order = λ name. subst IsInOrder (sym (same name)) (table.in_order name);
+}
 
 -- one more call
 pub table_after : (names later : Names) (calls : List Call) (call : Call) → IsTableOf names calls → ((s : Sibling) → Contains (newest_first calls) s → s.task < call.task) → ((name : ℕ) → entry_at later name ≡ entry_after (length calls) call.items.items call.items.items name (entry_at names name)) → IsTableOf later (calls ++ call ∷ [])
 table_after names later calls call table above same = record {
   ascending = subst IsStrictlyIncreasing (sym (map-append (λ (c : Call). c.task) calls (call ∷ []))) (increasing_push (tasks_of calls) call.task table.ascending below);
   tied = subst (AreTied later) (sym (newest_first-push calls call)) (tied_after names later (newest_first calls) (sibling_of call) table.tied (λ name. same name ∙ ap (λ n. entry_after n call.items.items call.items.items name (entry_at names name)) (sym (length-newest calls))));
+  in_order = λ name.
+      subst IsInOrder (ap (λ n. entry_after n call.items.items call.items.items name (entry_at names name)) (length-newest calls) ∙ sym (same name))
+      (after_in_order name (newest_first calls) call.items.items (entry_at names name) (table.tied name) (table.in_order name));
 }
   where
     below : (n : ℕ) → Contains (tasks_of calls) n → n < call.task

@@ -1,18 +1,22 @@
--- Marks on the places of a list.
-use Rattle.std.specs.Prelude.{ℕ, ◌≡◌, ◌<◌, ◌⊎◌, ◌↔◌, Bool, true, false, List, length, Contains, slice_index_or}
+-- Marks on places from some first one on: the mark at place first + k stands at k.
+use Rattle.std.specs.Prelude.{ℕ, ◌+◌, ◌-◌, ◌≡◌, ◌<◌, ◌≤◌, ◌⊎◌, ◌↔◌, Bool, true, false, List, length, All, Contains, slice_index_or}
 
--- the mark at a place
-abbrev pub IsMarked : List Bool → ℕ → Type 0
-IsMarked marks place = slice_index_or marks place false ≡ true
+-- these places stand from the first on and before the end
+abbrev pub AreWithin : ℕ → ℕ → List ℕ → Type 0
+AreWithin first end places = All (λ place. (first ≤ place) × (place < end)) places
+
+-- the place is marked
+abbrev pub IsMarked : ℕ → List Bool → ℕ → Type 0
+IsMarked first marks place = (first ≤ place) × (slice_index_or marks (place - first) false ≡ true)
 
 -- these places are marked too, and no other
-pub record AreMarkedToo (old new : List Bool) (places : List ℕ) : Type 0 where
+pub record AreMarkedToo (first : ℕ) (old new : List Bool) (places : List ℕ) : Type 0 where
   pub same_length : length new ≡ length old
-  pub each : (place : ℕ) → IsMarked new place ↔ (IsMarked old place ⊎ Contains places place)
+  pub each : (place : ℕ) → IsMarked first new place ↔ (IsMarked first old place ⊎ Contains places place)
 
 -- the number stands at a marked place below n
-pub record IsMarkedNumber (marks : List Bool) (numbers : List ℕ) (n number : ℕ) : Type 0 where
+pub record IsMarkedNumber (first : ℕ) (marks : List Bool) (numbers : List ℕ) (n number : ℕ) : Type 0 where
   pub place : ℕ
   pub below : place < n
-  pub marked : IsMarked marks place
+  pub marked : IsMarked first marks place
   pub found : slice_index_or numbers place 0 ≡ number

@@ -1,5 +1,5 @@
--- The costs of all segments are the work of the program.
-use Rattle.std.proofs.Common.{◌≡◌, ℕ, zero, suc, ◌+◌, ◌<◌, ◌≤◌, ◌^◌, inl, inr, true, false, List, [], ◌∷◌, map, refl, ap, ◌∙◌, arith}
+-- The costs of all segments together are the work of the program.
+use Rattle.std.proofs.Common.{◌≡◌, ℕ, zero, suc, ◌+◌, ◌-◌, ◌<◌, ◌≤◌, ◌^◌, inl, inr, true, false, List, [], ◌∷◌, map, refl, ap, ◌∙◌, arith}
 use Rattle.std.specs.List.{range_with_len, sum, sum_by}
 use Rattle.std.proofs.lemmas.Bool.{cases_eq}
 use Rattle.std.proofs.lemmas.Bool.Decides.{nat_tests}
@@ -8,10 +8,17 @@ use Rattle.std.proofs.lemmas.List.Sums.{sum_by-cons, sum-map}
 use Rattle.task_program.specs.Limits.{work_done, work_of}
 use Rattle.task_program.specs.Marks.{Mark}
 use Rattle.task_program.specs.Marks.Mark.{Begins, Ends, Works, Waits, GroupBegins, GroupEnds}
+use Rattle.task_program.specs.ProgramText.{ProgramText}
+use Rattle.task_program.specs.Programs.{IsProgram}
+use Rattle.task_program.proofs.Nested.{is_nested}
 use Rattle.task_segments.specs.declared.table.Segment.{Segment}
-use Rattle.task_segments.specs.Moments.{segments_so_far, opening, cost_of, is_latest, read, last_moment}
+use Rattle.task_segments.specs.Moments.{segments_so_far, opening, opens, cost_of, is_latest, read, last_moment, IsProper}
 use Rattle.task_segments.specs.Programs.{IsProgramTable}
-use Rattle.task_segments.specs.Table.{Table, segment_row, table_at}
+use Rattle.task_segments.specs.Table.{Table, costs_of, segment_row, table_at, table_of}
+use Rattle.task_segments.proofs.Facts.{begun_some_segment}
+use Rattle.task_segments.proofs.Programs.{last_of_nested}
+use Rattle.task_segments.proofs.Rows.{cost_none}
+use Rattle.task_segments.proofs.Steps.{open_below, segments_opens}
 
 -- the costs of the first segments together
 total : List Mark → ℕ → ℕ
@@ -74,6 +81,40 @@ sums (Waits ∷ e) n = omega (arith, same Waits e (λ s. refl) n, sums e n, sum_
 sums (GroupBegins ∷ e) n = omega (arith, same GroupBegins e (λ s. refl) n, sums e n, sum_by-cons work_done GroupBegins e)
 sums (GroupEnds ∷ e) n = omega (arith, same GroupEnds e (λ s. refl) n, sums e n, sum_by-cons work_done GroupEnds e)
 
+total_more : (e : List Mark) (n : ℕ) → total e (n + 1) ≡ total e n + cost_of n e
+unfolding total
+total_more e n = let next : n + 1 ≡ suc n = omega arith in ap (total e) next
+
+-- a case of the next sum: one more segment, with no cost yet
+opens_same : (m : Mark) (e : List Mark) → opens m ≡ true → ((s : ℕ) → cost_of s (m ∷ e) ≡ cost_of s e) → total (m ∷ e) (segments_so_far (m ∷ e)) ≡ total e (segments_so_far e)
+opens_same m e one_more h =
+    let n = segments_so_far e in
+    ap (total (m ∷ e)) (segments_opens m e one_more)
+    ∙ total_more (m ∷ e) n
+    ∙ omega (arith, same m e h n, h n, cost_none e n (omega arith))
+
+works : (cost : ℕ) (e : List Mark) (n : ℕ) → segments_so_far e ≡ n + 1 → total (Works cost ∷ e) (n + 1) ≡ total e (n + 1) + cost
+works cost e n is =
+    let latest : is_latest n e ≡ true = grind (arith, nat_tests) in
+    let more : cost_of n (Works cost ∷ e) ≡ cost + cost_of n e = rw latest refl in
+    omega (arith, total_more (Works cost ∷ e) n, total_more e n, gains cost e n (omega arith), more)
+
+-- all work is some segment's
+sums_all : (e : List Mark) → IsProper e → total e (segments_so_far e) ≡ work_of e
+unfolding total
+sums_all [] p = refl
+sums_all (Begins d i ∷ e) p = omega (arith, opens_same (Begins d i) e refl (λ s. refl), sums_all e p.1, sum_by-cons work_done (Begins d i) e)
+sums_all (Ends ∷ e) p = omega (arith, opens_same Ends e refl (λ s. refl), sums_all e p.1, sum_by-cons work_done Ends e)
+sums_all (Works cost ∷ e) p =
+    let n = segments_so_far e in
+    let one_open = p.0 in
+    let some = begun_some_segment e p.1 (omega (arith, open_below e 0 0 (omega arith))) in
+    let last : n ≡ (n - 1) + 1 = omega arith in
+    omega (arith, ap (total (Works cost ∷ e)) last, works cost e (n - 1) last, ap (total e) last, sums_all e p.1, sum_by-cons work_done (Works cost) e)
+sums_all (Waits ∷ e) p = omega (arith, opens_same Waits e refl (λ s. refl), sums_all e p.1, sum_by-cons work_done Waits e)
+sums_all (GroupBegins ∷ e) p = omega (arith, same GroupBegins e (λ s. refl) (segments_so_far e), sums_all e p.1, sum_by-cons work_done GroupBegins e)
+sums_all (GroupEnds ∷ e) p = omega (arith, opens_same GroupEnds e refl (λ s. refl), sums_all e p.1, sum_by-cons work_done GroupEnds e)
+
 work_read : (e marks : List Mark) → work_of (read e marks) ≡ work_of e + work_of marks
 work_read e [] = omega arith
 work_read e (m ∷ marks) = omega (arith, work_read (m ∷ e) marks, sum_by-cons work_done m e, sum_by-cons work_done m marks)
@@ -83,3 +124,9 @@ little_work table h =
     let e = last_moment h.program.marks in
     let k = ap (λ (t : Table). sum (map (λ (row : Segment). row.cost) t.segments)) h.is in
     omega (arith, k, sum-map (λ (row : Segment). row.cost) (table_at e).segments, total_is e (segments_so_far e), sums e (segments_so_far e), work_read (Begins false [] ∷ []) h.program.marks, h.is_program.work)
+
+pub all_work : (program : ProgramText) → IsProgram program → sum (costs_of (table_of program.marks)) ≡ work_of program.marks
+all_work program h =
+    let e = last_moment program.marks in
+    let proper = (last_of_nested program.marks (is_nested program h)).proper in
+    omega (arith, sum-map (λ (row : Segment). row.cost) (table_at e).segments, total_is e (segments_so_far e), sums_all e proper, work_read (Begins false [] ∷ []) program.marks)

@@ -4,7 +4,7 @@ use Rattle.task_program.specs.declared.statement.Item.{Item}
 use Rattle.depend_table.specs.declared.table.Call.{Call}
 use Rattle.depend_table.specs.Siblings.{Sibling}
 use Rattle.depend_table.specs.Entries.{Entry, entry_at, entry_after, newest_first, IsTableOf}
-use Rattle.depend_table.proofs.Places.{table_after}
+use Rattle.depend_table.proofs.Places.{table_after, table_same}
 use Rattle.depend_table.proofs.table.accept.Goals as goal
 
 pub returns-clause-table : goal.returns-clause-table
@@ -24,3 +24,11 @@ returns-clause-table c =
     ∙ ap (λ n. entry_after n items items name (entry_at names name)) place
     ∙ ap (λ (is : List Item). entry_after (length calls) is is name (entry_at names name)) (sym copied) in
     subst (IsTableOf c.enter_all.new.names) (sym c.in_ok-push.ensures.items) (table_after names c.enter_all.new.names calls call c.requires.table above same)
+
+pub returns-in_err-make_all_room-clause-table : goal.returns-in_err-make_all_room-clause-table
+returns-in_err-make_all_room-clause-table c = table_same c.args.names.now c.make_all_room.new.names c.args.calls.now.items c.requires.table c.in_err-make_all_room.ensures.same
+
+pub returns-in_err-push-clause-table : goal.returns-in_err-push-clause-table
+returns-in_err-push-clause-table c =
+    subst (IsTableOf c.make_all_room.new.names) (sym c.in_err-push.ensures.items)
+    (table_same c.args.names.now c.make_all_room.new.names c.args.calls.now.items c.requires.table c.in_ok-make_all_room.ensures.same)

@@ -1,11 +1,11 @@
-use Rattle.std.proofs.Common.{ℕ, ◌≡◌, ◌↔◌, take, length, Contains}
+use Rattle.std.proofs.Common.{ℕ, ◌+◌, ◌≡◌, ◌↔◌, take, length, Contains}
 use Rattle.std.specs.List.{flat_map}
+use Rattle.depend_table.specs.Entries.{predecessors_for}
 use Rattle.depend_table.specs.Marks.{IsMarked}
-use Rattle.depend_table.proofs.Entered.{predecessors_for}
 use Rattle.depend_table.proofs.table.kept_tasks.Given as goal
 
 abbrev pub invariant-loop-item : goal.invariant-loop-item
 invariant-loop-item l = record {
-  one_each : length l.marks.items ≡ length l.calls;
-  marked : (place : ℕ) → IsMarked l.marks.items place ↔ Contains (flat_map (predecessors_for l.names l.items) (take l.item-index l.items)) place;
+  one_each : l.window.first + length l.marks.items ≡ l.window.end;
+  marked : (place : ℕ) → IsMarked l.window.first l.marks.items place ↔ Contains (flat_map (predecessors_for l.names l.items) (take l.item-index l.items)) place;
 }

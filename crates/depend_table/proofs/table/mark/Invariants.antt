@@ -3,4 +3,4 @@ use Rattle.depend_table.specs.Marks.{AreMarkedToo}
 use Rattle.depend_table.proofs.table.mark.Given as goal
 
 abbrev pub invariant-loop-place : goal.invariant-loop-place
-invariant-loop-place l = AreMarkedToo l.initial.marks l.marks (take l.place-index l.places)
+invariant-loop-place l = AreMarkedToo l.first l.initial.marks l.marks (take l.place-index l.places)

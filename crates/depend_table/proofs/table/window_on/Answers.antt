@@ -1,0 +1,63 @@
+use Rattle.std.proofs.Common.{ℕ, ◌+◌, ◌∷◌, [], ◌<◌, ◌≤◌, ◌≡◌, ◌^◌, List, length, get_or, take, All, subst, sym, take_all, arith, rules}
+use Rattle.std.specs.List.Sorted.{IsStrictlyIncreasing}
+use Rattle.std.proofs.lemmas.List.{take_more}
+use Rattle.std.proofs.lemmas.List.Elements.{All-contains, All-push, All-weaker, Contains-get_or}
+use Rattle.task_program.specs.declared.statement.DependKind.TheVariants.{DependIn}
+use Rattle.task_program.specs.declared.statement.Item.{Item}
+use Rattle.depend_table.specs.Entries.{predecessors_for, newest_first}
+use Rattle.depend_table.specs.Generations.{sharing_at}
+use Rattle.depend_table.specs.Marks.{AreWithin}
+use Rattle.depend_table.proofs.Marks.{within_wider}
+use Rattle.depend_table.proofs.Places.{predecessors_in_order, predecessors_below}
+use Rattle.depend_table.proofs.table.window_on.Goals as goal
+
+abbrev no_item : Item
+no_item = record { kind = DependIn; name = 0 }
+
+pub with-window-requires-clause-ascending : goal.with-window-requires-clause-ascending
+with-window-requires-clause-ascending c =
+    let items = c.args.items.now in
+    let item = get_or items c.loop-item.item-index no_item in
+    subst IsStrictlyIncreasing (sym c.predecessors_at.ensures) (predecessors_in_order c.args.names.now c.args.calls.now item.name (sharing_at item.name items) c.requires)
+
+pub with-window-requires-clause-few : goal.with-window-requires-clause-few
+with-window-requires-clause-few c = λ k d h.
+    let calls = c.args.calls.now in
+    let items = c.args.items.now in
+    let item = get_or items c.loop-item.item-index no_item in
+    let below = subst (λ (xs : List ℕ). All (λ place. place < length calls) xs) (sym c.predecessors_at.ensures) (predecessors_below c.args.names.now calls item.name (sharing_at item.name items) c.requires) in
+    let less = below k d h in
+    let fits : length calls < 2 ^ 64 = search rules in
+    omega arith
+
+pub loop-item-preserved : goal.loop-item-preserved
+loop-item-preserved c =
+    let names = c.args.names.now in
+    let calls = c.args.calls.now in
+    let items = c.args.items.now in
+    let i = c.loop-item.item-index in
+    let item = get_or items i no_item in
+    let old = c.loop-item.window in
+    let new = c.with-window.result in
+    let places = c.predecessors_at.result.now in
+    let below = subst (λ (xs : List ℕ). All (λ place. place < length calls) xs) (sym c.predecessors_at.ensures) (predecessors_below names calls item.name (sharing_at item.name items) c.requires) in
+    let earlier = All-weaker (λ (one : Item). AreWithin old.first old.end (predecessors_for names items one)) (λ (one : Item). AreWithin new.first new.end (predecessors_for names items one))
+    (λ one inside. within_wider old.first old.end new.first new.end (predecessors_for names items one) c.with-window.ensures.wider.0 c.with-window.ensures.wider.1 inside)
+    (take i items) c.loop-item.invariant.all in
+    let latest : AreWithin new.first new.end (predecessors_for names items item) = subst (AreWithin new.first new.end) c.predecessors_at.ensures c.with-window.ensures.all in
+    record {
+      within = c.with-window.ensures.within (length calls) c.loop-item.invariant.within below;
+      all = subst (λ (xs : List Item). All (λ one. AreWithin new.first new.end (predecessors_for names items one)) xs) (sym (take_more items i no_item c.loop-item-test.true))
+          (All-push (λ (one : Item). AreWithin new.first new.end (predecessors_for names items one)) (take i items) item earlier latest);
+    }
+
+pub returns-clause-all : goal.returns-clause-all
+returns-clause-all c =
+    let names = c.args.names.now in
+    let items = c.args.items.now in
+    let window = c.loop-item.window in
+    let lower : c.min.result ≤ window.first = omega (arith, c.min.ensures) in
+    All-weaker (λ (one : Item). AreWithin window.first window.end (predecessors_for names items one)) (λ (one : Item). AreWithin c.min.result window.end (predecessors_for names items one))
+    (λ one inside. within_wider window.first window.end c.min.result window.end (predecessors_for names items one) lower (omega arith) inside)
+    items
+    (subst (λ (xs : List Item). All (λ one. AreWithin window.first window.end (predecessors_for names items one)) xs) (take_all c.loop-item.item-index items c.loop-item-test.false) c.loop-item.invariant.all)

@@ -1,0 +1,40 @@
+-- What a program's table adds up to.
+use Rattle.std.proofs.Common.{◌≡◌, ℕ, ◌+◌, ◌*◌, false, List, [], ◌∷◌, length, refl, arith}
+use Rattle.std.specs.List.{count_by, sum_by}
+use Rattle.std.proofs.lemmas.List.Sums.{sum_by-cons}
+use Rattle.task_program.specs.Limits.{segments_opened, segments_of}
+use Rattle.task_program.specs.Marks.{Mark}
+use Rattle.task_program.specs.Marks.Mark.{Begins, Ends, Works, Waits, GroupBegins, GroupEnds}
+use Rattle.task_program.specs.ProgramText.{ProgramText}
+use Rattle.task_program.specs.Programs.{IsProgram}
+use Rattle.task_program.proofs.Nested.{is_nested}
+use Rattle.task_segments.specs.Moments.{begins_task, begins_group, opens, last_moment}
+use Rattle.task_segments.specs.Table.{table_of}
+use Rattle.task_segments.specs.Totals.{is_wait, tasks_in, waits_in, groups_in, HasAllOf}
+use Rattle.task_segments.proofs.Facts.{segments-at, tasks-at}
+use Rattle.task_segments.proofs.Programs.{count_read}
+use Rattle.task_segments.proofs.Reading.{segments_counted}
+use Rattle.task_segments.proofs.Steps.{count-cons}
+use Rattle.task_segments.proofs.Work.{all_work}
+
+-- what one more mark adds
+one_more : (m : Mark) (marks : List Mark) → segments_opened m + (2 * tasks_in marks + waits_in marks + groups_in marks) ≡ 2 * tasks_in (m ∷ marks) + waits_in (m ∷ marks) + groups_in (m ∷ marks)
+one_more (Begins d i) marks = omega (arith, count-cons begins_task (Begins d i) marks, count-cons is_wait (Begins d i) marks, count-cons begins_group (Begins d i) marks)
+one_more Ends marks = omega (arith, count-cons begins_task Ends marks, count-cons is_wait Ends marks, count-cons begins_group Ends marks)
+one_more (Works cost) marks = omega (arith, count-cons begins_task (Works cost) marks, count-cons is_wait (Works cost) marks, count-cons begins_group (Works cost) marks)
+one_more Waits marks = omega (arith, count-cons begins_task Waits marks, count-cons is_wait Waits marks, count-cons begins_group Waits marks)
+one_more GroupBegins marks = omega (arith, count-cons begins_task GroupBegins marks, count-cons is_wait GroupBegins marks, count-cons begins_group GroupBegins marks)
+one_more GroupEnds marks = omega (arith, count-cons begins_task GroupEnds marks, count-cons is_wait GroupEnds marks, count-cons begins_group GroupEnds marks)
+
+opened_in : (marks : List Mark) → sum_by segments_opened marks ≡ 2 * tasks_in marks + waits_in marks + groups_in marks
+opened_in [] = refl
+opened_in (m ∷ marks) = omega (arith, sum_by-cons segments_opened m marks, opened_in marks, one_more m marks)
+
+pub has_all : (program : ProgramText) → IsProgram program → HasAllOf program.marks (table_of program.marks)
+has_all program h =
+    let e = last_moment program.marks in
+    record {
+      tasks = omega (arith, tasks-at e, count_read begins_task (Begins false [] ∷ []) program.marks);
+      segments = omega (arith, segments-at e, count_read opens (Begins false [] ∷ []) program.marks, segments_counted program.marks (is_nested program h), opened_in program.marks);
+      work = all_work program h;
+    }
