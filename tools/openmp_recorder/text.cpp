@@ -66,8 +66,8 @@ void Writer::line(unsigned indent, const std::string &words, const std::string &
 
 void Writer::flush(Place &p) {
   int64_t unit = options().unit, rounded = (p.cost + unit / 2) / unit;
-  if (rounded || p.folded)
-    line(p.indent, "work " + std::to_string(rounded), p.folded ? std::to_string(p.folded) + " tasks folded" : "");
+  std::string folded = std::to_string(p.folded) + (p.folded == 1 ? " task folded" : " tasks folded");
+  if (rounded || p.folded) line(p.indent, "work " + std::to_string(rounded), p.folded ? folded : "");
   text.work += rounded;
   p.cost = 0;
   p.folded = 0;
