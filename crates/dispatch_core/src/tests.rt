@@ -1,4 +1,5 @@
 //! Worked runs, as the rules of tasks give them by hand.
+mod graphs;
 mod memory;
 mod runs;
 
@@ -41,6 +42,16 @@ fn preds_text(alloc: Global, graph: &Graph) -> Result<String, AllocFault> {
         write!(text, "; ")?;
     }
     Ok(text)
+}
+
+/// The segment, the cost, the input and the value.
+fn fields_of<K: Kernel>(outcome: &SegResult<K>) -> (u32, u64, u64, u64) {
+    (
+        outcome.segment(),
+        outcome.cost(),
+        outcome.input(),
+        outcome.value(),
+    )
 }
 
 #[test]
@@ -117,16 +128,17 @@ fn results_refused_in_a_run(rt: HostRuntime) -> Result<(), Fail> {
     let input = core.start(0, 1).map_err(|_| "refused")?;
     assert_eq!(rt; input, 781);
     let cases = [
-        (0, 2, 2, 781, FinishKind::NotRunning),
-        (0, 1, 4, 781, FinishKind::WrongCost),
-        (0, 1, 3, 0, FinishKind::WrongInput),
-        (1, 1, 3, 781, FinishKind::NotRunning),
+        (0, (2, 2, 781, 19581), FinishKind::NotRunning),
+        (0, (1, 4, 781, 488906), FinishKind::WrongCost),
+        (0, (1, 3, 0, 156), FinishKind::WrongInput),
+        (1, (1, 3, 781, 97781), FinishKind::NotRunning),
     ];
-    for (worker, segment, cost, input, kind) in cases {
+    for (worker, fields, kind) in cases {
+        let (segment, cost, input, _) = fields;
         let outcome = SegResult::compute(&MixKernel, segment, cost, input).map_err(|_| "fault")?;
         let refusal = core.finish(worker, outcome).err().ok_or("accepted")?;
         assert_eq!(rt; refusal.kind, kind);
-        assert_eq!(rt; refusal.result.segment(), segment);
+        assert_eq!(rt; fields_of(&refusal.result), fields);
         assert_eq!(rt; core.history().len(), 3);
     }
     let outcome = SegResult::compute(&MixKernel, 1, 3, input).map_err(|_| "fault")?;

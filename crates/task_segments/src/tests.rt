@@ -1,4 +1,6 @@
 //! Worked programs: their tables and the pairs that must precede, as the rules of tasks give them by hand.
+mod memory;
+
 use crate::cutter::cut;
 use crate::table::{Closing, SegTable};
 use std::alloc::Global;
@@ -279,27 +281,5 @@ fn other_programs_are_not_the_same(rt: HostRuntime) -> Result<(), Fail> {
         let other = table_of(alloc, format!(in alloc; "omptasks 1\n{other}")?.as_str())?;
         assert!(rt; !one.same(&other) && !other.same(&one));
     }
-    Ok(())
-}
-
-// With one growth refused, whichever it is, the call made again answers in full (`rt try --test --fail-alloc N`).
-#[test]
-fn a_refused_growth_changes_nothing(rt: HostRuntime) -> Result<(), Fail> {
-    let alloc = rt.alloc();
-    let text = b"omptasks 1\ntask depend(in: x) { taskgroup { } }";
-    let program = match read_program(alloc, text) {
-        Ok(program) => program,
-        Err(_) => read_program(alloc, text)?,
-    };
-    let table = match cut(alloc, &program) {
-        Ok(table) => table,
-        Err(_) => cut(alloc, &program)?,
-    };
-    let copy = match table.copy() {
-        Ok(copy) => copy,
-        Err(_) => table.copy()?,
-    };
-    assert_eq!(rt; (table.len(), table.tasks()), (4, 2));
-    assert!(rt; table.same(&copy));
     Ok(())
 }

@@ -1,4 +1,4 @@
-//! Refused growths. Under `rt try --test --fail-alloc N` the Nth growth of a test is refused, and these tests pass for each N.
+//! Refused growths: `checks/refused_growths_of_tests.sh` refuses each growth of each test in turn, and these tests pass.
 ghost use Rattle.std.specs.Prelude.{◌<◌, ◌≤◌, All};
 
 use crate::table::SiblingTable;

@@ -1,6 +1,5 @@
-//! A refused growth. Under `rt try --test --fail-alloc N`, which `checks/refused_growths_of_tests.sh` runs, the Nth
-//! growth of a test is refused, and these tests pass for each N.
-use super::{WORKED, finish, start};
+//! Refused growths: `checks/refused_growths_of_tests.sh` refuses each growth of each test in turn, and these tests pass.
+use super::{WORKED, fields_of, finish, start};
 use crate::dispatch::Core;
 use crate::kernel::{MixKernel, SegResult};
 use crate::replay::{in_order, replay};
@@ -40,6 +39,7 @@ fn a_run_with_a_refused_growth(rt: HostRuntime) -> Result<(), Fail> {
         Ok(ready) => ready,
         Err(outcome) => {
             assert_eq!(rt; (core.running(0), core.history().len()), (Some(0), 1));
+            assert_eq!(rt; fields_of(&outcome), (0, 5, 0, 781));
             core.finish(0, outcome).map_err(|_| "refused twice")?
         }
     };

@@ -1,5 +1,5 @@
 //! Whole runs, with values of the mixing kernel that were computed apart from this program.
-use super::{WORKED, preds_text, table_of};
+use super::{WORKED, fields_of, preds_text, table_of};
 use crate::dispatch::Core;
 use crate::event::FinishKind;
 use crate::kernel::{MixKernel, SegResult};
@@ -76,14 +76,7 @@ fn a_run_goes_on(rt: HostRuntime) -> Result<(), Fail> {
     let wrong = SegResult::compute(&MixKernel, 1, 3, 780).map_err(|_| "a fault")?;
     let refusal = core.finish(7, wrong).err().ok_or("accepted")?;
     assert_eq!(rt; refusal.kind, FinishKind::WrongInput);
-    assert_eq!(rt;
-        (
-            refusal.result.segment(),
-            refusal.result.cost(),
-            refusal.result.input()
-        ),
-        (1, 3, 780)
-    );
+    assert_eq!(rt; fields_of(&refusal.result), (1, 3, 780, 97656));
     let mut core = core.into_graph().err().ok_or("a graph")?.core;
     assert_eq!(rt; core.history().len(), 3);
     assert_eq!(rt; step(&mut core, 0, 2)?.len(), 0);
