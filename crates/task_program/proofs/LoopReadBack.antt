@@ -1,0 +1,173 @@
+-- The canonical text of version 2 has the program as its tree.
+use Rattle.std.proofs.Common.{◌≡◌, ℕ, suc, ◌+◌, ◌*◌, ◌≤◌, Bool, true, false, List, [], ◌∷◌, ◌++◌, length, refl, sym, ap, subst, ◌∙◌, arith, codes}
+use Rattle.std.specs.Prelude.{All, fold, sum_by}
+use Rattle.std.specs.List.{flat_map}
+use Rattle.std.proofs.lemmas.List.{append-nil}
+use Rattle.std.proofs.lemmas.List.Sums.{sum_by-append}
+use Rattle.std.proofs.lemmas.List.Elements.{All-head, All-tail, All-nil, All-cons}
+use Rattle.task_program.specs.declared.statement.Item.{Item}
+use Rattle.task_program.specs.declared.version.Version.{Version}
+use Rattle.task_program.specs.declared.version.Version.TheVariants.{Two}
+use Rattle.task_program.specs.Limits.{most_bytes, most_token_bytes, most_nesting}
+use Rattle.task_program.specs.Marks.{Mark}
+use Rattle.task_program.specs.Marks.Mark.{Begins, Ends, Works, Waits, GroupBegins, GroupEnds}
+use Rattle.task_program.specs.Names.{with_name}
+use Rattle.task_program.specs.Canonical.{name_of, line_of, header_line, canonical, solid}
+use Rattle.task_program.specs.Programs.{IsNamed, FitsLimits, IsLocation, IsNameIn, IsProgram, mentioned}
+use Rattle.task_program.specs.ProgramText.{ProgramText}
+use Rattle.task_program.specs.Tokens.{Token, texts, tokens_of}
+use Rattle.task_program.specs.Faults.{Block}
+use Rattle.task_program.specs.Grammar.{IsShort}
+use Rattle.task_program.specs.Expansion.{expansion}
+use Rattle.task_program.specs.SecondPass.{Expanded, nothing_expanded, most_turns}
+use Rattle.task_program.specs.ExpandsTo.{ExpandsTo, expanded, program_expanded}
+use Rattle.task_program.specs.LoopGrammar.{HasLoopTree}
+use Rattle.task_program.proofs.Nested.{nests}
+use Rattle.task_program.proofs.NamesOnce.{AreOnce, once_mentioned}
+use Rattle.task_program.proofs.Spelled.{spell, IsWritten, HasName, FitsNames, loops_spelled, line_texts_by}
+use Rattle.task_program.proofs.ReadBack.{AllShort, HasShort, FitsShort, lines_short}
+use Rattle.task_program.proofs.Locations.{with_lines, have_lines, location_written, location_short}
+use Rattle.task_program.proofs.LinesSpelled.{IsLocated, HasLocations, HasMarks, no_marks, lines_spelled}
+use Rattle.task_program.proofs.LinesExpand.{Prints, Goes, in_range, expands}
+use Rattle.task_program.proofs.CanonicalBytes.{text_weighs}
+
+-- ---- each name is a location
+
+items_located : (names : List (List ℕ)) (items : List Item) → All IsLocation names → All (IsNamed (length names)) items → All (IsLocated names) items
+items_located names [] names_fit all = All-nil (IsLocated names)
+items_located names (item ∷ items) names_fit all =
+    All-cons (IsLocated names) item items (names_fit item.name [] (All-head (IsNamed (length names)) item items all)) (items_located names items names_fit (All-tail (IsNamed (length names)) item items all))
+
+mark_located : (names : List (List ℕ)) (mark : Mark) → All IsLocation names → FitsLimits (length names) mark → HasLocations names mark
+mark_located names (Works cost) names_fit fits = fits
+mark_located names Waits names_fit fits = tt
+mark_located names (Begins undeferred items) names_fit fits = items_located names items names_fit fits.1
+mark_located names Ends names_fit fits = tt
+mark_located names GroupBegins names_fit fits = tt
+mark_located names GroupEnds names_fit fits = tt
+
+marks_located : (names : List (List ℕ)) (marks : List Mark) → All IsLocation names → All (FitsLimits (length names)) marks → All (HasLocations names) marks
+marks_located names [] names_fit fits = All-nil (HasLocations names)
+marks_located names (mark ∷ marks) names_fit fits =
+    All-cons (HasLocations names) mark marks (mark_located names mark names_fit (All-head (FitsLimits (length names)) mark marks fits)) (marks_located names marks names_fit (All-tail (FitsLimits (length names)) mark marks fits))
+
+-- so its tokens are known, and short
+
+items_written : (names : List (List ℕ)) (items : List Item) → All (IsLocated names) items → All (HasName (spell false) names) items
+items_written names [] all = All-nil (HasName (spell false) names)
+items_written names (item ∷ items) all =
+    All-cons (HasName (spell false) names) item items (location_written (name_of names item) (All-head (IsLocated names) item items all)) (items_written names items (All-tail (IsLocated names) item items all))
+
+mark_written : (names : List (List ℕ)) (mark : Mark) → HasLocations names mark → FitsNames (spell false) names mark
+mark_written names (Works cost) h = h
+mark_written names Waits h = tt
+mark_written names (Begins undeferred items) h = items_written names items h
+mark_written names Ends h = tt
+mark_written names GroupBegins h = tt
+mark_written names GroupEnds h = tt
+
+marks_written : (names : List (List ℕ)) (marks : List Mark) → All (HasLocations names) marks → All (FitsNames (spell false) names) marks
+marks_written names [] all = All-nil (FitsNames (spell false) names)
+marks_written names (mark ∷ marks) all =
+    All-cons (FitsNames (spell false) names) mark marks (mark_written names mark (All-head (HasLocations names) mark marks all)) (marks_written names marks (All-tail (HasLocations names) mark marks all))
+
+items_short : (names : List (List ℕ)) (items : List Item) → All (IsLocated names) items → All (HasShort (spell false) names) items
+items_short names [] all = All-nil (HasShort (spell false) names)
+items_short names (item ∷ items) all =
+    All-cons (HasShort (spell false) names) item items (location_short (name_of names item) (All-head (IsLocated names) item items all)) (items_short names items (All-tail (IsLocated names) item items all))
+
+mark_short : (names : List (List ℕ)) (mark : Mark) → HasLocations names mark → FitsShort (spell false) names mark
+mark_short names (Works cost) h = h
+mark_short names Waits h = tt
+mark_short names (Begins undeferred items) h = items_short names items h
+mark_short names Ends h = tt
+mark_short names GroupBegins h = tt
+mark_short names GroupEnds h = tt
+
+marks_short : (names : List (List ℕ)) (marks : List Mark) → All (HasLocations names) marks → All (FitsShort (spell false) names) marks
+marks_short names [] all = All-nil (FitsShort (spell false) names)
+marks_short names (mark ∷ marks) all =
+    All-cons (FitsShort (spell false) names) mark marks (mark_short names mark (All-head (HasLocations names) mark marks all)) (marks_short names marks (All-tail (HasLocations names) mark marks all))
+
+-- ---- the whole text
+
+at_first : (whole : List (List ℕ)) → Prints whole [] nothing_expanded
+at_first whole = record { marks_are = refl; names_are = refl; no_items = refl; no_turns = refl; bytes_are = omega arith }
+
+abbrev program_of : List Mark → List (List ℕ) → ProgramText
+program_of marks names = record { version = Two; marks = marks; names = names }
+
+in_version : (program : ProgramText) → program.version ≡ Two → program ≡ program_of program.marks program.names
+in_version program two = ap (λ (v : Version). record { version = v; marks = program.marks; names = program.names }) two
+
+texts_stay : (words : List (List ℕ)) (lines : ℕ → ℕ) → texts (with_lines words lines) ≡ words
+unfolding with_lines
+texts_stay [] lines = refl
+texts_stay (text ∷ words) lines = ap (λ (ts : List (List ℕ)). text ∷ ts) (texts_stay words (λ i. lines (suc i)))
+
+front_apart : (words : List (List ℕ)) (lines : ℕ → ℕ) (tokens : List Token) → with_lines (codes "omptasks" ∷ codes "2" ∷ words) lines ≡ tokens
+    → tokens ≡ record { text = codes "omptasks"; line = lines 0 } ∷ record { text = codes "2"; line = lines 1 } ∷ with_lines words (λ i. lines (suc (suc i)))
+unfolding with_lines
+front_apart words lines tokens h = sym h
+
+expands_to : (program : ProgramText) (state : Expanded) → program.version ≡ Two → IsProgram program → All (HasLocations program.names) program.marks → Goes program.names program.marks [] state
+    → (program ≡ program_expanded state) × (state.turns ≤ most_turns) × (state.bytes ≤ most_token_bytes) × (length (canonical program) ≤ 2097152)
+expands_to program state two fits located goes =
+    let names : List (List ℕ) = program.names in
+    let marks : List Mark = program.marks in
+    let p = goes.prints in
+    let words : List (List ℕ) = codes "omptasks" ∷ codes "2" ∷ flat_map (line_texts_by (spell false) names) marks in
+    let lines : List ℕ = flat_map (line_of names) marks in
+    let text_is : canonical program ≡ header_line Two ++ lines = ap (λ (v : Version). header_line v ++ lines) two in
+    let weighs = text_weighs names marks located in
+    let half : length (header_line Two ++ lines) ≤ 2 * solid (header_line Two ++ lines) = weighs.half in
+    let solid_is : solid (header_line Two ++ lines) ≡ sum_by length words = weighs.solid_is in
+    let tokens : sum_by length (texts (tokens_of (canonical program))) ≡ sum_by length words = ap (λ (ts : List (List ℕ)). sum_by length ts) (loops_spelled program two (marks_written names marks located)) in
+    let size : sum_by length (texts (tokens_of (canonical program))) ≤ most_token_bytes = fits.size in
+    let apart : solid (header_line Two ++ lines) ≡ solid (header_line Two) + solid lines = sum_by-append _ (header_line Two) lines in
+    let none : length state.tree.blocks ≡ 0 = ap (λ (bs : List Block). length bs) goes.blocks_are in
+    let bytes_are : state.bytes ≡ (solid (header_line Two) + solid lines) + length state.tree.blocks = p.bytes_are in
+    let lengths : length (canonical program) ≡ length (header_line Two ++ lines) = ap (λ (t : List ℕ). length t) text_is in
+    let turns : state.turns ≡ 0 = p.no_turns in
+    (
+      in_version program two ∙ ap (λ (ms : List Mark). program_of ms names) (sym p.marks_are) ∙ ap (λ (ns : List (List ℕ)). program_of state.tree.marks ns) (fits.ordered ∙ sym p.names_are),
+      omega (arith, turns),
+      omega (arith, bytes_are, none, apart, solid_is, tokens, size),
+      omega (arith, lengths, half, solid_is, tokens, size),
+    )
+
+pub canonical_loops : (program : ProgramText) → program.version ≡ Two → IsProgram program → HasLoopTree (canonical program) program × (length (canonical program) ≤ 2097152)
+canonical_loops program two fits =
+    let names : List (List ℕ) = program.names in
+    let marks : List Mark = program.marks in
+    let words : List (List ℕ) = flat_map (line_texts_by (spell false) names) marks in
+    let names_fit : All IsLocation names = subst (λ (v : Version). All (IsNameIn v) names) two fits.names_fit in
+    let located : All (HasLocations names) marks = marks_located names marks names_fit fits.marks_fit in
+    let tokens_so : texts (tokens_of (canonical program)) ≡ codes "omptasks" ∷ codes "2" ∷ words = loops_spelled program two (marks_written names marks located) in
+    let lines = have_lines (tokens_of (canonical program)) in
+    let tokens_are : with_lines (codes "omptasks" ∷ codes "2" ∷ words) lines.0 ≡ tokens_of (canonical program) = ap (λ (ts : List (List ℕ)). with_lines ts lines.0) (sym tokens_so) ∙ lines.1 in
+    let body : List Token = with_lines words (λ i. lines.0 (suc (suc i))) in
+    let h : HasMarks names most_nesting body marks = lines_spelled names most_nesting marks (nests program fits) located [] [] (λ i. lines.0 (suc (suc i))) (no_marks names most_nesting) in
+    let once : AreOnce names = subst AreOnce (sym fits.ordered) (once_mentioned (flat_map (mentioned names) marks)) in
+    let all_names : names ≡ fold with_name [] (flat_map (mentioned names) ([] ++ (marks ++ []))) = fits.ordered ∙ ap (λ (ms : List Mark). fold with_name [] (flat_map (mentioned names) ms)) (sym (append-nil marks)) in
+    let goes : Goes names marks [] (expanded h.tree) = expands names once marks h.tree h.stands fits.marks_fit [] [] nothing_expanded all_names (at_first names) in
+    let e = expands_to program (expanded h.tree) two fits located goes in
+    let short_words : AllShort words = lines_short (spell false) names marks (marks_short names marks located) in
+    let long : length (canonical program) ≤ 2097152 = e.3 in
+    (
+      record {
+        in_version = two;
+        word = record { text = codes "omptasks"; line = lines.0 0 };
+        version = record { text = codes "2"; line = lines.0 1 };
+        body = body;
+        tree = h.tree;
+        tokens_are = front_apart words lines.0 (tokens_of (canonical program)) tokens_are;
+        header = refl;
+        version_is_two = (refl, refl);
+        spelled = h.spelled;
+        expanded = record { program_is = e.0; program_fits = fits; indices_fit = in_range names false marks h.tree h.stands; turns_fit = e.1; bytes_fit = e.2 };
+        text_fits = omega (arith, long);
+        words_fit = subst (λ (ts : List (List ℕ)). All IsShort ts) (sym (texts_stay words (λ i. lines.0 (suc (suc i))))) short_words.each;
+      },
+      long,
+    )
