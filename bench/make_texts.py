@@ -77,11 +77,26 @@ def chain():
     return HEADER + "task depend(inout: x) { work 1 }\n" * TASKS
 
 
-TEXTS = (gaps, tokens, shared_items, own_items, waits, largest, deep, fan, chain)
+def loops():
+    """As many tasks and turns as there may be, said in a few bytes of version 2."""
+    return "omptasks 2\nfor i 1 4096 { task depend(in: x[i-1]) depend(out: x[i]) { for j 1 15 { work 1 } } }\n"
+
+
+def loops_written():
+    """The same program in version 1, each task written out."""
+    def task(i):
+        return "task depend(in: x_%d) depend(out: x_%d) {\n%s}\n" % (i - 1, i, "work 1\n" * 15)
+
+    return HEADER + "".join(task(i) for i in range(1, TASKS + 1))
+
+
+TEXTS = (gaps, tokens, shared_items, own_items, waits, largest, deep, fan, chain, loops, loops_written)
 
 
 def segments(text):
     """A segment, two more for each task and one for each wait and group."""
+    if text == loops():
+        text = loops_written()
     words = re.findall(r"\w+", re.sub(r"#.*", "", text))
     return 1 + 2 * words.count("task") + words.count("taskwait") + words.count("taskgroup")
 
