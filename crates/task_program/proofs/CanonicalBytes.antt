@@ -1,5 +1,5 @@
 -- The bytes of the canonical text of version 2: those of its tokens are all that are no blanks, and at most half are blanks.
-use Rattle.std.proofs.Common.{◌≡◌, ℕ, ◌+◌, ◌*◌, ◌≤◌, Bool, true, false, not, ◌&&◌, ◌||◌, cond, List, [], ◌∷◌, ◌++◌, length, length-append, append_assoc, refl, sym, ap, subst, ◌∙◌, arith, codes}
+use Rattle.std.proofs.Common.{◌≡◌, ℕ, ◌+◌, ◌*◌, ◌≤◌, Bool, true, false, not, ◌||◌, cond, List, [], ◌∷◌, ◌++◌, length, length-append, append_assoc, refl, sym, ap, subst, ◌∙◌, arith, codes}
 use Rattle.std.specs.Prelude.{All, sum_by}
 use Rattle.std.specs.List.{flat_map, list_all}
 use Rattle.std.specs.Char.{is_ascii_digit}
@@ -16,7 +16,7 @@ use Rattle.task_program.specs.Canonical.{same_kind, name_of, joint, items_after,
 use Rattle.task_program.specs.Programs.{IsLocation}
 use Rattle.task_program.specs.Programs.IsLocation.{Plain, Indexed}
 use Rattle.task_program.specs.Subscripts.{most_index, subscript}
-use Rattle.task_program.specs.Tokens.{is_blank, is_gap, is_run_byte}
+use Rattle.task_program.specs.Tokens.{is_blank, is_run_byte}
 use Rattle.task_program.specs.Words.{is_run, is_word, begins_with_digit, type_word, is_number}
 use Rattle.task_program.proofs.Keeping.{bool_cases}
 use Rattle.task_program.proofs.Kept.{solid_more}

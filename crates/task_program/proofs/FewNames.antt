@@ -1,19 +1,18 @@
 -- Names stay few, piece by piece.
-use Rattle.std.proofs.Common.{◌≡◌, ℕ, ◌+◌, ◌*◌, ◌<◌, ◌≤◌, List, [], ◌∷◌, ◌++◌, length, length-append, map, reverse, None, Ok, refl, subst, arith}
+use Rattle.std.proofs.Common.{◌≡◌, ℕ, ◌+◌, ◌<◌, ◌≤◌, List, [], ◌∷◌, ◌++◌, length, length-append, None, Ok, subst, arith}
 use Rattle.std.specs.Prelude.{nat_le}
 use Rattle.std.specs.List.{list_any}
 use Rattle.std.specs.Str.{bytes_eq}
 use Rattle.std.proofs.lemmas.Bool.{leb-false}
 use Rattle.task_program.specs.declared.statement.Item.{Item}
-use Rattle.task_program.specs.Marks.{Mark}
 use Rattle.task_program.specs.Marks.Mark.{Begins}
-use Rattle.task_program.specs.Limits.{tasks_begun, tasks_of, most_items}
+use Rattle.task_program.specs.Limits.{tasks_begun, most_items}
 use Rattle.task_program.specs.Names.{number_of, with_name}
-use Rattle.task_program.specs.Expansion.{Place, Piece}
+use Rattle.task_program.specs.Expansion.{Piece}
 use Rattle.task_program.specs.Expansion.Piece.{TurnBegins, TaskComes, ItemComes, TaskOpens, GroupComes, GroupOpens, BlockEnds, WorkIs, WaitIs}
 use Rattle.task_program.specs.SecondPass.{Expanded, fault_of, after_piece, take_pieces, nothing_expanded}
 use Rattle.task_program.specs.FewNames.{HasFewNames}
-use Rattle.task_program.proofs.Allowed.{Below, below_piece, weighs}
+use Rattle.task_program.proofs.Allowed.{below_piece, weighs}
 use Rattle.task_program.proofs.Keeping.{bool_cases, with_one}
 use Rattle.task_program.proofs.Kept.{went, at_end, not_first, is_fault}
 

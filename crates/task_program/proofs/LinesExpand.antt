@@ -1,6 +1,6 @@
 -- A tree without loops expands to its marks and names.
-use Rattle.std.proofs.Common.{◌≡◌, ℕ, suc, ◌+◌, ◌<◌, ◌≤◌, Bool, true, false, ◌||◌, List, [], ◌∷◌, ◌++◌, length, map, append_assoc, length-append, Some, refl, sym, ap, subst, ◌∙◌, arith, codes}
-use Rattle.std.specs.Prelude.{All, fold, sum_by, slice_get}
+use Rattle.std.proofs.Common.{◌≡◌, ℕ, ◌+◌, ◌<◌, Bool, true, false, ◌||◌, List, [], ◌∷◌, ◌++◌, length, map, append_assoc, Some, refl, sym, ap, subst, ◌∙◌, arith}
+use Rattle.std.specs.Prelude.{All, fold, slice_get}
 use Rattle.std.specs.List.{flat_map, AllZip}
 use Rattle.std.proofs.lemmas.List.{append-nil}
 use Rattle.std.proofs.lemmas.Option.{slice_get-get_or, slice_get_within}
@@ -17,18 +17,17 @@ use Rattle.task_program.specs.Marks.Mark.{Begins, Ends, Works, Waits, GroupBegin
 use Rattle.task_program.specs.Names.{number_of, with_name}
 use Rattle.task_program.specs.Canonical.{name_of, line_of, header_line, solid}
 use Rattle.task_program.specs.Programs.{IsNamed, FitsLimits, mentioned}
-use Rattle.task_program.specs.Faults.{Block, Tree, closed_by, end_of}
+use Rattle.task_program.specs.Faults.{Block, closed_by, end_of}
 use Rattle.task_program.specs.Faults.Block.{TaskBlock, GroupBlock}
 use Rattle.task_program.specs.Loops as loops
-use Rattle.task_program.specs.Expansion.{Piece, subscript_of, index_fits, index_line, item_comes, task_pieces, expansion}
-use Rattle.task_program.specs.Expansion.Piece.{TaskComes, ItemComes, TaskOpens, GroupComes, GroupOpens, BlockEnds, WorkIs, WaitIs}
+use Rattle.task_program.specs.Expansion.{Piece, subscript_of, item_comes, task_pieces, expansion}
+use Rattle.task_program.specs.Expansion.Piece.{TaskComes, TaskOpens, GroupComes, GroupOpens, BlockEnds, WorkIs, WaitIs}
 use Rattle.task_program.specs.SecondPass.{Expanded, after_piece, bytes_after}
 use Rattle.task_program.specs.ExpandsTo.{HasIndexInRange, after_pieces}
 use Rattle.task_program.proofs.Found.{own_number}
 use Rattle.task_program.proofs.Sound.{fits_more, kept_names}
 use Rattle.task_program.proofs.Kept.{line_stays}
 use Rattle.task_program.proofs.NamesOnce.{AreOnce, number_is, stable}
-use Rattle.task_program.proofs.Locations.{StandsFor}
 use Rattle.task_program.proofs.LinesSpelled as lines
 use Rattle.task_program.proofs.LinesSpelled.{IsItemOf, Stands}
 

@@ -1,5 +1,5 @@
 -- The lines of the canonical text are spelled as a tree without loops.
-use Rattle.std.proofs.Common.{◌≡◌, ℕ, zero, suc, ◌≤◌, Bool, true, false, cond, List, [], ◌∷◌, ◌++◌, length, append_assoc, refl, sym, ap, subst, ◌∙◌, arith, codes}
+use Rattle.std.proofs.Common.{◌≡◌, ℕ, suc, ◌≤◌, Bool, true, false, List, [], ◌∷◌, ◌++◌, append_assoc, refl, sym, ap, subst, ◌∙◌, arith, codes}
 use Rattle.std.specs.Prelude.{All}
 use Rattle.std.specs.List.{flat_map, AllZip}
 use Rattle.std.specs.Fmt.{decimal}
@@ -30,7 +30,7 @@ use Rattle.task_program.proofs.Keeping.{bool_cases}
 use Rattle.task_program.proofs.Nested as nested
 use Rattle.task_program.proofs.Nested.{NestsIn}
 use Rattle.task_program.proofs.ReadBack.{same_is}
-use Rattle.task_program.proofs.Spelled.{spell, decimal_value, decimal_number, joint_texts, after_texts_by, depend_texts_by, if_texts, line_texts_by}
+use Rattle.task_program.proofs.Spelled.{spell, decimal_value, decimal_number, after_texts_by, depend_texts_by, if_texts, line_texts_by}
 use Rattle.task_program.proofs.Locations.{with_lines, lines_apart, StandsFor, ItemIs, location_item}
 
 -- ---- items
@@ -210,7 +210,7 @@ opening_spelled names undeferred items lines all =
     record {
       task = task_of h.head (lines 0) (apart.0 0);
       spelled = subst (λ (ts : List Token). OpeningSpelled [] ts (TaskOpening (task_of h.head (lines 0) (apart.0 0)))) tokens_are
-      (grammar.OpeningSpelled.Task [] (with_lines clauses (λ i. lines (suc i))) word brace h.head refl h.spelled refl);
+          (grammar.OpeningSpelled.Task [] (with_lines clauses (λ i. lines (suc i))) word brace h.head refl h.spelled refl);
       undeferred_is = h.undeferred_is;
       not_final = h.not_final;
       stand = h.stand;
@@ -286,7 +286,7 @@ task_added names room c before opens body done inside undeferred items h o g = r
   tree = ThenTask h.tree o.task g.tree;
   spelled = grammar.Spelled.Block [] room before opens body (record { text = codes "}"; line = c }) (TaskOpening o.task) h.tree g.tree h.spelled o.spelled g.spelled refl;
   stands = subst (λ (u : Bool). Stands names (done ++ (Begins u items ∷ (inside ++ Ends ∷ []))) (ThenTask h.tree o.task g.tree)) o.undeferred_is
-  (Task names done inside h.tree g.tree o.task items h.stands g.stands o.not_final o.stand);
+      (Task names done inside h.tree g.tree o.task items h.stands g.stands o.not_final o.stand);
 }
 
 pub no_marks : (names : List (List ℕ)) (room : ℕ) → HasMarks names room [] []

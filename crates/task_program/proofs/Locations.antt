@@ -1,17 +1,16 @@
 -- The tokens of a location, and of text that is given by its tokens' texts.
-use Rattle.std.proofs.Common.{◌≡◌, ℕ, zero, suc, ◌+◌, ◌≤◌, Bool, true, false, cond, List, [], ◌∷◌, ◌++◌, length, append_assoc, Option, Some, None, refl, sym, ap, subst, ◌∙◌, arith, codes}
+use Rattle.std.proofs.Common.{◌≡◌, ℕ, zero, suc, ◌+◌, ◌≤◌, Bool, true, false, cond, List, [], ◌∷◌, ◌++◌, append_assoc, Some, None, refl, sym, ap, subst, ◌∙◌, arith, codes}
 use Rattle.std.specs.Prelude.{nat_lt, min}
 use Rattle.std.specs.Fmt.{decimal}
 use Rattle.std.proofs.lemmas.Bool.{le-leb, lt-ltb}
 use Rattle.std.proofs.lemmas.List.{append-nil}
 use Rattle.task_program.specs.declared.statement.DependKind.{DependKind}
-use Rattle.task_program.specs.declared.loops.Index.{Index}
 use Rattle.task_program.specs.declared.loops.LoopItem.{LoopItem}
-use Rattle.task_program.specs.Programs.{IsName, IsLocation}
+use Rattle.task_program.specs.Programs.{IsLocation}
 use Rattle.task_program.specs.Programs.IsLocation.{Plain, Indexed}
 use Rattle.task_program.specs.Subscripts.{most_index, subscript}
 use Rattle.task_program.specs.Tokens.{Token, texts, starts_with_run_byte}
-use Rattle.task_program.specs.Words.{is_word, is_number, value_of}
+use Rattle.task_program.specs.Words.{is_word}
 use Rattle.task_program.specs.Expansion.{subscript_of, index_fits}
 use Rattle.task_program.specs.FirstPass.{step_of}
 use Rattle.task_program.specs.LoopGrammar as grammar
@@ -151,7 +150,7 @@ positive_item kind word size a b c d h fits =
     record {
       item = grammar.item_of kind token (Some (index_of None false (step_of (decimal size)) c));
       spelled = grammar.ItemSpelled.Indexed [] kind token (record { text = codes "["; line = b }) (record { text = codes "]"; line = d }) (number ∷ []) (index_of None false (step_of (decimal size)) c) h refl
-      (grammar.IndexSpelled.Number [] number (decimal_number size (omega (arith, fits)))) refl;
+          (grammar.IndexSpelled.Number [] number (decimal_number size (omega (arith, fits)))) refl;
       stands = record {
         kind_is = refl;
         location_is = ap (λ (n : ℕ). word ++ subscript false n) (omega (arith, is));
@@ -171,7 +170,7 @@ negative_item kind word size a b c d e h fits some =
     record {
       item = grammar.item_of kind token (Some (index_of None true by c));
       spelled = grammar.ItemSpelled.Indexed [] kind token (record { text = codes "["; line = b }) (record { text = codes "]"; line = e }) (minus ∷ number ∷ []) (index_of None true by c) h refl
-      (grammar.IndexSpelled.Minus [] minus number refl (decimal_number size (omega (arith, fits)))) refl;
+          (grammar.IndexSpelled.Minus [] minus number refl (decimal_number size (omega (arith, fits)))) refl;
       stands = record {
         kind_is = refl;
         location_is = rw below (ap (λ (n : ℕ). word ++ subscript true n) (omega (arith, is)));

@@ -1,5 +1,5 @@
 -- The canonical text of version 2 has the program as its tree.
-use Rattle.std.proofs.Common.{◌≡◌, ℕ, suc, ◌+◌, ◌*◌, ◌≤◌, Bool, true, false, List, [], ◌∷◌, ◌++◌, length, refl, sym, ap, subst, ◌∙◌, arith, codes}
+use Rattle.std.proofs.Common.{◌≡◌, ℕ, suc, ◌+◌, ◌*◌, ◌≤◌, false, List, [], ◌∷◌, ◌++◌, length, refl, sym, ap, subst, ◌∙◌, arith, codes}
 use Rattle.std.specs.Prelude.{All, fold, sum_by}
 use Rattle.std.specs.List.{flat_map}
 use Rattle.std.proofs.lemmas.List.{append-nil}
@@ -8,7 +8,7 @@ use Rattle.std.proofs.lemmas.List.Elements.{All-head, All-tail, All-nil, All-con
 use Rattle.task_program.specs.declared.statement.Item.{Item}
 use Rattle.task_program.specs.declared.version.Version.{Version}
 use Rattle.task_program.specs.declared.version.Version.TheVariants.{Two}
-use Rattle.task_program.specs.Limits.{most_bytes, most_token_bytes, most_nesting}
+use Rattle.task_program.specs.Limits.{most_token_bytes, most_nesting}
 use Rattle.task_program.specs.Marks.{Mark}
 use Rattle.task_program.specs.Marks.Mark.{Begins, Ends, Works, Waits, GroupBegins, GroupEnds}
 use Rattle.task_program.specs.Names.{with_name}
@@ -18,13 +18,12 @@ use Rattle.task_program.specs.ProgramText.{ProgramText}
 use Rattle.task_program.specs.Tokens.{Token, texts, tokens_of}
 use Rattle.task_program.specs.Faults.{Block}
 use Rattle.task_program.specs.Grammar.{IsShort}
-use Rattle.task_program.specs.Expansion.{expansion}
 use Rattle.task_program.specs.SecondPass.{Expanded, nothing_expanded, most_turns}
-use Rattle.task_program.specs.ExpandsTo.{ExpandsTo, expanded, program_expanded}
+use Rattle.task_program.specs.ExpandsTo.{expanded, program_expanded}
 use Rattle.task_program.specs.LoopGrammar.{HasLoopTree}
 use Rattle.task_program.proofs.Nested.{nests}
 use Rattle.task_program.proofs.NamesOnce.{AreOnce, once_mentioned}
-use Rattle.task_program.proofs.Spelled.{spell, IsWritten, HasName, FitsNames, loops_spelled, line_texts_by}
+use Rattle.task_program.proofs.Spelled.{spell, HasName, FitsNames, loops_spelled, line_texts_by}
 use Rattle.task_program.proofs.ReadBack.{AllShort, HasShort, FitsShort, lines_short}
 use Rattle.task_program.proofs.Locations.{with_lines, have_lines, location_written, location_short}
 use Rattle.task_program.proofs.LinesSpelled.{IsLocated, HasLocations, HasMarks, no_marks, lines_spelled}
@@ -128,8 +127,7 @@ expands_to program state two fits located goes =
     let none : length state.tree.blocks ≡ 0 = ap (λ (bs : List Block). length bs) goes.blocks_are in
     let bytes_are : state.bytes ≡ (solid (header_line Two) + solid lines) + length state.tree.blocks = p.bytes_are in
     let lengths : length (canonical program) ≡ length (header_line Two ++ lines) = ap (λ (t : List ℕ). length t) text_is in
-    let turns : state.turns ≡ 0 = p.no_turns in
-    (
+    let turns : state.turns ≡ 0 = p.no_turns in (
       in_version program two ∙ ap (λ (ms : List Mark). program_of ms names) (sym p.marks_are) ∙ ap (λ (ns : List (List ℕ)). program_of state.tree.marks ns) (fits.ordered ∙ sym p.names_are),
       omega (arith, turns),
       omega (arith, bytes_are, none, apart, solid_is, tokens, size),
@@ -153,8 +151,7 @@ canonical_loops program two fits =
     let goes : Goes names marks [] (expanded h.tree) = expands names once marks h.tree h.stands fits.marks_fit [] [] nothing_expanded all_names (at_first names) in
     let e = expands_to program (expanded h.tree) two fits located goes in
     let short_words : AllShort words = lines_short (spell false) names marks (marks_short names marks located) in
-    let long : length (canonical program) ≤ 2097152 = e.3 in
-    (
+    let long : length (canonical program) ≤ 2097152 = e.3 in (
       record {
         in_version = two;
         word = record { text = codes "omptasks"; line = lines.0 0 };

@@ -1,5 +1,5 @@
 -- How many names an expansion has: a task mentions so many at most.
-use Rattle.std.specs.Prelude.{ℕ, ◌+◌, ◌*◌, ◌≤◌, length}
+use Rattle.std.specs.Prelude.{◌+◌, ◌*◌, ◌≤◌, length}
 use Rattle.task_program.specs.Limits.{most_items, tasks_of}
 use Rattle.task_program.specs.SecondPass.{Expanded}
 
