@@ -60,7 +60,8 @@ for name in fibonacci blocks; do
         (cd "$folder" && OMP_NUM_THREADS=$threads "./$name") || fail "$name fails on $threads threads"
         "$tools/log_to_document.py" "$folder/run.log" > "$folder/run.replay"
         told=$("$program" replay < "$folder/run.replay" | head -2 | tr '\n' ' ')
-        [ "$told" = "events $((2 * ${segments[$name]})) finished ${segments[$name]} " ] || fail "$name on $threads: $told"
+        count=${segments[$name]}
+        [ "$told" = "events $((2 * count)) finished $count " ] || fail "$name on $threads threads: $told"
     done
     # the last finish moved to where the events begin
     last=$(tail -1 "$folder/run.replay")

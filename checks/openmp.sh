@@ -1,7 +1,7 @@
 #!/usr/bin/env bash
-# Records real OpenMP programs: builds the recorder and examples/openmp, runs each program on 1, 2 and 4 threads, and has
-# spanprof accept every recorded run whole. Segments are compared with counts by hand, and so are a span, a fold and a
-# limit. Build spanprof first. Another program than crates/spanprof/out/spanprof may be named.
+# Records real OpenMP programs: builds the recorder and examples/openmp, runs each program on 1, 2 and 4 threads, and
+# has spanprof accept every recorded run whole. Segments are compared with counts by hand; a span, two folds and a limit
+# are tried too. Build spanprof first. Another program than crates/spanprof/out/spanprof may be named.
 set -euo pipefail
 cd "$(dirname "$0")/.."
 program=${1:-crates/spanprof/out/spanprof}

@@ -11,7 +11,7 @@
     matrix_product [BLOCKS]      products of blocks, ordered by depend
     pipeline [PARTS]             parts that go through four stages, the first and the last in order
     stencil [STEPS] [CELLS]      steps in time, each cell after its neighbours
-The four texts beside this file are fibonacci, matrix_product, pipeline and stencil without numbers, under heads by hand.
+The texts beside this file are fibonacci, matrix_product, pipeline and stencil without numbers, under heads by hand.
 """
 import inspect
 import sys

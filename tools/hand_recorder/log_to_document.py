@@ -19,7 +19,7 @@ class Task:
 
 
 def read_log(path):
-    """The tasks by number, and the run: pairs of `start` or `finish` with worker, task, and place among its segments."""
+    """The tasks by number, and the run: `start` or `finish`, the worker, the task, and the place among its segments."""
     tasks, run = {}, []
     with open(path) as file:
         for line in file:

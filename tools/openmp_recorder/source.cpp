@@ -40,7 +40,8 @@ uintptr_t in_file(const void *code, const Dl_info &info) {
 // `file:line`, where neither is unknown: addr2line then says `??` and `:0` or `:?`.
 bool is_known(const std::string &answer) {
   size_t colon = answer.rfind(':');
-  return colon != std::string::npos && answer.compare(0, 2, "??") && answer[colon + 1] != '0' && answer[colon + 1] != '?';
+  if (colon == std::string::npos || !answer.compare(0, 2, "??")) return false;
+  return answer[colon + 1] != '0' && answer[colon + 1] != '?';
 }
 
 std::string symbol(const void *code, const Dl_info &info) {
