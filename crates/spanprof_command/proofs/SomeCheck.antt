@@ -123,7 +123,7 @@ judged_order table claim some counted =
       | inl broken ↦ follows ((s : ℕ) × (u : ℕ) × FirstBroken table starts s u) Goal (broken_first table starts broken.0 broken.1) (λ first.
           found Goal (inr (fault.Broken first.0 first.1, record { counted = counted; first = first.2 }, λ e. cc)))
       | inr none ↦
-          let kept : IsKept table starts = λ s t is. none (t, s, is) in
+          let kept : IsKept table starts = λ s t is. none (t, (s, is)) in
           follows (EndsSo table claim ⊎ (¬ EndsSo table claim)) Goal (decided (EndsSo table claim)) (λ end. elim end [
             | inl ends ↦ judged_chain table claim some counted kept ends
             | inr elsewhere ↦ found Goal (inr (fault.EndWrong, record { counted = counted; kept = kept; elsewhere = elsewhere }, λ e. cc))

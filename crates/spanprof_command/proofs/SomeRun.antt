@@ -25,7 +25,7 @@ use Rattle.dispatch_core.specs.declared.event.StartRefusal.TheVariants.{UnknownW
 use Rattle.dispatch_core.specs.declared.replay.ReplayRefusal.{ReplayRefusal}
 use Rattle.dispatch_core.specs.declared.replay.ReplayRefusal.TheVariants.{OfStart, NotRunning}
 use Rattle.span_analysis.specs.Critical.{IsSmallest}
-use Rattle.spanprof_command.specs.Replaying.{AreFinished, AreOpenRows, Recounts, Replays, Row, event_refused, row_line, segments_of}
+use Rattle.spanprof_command.specs.Replaying.{AreFinished, AreOpenRows, Recounts, Replays, Row, event_refused as event_line, row_line, segments_of}
 use Rattle.spanprof_command.specs.Report.{Output, number_line}
 use Rattle.spanprof_command.specs.declared.report.Status.TheVariants.{Done}
 use Rattle.spanprof_command.proofs.SomeAnalysis.{some_graph, sound_program}
@@ -277,5 +277,5 @@ some_replay table events is =
     follows (LegalOrRefused table events) Goal (legal_or_refused table events sound) (λ which. elim which [
       | inl legal ↦ follows (Recounted table events) Goal (some_recount table events sound legal) (λ recount. found Goal (recount.0, inl recount.1))
       | inr refused ↦
-          found Goal (event_refused refused.0 refused.1, inr (record { index = refused.0; refusal = refused.1; is_first = refused.2; says = refl }))
+          found Goal (event_line refused.0 refused.1, inr (record { index = refused.0; refusal = refused.1; is_first = refused.2; says = refl }))
     ])

@@ -1,6 +1,6 @@
 -- Changed costs: all are tried, or one is refused.
 use Rattle.std.proofs.Common.{◌≡◌, ◌<◌, ◌≤◌, ◌⊎◌, ◌^◌, ◌∙◌, inl, inr, ℕ, List, [], ◌∷◌, Option, Some, None, Result, Ok, Err, Bool, true, false, length, refl, sym, ap, subst, arith, sum}
-use Rattle.std.specs.Prelude.{nat_le, nat_lt, slice_set}
+use Rattle.std.specs.Prelude.{if◌then◌else◌, nat_le, nat_lt, slice_set}
 use Rattle.std.proofs.lemmas.Bool.{cases_lt}
 use Rattle.std.proofs.lemmas.Bool.Decides.{nat_tests}
 use Rattle.std.proofs.lemmas.List.{length-set}
@@ -30,6 +30,16 @@ use Rattle.spanprof_command.proofs.Unrefuted.{NotNone, follows, found}
 is_less : (m n : ℕ) → m < n → nat_lt m n ≡ true
 is_less m n h = grind (arith, nat_tests, h)
 
+-- what refuses a change, by the three tests
+abbrev refusal_by : Bool → Bool → Bool → Option WhatFault
+refusal_by unknown dear large = if unknown then Some UnknownSegment else (if dear then Some CostTooLarge else (if large then Some WorkTooLarge else None))
+
+too_large : (unknown dear large : Bool) → large ≡ true → refusal_by unknown dear large ≡ None → ⊥
+too_large true dear large e h = cc
+too_large false true large e h = cc
+too_large false false true e h = cc
+too_large false false false e h = cc
+
 -- an accepted change keeps a graph
 kept_graph : (graph : Recorded) (s cost : ℕ) → IsGraph graph → refusal_of graph s cost ≡ None → IsGraph (changed graph s cost)
 kept_graph graph s cost is accepted =
@@ -48,15 +58,6 @@ kept_graph graph s cost is accepted =
       ascending = is.ascending;
       reached = λ t above inside. is.reached t above (omega (arith, inside, long));
     }
-  where
-    abbrev refusal_by : Bool → Bool → Bool → Option WhatFault
-    refusal_by unknown dear large = if unknown then Some UnknownSegment else (if dear then Some CostTooLarge else (if large then Some WorkTooLarge else None))
-
-    too_large : (unknown dear large : Bool) → large ≡ true → refusal_by unknown dear large ≡ None → ⊥
-    too_large true dear large e h = cc
-    too_large false true large e h = cc
-    too_large false false true e h = cc
-    too_large false false false e h = cc
 
 abbrev Tried : Recorded → List Change → Type 0
 Tried graph changes = (tried : Recorded) × (after_changes graph changes ≡ Ok tried) × IsGraph tried
@@ -64,23 +65,29 @@ Tried graph changes = (tried : Recorded) × (after_changes graph changes ≡ Ok 
 abbrev Refused : Recorded → List Change → Type 0
 Refused graph changes = (why : WhatFault) × (after_changes graph changes ≡ Err why)
 
--- after all changes there is a graph, or one of them is refused
-tried_or_refused : (graph : Recorded) (changes : List Change) → IsGraph graph → Tried graph changes ⊎ Refused graph changes
-tried_or_refused graph [] is = inl (graph, refl, is)
-tried_or_refused graph (change ∷ changes) is = one_change (refusal_of graph change.segment change.cost) refl
-  where
-    next : Recorded
-    next = changed graph change.segment change.cost
+abbrev TriedOrRefused : Recorded → List Change → Type 0
+TriedOrRefused graph changes = Tried graph changes ⊎ Refused graph changes
 
-    one_change : (refusal : Option WhatFault) → refusal_of graph change.segment change.cost ≡ refusal → Tried graph (change ∷ changes) ⊎ Refused graph (change ∷ changes)
-    unfolding next
-    one_change (Some why) e = inr (why, ap (λ r. unless_refused r (after_changes next changes)) e)
-    one_change None e =
-        let same : after_changes graph (change ∷ changes) ≡ after_changes next changes = ap (λ r. unless_refused r (after_changes next changes)) e in
-        elim (tried_or_refused next changes (kept_graph graph change.segment change.cost is e)) [
-          | inl tried ↦ inl (tried.0, same ∙ tried.1, tried.2)
-          | inr refused ↦ inr (refused.0, same ∙ refused.1)
-        ]
+-- one change, and then the others
+one_change : (graph : Recorded) (change : Change) (changes : List Change) → IsGraph graph
+    → (IsGraph (changed graph change.segment change.cost) → TriedOrRefused (changed graph change.segment change.cost) changes)
+    → (refusal : Option WhatFault) → refusal_of graph change.segment change.cost ≡ refusal → TriedOrRefused graph (change ∷ changes)
+one_change graph change changes is rest (Some why) e =
+    inr (why, ap (λ r. unless_refused r (after_changes (changed graph change.segment change.cost) changes)) e)
+one_change graph change changes is rest None e =
+    let next : Recorded = changed graph change.segment change.cost in
+    let same : after_changes graph (change ∷ changes) ≡ after_changes next changes = ap (λ r. unless_refused r (after_changes next changes)) e in
+    elim (rest (kept_graph graph change.segment change.cost is e)) [
+      | inl tried ↦ inl (tried.0, same ∙ tried.1, tried.2)
+      | inr refused ↦ inr (refused.0, same ∙ refused.1)
+    ]
+
+-- after all changes there is a graph, or one of them is refused
+tried_or_refused : (graph : Recorded) (changes : List Change) → IsGraph graph → TriedOrRefused graph changes
+tried_or_refused graph [] is = inl (graph, refl, is)
+tried_or_refused graph (change ∷ changes) is =
+    one_change graph change changes is (λ kept. tried_or_refused (changed graph change.segment change.cost) changes kept)
+    (refusal_of graph change.segment change.cost) refl
 
 abbrev Answered : List Change → Table → Type 0
 Answered changes table = (output : Output) × TriesChanges changes table output
@@ -99,9 +106,11 @@ of_graph changes table graph is of =
       | inl tried ↦
           follows (Analysed graph) Goal (some_analysis graph is_graph) (λ before.
           follows (Analysed tried.0) Goal (some_analysis tried.0 tried.2) (λ after.
-          found Goal (spans_told (sum tried.0.costs) after.0.span before.0.span,
+          found Goal (
+            spans_told (sum tried.0.costs) after.0.span before.0.span,
             tells_trial table graph graph tried.0 changes (sum tried.0.costs) after.0.span before.0.span of refl tried.1 whole
-              after.1.findings.greatest_sum before.1.findings.greatest_sum refl (spans_told (sum tried.0.costs) after.0.span before.0.span) refl)))
+                after.1.findings.greatest_sum before.1.findings.greatest_sum refl (spans_told (sum tried.0.costs) after.0.span before.0.span) refl,
+          )))
     ]
 
 pub some_trial : (changes : List Change) (program : ProgramText) → IsProgram program → NotNone ((output : Output) × Trials changes program output)
