@@ -56,7 +56,7 @@ impl<K: Kernel> Model for Core<K> {
 
 impl<K: Kernel> Core<K> {
     /// A core at the start of a run, with room for the whole history, which is two events for each segment. It is
-    /// refused for want of memory alone, and then the table comes back.
+    /// refused only when memory runs out, and then the table comes back.
     pub fn new(alloc: Global, table: SegTable) -> Result<Core<K>, NewFault>
         ensures ok { IfOk result (λ core. core ≡ record { table = table; history = [] }) }
         ensures err { IfErr result (λ fault. fault.table ≡ table) }
@@ -283,7 +283,7 @@ impl<K: Kernel> Core<K> {
     }
 
     /// The segments that are not started and of which all that must precede them are finished, ascending. It is refused
-    /// for want of memory alone.
+    /// only when memory runs out.
     pub fn ready(&self) -> Result<Vec<u32>, AllocFault>
         ensures { IfOk result (λ ready. Lists (IsReady self.now.table self.now.history) ready.items) }
     {
@@ -375,7 +375,7 @@ impl<K: Kernel> Core<K> {
     }
 }
 
-/// Want of memory for a core: the table comes back.
+/// Out of memory for a core: the table comes back.
 #[derive(Drop)]
 pub struct NewFault {
     pub table: SegTable,

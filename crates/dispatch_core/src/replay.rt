@@ -118,7 +118,7 @@ fn mixed_result(segment: u32, cost: u64, input: u64) -> SegResult<MixKernel>
 }
 
 /// The core after a list of events, run with the mixing kernel, or the first of them that may not follow those before
-/// it. Where it is refused, for that or for want of memory, the table comes back.
+/// it. Where it is refused, for that or when memory runs out, the table comes back.
 pub fn replay(
     alloc: Global,
     table: SegTable,

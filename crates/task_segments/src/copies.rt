@@ -20,7 +20,7 @@ pub struct Place {
 }
 
 impl SegTable {
-    /// An equal table. The error is want of memory.
+    /// An equal table. The error is out of memory.
     pub fn copy(&self) -> Result<SegTable, AllocFault>
         ensures { IfOk result (λ table. table ≡ self.now) }
     {

@@ -23,7 +23,7 @@ fn graphs_of_siblings(rt: HostRuntime) -> Result<(), Fail> {
     ];
     for (body, predecessors) in programs {
         let text = format!(in alloc; "omptasks 1\n{body}")?;
-        let graph = in_order(alloc, table_of(alloc, text.as_str())?).map_err(|_| "want of memory")?;
+        let graph = in_order(alloc, table_of(alloc, text.as_str())?).map_err(|_| "out of memory")?;
         assert_eq!(rt;
             preds_text(alloc, &graph)?.as_str(),
             predecessors,
@@ -58,7 +58,7 @@ fn a_run_with_another_kernel(rt: HostRuntime) -> Result<(), Fail> {
     let alloc = rt.alloc();
     assert!(rt; SegResult::compute(&AddingKernel, 0, 0, 7).is_err());
     let table = table_of(alloc, super::WORKED)?;
-    let mut core = Core::new(alloc, table).map_err(|_| "want of memory")?;
+    let mut core = Core::new(alloc, table).map_err(|_| "out of memory")?;
     let steps = [(0, 5, 0, 5), (1, 3, 5, 8), (2, 2, 5, 7), (3, 1, 15, 16)];
     for fields in steps {
         let (segment, cost, input, value) = fields;

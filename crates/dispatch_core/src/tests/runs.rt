@@ -25,7 +25,7 @@ fn step(core: &mut Core<MixKernel>, worker: u32, segment: u32) -> Result<Vec<u32
 
 fn new_core(alloc: Global, body: &str) -> Result<Core<MixKernel>, Fail> {
     let text = format!(in alloc; "omptasks 1\n{body}")?;
-    Ok(Core::new(alloc, table_of(alloc, text.as_str())?).map_err(|_| "want of memory")?)
+    Ok(Core::new(alloc, table_of(alloc, text.as_str())?).map_err(|_| "out of memory")?)
 }
 
 #[test]
@@ -67,7 +67,7 @@ fn values_of_programs(rt: HostRuntime) -> Result<(), Fail> {
 #[test]
 fn a_run_goes_on(rt: HostRuntime) -> Result<(), Fail> {
     let alloc = rt.alloc();
-    let mut core = Core::new(alloc, table_of(alloc, WORKED)?).map_err(|_| "want of memory")?;
+    let mut core = Core::new(alloc, table_of(alloc, WORKED)?).map_err(|_| "out of memory")?;
     assert_eq!(rt; core.ready()?.as_slice(), [0].as_slice());
     assert_eq!(rt; step(&mut core, 0, 0)?.as_slice(), [1, 2].as_slice());
     assert_eq!(rt; core.start(7, 1).ok(), Some(781));
@@ -97,7 +97,7 @@ fn a_run_goes_on(rt: HostRuntime) -> Result<(), Fail> {
 #[test]
 fn changed_costs(rt: HostRuntime) -> Result<(), Fail> {
     let alloc = rt.alloc();
-    let mut graph = in_order(alloc, table_of(alloc, WORKED)?).map_err(|_| "want of memory")?;
+    let mut graph = in_order(alloc, table_of(alloc, WORKED)?).map_err(|_| "out of memory")?;
     if graph.len() != 4 {
         return Err("four segments".into());
     }
@@ -122,7 +122,7 @@ fn many_children(rt: HostRuntime) -> Result<(), Fail> {
     for _ in 0..2048 {
         text.push_str("task depend(in: x) { }\n")?;
     }
-    let graph = in_order(alloc, table_of(alloc, text.as_str())?).map_err(|_| "want of memory")?;
+    let graph = in_order(alloc, table_of(alloc, text.as_str())?).map_err(|_| "out of memory")?;
     assert_eq!(rt; graph.len(), 8191);
     assert_eq!(rt; graph.edges(), 4_200_446);
     Ok(())
