@@ -1,7 +1,7 @@
 #!/usr/bin/env python3
 """The comparing and timing of commands.sh.
 
-    commands.py PROGRAM PLAIN FOLDER [TEXT.. | scaling]
+    commands.py PROGRAM PLAIN FOLDER [TEXT.. | scaling | changes]
 """
 import os
 import subprocess
@@ -172,9 +172,22 @@ def scaling():
         print("%-14s %-20s %9.1f %9.1f %6.2f %9.1f %9.1f %6.2f" % (name, " ".join(words), *cells), flush=True)
 
 
+def changes():
+    """The time of one more change, from a command with 2,000 of them more, in microseconds."""
+    print("%-14s %-16s %12s" % ("text", "segment", "us a change"))
+    for name in ("fan", "waits", "chain"):
+        path = FOLDER / "texts" / (name + ".tasks")
+        segments = segments_of(path)
+        for what, segment in (("the first", 0), ("in the middle", segments // 2), ("the last", segments - 1)):
+            few, many = (["%d=%d" % (segment, 1000 + n % 2) for n in range(count)] for count in (1, 2001))
+            least = [best([PROGRAM, "whatif", *words], path, 0)[1] for words in (few, many)]
+            print("%-14s %-16s %12.2f" % (name, what, (least[1] - least[0]) / 2), flush=True)
+
+
 def main():
-    if sys.argv[4:] == ["scaling"]:
-        scaling()
+    modes = {"scaling": scaling, "changes": changes}
+    if len(sys.argv) == 5 and sys.argv[4] in modes:
+        modes[sys.argv[4]]()
         return
     compare_random()
     table(sys.argv[4:])

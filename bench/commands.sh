@@ -5,6 +5,7 @@
 #
 #     bench/commands.sh [TEXT..]      PROGRAM names the program if it is built; else it is proved and built here
 #     bench/commands.sh scaling       wall time of curve and check on one processor and on four
+#     bench/commands.sh changes       the time of one change of `whatif`
 set -euo pipefail
 
 top=$(cd "$(dirname "$0")/.." && pwd)
