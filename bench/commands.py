@@ -1,7 +1,7 @@
 #!/usr/bin/env python3
 """The comparing and timing of commands.sh.
 
-    commands.py PROGRAM PLAIN FOLDER [TEXT.. | scaling | changes]
+    commands.py PROGRAM PLAIN FOLDER [TEXT.. | scaling | changes | where]
 """
 import os
 import subprocess
@@ -179,13 +179,60 @@ def changes():
         path = FOLDER / "texts" / (name + ".tasks")
         segments = segments_of(path)
         for what, segment in (("the first", 0), ("in the middle", segments // 2), ("the last", segments - 1)):
-            few, many = (["%d=%d" % (segment, 1000 + n % 2) for n in range(count)] for count in (1, 2001))
+            few, many = (["%d=%d" % (segment, n % 2) for n in range(count)] for count in (1, 2001))
             least = [best([PROGRAM, "whatif", *words], path, 0)[1] for words in (few, many)]
             print("%-14s %-16s %12.2f" % (name, what, (least[1] - least[0]) / 2), flush=True)
 
 
+STAGES = {
+    "reading": ("task_program",),
+    "cutting": ("task_segments",),
+    "kept edges": ("depend_table", "dispatch_core"),
+    "analysis": ("span_analysis", "spanprof_command::graphs"),
+    "greedy": ("greedy_sim",),
+    "printing": ("csv_table", "csv::", "spanprof_command", "core::fmt", "span_cert::writer"),
+}
+
+
+def stage_of(symbol):
+    """The stage by the crate of a function, after inlining; what the library and the kernel do is apart."""
+    for stage, crates in STAGES.items():
+        if symbol.startswith(crates):
+            return stage
+    return "other"
+
+
+def shares(words, path):
+    """By stage, how much of the processor's time goes there, in hundredths, by perf."""
+    data = str(FOLDER / "perf.data")
+    with open(path, "rb") as text:
+        subprocess.run(["perf", "record", "-q", "-F", "20000", "-o", data, PROGRAM, *words], stdin=text,
+                       stdout=subprocess.DEVNULL, stderr=subprocess.DEVNULL, check=True)
+    told = subprocess.run(["perf", "report", "-i", data, "--stdio", "--no-children", "-F", "overhead,dso,sym"],
+                          capture_output=True, text=True, check=True)
+    found = dict.fromkeys([*STAGES, "memory", "kernel", "other"], 0.0)
+    for line in told.stdout.splitlines():
+        fields = line.split(None, 3)
+        if len(fields) < 4 or not fields[0].endswith("%"):
+            continue
+        stage = "kernel" if fields[2] == "[k]" else "memory" if "libc" in fields[1] else stage_of(fields[3])
+        found[stage] += float(fields[0][:-1])
+    return found
+
+
+def where():
+    """Where the time goes. A function that is inlined counts for the crate into which it is."""
+    columns = [*STAGES, "memory", "kernel", "other"]
+    print("%-14s %-20s" % ("text", "command") + "".join(" %10s" % column for column in columns))
+    for name in ("waits", "chain", "fan", "shared_items", "own_items", "largest", "tokens"):
+        for words in (["span"], ["slack"], ["greedy", "--threads", "64"], ["certify"]):
+            found = shares(words, FOLDER / "texts" / (name + ".tasks"))
+            cells = "".join(" %10.0f" % found[column] for column in columns)
+            print("%-14s %-20s" % (name, " ".join(words)) + cells, flush=True)
+
+
 def main():
-    modes = {"scaling": scaling, "changes": changes}
+    modes = {"scaling": scaling, "changes": changes, "where": where}
     if len(sys.argv) == 5 and sys.argv[4] in modes:
         modes[sys.argv[4]]()
         return

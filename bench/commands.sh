@@ -6,6 +6,7 @@
 #     bench/commands.sh [TEXT..]      PROGRAM names the program if it is built; else it is proved and built here
 #     bench/commands.sh scaling       wall time of curve and check on one processor and on four
 #     bench/commands.sh changes       the time of one change of `whatif`
+#     bench/commands.sh where         where the time goes, by perf: reading, cutting, kept edges, ..
 set -euo pipefail
 
 top=$(cd "$(dirname "$0")/.." && pwd)
