@@ -3,7 +3,8 @@
 //!
 //!     plain COMMAND [--jobs N] < TEXT
 //!
-//! COMMAND is span, slack, greedy --threads P, curve --upto P, whatif SEG=COST .., certify or check. `--jobs N` lets `curve` and `check` use N threads; without it everything is done on one.
+//! COMMAND is span, slack, greedy --threads P, curve --upto P, whatif SEG=COST .., certify or check. `--jobs N` lets
+//! `curve` and `check` use N threads; without it everything is done on one.
 
 mod analysis;
 mod certificate;
