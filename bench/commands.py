@@ -12,7 +12,7 @@ from pathlib import Path
 
 PROGRAM, PLAIN, FOLDER = sys.argv[1], sys.argv[2], Path(sys.argv[3])
 PROCESSORS = "0-3"
-RUNS = 5
+RUNS = int(os.environ.get("RUNS", "5"))
 TIMEOUT = 60
 VERSION_2 = ("loops",)
 CHAINS = ("chain", "waits")
@@ -155,7 +155,8 @@ def scaling():
     head = ("text", "command", "1", "4", "times", "plain 1", "4", "times")
     print("%-14s %-20s %9s %9s %6s %9s %9s %6s" % head)
     asked = [(name, ["curve", "--upto", "1024"]) for name in ("waits", "chain", "fan")]
-    asked += [(name, ["check"]) for name in ("waits", "shared_items", "own_items", "readers", "mixed_items", "tokens")]
+    items = ("shared_items", "own_items", "readers", "mixed_items", "fan_of_items")
+    asked += [(name, ["check"]) for name in ("waits", "tokens", *items)]
     for name, words in asked:
         path = FOLDER / "texts" / (name + ".tasks")
         path = certificate_of(path) if words[0] == "check" else path
