@@ -77,6 +77,38 @@ def chain():
     return HEADER + "task depend(inout: x) { work 1 }\n" * TASKS
 
 
+def readers():
+    """All tasks are siblings, with 32 items each on the same names, which all of them only read."""
+    names = ", ".join("n%d" % n for n in range(32))
+    return HEADER + ("task depend(in: %s) { work 1 }\n" % names) * (TASKS - 1)
+
+
+def mixed_items():
+    """Siblings with 32 items each: one name that all read, and 31 that no other has."""
+    def task(n):
+        return "task depend(in: a) depend(out: %s) { work 1 }\n" % ", ".join("n%x" % (31 * n + i) for i in range(31))
+
+    return HEADER + "".join(task(n) for n in range(TASKS - 1))
+
+
+def fan_of_items():
+    """As fan, with 32 items each: 4.2 million edges, each for 32 reasons."""
+    names = ", ".join("n%d" % n for n in range(32))
+    each = "task depend(%s: %s) { work 1 }\n"
+    return HEADER + each % ("inoutset", names) * (TASKS // 2 - 1) + each % ("in", names) * (TASKS // 2)
+
+
+def uneven():
+    """Tasks of uneven cost, some of them with children, in groups and between waits; each depends on two others."""
+    def task(n):
+        head = "task depend(in: c%d) depend(out: c%d) { work %d " % (n * 7 % 61, n % 67, n * 7919 % 1009)
+        inner = "task { work %d } task if(0) { work %d } work %d " % (n % 13, n % 5, n % 3)
+        after = ("", "taskwait\n", "taskgroup { task { work 9 } work 2 }\n", "work 1\n")[n % 4]
+        return head + inner + "}\n" + after
+
+    return HEADER + "".join(task(n) for n in range(1200))
+
+
 def loops():
     """As many tasks and turns as there may be, said in a few bytes of version 2."""
     return "omptasks 2\nfor i 1 4096 { task depend(in: x[i-1]) depend(out: x[i]) { for j 1 15 { work 1 } } }\n"
@@ -90,7 +122,10 @@ def loops_written():
     return HEADER + "".join(task(i) for i in range(1, TASKS + 1))
 
 
-TEXTS = (gaps, tokens, shared_items, own_items, waits, largest, deep, fan, chain, loops, loops_written)
+TEXTS = (
+    gaps, tokens, shared_items, own_items, readers, mixed_items, fan_of_items, waits, largest, deep, fan, chain, uneven,
+    loops, loops_written,
+)
 
 
 def segments(text):

@@ -1,0 +1,244 @@
+#!/usr/bin/env python3
+"""The comparing and timing of commands.sh.
+
+    commands.py PROGRAM PLAIN FOLDER [TEXT.. | scaling | changes | where]
+"""
+import os
+import subprocess
+import sys
+import tempfile
+import time
+from pathlib import Path
+
+PROGRAM, PLAIN, FOLDER = sys.argv[1], sys.argv[2], Path(sys.argv[3])
+PROCESSORS = "0-3"
+RUNS = int(os.environ.get("RUNS", "5"))
+TIMEOUT = 60
+VERSION_2 = ("loops",)
+CHAINS = ("chain", "waits")
+
+
+class TooSlow(Exception):
+    pass
+
+
+def run(words, path):
+    """What is printed, the processor time and the wall time in milliseconds."""
+    began = time.monotonic()
+    with open(path, "rb") as text, tempfile.TemporaryFile() as printed:
+        process = subprocess.Popen(words, stdin=text, stdout=printed, stderr=subprocess.DEVNULL)
+        while True:
+            ended, status, usage = os.wait4(process.pid, os.WNOHANG)
+            if ended:
+                break
+            if time.monotonic() - began > TIMEOUT:
+                process.kill()
+                process.wait()
+                raise TooSlow
+            time.sleep(0.0005)
+        process.returncode = os.waitstatus_to_exitcode(status)
+        wall = time.monotonic() - began
+        printed.seek(0)
+        return (process.returncode, printed.read()), 1000 * (usage.ru_utime + usage.ru_stime), 1000 * wall
+
+
+def peak(words, path):
+    """The peak of memory in MiB."""
+    with open(path, "rb") as text:
+        told = subprocess.run(["/usr/bin/time", "-f", "%M", *words], stdin=text, stdout=subprocess.DEVNULL,
+                              stderr=subprocess.PIPE, check=False)
+    return int(told.stderr.split()[-1]) / 1024
+
+
+def best(words, path, column):
+    """The least of the times, and what was printed."""
+    told, *times = run(words, path)
+    least = times[column]
+    for _ in range(1, RUNS if least < 5000 else 1):
+        least = min(least, run(words, path)[1 + column])
+    return told, least
+
+
+def commands(name, segments):
+    last = segments - 1
+    yield ["span"]
+    yield ["slack"]
+    yield ["greedy", "--threads", "64"]
+    yield ["curve", "--upto", "64"]
+    if name in CHAINS:
+        yield ["curve", "--upto", "1024"]
+    yield ["whatif", "0=1000", "%d=7" % last, "%d=3" % (last // 2)]
+    yield ["certify"]
+    yield ["check"]
+
+
+def segments_of(path):
+    told, _, _ = run([PLAIN, "span"], path)
+    return int(told[1].split()[1])
+
+
+def certificate_of(path):
+    certificate = path.with_suffix(".certificate")
+    if not certificate.exists():
+        certificate.write_bytes(run([PLAIN, "certify"], path)[0][1])
+    return certificate
+
+
+def differences(path, words):
+    """Whether both programs print the same; a line where they do not."""
+    told = [run([program, *words], path)[0] for program in (PROGRAM, PLAIN)]
+    if told[0] == told[1]:
+        return 0
+    print("DIFFERENT: %s < %s: %r and %r" % (" ".join(words), path.name, told[0], told[1]))
+    return 1
+
+
+def compare_random():
+    """All commands on the random programs, and checks of claims that do not hold."""
+    texts, different, asked = sorted(FOLDER.glob("random/*.tasks")), 0, 0
+    for path in texts:
+        segments = segments_of(path)
+        for words in [*commands("", segments), ["greedy", "--threads", "2"], ["whatif", "%d=0" % segments]]:
+            inputs = [path] if words[0] != "check" else [certificate_of(path), *changed(certificate_of(path))]
+            for text in inputs:
+                different += differences(text, words)
+                asked += 1
+    print("%d reports on %d random programs: %d different" % (asked, len(texts), different))
+
+
+def changed(certificate):
+    """Certificates with one number of the claim, or one start, another."""
+    head, rest = certificate.read_text().split("---\n")
+    lines = rest.splitlines()
+    for number, line in enumerate(lines):
+        words = line.split()
+        if words[0] == "start" and (words[2] == "0" or number % 16):
+            continue
+        other = words[:-1] + [str(max(int(words[-1]) - 1, 0))]
+        path = certificate.with_suffix(".changed%d" % number)
+        path.write_text(head + "---\n" + "\n".join([*lines[:number], " ".join(other), *lines[number + 1:]]) + "\n")
+        yield path
+
+
+def tell(name, words, path):
+    asked = " ".join(words if words[0] != "whatif" else words[:1])
+    lead = "%-14s %-20s" % (name, asked)
+    try:
+        told, mine = best([PROGRAM, *words], path, 0)
+    except TooSlow:
+        print(lead + " over %d s" % TIMEOUT, flush=True)
+        return
+    try:
+        other, plain = best([PLAIN, *words], path, 0)
+    except TooSlow:
+        print(lead + " %9.1f  plain: over %d s" % (mine, TIMEOUT), flush=True)
+        return
+    memory = [peak([program, *words], path) for program in (PROGRAM, PLAIN)]
+    verdict = "" if told == other else "  DIFFERENT"
+    print(lead + " %9.1f %9.1f %6.2f %8.1f %8.1f %6.2f%s" % (
+        mine, plain, mine / plain, *memory, memory[0] / memory[1], verdict), flush=True)
+
+
+def table(names):
+    head = ("text", "command", "ms", "plain ms", "times", "MiB", "plain", "times")
+    print("%-14s %-20s %9s %9s %6s %8s %8s %6s" % head)
+    for path in sorted(FOLDER.glob("texts/*.tasks")):
+        name = path.stem
+        if name in VERSION_2 or (names and name not in names):
+            continue
+        for words in commands(name, segments_of(path)):
+            tell(name, words, path if words[0] != "check" else certificate_of(path))
+
+
+def scaling():
+    """Wall times on one processor and on four. The plain program uses as many threads."""
+    head = ("text", "command", "1", "4", "times", "plain 1", "4", "times")
+    print("%-14s %-20s %9s %9s %6s %9s %9s %6s" % head)
+    asked = [(name, ["curve", "--upto", "1024"]) for name in ("waits", "chain", "fan")]
+    items = ("shared_items", "own_items", "readers", "mixed_items", "fan_of_items")
+    asked += [(name, ["check"]) for name in ("waits", "tokens", *items)]
+    for name, words in asked:
+        path = FOLDER / "texts" / (name + ".tasks")
+        path = certificate_of(path) if words[0] == "check" else path
+        cells = []
+        for program in (PROGRAM, PLAIN):
+            walls = []
+            for jobs, processors in (("1", "0"), ("4", PROCESSORS)):
+                flag = ["--jobs", jobs] if program == PLAIN else []
+                try:
+                    walls.append(best(["taskset", "-c", processors, program, *words, *flag], path, 1)[1])
+                except TooSlow:
+                    walls.append(float("inf"))
+            cells += [*walls, walls[0] / walls[1]]
+        print("%-14s %-20s %9.1f %9.1f %6.2f %9.1f %9.1f %6.2f" % (name, " ".join(words), *cells), flush=True)
+
+
+def changes():
+    """The time of one more change, from a command with 2,000 of them more, in microseconds."""
+    print("%-14s %-16s %12s" % ("text", "segment", "us a change"))
+    for name in ("fan", "waits", "chain"):
+        path = FOLDER / "texts" / (name + ".tasks")
+        segments = segments_of(path)
+        for what, segment in (("the first", 0), ("in the middle", segments // 2), ("the last", segments - 1)):
+            few, many = (["%d=%d" % (segment, n % 2) for n in range(count)] for count in (1, 2001))
+            least = [best([PROGRAM, "whatif", *words], path, 0)[1] for words in (few, many)]
+            print("%-14s %-16s %12.2f" % (name, what, (least[1] - least[0]) / 2), flush=True)
+
+
+STAGES = {
+    "reading": ("task_program",),
+    "cutting": ("task_segments",),
+    "kept edges": ("depend_table", "dispatch_core"),
+    "analysis": ("span_analysis", "spanprof_command::graphs"),
+    "greedy": ("greedy_sim",),
+    "printing": ("csv_table", "csv::", "spanprof_command", "core::fmt", "span_cert::writer"),
+}
+
+
+def stage_of(symbol):
+    """The stage by the crate of a function, after inlining; what the library and the kernel do is apart."""
+    for stage, crates in STAGES.items():
+        if symbol.startswith(crates):
+            return stage
+    return "other"
+
+
+def shares(words, path):
+    """By stage, how much of the processor's time goes there, in hundredths, by perf."""
+    data = str(FOLDER / "perf.data")
+    with open(path, "rb") as text:
+        subprocess.run(["perf", "record", "-q", "-F", "20000", "-o", data, PROGRAM, *words], stdin=text,
+                       stdout=subprocess.DEVNULL, stderr=subprocess.DEVNULL, check=True)
+    told = subprocess.run(["perf", "report", "-i", data, "--stdio", "--no-children", "-F", "overhead,dso,sym"],
+                          capture_output=True, text=True, check=True)
+    found = dict.fromkeys([*STAGES, "memory", "kernel", "other"], 0.0)
+    for line in told.stdout.splitlines():
+        fields = line.split(None, 3)
+        if len(fields) < 4 or not fields[0].endswith("%"):
+            continue
+        stage = "kernel" if fields[2] == "[k]" else "memory" if "libc" in fields[1] else stage_of(fields[3])
+        found[stage] += float(fields[0][:-1])
+    return found
+
+
+def where():
+    """Where the time goes. A function that is inlined counts for the crate into which it is."""
+    columns = [*STAGES, "memory", "kernel", "other"]
+    print("%-14s %-20s" % ("text", "command") + "".join(" %10s" % column for column in columns))
+    for name in ("waits", "chain", "fan", "shared_items", "own_items", "largest", "tokens"):
+        for words in (["span"], ["slack"], ["greedy", "--threads", "64"], ["certify"]):
+            found = shares(words, FOLDER / "texts" / (name + ".tasks"))
+            cells = "".join(" %10.0f" % found[column] for column in columns)
+            print("%-14s %-20s" % (name, " ".join(words)) + cells, flush=True)
+
+
+def main():
+    modes = {"scaling": scaling, "changes": changes, "where": where}
+    if len(sys.argv) == 5 and sys.argv[4] in modes:
+        modes[sys.argv[4]]()
+        return
+    compare_random()
+    table(sys.argv[4:])
+
+
+main()

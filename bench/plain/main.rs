@@ -1,0 +1,100 @@
+//! The yardstick of the benchmarks: a plain Rust program that prints what spanprof prints for these commands on texts
+//! of version 1 that are accepted, without proofs. Its limits are those of the texts.
+//!
+//!     plain COMMAND [--jobs N] < TEXT
+//!
+//! COMMAND is span, slack, greedy --threads P, curve --upto P, whatif SEG=COST .., certify or check. `--jobs N` lets
+//! `curve` and `check` use N threads; without it everything is done on one.
+
+mod analysis;
+mod certificate;
+mod cut;
+mod edges;
+mod greedy;
+mod jobs;
+mod precede;
+mod read;
+mod report;
+mod scan;
+mod siblings;
+
+use std::io::{Read, Write};
+use std::process::ExitCode;
+
+/// What the words ask for.
+enum Command {
+    Span,
+    Slack,
+    Greedy(u32),
+    Curve(u32),
+    WhatIf(Vec<(usize, u64)>),
+    Certify,
+    Check,
+}
+
+fn threads(word: Option<&String>) -> Option<u32> {
+    word?.parse().ok().filter(|threads| (1..=1024).contains(threads))
+}
+
+fn change(word: &String) -> Option<(usize, u64)> {
+    let (segment, cost) = word.split_once('=')?;
+    Some((segment.parse().ok()?, cost.parse().ok()?))
+}
+
+fn command(words: &[String]) -> Option<Command> {
+    Some(match words.first().map_or("span", String::as_str) {
+        "span" => Command::Span,
+        "slack" => Command::Slack,
+        "greedy" => Command::Greedy(threads(words.get(2))?),
+        "curve" => Command::Curve(threads(words.get(2))?),
+        "whatif" => Command::WhatIf(words[1..].iter().map(change).collect::<Option<_>>()?),
+        "certify" => Command::Certify,
+        "check" => Command::Check,
+        _ => return None,
+    })
+}
+
+/// Takes `--jobs N` out of the words.
+fn jobs(words: &mut Vec<String>) -> Option<usize> {
+    let Some(place) = words.iter().position(|word| word == "--jobs") else {
+        return Some(1);
+    };
+    let number = words.get(place + 1)?.parse().ok().filter(|jobs| *jobs > 0);
+    words.drain(place..place + 2);
+    number
+}
+
+fn answer(command: &Command, jobs: usize, input: &[u8]) -> Result<Vec<u8>, String> {
+    if let Command::Check = command {
+        return certificate::check(input, jobs);
+    }
+    let program = read::read(input)?;
+    let table = cut::cut(&program);
+    let graph = edges::graph(&program, &table);
+    match command {
+        Command::Span => Ok(report::span(&graph)),
+        Command::Slack => Ok(report::slack(&table, &graph)),
+        Command::Greedy(threads) => Ok(report::greedy(&graph, *threads)),
+        Command::Curve(upto) => Ok(report::curve(&graph, *upto, jobs)),
+        Command::WhatIf(changes) => report::what_if(graph, changes),
+        Command::Certify => Ok(certificate::write(&program, &graph)),
+        Command::Check => unreachable!(),
+    }
+}
+
+fn main() -> ExitCode {
+    let mut words: Vec<String> = std::env::args().skip(1).collect();
+    let asked = jobs(&mut words).and_then(|jobs| Some((jobs, command(&words)?)));
+    let Some((jobs, command)) = asked else {
+        println!("error: wrong words");
+        return ExitCode::from(2);
+    };
+    let mut input = Vec::new();
+    std::io::stdin().read_to_end(&mut input).expect("standard input can be read");
+    let (text, status) = match answer(&command, jobs, &input) {
+        Ok(text) => (text, ExitCode::SUCCESS),
+        Err(why) => (format!("error: {why}\n").into_bytes(), ExitCode::from(1)),
+    };
+    std::io::stdout().write_all(&text).expect("standard output can be written");
+    status
+}
