@@ -1,0 +1,157 @@
+-- Each program has a graph, and each segment a value.
+use Rattle.std.proofs.Common.{ℕ, zero, suc, ◌<◌, ◌≤◌, ◌≡◌, ◌∙◌, ◌%◌, ◌^◌, List, [], ◌∷◌, ◌++◌, length, get_or, refl, sym, subst, arith, inl, inr, sum_by}
+use Rattle.std.proofs.lemmas.Bool.{cases_lt}
+use Rattle.std.proofs.lemmas.List.{get_or_append_left, get_or_push, length_push}
+use Rattle.std.proofs.lemmas.Option.{get_or_from_slice_get, slice_get_within}
+use Rattle.task_program.specs.ProgramText.{ProgramText}
+use Rattle.task_program.specs.Programs.{IsProgram}
+use Rattle.task_program.specs.Trees.{HasTree, HasTreeIn}
+use Rattle.task_program.specs.declared.version.Version.{Version}
+use Rattle.task_program.specs.declared.version.Version.TheVariants.{One, Two}
+use Rattle.task_segments.proofs.InPlace.{read_in_place, some_segment}
+use Rattle.task_segments.proofs.Order.{goes_up, reached}
+use Rattle.task_segments.proofs.Programs.{few_segments, few_tasks, grouped_program, nested_program}
+use Rattle.task_segments.proofs.Reaches.{joined, one}
+use Rattle.task_segments.proofs.SameSchedules.{same_joined}
+use Rattle.task_segments.proofs.Work.{little_work}
+use Rattle.task_segments.specs.Nesting.{IsGroupedTable, IsNestedTable}
+use Rattle.task_segments.specs.Precedence.{MustPrecede}
+use Rattle.task_segments.specs.Programs.{IsProgramTable}
+use Rattle.task_segments.specs.Table.{Table, costs_of, segment, table_of}
+use Rattle.depend_table.proofs.Chains.{edge_reaches, kept_within}
+use Rattle.depend_table.specs.Kept.{IsKeptEdge}
+use Rattle.depend_table.specs.Lists.{Lists}
+use Rattle.dispatch_core.proofs.Within.{within_table}
+use Rattle.dispatch_core.specs.Facts.{IsSoundTable}
+use Rattle.dispatch_core.specs.Graph.{IsGraphOf}
+use Rattle.dispatch_core.specs.Recorded.{Recorded}
+use Rattle.dispatch_core.specs.Values.{IsValue}
+use Rattle.dispatch_core.specs.Values.IsValue.{Computes}
+use Rattle.worker_run.specs.AllValues.{AreAllValues}
+use Rattle.spanprof_command.proofs.DecidedEdges.{decide_kept_edge}
+use Rattle.spanprof_command.proofs.Decisions.{some_list}
+
+fits_in : (version : Version) (text : List ℕ) (program : ProgramText) → HasTreeIn version text program → IsProgram program
+fits_in One text program h = h.program_fits
+fits_in Two text program h = h.expanded.program_fits
+
+pub tree_fits : (text : List ℕ) (program : ProgramText) → HasTree text program → IsProgram program
+tree_fits text program h = fits_in program.version text program h
+
+-- what holds of a program's table
+pub record IsWhole (table : Table) : Type 0 where
+  pub nested : IsNestedTable table
+  pub grouped : IsGroupedTable table
+  pub sound : IsSoundTable table
+
+pub whole_table : (program : ProgramText) → IsProgram program → IsWhole (table_of program.marks)
+whole_table program is =
+    let table : Table = table_of program.marks in
+    let of_program : IsProgramTable table = record { program = program; is_program = is; is = refl } in
+    let nested : IsNestedTable table = nested_program table of_program in
+    let grouped : IsGroupedTable table = grouped_program table of_program in
+    let within : (s t : ℕ) → IsKeptEdge table s t → MustPrecede table s t = λ s t. kept_within table s t nested grouped in
+    let chains = same_joined (MustPrecede table) (IsKeptEdge table) (goes_up table nested) within (edge_reaches table nested grouped) in
+    record {
+      nested = nested;
+      grouped = grouped;
+      sound = record {
+        some_segment = some_segment table nested;
+        few_segments = few_segments table of_program;
+        few_tasks = few_tasks table of_program;
+        little_work = little_work table of_program;
+        goes_up = record {
+          ascending = goes_up table nested;
+          within = λ s t edge. within_table table s t nested edge;
+          reached = reached table nested;
+        };
+        chains = record { within = within; joined = λ s t edge. (chains s t).0 (joined {R = MustPrecede table} (one edge)) };
+        in_place = read_in_place table nested grouped;
+      };
+    }
+
+-- ---- the graph
+
+pub kept_list : (table : Table) → IsSoundTable table → (t : ℕ) → (list : List ℕ) × Lists (λ s. IsKeptEdge table s t) list
+kept_list table sound t =
+    some_list (λ s. IsKeptEdge table s t) t (λ s. decide_kept_edge table s t) (λ s edge. sound.goes_up.ascending s t (sound.chains.within s t edge))
+
+-- the kept predecessors of the first n segments
+record AreFirstRows (table : Table) (n : ℕ) (rows : List (List ℕ)) : Type 0 where
+  each : length rows ≡ n
+  kept : (t : ℕ) → t < n → Lists (λ s. IsKeptEdge table s t) (get_or rows t [])
+
+first_rows : (table : Table) → IsSoundTable table → (n : ℕ) → (rows : List (List ℕ)) × AreFirstRows table n rows
+first_rows table sound zero = ([], record { each = refl; kept = λ t less. absurd (omega (arith, less)) })
+first_rows table sound (suc n) =
+    let before : (rows : List (List ℕ)) × AreFirstRows table n rows = first_rows table sound n in
+    let next : (list : List ℕ) × Lists (λ s. IsKeptEdge table s n) list = kept_list table sound n in
+    let each = before.1.each in (
+      before.0 ++ next.0 ∷ [],
+      record {
+        each = length_push before.0 next.0 ∙ omega (arith, each);
+        kept = λ t less. elim (cases_lt t n) [
+          | inl below ↦
+              let same : get_or (before.0 ++ next.0 ∷ []) t [] ≡ get_or before.0 t [] = get_or_append_left before.0 (next.0 ∷ []) [] t (omega (arith, below, each)) in
+              subst (λ (l : List ℕ). Lists (λ s. IsKeptEdge table s t) l) (sym same) (before.1.kept t below)
+          | inr last ↦
+              let is : n ≡ t = omega (arith, less, last) in
+              let same : get_or (before.0 ++ next.0 ∷ []) n [] ≡ next.0 = get_or_push before.0 next.0 [] n each in
+              let P : ℕ → Type 0 = λ u. Lists (λ s. IsKeptEdge table s u) (get_or (before.0 ++ next.0 ∷ []) u []) in
+              subst P is (subst (λ (l : List ℕ). Lists (λ s. IsKeptEdge table s n) l) (sym same) next.1)
+        ];
+      },
+    )
+
+pub some_graph : (table : Table) → IsSoundTable table → (graph : Recorded) × IsGraphOf table graph
+some_graph table sound =
+    let rows : (rows : List (List ℕ)) × AreFirstRows table (length table.segments) rows = first_rows table sound (length table.segments) in (
+      record { costs = costs_of table; predecessors = rows.0 },
+      record { costs = refl; each = rows.1.each; predecessors = λ t known. rows.1.kept t known },
+    )
+
+-- ---- the values
+
+record AreFirstValues (table : Table) (value_of : ℕ → ℕ → ℕ → ℕ) (n : ℕ) (values : List ℕ) : Type 0 where
+  each : length values ≡ n
+  are : (s : ℕ) → s < n → IsValue table value_of s (get_or values s 0)
+
+first_values : (table : Table) (value_of : ℕ → ℕ → ℕ → ℕ) → IsSoundTable table → (n : ℕ) → n ≤ length table.segments
+    → (values : List ℕ) × AreFirstValues table value_of n values
+first_values table value_of sound zero all = ([], record { each = refl; are = λ s less. absurd (omega (arith, less)) })
+first_values table value_of sound (suc n) all =
+    let before : (values : List ℕ) × AreFirstValues table value_of n values = first_values table value_of sound n (omega (arith, all)) in
+    let preds : (list : List ℕ) × Lists (λ s. IsKeptEdge table s n) list = kept_list table sound n in
+    let earlier : ℕ → ℕ = λ s. get_or before.0 s 0 in
+    let next : ℕ = value_of n (segment table n).cost (sum_by earlier preds.0 % 2 ^ 64) in
+    let is_next : IsValue table value_of n next =
+    Computes n next (omega (arith, all)) preds.0 preds.1 earlier (λ p edge. before.1.are p (sound.goes_up.ascending p n (sound.chains.within p n edge))) refl in
+    let each = before.1.each in (
+      before.0 ++ next ∷ [],
+      record {
+        each = length_push before.0 next ∙ omega (arith, each);
+        are = λ s less. elim (cases_lt s n) [
+          | inl below ↦
+              let same : get_or (before.0 ++ next ∷ []) s 0 ≡ get_or before.0 s 0 = get_or_append_left before.0 (next ∷ []) 0 s (omega (arith, below, each)) in
+              subst (λ (v : ℕ). IsValue table value_of s v) (sym same) (before.1.are s below)
+          | inr last ↦
+              let is : n ≡ s = omega (arith, less, last) in
+              let same : get_or (before.0 ++ next ∷ []) n 0 ≡ next = get_or_push before.0 next 0 n each in
+              let P : ℕ → Type 0 = λ u. IsValue table value_of u (get_or (before.0 ++ next ∷ []) u 0) in
+              subst P is (subst (λ (v : ℕ). IsValue table value_of n v) (sym same) is_next)
+        ];
+      },
+    )
+
+pub some_values : (table : Table) (value_of : ℕ → ℕ → ℕ → ℕ) → IsSoundTable table → (values : List ℕ) × AreAllValues table value_of values
+some_values table value_of sound =
+    let all : (values : List ℕ) × AreFirstValues table value_of (length table.segments) values = first_values table value_of sound (length table.segments) (omega arith) in (
+      all.0,
+      record {
+        each = all.1.each;
+        are_values = λ s value there.
+            let within : s < length all.0 = slice_get_within all.0 s value there in
+            let same : get_or all.0 s 0 ≡ value = get_or_from_slice_get all.0 s value 0 there in
+            subst (λ (v : ℕ). IsValue table value_of s v) same (all.1.are s (omega (arith, within, all.1.each)));
+      },
+    )

@@ -1,0 +1,293 @@
+-- Each words and input have a report.
+use Rattle.std.proofs.Common.{ℕ, zero, suc, ◌+◌, ◌<◌, ◌≤◌, ◌≡◌, ◌⊎◌, ◌∙◌, ◌^◌, Bool, true, false, List, [], ◌∷◌, ◌++◌, Option, Some, None, Result, Ok, Err, length, sum, get_or, refl, sym, subst, arith, inl, inr}
+use Rattle.std.specs.Prelude.{if◌then◌else◌, nat_le, nat_lt}
+use Rattle.std.proofs.lemmas.Bool.{cases_lt, ltb-false}
+use Rattle.std.proofs.lemmas.List.{get_or_append_left, get_or_push, length-set, length_push}
+use Rattle.command_words.specs.Request.{request_of}
+use Rattle.command_words.specs.declared.changes.Change.{Change}
+use Rattle.command_words.specs.declared.request.Request.{Request}
+use Rattle.command_words.specs.declared.request.Request.TheVariants.{Certify, Check, Curve, Greedy, Replay, Run, Show, Slack, Span, WhatIf}
+use Rattle.task_program.proofs.ReadWhole.{found_tree_of}
+use Rattle.task_program.specs.Canonical.{canonical}
+use Rattle.task_program.specs.Document.{program_part, rest_part}
+use Rattle.task_program.specs.ProgramText.{ProgramText}
+use Rattle.task_program.specs.ReadInVersion.{program_of}
+use Rattle.task_program.specs.Trees.{HasTree}
+use Rattle.task_program.specs.declared.fault.ReadFault.{ReadFault}
+use Rattle.task_segments.proofs.SameSchedules.{same_span}
+use Rattle.task_segments.proofs.StartsAndTails.{IsSpan-earliest}
+use Rattle.task_segments.specs.Precedence.{MustPrecede}
+use Rattle.task_segments.specs.Schedule.{IsSpan, end_of}
+use Rattle.task_segments.specs.StartsAndTails.{IsEarliest}
+use Rattle.task_segments.specs.Table.{Table, costs_of, table_of}
+use Rattle.depend_table.proofs.Chains.{edge_reaches}
+use Rattle.depend_table.specs.Kept.{IsKeptEdge}
+use Rattle.dispatch_core.proofs.Ends.{graph_of_program}
+use Rattle.dispatch_core.specs.Graph.{IsGraphOf}
+use Rattle.dispatch_core.specs.Mix.{mix_value}
+use Rattle.dispatch_core.specs.Recorded.{IsGraph, Precedes, Recorded}
+use Rattle.greedy_sim.proofs.Existence.{some_run}
+use Rattle.greedy_sim.specs.Greedy.{IsCurve, IsGreedyEnd, IsGreedyRun}
+use Rattle.span_analysis.proofs.Existence.{earliest_exists}
+use Rattle.span_analysis.proofs.PassSteps.{IsAscending-graph}
+use Rattle.span_cert.specs.Analysed.{claim_of}
+use Rattle.span_cert.specs.Written.{certificate}
+use Rattle.whatif_costs.specs.Changed.{changed, refusal_of}
+use Rattle.whatif_costs.specs.declared.fault.WhatFault.{WhatFault}
+use Rattle.whatif_costs.specs.declared.fault.WhatFault.TheVariants.{CostTooLarge, UnknownSegment, WorkTooLarge}
+use Rattle.worker_run.specs.AllValues.{AreAllValues}
+use Rattle.worker_run.specs.Answer.{IsWorkerCount}
+use Rattle.spanprof_command.proofs.Decisions.{IsDecided, alike, decide_both, decide_most}
+use Rattle.spanprof_command.proofs.OneReport.{measured}
+use Rattle.spanprof_command.proofs.SomeAnalysis.{IsAnalysed, some_analysed}
+use Rattle.spanprof_command.proofs.SomeGraph.{IsWhole, some_graph, some_values, tree_fits, whole_table}
+use Rattle.spanprof_command.proofs.SomeReplay.{some_said}
+use Rattle.spanprof_command.proofs.SomeVerdict.{some_check}
+use Rattle.spanprof_command.proofs.TriedSpans.{tells_trial}
+use Rattle.spanprof_command.specs.Certificates.{Certifies}
+use Rattle.spanprof_command.specs.GreedyRuns.{Curves, GreedyRuns, IsThreadCount, curve_header, curve_row, greedy_header, greedy_row, thread_count}
+use Rattle.spanprof_command.specs.OnProgram.{OnProgram}
+use Rattle.spanprof_command.specs.Report.{Output, input_too_long, refused, wrong_words}
+use Rattle.spanprof_command.specs.Reports.{Answers, AnswersWithin, ReportsBy, Shows, Spans}
+use Rattle.spanprof_command.specs.Slacks.{Slacks, slack_header, slack_row}
+use Rattle.spanprof_command.specs.SomeReport.{HasReport}
+use Rattle.spanprof_command.specs.Tables.{numbered_table}
+use Rattle.spanprof_command.specs.Trials.{Trials, TriesChanges, after_changes, change_refused, spans_told, unless_refused}
+use Rattle.spanprof_command.specs.WorkerRuns.{WorkerRuns, run_told, worker_count}
+use Rattle.spanprof_command.specs.declared.report.Status.TheVariants.{Done}
+
+-- of each program a command says something
+abbrev SaysSome : (ProgramText → Output → Type 0) → Type 0
+SaysSome Says = (program : ProgramText) → IsWhole (table_of program.marks) → (output : Output) × Says program output
+
+on_read : (Says : ProgramText → Output → Type 0) → SaysSome Says → (input : List ℕ) (read : Result ProgramText ReadFault) → program_of input ≡ read
+    → (output : Output) × OnProgram Says input output
+on_read Says some input (Ok program) is =
+    let tree : HasTree input program = found_tree_of input program is in
+    let said : (output : Output) × Says program output = some program (whole_table program (tree_fits input program tree)) in
+    (said.0, inl (record { program = program; tree = tree; says = said.1 }))
+on_read Says some input (Err fault) is = (refused fault, inr (record { fault = fault; is_fault = is; says = refl }))
+
+on_program : (Says : ProgramText → Output → Type 0) → SaysSome Says → (input : List ℕ) → (output : Output) × OnProgram Says input output
+on_program Says some input = on_read Says some input (program_of input) refl
+
+-- ---- span, show, slack and certify
+
+some_spans : SaysSome Spans
+some_spans program whole =
+    let table : Table = table_of program.marks in
+    let analysed : IsAnalysed table = some_analysed table whole in
+    let are = analysed.are_analysed.are_findings in
+    (measured table analysed.found.span, record { span = analysed.found.span; is_span = are.greatest_sum; is_least_end = are.least_end; says = refl })
+
+some_show : SaysSome Shows
+some_show program whole = (record { text = canonical program; status = Done }, refl)
+
+some_slacks : SaysSome Slacks
+some_slacks program whole =
+    let table : Table = table_of program.marks in
+    let analysed : IsAnalysed table = some_analysed table whole in (
+      record { text = numbered_table slack_header (slack_row table analysed.found) 0 (length table.segments); status = Done },
+      record { graph = analysed.graph; found = analysed.found; are_analysed = analysed.are_analysed; says = refl },
+    )
+
+some_certificate : SaysSome Certifies
+some_certificate program whole =
+    let analysed : IsAnalysed (table_of program.marks) = some_analysed (table_of program.marks) whole in (
+      record { text = certificate program (claim_of analysed.found); status = Done },
+      record { graph = analysed.graph; found = analysed.found; are_analysed = analysed.are_analysed; says = refl },
+    )
+
+-- ---- run
+
+decide_workers : (workers : ℕ) → IsDecided (IsWorkerCount workers)
+decide_workers workers =
+    alike ((1 ≤ workers) × (workers ≤ 64)) (IsWorkerCount workers) (λ h. h) (λ h. h)
+    (decide_both (1 ≤ workers) (workers ≤ 64) (decide_most 1 workers) (decide_most workers 64))
+
+some_worker_run : (workers : ℕ) → SaysSome (WorkerRuns workers)
+some_worker_run workers program whole =
+    let table : Table = table_of program.marks in
+    elim (decide_workers workers) [
+      | inr outside ↦ (worker_count, inl (record { outside = outside; says = refl }))
+      | inl within ↦
+          let graph : (graph : Recorded) × IsGraphOf table graph = some_graph table whole.sound in
+          let values : (values : List ℕ) × AreAllValues table mix_value values = some_values table mix_value whole.sound in
+          (run_told graph.0 values.0, inr (record { within = within; graph = graph.0; is_graph_of = graph.1; values = values.0; are_values = values.1; says = refl }))
+    ]
+
+-- ---- greedy and curve
+
+-- a number of threads is 1 to 1,024, or is refused
+thread_count_or_not : (threads : ℕ) → ((threads < 1) ⊎ (1024 < threads)) ⊎ IsThreadCount threads
+thread_count_or_not threads = elim (cases_lt threads 1) [
+  | inl none ↦ inl (inl none)
+  | inr some ↦ elim (cases_lt 1024 threads) [
+    | inl many ↦ inl (inr many)
+    | inr few ↦ inr (record { some = some; few = few })
+  ]
+]
+
+some_greedy : (count : ℕ) → SaysSome (GreedyRuns count)
+some_greedy count program whole =
+    let table : Table = table_of program.marks in
+    elim (thread_count_or_not count) [
+      | inl outside ↦ (thread_count, inl (record { outside = outside; says = refl }))
+      | inr within ↦
+          let graph : (graph : Recorded) × IsGraphOf table graph = some_graph table whole.sound in
+          let is_graph : IsGraph graph.0 = graph_of_program table graph.0 whole.sound graph.1 in
+          let some = within.some in
+          let run : (starts : List ℕ) × (threads : List (Option ℕ)) × IsGreedyRun graph.0.costs (Precedes graph.0) count starts threads =
+          some_run graph.0 count is_graph (omega (arith, some)) in (
+            record { text = numbered_table greedy_header (greedy_row graph.0.costs run.0 run.1) 0 (length graph.0.costs); status = Done },
+            inr (record { within = within; graph = graph.0; is_graph = is_graph; is_graph_of = graph.1; starts = run.0; threads = run.1; is_run = run.2; says = refl }),
+          )
+    ]
+
+some_end : (graph : Recorded) (p : ℕ) → IsGraph graph → 0 < p → (end : ℕ) × IsGreedyEnd graph.costs (Precedes graph) p end
+some_end graph p is some =
+    let run : (starts : List ℕ) × (threads : List (Option ℕ)) × IsGreedyRun graph.costs (Precedes graph) p starts threads = some_run graph p is some in
+    (end_of graph.costs run.0, (run.0, run.1, run.2, refl))
+
+some_ends : (graph : Recorded) (upto : ℕ) → IsGraph graph → (ends : List ℕ) × IsCurve graph.costs (Precedes graph) upto ends
+some_ends graph zero is = ([], record { each = refl; at_each = λ k less. absurd (omega (arith, less)) })
+some_ends graph (suc n) is =
+    let before : (ends : List ℕ) × IsCurve graph.costs (Precedes graph) n ends = some_ends graph n is in
+    let next : (end : ℕ) × IsGreedyEnd graph.costs (Precedes graph) (n + 1) end = some_end graph (n + 1) is (omega arith) in
+    let each = before.1.each in (
+      before.0 ++ next.0 ∷ [],
+      record {
+        each = length_push before.0 next.0 ∙ omega (arith, each);
+        at_each = λ k less. elim (cases_lt k n) [
+          | inl below ↦
+              let same : get_or (before.0 ++ next.0 ∷ []) k 0 ≡ get_or before.0 k 0 = get_or_append_left before.0 (next.0 ∷ []) 0 k (omega (arith, below, each)) in
+              subst (λ (e : ℕ). IsGreedyEnd graph.costs (Precedes graph) (k + 1) e) (sym same) (before.1.at_each k below)
+          | inr last ↦
+              let is_last : n ≡ k = omega (arith, less, last) in
+              let same : get_or (before.0 ++ next.0 ∷ []) n 0 ≡ next.0 = get_or_push before.0 next.0 0 n each in
+              let P : ℕ → Type 0 = λ j. IsGreedyEnd graph.costs (Precedes graph) (j + 1) (get_or (before.0 ++ next.0 ∷ []) j 0) in
+              subst P is_last (subst (λ (e : ℕ). IsGreedyEnd graph.costs (Precedes graph) (n + 1) e) (sym same) next.1)
+        ];
+      },
+    )
+
+some_curve : (upto : ℕ) → SaysSome (Curves upto)
+some_curve upto program whole =
+    let table : Table = table_of program.marks in
+    elim (thread_count_or_not upto) [
+      | inl outside ↦ (thread_count, inl (record { outside = outside; says = refl }))
+      | inr within ↦
+          let analysed : IsAnalysed table = some_analysed table whole in
+          let are = analysed.are_analysed in
+          let graph : Recorded = analysed.graph in
+          let ends : (ends : List ℕ) × IsCurve graph.costs (Precedes graph) upto ends = some_ends graph upto are.is_graph in
+          let span : ℕ = analysed.found.span in (
+            record { text = numbered_table curve_header (curve_row (sum (costs_of table)) span ends.0) 1 upto; status = Done },
+            inr (record {
+              within = within;
+              graph = graph;
+              is_graph = are.is_graph;
+              is_graph_of = are.is_graph_of;
+              ends = ends.0;
+              is_curve = ends.1;
+              span = span;
+              is_span = are.are_findings.greatest_sum;
+              says = refl;
+            }),
+          )
+    ]
+
+-- ---- whatif
+
+-- a change that is not refused leaves no more work than a program may have
+within_work : (unknown large heavy : Bool)
+    → (if unknown then Some UnknownSegment else (if large then Some CostTooLarge else (if heavy then Some WorkTooLarge else None))) ≡ None → heavy ≡ false
+within_work false false false is = refl
+within_work false false true is = absurd cc
+within_work false true heavy is = absurd cc
+within_work true large heavy is = absurd cc
+
+changed_graph : (graph : Recorded) (s cost : ℕ) → IsGraph graph → refusal_of graph s cost ≡ None → IsGraph (changed graph s cost)
+changed_graph graph s cost is allowed =
+    let each : length (changed graph s cost).costs ≡ length graph.costs = length-set graph.costs s cost in
+    let all = is.each in
+    let some = is.some in
+    let few = is.few in
+    record {
+      each = all ∙ sym each;
+      some = omega (arith, each, some);
+      few = omega (arith, each, few);
+      small = ltb-false (10 ^ 15) (sum (changed graph s cost).costs) (within_work (nat_le (length graph.costs) s) (nat_lt (10 ^ 15) cost) (nat_lt (10 ^ 15) (sum (changed graph s cost).costs)) allowed);
+      smaller = is.smaller;
+      ascending = is.ascending;
+      reached = λ t later known. is.reached t later (omega (arith, known, each));
+    }
+
+passed : (refusal : Option WhatFault) (next : Result Recorded WhatFault) (tried : Recorded) → unless_refused refusal next ≡ Ok tried → (refusal ≡ None) × (next ≡ Ok tried)
+passed None next tried is = (refl, is)
+passed (Some why) next tried is = absurd cc
+
+abbrev accepted_as : Recorded → Result Recorded WhatFault
+accepted_as graph = Ok graph
+
+same_as : (graph tried : Recorded) → accepted_as graph ≡ accepted_as tried → graph ≡ tried
+same_as graph tried e = cc
+
+tried_graph : (graph tried : Recorded) (changes : List Change) → IsGraph graph → after_changes graph changes ≡ Ok tried → IsGraph tried
+tried_graph graph tried [] is all = subst IsGraph (same_as graph tried all) is
+tried_graph graph tried (change ∷ changes) is all =
+    let next : Recorded = changed graph change.segment change.cost in
+    let step = passed (refusal_of graph change.segment change.cost) (after_changes next changes) tried all in
+    tried_graph next tried changes (changed_graph graph change.segment change.cost is step.0) step.1
+
+some_span : (graph : Recorded) → IsGraph graph → (span : ℕ) × IsSpan graph.costs (Precedes graph) span
+some_span graph is =
+    let starts : (starts : List ℕ) × IsEarliest graph.costs (Precedes graph) starts = earliest_exists graph is in
+    (end_of graph.costs starts.0, IsSpan-earliest graph.costs (Precedes graph) starts.0 (IsAscending-graph graph is) starts.1 is.some)
+
+tries : (table : Table) (graph : Recorded) (changes : List Change) (tried : Result Recorded WhatFault) → IsWhole table → IsGraphOf table graph
+    → after_changes graph changes ≡ tried → (output : Output) × TriesChanges changes table output
+tries table graph changes (Err why) whole of all =
+    (change_refused why, record { graph = graph; is_graph_of = of; says = inl (record { why = why; refused = all; says = refl }) })
+tries table graph changes (Ok tried) whole of all =
+    let is : IsGraph graph = graph_of_program table graph whole.sound of in
+    let span : (span : ℕ) × IsSpan tried.costs (Precedes tried) span = some_span tried (tried_graph graph tried changes is all) in
+    let was : (span : ℕ) × IsSpan graph.costs (Precedes graph) span = some_span graph is in
+    let spans = same_span (MustPrecede table) (IsKeptEdge table) whole.sound.goes_up.ascending whole.sound.chains.within (edge_reaches table whole.nested whole.grouped) in
+    let output : Output = spans_told (sum tried.costs) span.0 was.0 in
+    (output, tells_trial table graph graph tried changes (sum tried.costs) span.0 was.0 of refl all spans span.1 was.1 refl output refl)
+
+some_trial : (changes : List Change) → SaysSome (Trials changes)
+some_trial changes program whole =
+    let table : Table = table_of program.marks in
+    let graph : (graph : Recorded) × IsGraphOf table graph = some_graph table whole.sound in
+    tries table graph.0 changes (after_changes graph.0 changes) whole graph.1 refl
+
+-- ---- each command
+
+some_answer : (asked : Request) (input : List ℕ) → (output : Output) × Answers asked input output
+some_answer Span input = on_program Spans some_spans input
+some_answer Show input = on_program Shows some_show input
+some_answer Replay input = on_program _ (some_said (rest_part input)) (program_part input)
+some_answer (Run workers) input = on_program (WorkerRuns workers) (some_worker_run workers) input
+some_answer Slack input = on_program Slacks some_slacks input
+some_answer Certify input = on_program Certifies some_certificate input
+some_answer Check input = some_check input
+some_answer (Greedy threads) input = on_program (GreedyRuns threads) (some_greedy threads) input
+some_answer (Curve upto) input = on_program (Curves upto) (some_curve upto) input
+some_answer (WhatIf changes) input = on_program (Trials changes) (some_trial changes) input
+
+some_within : (asked : Request) (input : List ℕ) → (output : Output) × AnswersWithin asked input output
+some_within asked input = elim (cases_lt 8388608 (length input)) [
+  | inl longer ↦ (input_too_long, inl (record { longer = longer; says = refl }))
+  | inr fits ↦
+      let answer : (output : Output) × Answers asked input output = some_answer asked input in
+      (answer.0, inr (record { fits = fits; answers = answer.1 }))
+]
+
+some_by : (asked : Option Request) (input : List ℕ) → (output : Output) × ReportsBy asked input output
+some_by None input = (wrong_words, refl)
+some_by (Some asked) input = some_within asked input
+
+pub some_report : (words : List (List ℕ)) (input : List ℕ) → HasReport words input
+some_report words input = some_by (request_of words) input
