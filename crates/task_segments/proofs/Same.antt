@@ -46,7 +46,7 @@ closing_decides EndsTask EndsTask = (λ e. refl, λ e. refl)
 abbrev AreEqual : Segment → Segment → Type 0
 AreEqual a b = (a.task ≡ b.task) × ((a.index ≡ b.index) × ((a.cost ≡ b.cost) × ((a.closing ≡ b.closing) × (a.children_before ≡ b.children_before))))
 
-same_segment : (a b : Segment) → AreEqual a b → a ≡ b
+pub same_segment : (a b : Segment) → AreEqual a b → a ≡ b
 same_segment a b (t, (i, (c, (l, n)))) =
     ap (λ (v : ℕ). record a { task = v }) t
     ∙ ap (λ (v : ℕ). record a { task = b.task; index = v }) i
@@ -91,7 +91,7 @@ option_decides (Some x) (Some y) = through (eqb x y) (λ e. ap Some e) (λ e. cc
 abbrev AreOnePlace : Place → Place → Type 0
 AreOnePlace a b = (a.parent ≡ b.parent) × ((a.creator ≡ b.creator) × ((a.undeferred ≡ b.undeferred) × ((a.first ≡ b.first) × ((a.last ≡ b.last) × ((a.innermost_group ≡ b.innermost_group) × (a.siblings_before ≡ b.siblings_before))))))
 
-same_place : (a b : Place) → AreOnePlace a b → a ≡ b
+pub same_place : (a b : Place) → AreOnePlace a b → a ≡ b
 same_place a b (p, (c, (d, (f, (l, (g, n)))))) =
     ap (λ (v : Option ℕ). record a { parent = v }) p
     ∙ ap (λ (v : Option ℕ). record a { parent = b.parent; creator = v }) c
@@ -114,7 +114,7 @@ place_decides a b =
     (Decides-and (eqb a.last b.last) _ (Decides-eqb a.last b.last)
     (Decides-and (option_eq eqb a.innermost_group b.innermost_group) _ (option_decides a.innermost_group b.innermost_group) (Decides-eqb a.siblings_before b.siblings_before)))))))
 
-place_of_same : (a b : Task) → place_of a ≡ place_of b → a.items ≡ b.items → a ≡ b
+pub place_of_same : (a b : Task) → place_of a ≡ place_of b → a.items ≡ b.items → a ≡ b
 place_of_same a b e i =
     let row : Place → List Item → Task = λ p items. record { parent = p.parent; creator = p.creator; undeferred = p.undeferred; items = items; first = p.first; last = p.last; innermost_group = p.innermost_group; siblings_before = p.siblings_before } in
     ap (λ (p : Place). row p a.items) e ∙ ap (λ (items : List Item). row (place_of b) items) i

@@ -2,7 +2,7 @@
 use Rattle.std.specs.Prelude.{ℕ, ◌+◌, ◌*◌, ◌≡◌, Bool, true, false, List, length, sum, count_by}
 use Rattle.task_program.specs.Limits.{work_of}
 use Rattle.task_program.specs.Marks.{Mark}
-use Rattle.task_program.specs.Marks.Mark.{Begins, Ends, Works, Waits, GroupBegins, GroupEnds}
+use Rattle.task_program.specs.Marks.Mark.{Waits}
 use Rattle.task_segments.specs.Moments.{begins_task, begins_group}
 use Rattle.task_segments.specs.Table.{Table, costs_of}
 

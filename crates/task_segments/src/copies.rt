@@ -31,7 +31,8 @@ impl SegTable {
         })
     }
 
-    /// Whether two tables are equal: all other calls but `copy` then answer the same of both.
+    /// Whether two tables are equal: exactly where all other calls but `copy` answer the same of both
+    /// (`laws::equal_where_alike`).
     pub fn same(&self, other: &SegTable) -> bool
         ensures { IsTrue result ↔ (self.now ≡ other.now) }
     {
