@@ -103,7 +103,8 @@ impl Counters {
     pub fn into_preds(self) -> Vec<Vec<u32>>
         ensures { items_of result.items ≡ self.preds }
     {
-        self.preds
+        let Counters { preds, .. } = self;
+        preds
     }
 }
 

@@ -42,10 +42,10 @@ pub fn worker_entry(list: &[Option<u32>], at: u32) -> Option<u32>
 }
 
 /// What stands at a place, if anything.
-pub fn value_entry(list: &[Option<u64>], at: u32) -> Option<u64>
-    ensures { result ≡ entry list.now at }
+pub fn value_entry(values: &[Option<u64>], at: u32) -> Option<u64>
+    ensures { result ≡ entry values.now at }
 {
-    list.get(at as usize).copied().flatten()
+    values.get(at as usize).copied().flatten()
 }
 
 /// The flag at a place.
