@@ -3,21 +3,15 @@
 # both print there and on random programs. The times are the processor's, of user and system, in milliseconds, the best
 # of five (of RUNS, if that is set); the memory is the peak, in MiB.
 #
-#     bench/commands.sh [TEXT..]      PROGRAM names the program if it is built; else it is proved and built here
+#     bench/commands.sh [TEXT..]      PROGRAM names the program, if it is built
 #     bench/commands.sh scaling       wall time of curve and check on one processor and on four
 #     bench/commands.sh changes       the time of one change of `whatif`
 #     bench/commands.sh where         where the time goes, by perf: reading, cutting, kept edges, ..
 set -euo pipefail
-
-top=$(cd "$(dirname "$0")/.." && pwd)
-scratch=$(mktemp -d)
-trap 'rm -rf "$scratch"' EXIT
-
-if [ -z "${PROGRAM:-}" ]; then
-    (cd "$top/crates/spanprof" && rt run < stdin > "$scratch/built") || { cat "$scratch/built" >&2; exit 1; }
-    PROGRAM=$top/crates/spanprof/out/spanprof
-fi
+# shellcheck source=bench/common.sh
+. "$(dirname "$0")/common.sh"
+build_program
+make_texts
 rustc -O --edition 2024 -o "$scratch/plain" "$top/bench/plain/main.rs"
-python3 "$top/bench/make_texts.py" "$scratch/texts"
 python3 "$top/bench/random_texts.py" "$scratch/random" 100
 python3 "$top/bench/commands.py" "$PROGRAM" "$scratch/plain" "$scratch" "$@"

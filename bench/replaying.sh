@@ -1,17 +1,14 @@
 #!/usr/bin/env bash
-# Builds the program and times `replay` on long runs: the best of five, in milliseconds, the start of the process
-# included, with the document's bytes and events and the first line of the report. PROGRAM names a program built before.
+# Times `replay` on long runs: the best of five, in milliseconds, the start of the process included, with the document's
+# bytes and events and the first line of the report.
 set -euo pipefail
-
-top=$(cd "$(dirname "$0")/.." && pwd)
-if [ -z "${PROGRAM:-}" ]; then
-    built=$(cd "$top/crates/spanprof" && rt run < stdin 2>&1) || { echo "$built" >&2; exit 1; }
-    PROGRAM=$top/crates/spanprof/out/spanprof
-fi
-exec python3 - "$PROGRAM" <<'PYTHON'
-import subprocess
+# shellcheck source=bench/common.sh
+. "$(dirname "$0")/common.sh"
+build_program
+mkdir "$scratch/documents"
+python3 - "$scratch/documents" <<'PYTHON'
+import pathlib
 import sys
-import time
 
 HEADER = "omptasks 1\n"
 DOCUMENT_BYTES = 8_388_608
@@ -53,20 +50,13 @@ DOCUMENTS = {
     "8 MiB, one number of zeros": filled(WAITS + "---\nstart ", "0", DOCUMENT_BYTES),
 }
 
-
-def least_time(program, text):
-    times = []
-    for _ in range(5):
-        start = time.perf_counter()
-        done = subprocess.run([program, "replay"], input=text, stdout=subprocess.PIPE, check=False)
-        times.append(time.perf_counter() - start)
-    return min(times), done.stdout
-
-
 for label, text in DOCUMENTS.items():
-    events = text.count("start ") + text.count("finish ")
-    text = text.encode()
-    taken, report = least_time(sys.argv[1], text)
-    first = report.decode().split("\n", 1)[0]
-    print(f"{label:<40} {len(text):>9} bytes {events:>6} events  {first:<32} {1000 * taken:7.1f} ms")
+    pathlib.Path(sys.argv[1], label).write_text(text)
 PYTHON
+
+for document in "$scratch"/documents/*; do
+    events=$(grep -oE '(start|finish) ' "$document" | wc -l || true)
+    first=$("$PROGRAM" replay < "$document" | head -1) || true
+    printf '%-40s %9d bytes %6d events  %-32s %7s ms\n' "$(basename "$document")" "$(stat -c %s "$document")" "$events" "$first" \
+        "$(best_of_five "$document" "$PROGRAM" replay)"
+done

@@ -1,0 +1,148 @@
+#!/usr/bin/env python3
+"""Refuses the growths of memory of a program one by one: the first, the second, .., until a run meets none.
+
+    checks/refused_growths.py commands [PROGRAM]    the ten commands of crates/spanprof/out/spanprof, or of this program
+    checks/refused_growths.py tests                 the tests of crates/refused_growths, as `rt test` there built them
+
+A command is run with that one growth refused, and with all from it on refused. It writes what it writes with ample
+memory and ends with that status, or writes `error: out of memory` and ends with status 3. A test is run with the one
+growth refused, and passes. Anything else is a wrong answer, as are a crash, a run of more than 60 seconds, and a test
+or a command that meets no growth. The start of a thread is a growth too. The exit status is 1 where any answer was
+wrong, where a program is missing, or where nothing was run. It needs a C compiler, for refuse.c.
+"""
+
+import os
+import subprocess
+import sys
+import tempfile
+from pathlib import Path
+
+TOP = Path(__file__).resolve().parent.parent
+SECONDS = 60
+OUT_OF_MEMORY = b"error: out of memory\n"
+
+WORKED = "omptasks 1\nwork 5 task { work 3 } work 2 taskwait work 1\n"
+IN_ORDER = "start 0 0 finish 0 0 start 0 2 finish 0 2 start 1 1 finish 1 1 start 0 3 finish 0 3"
+WRONG_CLAIM = "end 9 start 0 0 start 1 5 start 2 5 start 3 7 chain 0 1 3"
+LOOPS = "omptasks 2\nfor i 1 3 { task depend(in: x[i-1]) depend(out: x[i]) { work 2 } }\n"
+
+
+class Refuser:
+    """The library, and runs under it."""
+
+    def __init__(self, folder):
+        self.library = str(Path(folder, "refuse.so"))
+        source = str(TOP / "checks/refuse.c")
+        words = ["cc", "-shared", "-fPIC", "-O1", "-Wall", "-Wextra", "-o", self.library, source, "-ldl"]
+        subprocess.run(words, check=True)
+        self.runs = self.refusals = self.wrong = 0
+
+    def run(self, words, text, number, later):
+        """The status, standard output, and how many growths were refused, at the growth of this number."""
+        env = {**os.environ, "LD_PRELOAD": self.library, "REFUSE": str(number)}
+        if later:
+            env["REFUSE_LATER"] = "yes"
+        self.runs += 1
+        try:
+            ran = subprocess.run(words, input=text, capture_output=True, env=env, timeout=SECONDS, check=False)
+        except subprocess.TimeoutExpired:
+            return "no end", b"", 1
+        refused = ran.stderr.count(b"refused\n")
+        self.refusals += refused > 0
+        return ran.returncode, ran.stdout, refused
+
+    def refuse_each(self, name, words, text, is_right, ways):
+        """Refuses growth after growth in each way, and says how many there were."""
+        counts = []
+        for later in ways:
+            number = 1
+            while True:
+                status, written, refused = self.run(words, text, number, later)
+                if refused == 0:
+                    break
+                if not is_right(status, written):
+                    self.wrong += 1
+                    what = "this growth and all later ones" if later else "this growth"
+                    print(f"WRONG: {name}, {what} refused: {number}: status {status}: {written[:200]!r}", flush=True)
+                if status == "no end":
+                    break
+                number += 1
+            counts.append(number - 1)
+        if 0 in counts:
+            self.wrong += 1
+            print(f"WRONG: {name}: it met no growth", flush=True)
+        print(f"{name}: growths refused: {', '.join(map(str, counts))}", flush=True)
+
+
+def command(refuser, program, words, text):
+    """Refuses each growth of a command."""
+    text = text.encode()
+    full = subprocess.run([program, *words], input=text, capture_output=True, timeout=SECONDS, check=False)
+    if full.returncode not in (0, 1, 2) or full.stderr:
+        raise SystemExit(f"FAILED: {' '.join(words)} with ample memory: status {full.returncode}: {full.stderr[:200]!r}")
+
+    def is_right(status, written):
+        return (status, written) in ((3, OUT_OF_MEMORY), (full.returncode, full.stdout))
+
+    name = f"{' '.join(words) or 'no word'} ({len(text)} bytes, status {full.returncode})"
+    refuser.refuse_each(name, [program, *words], text, is_right, (False, True))
+
+
+def commands(refuser, program):
+    """Every command on the worked program, every kind of refusal, loops, and a larger program."""
+    certificate = subprocess.run([program, "certify"], input=WORKED.encode(), capture_output=True, check=True)
+    larger = (TOP / "examples/matrix_product.tasks").read_text()
+    for words in ("", "span", "show", "slack", "greedy --threads 2", "curve --upto 2", "whatif 2=4 1=5", "certify"):
+        command(refuser, program, words.split(), WORKED)
+    for workers in (1, 2, 8):
+        command(refuser, program, ["run", "--workers", str(workers)], WORKED)
+    command(refuser, program, ["check"], certificate.stdout.decode())
+    command(refuser, program, ["replay"], f"{WORKED}---\n{IN_ORDER}\n")
+    for words, text in (
+        ("replay", f"{WORKED}---\nstart 0 0 finish 0 0 start 0 2 finish 0 2 start 0 3\n"),
+        ("replay", f"{WORKED}---\nstart 0 0 start\n"),
+        ("check", f"{WORKED}---\n{WRONG_CLAIM}\n"),
+        ("check", WORKED),
+        ("help", WORKED),
+        ("greedy --threads 0", WORKED),
+        ("curve --upto 1025", WORKED),
+        ("run --workers 65", WORKED),
+        ("whatif 2=4 4=1", WORKED),
+        ("span", "omptasks 1\ntask {"),
+        ("certify", "omptasks 1\ntask {"),
+        ("span", LOOPS),
+        ("show", LOOPS),
+    ):
+        command(refuser, program, words.split(), text)
+    for words in ("span", "show", "slack", "greedy --threads 4", "curve --upto 4", "whatif 1=7", "certify", "run --workers 2"):
+        command(refuser, program, words.split(), larger)
+
+
+def tests(refuser, program):
+    """The tests in which one growth may be refused."""
+    listed = subprocess.run([program, "--list"], capture_output=True, check=True).stdout.decode()
+    names = [line.removesuffix(": test") for line in listed.splitlines() if line.startswith("tests::one_growth::")]
+    for name in names:
+        refuser.refuse_each(name, [program, name], b"", lambda status, written: status == 0, (False,))
+
+
+def main():
+    kind, *named = sys.argv[1:] or ["commands"]
+    kinds = {
+        "commands": (commands, "crates/spanprof/out/spanprof", "`rt run` in crates/spanprof"),
+        "tests": (tests, "crates/refused_growths/out/refused_growths_tests", "`rt test` in crates/refused_growths"),
+    }
+    if kind not in kinds:
+        raise SystemExit(__doc__)
+    refuse, program, how = kinds[kind]
+    program = Path(named[0] if named else TOP / program).resolve()
+    if not os.access(program, os.X_OK):
+        raise SystemExit(f"FAILED: there is no program {program}: {how} makes it")
+    with tempfile.TemporaryDirectory() as folder:
+        refuser = Refuser(folder)
+        refuse(refuser, str(program))
+        print(f"{refuser.runs} runs, {refuser.refusals} with a refused growth, {refuser.wrong} wrong")
+        raise SystemExit(refuser.wrong > 0 or refuser.refusals == 0)
+
+
+main()
