@@ -1,5 +1,5 @@
 -- The fault that is told is the first.
-use Rattle.std.proofs.Common.{◌≡◌, ℕ, ◌+◌, ◌≤◌, Bool, true, false, not, List, [], ◌∷◌, ◌++◌, length, append_assoc, Option, Some, None, Result, Ok, Err, refl, sym, ap, subst, ◌∙◌, arith, codes}
+use Rattle.std.proofs.Common.{◌≡◌, ℕ, ◌<◌, ◌+◌, ◌≤◌, Bool, true, false, not, List, [], ◌∷◌, ◌++◌, length, append_assoc, Option, Some, None, Result, Ok, Err, refl, sym, ap, subst, ◌∙◌, arith, codes}
 use Rattle.std.specs.Prelude.{sum_by, nat_lt, drop, map}
 use Rattle.std.proofs.lemmas.Bool.{ltb-false, ltb-true}
 use Rattle.std.proofs.lemmas.List.{append-nil, map_push, length-map, drop-append-le}
@@ -17,7 +17,7 @@ use Rattle.task_program.specs.ProgramText.{ProgramText}
 use Rattle.task_program.specs.Faults.{State, Block, form_fault, place_fault, is_header, closes_nothing, is_allowed, unless_fault, step, after_at, line_of, end_at, ended, go_on, reading, start, one_pass}
 use Rattle.task_program.specs.ReadInVersion.{begins_version_two, program_of}
 use Rattle.task_program.specs.ViablePrefix.{IsSentence, IsViable}
-use Rattle.task_program.specs.FirstFault.{IsWrong, AreRight, EndsEarly, IsFirstFault, HasFault, IsToldApart, FaultIsFirst}
+use Rattle.task_program.specs.FirstFault.{IsMisplaced, IsWrong, IsRight, AreRight, EndsEarly, IsFirstFault, HasFault, IsToldApart, FaultIsFirst}
 use Rattle.task_program.specs.FirstFault.IsMisplaced.{OfHeader, AfterWhole, Elsewhere}
 use Rattle.task_program.specs.FirstFault.IsWrong.{ByItself, Misplaced, PastLimit}
 use Rattle.task_program.specs.FirstFault.AreRight.{Nothing, More}
@@ -129,27 +129,33 @@ is_true true h = refl
 is_true false h = absurd cc
 
 -- nothing is wrong with a token after which the reading goes on
+token_right : (before : List Token) (state next : State) (token : Token) → Counts before state → step state token ≡ Ok next → IsRight before token.text
+unfolding step
+token_right before state next token c h =
+    let passed = unless_ok (form_fault state.bytes token.text) token.line _ next h in
+    let inside : State = record state { bytes = state.bytes + length token.text } in
+    let p = passes inside token.text (unless_ok (place_fault inside token.text) token.line _ next passed.1).0 in
+    let no_limit : limits state token.text ≡ None = rw (p.number, p.nesting, p.tasks, p.segments, p.items, p.work) refl in
+    record {
+      formed = subst (λ (n : ℕ). form_fault n token.text ≡ None) c.began.bytes_are passed.0;
+      viable = viable_next (texts before) state token.text c.began (fits_of state token.text p.header p.unopened p.allowed);
+      within = limits_so before state token.text c (is_true _ p.header) (is_true _ p.allowed) ∙ no_limit;
+    }
+
 counts_more : (before : List Token) (state next : State) (token : Token) → Counts before state → step state token ≡ Ok next → Counts (before ++ token ∷ []) next
 unfolding step
 counts_more before state next token c h =
     let passed = unless_ok (form_fault state.bytes token.text) token.line _ next h in
     let inside : State = record state { bytes = state.bytes + length token.text } in
     let placed = unless_ok (place_fault inside token.text) token.line _ next passed.1 in
-    let p = passes inside token.text placed.0 in
     let same = ok_is (after_at state.place inside token.text token.line) next placed.1 in
-    let header : is_header state.place token.text ≡ true = is_true _ p.header in
-    let allowed : is_allowed state.place state.head.has_if token.text ≡ true = is_true _ p.allowed in
-    let no_limit : limits state token.text ≡ None = rw (p.number, p.nesting, p.tasks, p.segments, p.items, p.work) refl in
+    let allowed : is_allowed state.place state.head.has_if token.text ≡ true = is_true _ (passes inside token.text placed.0).allowed in
     record {
       began = subst (λ (ts : List (List ℕ)). Began ts next) (sym (texts_more before token)) (step_begins (texts before) state next token c.began h);
       tally_is = tally_goes before state (state.bytes + length token.text) next token c allowed same;
       within = step_keeps state token next c.within h;
       no_items = subst (λ (s : State). NoItems s.place s.head.items) same (items_go state.place inside token.text token.line c.no_items);
-      right = More before token c.right (record {
-        formed = subst (λ (n : ℕ). form_fault n token.text ≡ None) c.began.bytes_are passed.0;
-        viable = viable_next (texts before) state token.text c.began (fits_of state token.text p.header p.unopened p.allowed);
-        within = limits_so before state token.text c header allowed ∙ no_limit;
-      });
+      right = More before token c.right (token_right before state next token c h);
     }
 
 -- ---- the fault of a token
@@ -189,17 +195,78 @@ unless_err : {P : Type 0} (found : Option ReadKind) (line : ℕ) (after : Result
 unless_err (Some kind) line after fault h here later = here kind refl cc
 unless_err None line after fault h here later = later refl h
 
-token_fault : (before later : List Token) (state : State) (token : Token) (end_line : ℕ) (fault : ReadFault) → Counts before state → step state token ≡ Err fault → IsFirstFault (before ++ token ∷ later) end_line fault
+-- a token is wrong at which the reading stops
+token_wrong : (before : List Token) (state : State) (token : Token) (fault : ReadFault) → Counts before state → step state token ≡ Err fault → (kind : ReadKind) × IsWrong before token.text kind × (fault_so kind token.line ≡ fault)
 unfolding step
-token_fault before later state token end_line fault c h =
+token_wrong before state token fault c h =
     let inside : State = record state { bytes = state.bytes + length token.text } in
-    let told : (kind : ReadKind) → IsWrong before token.text kind → fault_so kind token.line ≡ fault → IsFirstFault (before ++ token ∷ later) end_line fault =
-    λ kind wrong same. subst (IsFirstFault (before ++ token ∷ later) end_line) same (AtToken before later token end_line kind c.right wrong) in
     unless_err (form_fault state.bytes token.text) token.line _ fault h
-    (λ kind form same. told kind (ByItself before token.text kind (subst (λ (n : ℕ). form_fault n token.text ≡ Some kind) c.began.bytes_are form)) same)
+    (λ kind form same. (kind, ByItself before token.text kind (subst (λ (n : ℕ). form_fault n token.text ≡ Some kind) c.began.bytes_are form), same))
     (λ form h1. unless_err (place_fault inside token.text) token.line _ fault h1
-    (λ kind place same. told kind (at_place before state token.text kind c (subst (λ (n : ℕ). form_fault n token.text ≡ None) c.began.bytes_are form) place) same)
+    (λ kind place same. (kind, at_place before state token.text kind c (subst (λ (n : ℕ). form_fault n token.text ≡ None) c.began.bytes_are form) place, same))
     (λ none wrong. absurd cc))
+
+token_fault : (before later : List Token) (state : State) (token : Token) (end_line : ℕ) (fault : ReadFault) → Counts before state → step state token ≡ Err fault → IsFirstFault (before ++ token ∷ later) end_line fault
+token_fault before later state token end_line fault c h =
+    let told = token_wrong before state token fault c h in
+    subst (IsFirstFault (before ++ token ∷ later) end_line) told.2 (AtToken before later token end_line told.0 c.right told.1)
+
+-- ---- one fault at most
+
+sentence_long : (before : List (List ℕ)) → IsSentence before → 2 ≤ length before
+sentence_long before s = omega (arith, ap (λ (ts : List (List ℕ)). length ts) s.spelled)
+
+two_kinds : (one other : ReadKind) (found : Option ReadKind) → found ≡ Some one → found ≡ Some other → one ≡ other
+two_kinds one other found h g = cc
+
+some_none : (kind : ReadKind) (found : Option ReadKind) → found ≡ Some kind → found ≡ None → ⊥
+some_none kind found h g = absurd cc
+
+right_not_wrong : (before : List Token) (text : List ℕ) (kind : ReadKind) → IsRight before text → IsWrong before text kind → ⊥
+right_not_wrong before text kind r (ByItself _ _ _ form) = some_none kind _ form r.formed
+right_not_wrong before text kind r (Misplaced _ _ _ form no_viable misplaced) = no_viable r.viable
+right_not_wrong before text kind r (PastLimit _ _ _ form viable_so limit) = some_none kind _ limit r.within
+
+misplaced_once : (before : List (List ℕ)) (text : List ℕ) (one other : ReadKind) → IsMisplaced before text one → IsMisplaced before text other → one ≡ other
+misplaced_once before text one other (OfHeader _ _ short) (OfHeader _ _ again) = refl
+misplaced_once before text one other (OfHeader _ _ short) (AfterWhole _ _ s text_is) = absurd (let long = sentence_long before s in omega (arith, short, long))
+misplaced_once before text one other (OfHeader _ _ short) (Elsewhere _ _ long no_whole) = absurd (omega (arith, short, long))
+misplaced_once before text one other (AfterWhole _ _ s text_is) (OfHeader _ _ short) = absurd (let long = sentence_long before s in omega (arith, short, long))
+misplaced_once before text one other (AfterWhole _ _ s text_is) (AfterWhole _ _ again text_so) = refl
+misplaced_once before text one other (AfterWhole _ _ s text_is) (Elsewhere _ _ long no_whole) = absurd (no_whole s text_is)
+misplaced_once before text one other (Elsewhere _ _ long no_whole) (OfHeader _ _ short) = absurd (omega (arith, short, long))
+misplaced_once before text one other (Elsewhere _ _ long no_whole) (AfterWhole _ _ s text_is) = absurd (no_whole s text_is)
+misplaced_once before text one other (Elsewhere _ _ long no_whole) (Elsewhere _ _ again none) = refl
+
+wrong_once : (before : List Token) (text : List ℕ) (one other : ReadKind) → IsWrong before text one → IsWrong before text other → one ≡ other
+wrong_once before text one other (ByItself _ _ _ form) (ByItself _ _ _ again) = two_kinds one other _ form again
+wrong_once before text one other (ByItself _ _ _ form) (Misplaced _ _ _ none no_viable misplaced) = absurd (some_none one _ form none)
+wrong_once before text one other (ByItself _ _ _ form) (PastLimit _ _ _ none viable_so limit) = absurd (some_none one _ form none)
+wrong_once before text one other (Misplaced _ _ _ none no_viable misplaced) (ByItself _ _ _ form) = absurd (some_none other _ form none)
+wrong_once before text one other (Misplaced _ _ _ none no_viable misplaced) (Misplaced _ _ _ again no_more misplaced_so) = misplaced_once (texts before) text one other misplaced misplaced_so
+wrong_once before text one other (Misplaced _ _ _ none no_viable misplaced) (PastLimit _ _ _ again viable_so limit) = absurd (no_viable viable_so)
+wrong_once before text one other (PastLimit _ _ _ none viable_so limit) (ByItself _ _ _ form) = absurd (some_none other _ form none)
+wrong_once before text one other (PastLimit _ _ _ none viable_so limit) (Misplaced _ _ _ again no_viable misplaced) = absurd (no_viable viable_so)
+wrong_once before text one other (PastLimit _ _ _ none viable_so limit) (PastLimit _ _ _ again viable_too limit_too) = two_kinds one other _ limit limit_too
+
+no_braces : (all : List Token) (line : ℕ) (others : List ℕ) → length all < 2 → open_braces (drop 2 all) ≡ line ∷ others → ⊥
+no_braces all line others short braces =
+    let none : open_braces (drop 2 all) ≡ [] = ap (λ (ts : List Token). open_braces ts) (nothing_after all (omega (arith, short))) in
+    absurd (let wrong : line ∷ others ≡ [] = sym braces ∙ none in cc)
+
+ends_once : (all : List Token) (end_line : ℕ) (one other : ReadFault) → EndsEarly all end_line one → EndsEarly all end_line other → one ≡ other
+ends_once all end_line one other (InHeader _ _ short) (InHeader _ _ again) = refl
+ends_once all end_line one other (InHeader _ _ short) (BlockOpen _ _ line others viable_so braces) = absurd (no_braces all line others short braces)
+ends_once all end_line one other (InHeader _ _ short) (Inside _ _ long no_viable) = absurd (omega (arith, short, long))
+ends_once all end_line one other (BlockOpen _ _ line others viable_so braces) (InHeader _ _ short) = absurd (no_braces all line others short braces)
+ends_once all end_line one other (BlockOpen _ _ line others viable_so braces) (BlockOpen _ _ line_too others_too again braces_too) =
+    let same : line ∷ others ≡ line_too ∷ others_too = sym braces ∙ braces_too in
+    let same_line : line ≡ line_too = cc in
+    ap (λ (n : ℕ). fault_so Unclosed n) same_line
+ends_once all end_line one other (BlockOpen _ _ line others viable_so braces) (Inside _ _ long no_viable) = absurd (no_viable viable_so)
+ends_once all end_line one other (Inside _ _ long no_viable) (InHeader _ _ short) = absurd (omega (arith, short, long))
+ends_once all end_line one other (Inside _ _ long no_viable) (BlockOpen _ _ line others viable_so braces) = absurd (no_viable viable_so)
+ends_once all end_line one other (Inside _ _ long no_viable) (Inside _ _ again none) = refl
 
 -- ---- the end
 
@@ -227,13 +294,19 @@ ended_ok Statement has_if [] line state program h = nothing_follows has_if
 ended_ok Statement has_if (block ∷ blocks) line state program h = absurd cc
 ended_ok _ has_if blocks line state program h = absurd cc
 
+early_at : (all : List Token) (state : State) (end_line : ℕ) (fault : ReadFault) → Counts all state → end_at state.place state.tree.blocks end_line ≡ Some fault → EndsEarly all end_line fault
+early_at all state end_line fault c h =
+    let b = c.began in
+    end_by all state.place state.head.has_if state.tree.blocks end_line fault (subst (λ (n : ℕ). LengthAt state.place n) (texts_long all) b.length_is)
+    (ap (λ (t : Tally). t.braces) c.tally_is) (viable_next (texts all) state (codes "}") b) (unviable (texts all) state (codes "}") b) h
+
+end_is : (state : State) (line : ℕ) (fault : ReadFault) → reading [] line state ≡ Err fault → end_at state.place state.tree.blocks line ≡ Some fault
+unfolding reading
+end_is state line fault h = ended_err (end_at state.place state.tree.blocks line) state fault h
+
 end_fault : (all : List Token) (state : State) (end_line : ℕ) (fault : ReadFault) → Counts all state → end_at state.place state.tree.blocks end_line ≡ Some fault → IsFirstFault all end_line fault
 end_fault all state end_line fault c h =
-    let b = c.began in
-    AtEnd all end_line fault c.right
-    (λ s. whole_ends state.place state.tree.blocks end_line fault (whole_now (texts all) state b s) h)
-    (end_by all state.place state.head.has_if state.tree.blocks end_line fault (subst (λ (n : ℕ). LengthAt state.place n) (texts_long all) b.length_is)
-    (ap (λ (t : Tally). t.braces) c.tally_is) (viable_next (texts all) state (codes "}") b) (unviable (texts all) state (codes "}") b) h)
+    AtEnd all end_line fault c.right (λ s. whole_ends state.place state.tree.blocks end_line fault (whole_now (texts all) state c.began s) h) (early_at all state end_line fault c h)
 
 -- ---- the whole
 
@@ -280,20 +353,118 @@ too_long text long = rw long refl
 same_fault : (read : Result ProgramText ReadFault) (one other : ReadFault) → read ≡ Err one → read ≡ Err other → one ≡ other
 same_fault read one other h g = cc
 
+-- ---- and whatever has the fault is refused with it
+
+-- where right tokens were read
+record ReadSo (before : List Token) : Type 0 where
+  state : State
+  counts : Counts before state
+  goes_on : (later : List Token) (line : ℕ) → reading (before ++ later) line start ≡ reading later line state
+
+step_cases : {P : Type 0} (read : Result State ReadFault) → ((next : State) → read ≡ Ok next → P) → ((fault : ReadFault) → read ≡ Err fault → P) → P
+step_cases (Ok next) on stops = on next refl
+step_cases (Err fault) on stops = stops fault refl
+
+one_on : (token : Token) (later : List Token) (line : ℕ) (state next : State) → step state token ≡ Ok next → reading (token ∷ later) line state ≡ reading later line next
+unfolding reading
+one_on token later line state next h = rw h refl
+
+one_stops : (token : Token) (later : List Token) (line : ℕ) (state : State) (fault : ReadFault) → step state token ≡ Err fault → reading (token ∷ later) line state ≡ Err fault
+unfolding reading
+one_stops token later line state fault h = rw h refl
+
+right_read : (before : List Token) → AreRight before → ReadSo before
+right_read before Nothing = record { state = start; counts = at_start; goes_on = λ later line. refl }
+right_read before (More others token rights right) =
+    let r = right_read others rights in
+    step_cases (step r.state token)
+    (λ next one. record {
+      state = next;
+      counts = counts_more others r.state next token r.counts one;
+      goes_on = λ later line.
+          ap (λ (ts : List Token). reading ts line start) (append_assoc others (token ∷ []) later) ∙ r.goes_on (token ∷ later) line ∙ one_on token later line r.state next one;
+    })
+    (λ fault stops. let wrong = token_wrong others r.state token fault r.counts stops in absurd (right_not_wrong others token.text wrong.0 right wrong.1))
+
+abbrev failed : ReadFault → Result ProgramText ReadFault
+failed fault = Err fault
+
+refused_at : (before later : List Token) (token : Token) (line : ℕ) (kind : ReadKind) → AreRight before → IsWrong before token.text kind → reading (before ++ token ∷ later) line start ≡ Err (fault_so kind token.line)
+refused_at before later token line kind rights wrong =
+    let r = right_read before rights in
+    step_cases (step r.state token)
+    (λ next one. absurd (right_not_wrong before token.text kind (token_right before r.state next token r.counts one) wrong))
+    (λ fault stops.
+    let told = token_wrong before r.state token fault r.counts stops in
+    let same : fault ≡ fault_so kind token.line = sym told.2 ∙ ap (λ (k : ReadKind). fault_so k token.line) (wrong_once before token.text told.0 kind told.1 wrong) in
+    r.goes_on (token ∷ later) line ∙ one_stops token later line r.state fault stops ∙ ap (λ (f : ReadFault). failed f) same)
+
+read_cases : {P : Type 0} (read : Result ProgramText ReadFault) → ((program : ProgramText) → read ≡ Ok program → P) → ((fault : ReadFault) → read ≡ Err fault → P) → P
+read_cases (Ok program) on stops = on program refl
+read_cases (Err fault) on stops = stops fault refl
+
+early_once : (all : List Token) (line : ℕ) (one other : ReadFault) → AreRight all → EndsEarly all line one → reading all line start ≡ Err other → one ≡ other
+early_once all line one other rights early h =
+    let r = right_read all rights in
+    let ended_so : reading [] line r.state ≡ Err other = sym (r.goes_on [] line) ∙ ap (λ (ts : List Token). reading ts line start) (append-nil all) ∙ h in
+    ends_once all line one other early (early_at all r.state line other r.counts (end_is r.state line other ended_so))
+
+refused_end : (all : List Token) (line : ℕ) (fault : ReadFault) → AreRight all → (IsSentence (texts all) → ⊥) → EndsEarly all line fault → reading all line start ≡ Err fault
+refused_end all line fault rights no_sentence early =
+    read_cases (reading all line start)
+    (λ program h. absurd (no_sentence (whole_from all [] start line program at_start h).0))
+    (λ other h. h ∙ ap (λ (f : ReadFault). failed f) (sym (early_once all line fault other rights early h)))
+
+refused_first : (tokens : List Token) (line : ℕ) (fault : ReadFault) → IsFirstFault tokens line fault → reading tokens line start ≡ Err fault
+refused_first tokens line fault (AtToken before later token _ kind rights wrong) = refused_at before later token line kind rights wrong
+refused_first tokens line fault (AtEnd _ _ _ rights no_sentence early) = refused_end tokens line fault rights no_sentence early
+
+-- a sentence of right tokens has no first fault
+whole_read : (all : List Token) (line : ℕ) → IsSentence (texts all) → AreRight all → (program : ProgramText) × (reading all line start ≡ Ok program)
+whole_read all line s rights =
+    let r = right_read all rights in
+    let to_end : reading all line start ≡ reading [] line r.state = ap (λ (ts : List Token). reading ts line start) (sym (append-nil all)) ∙ r.goes_on [] line in
+    read_cases (reading all line start)
+    (λ program h. (program, h))
+    (λ fault h. absurd (whole_ends r.state.place r.state.tree.blocks line fault (whole_now (texts all) r.state r.counts.began s) (end_is r.state line fault (sym to_end ∙ h))))
+
+short_refused : (text : List ℕ) (fault : ReadFault) → length text ≤ most_bytes → program_of text ≡ one_pass text → HasFault text fault → program_of text ≡ Err fault
+short_refused text fault fits so (TextTooLong _ long) = absurd (omega (arith, fits, long))
+short_refused text fault fits so (OfTokens _ _ short first) = so ∙ refused_first (tokens_of text) (line_at_end 1 text) fault first
+
 told_apart : (text : List ℕ) → begins_version_two (tokens_of text) ≡ false → nat_lt most_bytes (length text) ≡ false → IsToldApart text
 told_apart text one short =
     let fits = ltb-false most_bytes (length text) short in
     let so : program_of text ≡ one_pass text = of_one text fits one in
+    let line = line_at_end 1 text in
     record {
-      read = λ program h. whole_from (tokens_of text) [] start (line_at_end 1 text) program at_start (sym so ∙ h);
-      refused = λ fault h. OfTokens text fault fits (fault_from (tokens_of text) [] start (line_at_end 1 text) fault at_start (sym so ∙ h));
+      read = (
+        λ r. let whole = whole_from (tokens_of text) [] start line r.0 at_start (sym so ∙ r.1) in record { text_fits = fits; sentence = whole.0; right = whole.1 },
+        λ w. let r = whole_read (tokens_of text) line w.sentence w.right in (r.0, so ∙ r.1),
+      );
+      refused = λ fault. (
+        λ h. OfTokens text fault fits (fault_from (tokens_of text) [] start line fault at_start (sym so ∙ h)),
+        λ h. short_refused text fault fits so h,
+      );
     }
 
+long_refused : (text : List ℕ) (fault : ReadFault) → most_bytes < length text → program_of text ≡ Err (fault_so TooLong 1) → HasFault text fault → program_of text ≡ Err fault
+long_refused text fault long so (TextTooLong _ again) = so
+long_refused text fault long so (OfTokens _ _ short first) = absurd (omega (arith, short, long))
+
 long_apart : (text : List ℕ) → nat_lt most_bytes (length text) ≡ true → IsToldApart text
-long_apart text long = record {
-  read = λ program h. absurd (let wrong = sym (too_long text long) ∙ h in cc);
-  refused = λ fault h. subst (HasFault text) (same_fault (program_of text) (fault_so TooLong 1) fault (too_long text long) h) (TextTooLong text (ltb-true most_bytes (length text) long));
-}
+long_apart text long =
+    let longer = ltb-true most_bytes (length text) long in
+    record {
+      read = (
+        λ r. absurd (let wrong = sym (too_long text long) ∙ r.1 in cc),
+        λ w. absurd (omega (arith, longer, w.text_fits)),
+      );
+      refused = λ fault. (
+        λ h. subst (HasFault text) (same_fault (program_of text) (fault_so TooLong 1) fault (too_long text long) h) (TextTooLong text longer),
+        λ h. long_refused text fault longer (too_long text long) h,
+      );
+    }
 
 pub fault_is_first : (text : List ℕ) → FaultIsFirst text
 fault_is_first text one = bool_cases (nat_lt most_bytes (length text)) (λ long. long_apart text long) (λ short. told_apart text one short)

@@ -1,5 +1,5 @@
 -- The fault of a text of version 1, apart from any reading: the first token at which something is wrong, and what it is.
-use Rattle.std.specs.Prelude.{◌≡◌, ℕ, ◌<◌, ◌≤◌, false, List, [], ◌∷◌, ◌++◌, length, drop, sum_by, Option, Some, None, Ok, Err, codes}
+use Rattle.std.specs.Prelude.{◌≡◌, ℕ, ◌<◌, ◌≤◌, ◌↔◌, false, List, [], ◌∷◌, ◌++◌, length, drop, sum_by, Option, Some, None, Ok, Err, codes}
 use Rattle.task_program.specs.declared.fault.ReadKind.{ReadKind}
 use Rattle.task_program.specs.declared.fault.ReadKind.TheVariants.{TooLong, BadHeader, BadWord, Unclosed, Unopened}
 use Rattle.task_program.specs.declared.fault.ReadFault.{ReadFault}
@@ -65,10 +65,17 @@ pub data HasFault : List ℕ → ReadFault → Type 0 where
   TextTooLong : (text : List ℕ) → most_bytes < length text → HasFault text (record { kind = TooLong; line = 1 })
   OfTokens : (text : List ℕ) (fault : ReadFault) → length text ≤ most_bytes → IsFirstFault (tokens_of text) (line_at_end 1 text) fault → HasFault text fault
 
--- what is read is a sentence, each token right, and what is refused has its fault so
+-- a text without a fault
+pub record IsRightWhole (text : List ℕ) : Type 0 where
+  pub text_fits : length text ≤ most_bytes
+  pub sentence : IsSentence (texts (tokens_of text))
+  pub right : AreRight (tokens_of text)
+
+-- What is read is a sentence within the limits, each token right, and each such text is read. What is refused has this
+-- fault, and no other.
 pub record IsToldApart (text : List ℕ) : Type 0 where
-  pub read : (program : ProgramText) → program_of text ≡ Ok program → IsSentence (texts (tokens_of text)) × AreRight (tokens_of text)
-  pub refused : (fault : ReadFault) → program_of text ≡ Err fault → HasFault text fault
+  pub read : ((program : ProgramText) × (program_of text ≡ Ok program)) ↔ IsRightWhole text
+  pub refused : (fault : ReadFault) → (program_of text ≡ Err fault) ↔ HasFault text fault
 
 -- the header is not that of version 2
 abbrev pub FaultIsFirst : List ℕ → Type 0
