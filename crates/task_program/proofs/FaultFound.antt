@@ -1,200 +1,161 @@
--- The fault that is told is the first: at each token read so far, what the grammar has after it.
-use Rattle.std.proofs.Common.{◌≡◌, ℕ, zero, suc, ◌+◌, ◌<◌, ◌≤◌, Bool, true, false, not, ◌&&◌, cond, List, [], ◌∷◌, ◌++◌, length, length-append, append_assoc, Option, Some, None, Result, Ok, Err, refl, sym, ap, subst, ◌∙◌, arith, codes}
-use Rattle.std.specs.Prelude.{sum_by, nat_lt}
+-- The fault that is told is the first.
+use Rattle.std.proofs.Common.{◌≡◌, ℕ, ◌<◌, ◌+◌, ◌≤◌, Bool, true, false, not, List, [], ◌∷◌, ◌++◌, length, append_assoc, Option, Some, None, Result, Ok, Err, refl, sym, ap, subst, ◌∙◌, arith, codes}
+use Rattle.std.specs.Prelude.{sum_by, nat_lt, drop, map}
 use Rattle.std.proofs.lemmas.Bool.{ltb-false, ltb-true}
-use Rattle.std.proofs.lemmas.List.{append-nil, map_push}
-use Rattle.std.proofs.lemmas.List.Sums.{sum_by-append}
+use Rattle.std.proofs.lemmas.List.{append-nil, map_push, length-map, drop-append-le}
 use Rattle.task_program.specs.declared.fault.ReadKind.{ReadKind}
-use Rattle.task_program.specs.declared.fault.ReadKind.TheVariants.{TooLong, BadHeader, BadWord, BadNumber, Unclosed, Unopened, TooDeep, TooManyTasks, TooManySegments, TooManyItems, WorkTooLarge}
+use Rattle.task_program.specs.declared.fault.ReadKind.TheVariants.{TooLong, BadHeader, BadWord, Unclosed, Unopened}
 use Rattle.task_program.specs.declared.fault.ReadFault.{ReadFault}
 use Rattle.task_program.specs.declared.place.Place.{Place}
-use Rattle.task_program.specs.declared.place.Place.TheVariants.{Header, Version, Statement, WorkNumber, GroupBrace, Clause, IfOpens, IfNumber, IfCloses, DependOpens, DependType, DependColon, DependName, DependMore}
-use Rattle.task_program.specs.declared.statement.DependKind.{DependKind}
+use Rattle.task_program.specs.declared.place.Place.TheVariants.{Header, Version, Statement, WorkNumber, GroupBrace, Clause, DependMore}
 use Rattle.task_program.specs.Limits.{most_bytes}
-use Rattle.task_program.specs.Marks.{Mark}
 use Rattle.task_program.specs.Tokens.{Token, texts, tokens_of, line_at_end}
+use Rattle.task_program.specs.TokenCounts.{open_braces, limit_fault_after}
 use Rattle.task_program.specs.Words.{is_text}
+use Rattle.task_program.specs.Within.{IsWithin}
 use Rattle.task_program.specs.ProgramText.{ProgramText}
-use Rattle.task_program.specs.Faults.{State, Block, form_fault, place_fault, is_header, closes_nothing, is_allowed, is_number_too_large, nests_too_deep, is_task_too_many, are_segments_too_many, is_item_too_many, is_work_too_large, unless_fault, step, after_at, closed_by, line_of, end_at, ended, go_on, reading, start, one_pass}
+use Rattle.task_program.specs.Faults.{State, Block, form_fault, place_fault, is_header, closes_nothing, is_allowed, unless_fault, step, after_at, line_of, end_at, ended, go_on, reading, start, one_pass}
 use Rattle.task_program.specs.ReadInVersion.{begins_version_two, program_of}
 use Rattle.task_program.specs.ViablePrefix.{IsSentence, IsViable}
-use Rattle.task_program.specs.FirstFault.{IsMisplaced, IsPastLimit, IsWrong, EndsEarly, IsFirstFault, HasFault, IsToldApart, FaultIsFirst}
+use Rattle.task_program.specs.FirstFault.{IsMisplaced, IsWrong, IsRight, AreRight, EndsEarly, IsFirstFault, HasFault, IsToldApart, FaultIsFirst}
 use Rattle.task_program.specs.FirstFault.IsMisplaced.{OfHeader, AfterWhole, Elsewhere}
 use Rattle.task_program.specs.FirstFault.IsWrong.{ByItself, Misplaced, PastLimit}
+use Rattle.task_program.specs.FirstFault.AreRight.{Nothing, More}
 use Rattle.task_program.specs.FirstFault.EndsEarly.{InHeader, BlockOpen, Inside}
 use Rattle.task_program.specs.FirstFault.IsFirstFault.{AtToken, AtEnd}
 use Rattle.task_program.specs.FirstFault.HasFault.{TextTooLong, OfTokens}
-use Rattle.task_program.proofs.Keeping.{at, Passes, passes, bool_cases, unless_ok, ok_is}
-use Rattle.task_program.proofs.Found.{same_text}
-use Rattle.task_program.proofs.FoundWhole.{bytes_stay, step_went}
+use Rattle.task_program.proofs.Keeping.{at, passes, bool_cases, unless_ok, ok_is, step_keeps}
+use Rattle.task_program.proofs.FoundWhole.{step_went}
 use Rattle.task_program.proofs.ReadWhole.{of_one}
-use Rattle.task_program.proofs.Shapes.{Shape, shape_at, one_less, closes_none, fits_at, fits, lead_at, lead, Follows, FollowsAt, steps_back, nothing_follows, continued}
-use Rattle.task_program.proofs.Accepting.{accepts, is_whole, accepts_next, accepts_none, sentence_accepted}
-
-abbrev shape_of : State → Shape
-shape_of state = shape_at state.place state.head.has_if (length state.tree.blocks)
-
--- ---- where a token leads
-
-closed_depth : (blocks : List Block) (marks : List Mark) → length (closed_by blocks marks).blocks ≡ one_less (length blocks)
-closed_depth [] marks = refl
-closed_depth (block ∷ blocks) marks = refl
-
-abbrev LeadsSo : State → Place → List ℕ → ℕ → Type 0
-LeadsSo state place text line = shape_of (after_at place (at state place) text line) ≡ lead_at place state.head.has_if (length state.tree.blocks) text
-
-statement_leads : (state : State) (text : List ℕ) (line : ℕ) → LeadsSo state Statement text line
-statement_leads state text line =
-    bool_cases (is_text text (codes "work"))
-    (λ work. rw work refl)
-    (λ no_work. bool_cases (is_text text (codes "task"))
-    (λ task. rw (no_work, task) refl)
-    (λ no_task. bool_cases (is_text text (codes "taskwait"))
-    (λ wait. rw (no_work, no_task, wait) refl)
-    (λ no_wait. bool_cases (is_text text (codes "taskgroup"))
-    (λ group. rw (no_work, no_task, no_wait, group) refl)
-    (λ no_group. rw (no_work, no_task, no_wait, no_group)
-    (ap (λ (n : ℕ). shape_at Statement state.head.has_if n) (closed_depth state.tree.blocks state.tree.marks))))))
-
-clause_leads : (state : State) (text : List ℕ) (line : ℕ) → LeadsSo state Clause text line
-clause_leads state text line =
-    bool_cases (is_text text (codes "{"))
-    (λ brace. rw brace refl)
-    (λ no_brace. bool_cases (is_text text (codes "if"))
-    (λ if_word. rw (no_brace, if_word) refl)
-    (λ no_if. rw (no_brace, no_if) refl))
-
-more_leads : (state : State) (kind : DependKind) (text : List ℕ) (line : ℕ) → LeadsSo state (DependMore kind) text line
-more_leads state kind text line =
-    bool_cases (is_text text (codes ","))
-    (λ comma. rw comma refl)
-    (λ no_comma. rw no_comma refl)
-
-place_leads : (place : Place) (state : State) (text : List ℕ) (line : ℕ) → LeadsSo state place text line
-place_leads Statement state text line = statement_leads state text line
-place_leads Clause state text line = clause_leads state text line
-place_leads (DependMore kind) state text line = more_leads state kind text line
-place_leads Header state text line = refl
-place_leads Version state text line = refl
-place_leads WorkNumber state text line = refl
-place_leads GroupBrace state text line = refl
-place_leads IfOpens state text line = refl
-place_leads IfNumber state text line = refl
-place_leads IfCloses state text line = refl
-place_leads DependOpens state text line = refl
-place_leads DependType state text line = refl
-place_leads (DependColon kind) state text line = refl
-place_leads (DependName kind) state text line = refl
-
--- ---- which tokens are allowed
-
-closes_same : (place : Place) (blocks : List Block) (text : List ℕ) → closes_nothing place blocks text ≡ closes_none place (length blocks) text
-closes_same Statement [] text = refl
-closes_same Statement (block ∷ blocks) text = refl
-closes_same _ blocks text = refl
-
-all_three : (header closes other allowed : Bool) → not header ≡ false → closes ≡ false → closes ≡ other → not allowed ≡ false → (header && (not other && allowed)) ≡ true
-all_three true false false true h c s a = refl
-all_three false closes other allowed h c s a = absurd cc
-all_three true true other allowed h c s a = absurd cc
-all_three true false true allowed h c s a = absurd cc
-all_three true false false false h c s a = absurd cc
-
-no_header : (header closes allowed : Bool) → not header ≡ true → (header && (not closes && allowed)) ≡ false
-no_header true closes allowed h = absurd cc
-no_header false closes allowed h = refl
-
-no_close : (header closes other allowed : Bool) → closes ≡ true → closes ≡ other → (header && (not other && allowed)) ≡ false
-no_close true closes true allowed h s = refl
-no_close false closes other allowed h s = refl
-no_close true closes false allowed h s = absurd (let wrong : true ≡ false = sym h ∙ s in cc)
-
-none_allowed : (header closes allowed : Bool) → not allowed ≡ true → (header && (not closes && allowed)) ≡ false
-none_allowed true true allowed h = refl
-none_allowed true false true h = absurd cc
-none_allowed true false false h = refl
-none_allowed false closes allowed h = refl
+use Rattle.task_program.proofs.Shapes.{closes_none, fits_at, FollowsAt, nothing_follows}
+use Rattle.task_program.proofs.Accepting.{is_whole, sentence_accepted}
+use Rattle.task_program.proofs.Tallies.{Tally, tally_of, tally_after, tally_now, limit_of, limits, NoItems, is_past_header, tally_more, place_tallies, place_limits, header_tallies, header_limits, nothing_counted}
+use Rattle.task_program.proofs.Begun.{LengthAt, Began, unviable, viable_next, fits_of, step_begins, row_cases, in_header, after_header, closes_at, whole_closes, whole_now, closes_same, no_header, no_close, none_allowed}
 
 -- ---- what is known where these tokens were read
 
-abbrev LengthAt : Place → ℕ → Type 0
-LengthAt Header n = n ≡ 0
-LengthAt Version n = n ≡ 1
-LengthAt _ n = 2 ≤ n
+record Counts (before : List Token) (state : State) : Type 0 where
+  began : Began (texts before) state
+  tally_is : tally_of (drop 2 before) ≡ tally_now state
+  within : IsWithin state
+  no_items : NoItems state.place state.head.items
+  right : AreRight before
 
-either_length : (b : Bool) (one other : Shape) (n : ℕ) → LengthAt one.place n → LengthAt other.place n → LengthAt (cond b one other).place n
-either_length true one other n h g = h
-either_length false one other n h g = g
+texts_long : (before : List Token) → length (texts before) ≡ length before
+texts_long before = length-map before (λ (t : Token). t.text)
 
--- one token more
-length_goes : (place : Place) (has_if : Bool) (depth : ℕ) (text : List ℕ) (n : ℕ) → LengthAt place n → LengthAt (lead_at place has_if depth text).place (n + 1)
-length_goes Header has_if depth text n h = omega (arith, h)
-length_goes Version has_if depth text n h = omega (arith, h)
-length_goes Statement has_if depth text n h =
-    let more : 2 ≤ n + 1 = omega (arith, h) in
-    either_length (is_text text (codes "work")) _ _ (n + 1) more (either_length (is_text text (codes "task")) _ _ (n + 1) more (either_length (is_text text (codes "taskwait")) _ _ (n + 1) more
-    (either_length (is_text text (codes "taskgroup")) _ _ (n + 1) more more)))
-length_goes Clause has_if depth text n h =
-    let more : 2 ≤ n + 1 = omega (arith, h) in
-    either_length (is_text text (codes "{")) _ _ (n + 1) more (either_length (is_text text (codes "if")) _ _ (n + 1) more more)
-length_goes (DependMore kind) has_if depth text n h =
-    let more : 2 ≤ n + 1 = omega (arith, h) in
-    either_length (is_text text (codes ",")) _ _ (n + 1) more more
-length_goes _ has_if depth text n h = omega (arith, h)
+past_long : (place : Place) (n : ℕ) → LengthAt place n → is_past_header place ≡ true → 2 ≤ n
+past_long Header n h past = absurd cc
+past_long Version n h past = absurd cc
+past_long _ n h past = h
 
-pub record Began (before : List (List ℕ)) (state : State) : Type 0 where
-  pub follows : (later : List (List ℕ)) → Follows (shape_of state) later → IsSentence (before ++ later)
-  pub accepted : (later : List (List ℕ)) → IsSentence (before ++ later) → accepts (shape_of state) later ≡ true
-  pub length_is : LengthAt state.place (length before)
-  pub bytes_are : state.bytes ≡ sum_by length before
+header_short : (place : Place) (n : ℕ) → LengthAt place n → is_past_header place ≡ false → n ≤ 1
+header_short Header n h past = omega (arith, h)
+header_short Version n h past = omega (arith, h)
+header_short _ n h past = absurd cc
 
-viable : (before : List (List ℕ)) (state : State) → Began before state → IsViable before
-viable before state b =
-    let c = continued state.place state.head.has_if (length state.tree.blocks) in (c.0, b.follows c.0 c.1)
+-- the header has two tokens
+nothing_after : (before : List Token) → length before ≤ 1 → drop 2 before ≡ []
+nothing_after [] h = refl
+nothing_after (first ∷ []) h = refl
+nothing_after (first ∷ second ∷ before) h = absurd (omega (arith, h))
 
--- a token that the grammar does not have
-unviable : (before : List (List ℕ)) (state : State) (text : List ℕ) → Began before state → fits (shape_of state) text ≡ false → IsViable (before ++ text ∷ []) → ⊥
-unviable before state text b wrong_here v =
-    let sentence : IsSentence (before ++ text ∷ v.0) = subst IsSentence (append_assoc before (text ∷ []) v.0) v.1 in
-    let fits_so : fits (shape_of state) text ≡ true = (accepts_next (shape_of state) text v.0 (b.accepted (text ∷ v.0) sentence)).0 in
-    absurd (let wrong : true ≡ false = sym fits_so ∙ wrong_here in cc)
+nothing_after_one : (before : List Token) (token : Token) → length before ≤ 1 → drop 2 (before ++ token ∷ []) ≡ []
+nothing_after_one [] token h = refl
+nothing_after_one (first ∷ []) token h = refl
+nothing_after_one (first ∷ second ∷ before) token h = absurd (omega (arith, h))
 
--- and one that it has
-viable_next : (before : List (List ℕ)) (state : State) (text : List ℕ) → Began before state → fits (shape_of state) text ≡ true → IsViable (before ++ text ∷ [])
-viable_next before state text b yes_fits =
-    let next = lead (shape_of state) text in
-    let c = continued next.place next.has_if next.depth in
-    let back = steps_back state.place state.head.has_if (length state.tree.blocks) text c.0 yes_fits c.1 in
-    (c.0, subst IsSentence (sym (append_assoc before (text ∷ []) c.0)) (b.follows (text ∷ c.0) back))
+items_go : (place : Place) (state : State) (text : List ℕ) (line : ℕ) → NoItems place state.head.items → NoItems (after_at place (at state place) text line).place (after_at place (at state place) text line).head.items
+items_go Header state text line h = h
+items_go Version state text line h = h
+items_go Statement state text line h =
+    bool_cases (is_text text (codes "work"))
+    (λ work. rw work h)
+    (λ no_work. bool_cases (is_text text (codes "task"))
+    (λ task. rw (no_work, task) tt)
+    (λ no_task. bool_cases (is_text text (codes "taskwait"))
+    (λ wait. rw (no_work, no_task, wait) h)
+    (λ no_wait. bool_cases (is_text text (codes "taskgroup"))
+    (λ group. rw (no_work, no_task, no_wait, group) h)
+    (λ no_group. rw (no_work, no_task, no_wait, no_group) h))))
+items_go WorkNumber state text line h = h
+items_go GroupBrace state text line h = h
+items_go Clause state text line h =
+    bool_cases (is_text text (codes "{"))
+    (λ brace. rw brace refl)
+    (λ no_brace. bool_cases (is_text text (codes "if"))
+    (λ if_word. rw (no_brace, if_word) tt)
+    (λ no_if. rw (no_brace, no_if) tt))
+items_go (DependMore kind) state text line h =
+    bool_cases (is_text text (codes ","))
+    (λ comma. rw comma tt)
+    (λ other. rw other tt)
+items_go _ state text line h = tt
 
-fits_of : (state : State) (text : List ℕ) → not (is_header state.place text) ≡ false → closes_nothing state.place state.tree.blocks text ≡ false → not (is_allowed state.place state.head.has_if text) ≡ false → fits (shape_of state) text ≡ true
-fits_of state text header unopened allowed =
-    all_three (is_header state.place text) (closes_nothing state.place state.tree.blocks text) (closes_none state.place (length state.tree.blocks) text) (is_allowed state.place state.head.has_if text)
-    header unopened (closes_same state.place state.tree.blocks text) allowed
+header_limitless : (place : Place) (state : State) (text : List ℕ) → is_past_header place ≡ false → limits (at state place) text ≡ None
+header_limitless Header state text here = refl
+header_limitless Version state text here = refl
+header_limitless _ state text here = absurd cc
 
-step_begins : (before : List (List ℕ)) (state next : State) (token : Token) → Began before state → step state token ≡ Ok next → Began (before ++ token.text ∷ []) next
+-- the limits counted on the tokens are those that the reading tests
+limits_so : (before : List Token) (state : State) (text : List ℕ) → Counts before state → is_header state.place text ≡ true → is_allowed state.place state.head.has_if text ≡ true
+    → limit_fault_after (drop 2 before) text ≡ limits state text
+limits_so before state text c header allowed =
+    bool_cases (is_past_header state.place)
+    (λ past. ap (λ (t : Tally). limit_of t text) c.tally_is ∙ place_limits state.place state text past c.within.items allowed)
+    (λ here.
+    let short : length before ≤ 1 = omega (arith, texts_long before, header_short state.place (length (texts before)) c.began.length_is here) in
+    ap (λ (ts : List Token). limit_fault_after ts text) (nothing_after before short) ∙ header_limits state.place text here header ∙ sym (header_limitless state.place state text here))
+
+tally_goes : (before : List Token) (state : State) (bytes : ℕ) (next : State) (token : Token) → Counts before state → is_allowed state.place state.head.has_if token.text ≡ true
+    → after_at state.place (record state { bytes = bytes }) token.text token.line ≡ next → tally_of (drop 2 (before ++ token ∷ [])) ≡ tally_now next
+tally_goes before state bytes next token c allowed same =
+    let inside : State = record state { bytes = bytes } in
+    let on : tally_now (after_at state.place inside token.text token.line) ≡ tally_now next = ap (λ (s : State). tally_now s) same in
+    bool_cases (is_past_header state.place)
+    (λ past.
+    let long : 2 ≤ length before = omega (arith, texts_long before, past_long state.place (length (texts before)) c.began.length_is past) in
+    ap (λ (ts : List Token). tally_of ts) (drop-append-le 2 before (token ∷ []) long) ∙ tally_more (drop 2 before) token ∙ ap (λ (t : Tally). tally_after t token) c.tally_is
+    ∙ place_tallies state.place inside token.text token.line past c.no_items allowed ∙ on)
+    (λ here.
+    let short : length before ≤ 1 = omega (arith, texts_long before, header_short state.place (length (texts before)) c.began.length_is here) in
+    ap (λ (ts : List Token). tally_of ts) (nothing_after_one before token short ∙ sym (nothing_after before short)) ∙ c.tally_is ∙ header_tallies state.place inside token.text token.line here ∙ on)
+
+texts_more : (before : List Token) (token : Token) → texts (before ++ token ∷ []) ≡ texts before ++ token.text ∷ []
+texts_more before token = map_push (λ (t : Token). t.text) before token
+
+is_true : (b : Bool) → not b ≡ false → b ≡ true
+is_true true h = refl
+is_true false h = absurd cc
+
+-- nothing is wrong with a token after which the reading goes on
+token_right : (before : List Token) (state next : State) (token : Token) → Counts before state → step state token ≡ Ok next → IsRight before token.text
 unfolding step
-step_begins before state next token b h =
+token_right before state next token c h =
+    let passed = unless_ok (form_fault state.bytes token.text) token.line _ next h in
+    let inside : State = record state { bytes = state.bytes + length token.text } in
+    let p = passes inside token.text (unless_ok (place_fault inside token.text) token.line _ next passed.1).0 in
+    let no_limit : limits state token.text ≡ None = rw (p.number, p.nesting, p.tasks, p.segments, p.items, p.work) refl in
+    record {
+      formed = subst (λ (n : ℕ). form_fault n token.text ≡ None) c.began.bytes_are passed.0;
+      viable = viable_next (texts before) state token.text c.began (fits_of state token.text p.header p.unopened p.allowed);
+      within = limits_so before state token.text c (is_true _ p.header) (is_true _ p.allowed) ∙ no_limit;
+    }
+
+counts_more : (before : List Token) (state next : State) (token : Token) → Counts before state → step state token ≡ Ok next → Counts (before ++ token ∷ []) next
+unfolding step
+counts_more before state next token c h =
     let passed = unless_ok (form_fault state.bytes token.text) token.line _ next h in
     let inside : State = record state { bytes = state.bytes + length token.text } in
     let placed = unless_ok (place_fault inside token.text) token.line _ next passed.1 in
-    let p = passes inside token.text placed.0 in
-    let fits_so : fits (shape_of state) token.text ≡ true = fits_of inside token.text p.header p.unopened p.allowed in
     let same = ok_is (after_at state.place inside token.text token.line) next placed.1 in
-    let leads : shape_of next ≡ lead (shape_of state) token.text = sym (ap (λ (s : State). shape_of s) same) ∙ place_leads state.place inside token.text token.line in
-    let sum_is : sum_by length (before ++ token.text ∷ []) ≡ sum_by length before + length token.text = omega (arith, sum_by-append length before (token.text ∷ [])) in
-    let length_more : length (before ++ token.text ∷ []) ≡ length before + 1 = length-append before (token.text ∷ []) in
-    let bytes_is : next.bytes ≡ state.bytes + length token.text = sym (ap (λ (s : State). s.bytes) same) ∙ bytes_stay state.place inside token.text token.line in
+    let allowed : is_allowed state.place state.head.has_if token.text ≡ true = is_true _ (passes inside token.text placed.0).allowed in
     record {
-      follows = λ later f.
-          subst IsSentence (sym (append_assoc before (token.text ∷ []) later))
-          (b.follows (token.text ∷ later) (steps_back state.place state.head.has_if (length state.tree.blocks) token.text later fits_so (subst (λ (s : Shape). Follows s later) leads f)));
-      accepted = λ later s.
-          subst (λ (sh : Shape). accepts sh later ≡ true) (sym leads)
-          (accepts_next (shape_of state) token.text later (b.accepted (token.text ∷ later) (subst IsSentence (append_assoc before (token.text ∷ []) later) s))).1;
-      length_is = subst (λ (sh : Shape). LengthAt sh.place (length (before ++ token.text ∷ []))) (sym leads)
-          (subst (λ (n : ℕ). LengthAt (lead (shape_of state) token.text).place n) (sym length_more) (length_goes state.place state.head.has_if (length state.tree.blocks) token.text (length before) b.length_is));
-      bytes_are = omega (arith, sum_is, bytes_is, b.bytes_are);
+      began = subst (λ (ts : List (List ℕ)). Began ts next) (sym (texts_more before token)) (step_begins (texts before) state next token c.began h);
+      tally_is = tally_goes before state (state.bytes + length token.text) next token c allowed same;
+      within = step_keeps state token next c.within h;
+      no_items = subst (λ (s : State). NoItems s.place s.head.items) same (items_go state.place inside token.text token.line c.no_items);
+      right = More before token c.right (token_right before state next token c h);
     }
 
 -- ---- the fault of a token
@@ -202,58 +163,10 @@ step_begins before state next token b h =
 abbrev fault_so : ReadKind → ℕ → ReadFault
 fault_so kind line = record { kind = kind; line = line }
 
-row_cases : {P : Type 0} (b : Bool) (k kind : ReadKind) (rest : Option ReadKind) → cond b (Some k) rest ≡ Some kind → (b ≡ true → k ≡ kind → P) → (b ≡ false → rest ≡ Some kind → P) → P
-row_cases true k kind rest h here later = here refl cc
-row_cases false k kind rest h here later = later refl h
-
-limit_row : (b : Bool) (k kind : ReadKind) (rest : Option ReadKind) → IsPastLimit k → (rest ≡ Some kind → IsPastLimit kind) → cond b (Some k) rest ≡ Some kind → IsPastLimit kind
-limit_row b k kind rest own others h = row_cases b k kind rest h (λ holds same. subst IsPastLimit same own) (λ no later. others later)
-
-no_limit : (kind : ReadKind) → None ≡ Some kind → IsPastLimit kind
-no_limit kind h = absurd cc
-
-abbrev limits : State → List ℕ → Option ReadKind
-limits state text =
-    cond (is_number_too_large state.place text) (Some BadNumber)
-    (cond (nests_too_deep state.place state.tree.blocks text) (Some TooDeep)
-    (cond (is_task_too_many state.place state.tree.marks text) (Some TooManyTasks)
-    (cond (are_segments_too_many state.place state.tree.marks text) (Some TooManySegments)
-    (cond (is_item_too_many state.place state.head.items) (Some TooManyItems)
-    (cond (is_work_too_large state.place state.tree.marks text) (Some WorkTooLarge) None)))))
-
-limit_told : (state : State) (text : List ℕ) (kind : ReadKind) → limits state text ≡ Some kind → IsPastLimit kind
-limit_told state text kind h =
-    limit_row _ BadNumber kind _ tt (limit_row _ TooDeep kind _ tt (limit_row _ TooManyTasks kind _ tt (limit_row _ TooManySegments kind _ tt
-    (limit_row _ TooManyItems kind _ tt (limit_row _ WorkTooLarge kind _ tt (no_limit kind)))))) h
-
--- at these places the header is not yet read
-in_header : (place : Place) (text : List ℕ) (n : ℕ) → LengthAt place n → not (is_header place text) ≡ true → n < 2
-in_header Header text n h bad = omega (arith, h)
-in_header Version text n h bad = omega (arith, h)
-in_header _ text n h bad = absurd cc
-
-after_header : (place : Place) (has_if : Bool) (text : List ℕ) (n : ℕ) → LengthAt place n → not (is_allowed place has_if text) ≡ true → 2 ≤ n
-after_header Header has_if text n h bad = absurd cc
-after_header Version has_if text n h bad = absurd cc
-after_header _ has_if text n h bad = h
-
--- a `}` that closes nothing comes after what is whole
-closes_at : (place : Place) (has_if : Bool) (depth : ℕ) (text : List ℕ) → closes_none place depth text ≡ true → (text ≡ codes "}") × FollowsAt place has_if depth []
-closes_at Statement has_if zero text h = (same_text text (codes "}") h, nothing_follows has_if)
-closes_at Statement has_if (suc depth) text h = absurd cc
-closes_at _ has_if depth text h = absurd cc
-
-whole_closes : (place : Place) (depth : ℕ) (text : List ℕ) → is_whole place depth ≡ true → text ≡ codes "}" → closes_none place depth text ≡ true
-whole_closes Statement zero text h text_is = rw text_is refl
-whole_closes Statement (suc depth) text h text_is = absurd cc
-whole_closes _ depth text h text_is = absurd cc
-
-whole_now : (before : List (List ℕ)) (state : State) → Began before state → IsSentence before → is_whole state.place (length state.tree.blocks) ≡ true
-whole_now before state b s = accepts_none (shape_of state) (b.accepted [] (subst IsSentence (sym (append-nil before)) s))
-
 -- the fault of a token that is one by itself
-at_place : (before : List (List ℕ)) (state : State) (text : List ℕ) (kind : ReadKind) → Began before state → form_fault (sum_by length before) text ≡ None → place_fault state text ≡ Some kind → IsWrong before text kind
-at_place before state text kind b formed h =
+at_place : (before : List Token) (state : State) (text : List ℕ) (kind : ReadKind) → Counts before state → form_fault (sum_by length (texts before)) text ≡ None → place_fault state text ≡ Some kind → IsWrong before text kind
+at_place before state text kind c formed h =
+    let b = c.began in
     let place = state.place in
     let depth = length state.tree.blocks in
     let header_is = is_header place text in
@@ -261,48 +174,111 @@ at_place before state text kind b formed h =
     let closes_is = closes_none place depth text in
     let closes_so : closes_nothing place state.tree.blocks text ≡ closes_is = closes_same place state.tree.blocks text in
     row_cases (not header_is) BadHeader kind _ h
-    (λ bad same. subst (IsWrong before text) same (Misplaced before text BadHeader formed (unviable before state text b (no_header header_is closes_is allowed_is bad))
-    (OfHeader before text (in_header place text (length before) b.length_is bad))))
+    (λ bad same. subst (IsWrong before text) same (Misplaced before text BadHeader formed (unviable (texts before) state text b (no_header header_is closes_is allowed_is bad))
+    (OfHeader (texts before) text (in_header place text (length (texts before)) b.length_is bad))))
     (λ header h1. row_cases (closes_nothing place state.tree.blocks text) Unopened kind _ h1
     (λ closes same.
     let whole = closes_at place state.head.has_if depth text (sym closes_so ∙ closes) in
-    let sentence : IsSentence before = subst IsSentence (append-nil before) (b.follows [] whole.1) in
-    subst (IsWrong before text) same (Misplaced before text Unopened formed (unviable before state text b (no_close header_is _ closes_is allowed_is closes closes_so))
-    (AfterWhole before text sentence whole.0)))
+    let sentence : IsSentence (texts before) = subst IsSentence (append-nil (texts before)) (b.follows [] whole.1) in
+    subst (IsWrong before text) same (Misplaced before text Unopened formed (unviable (texts before) state text b (no_close header_is _ closes_is allowed_is closes closes_so))
+    (AfterWhole (texts before) text sentence whole.0)))
     (λ unopened h2. row_cases (not allowed_is) BadWord kind _ h2
     (λ bad same.
-    let no_whole : IsSentence before → text ≡ codes "}" → ⊥ = λ s text_is. absurd (let wrong : true ≡ false = sym (whole_closes place depth text (whole_now before state b s) text_is) ∙ sym closes_so ∙ unopened in cc) in
-    subst (IsWrong before text) same (Misplaced before text BadWord formed (unviable before state text b (none_allowed header_is closes_is allowed_is bad))
-    (Elsewhere before text (after_header place state.head.has_if text (length before) b.length_is bad) no_whole)))
-    (λ allowed h3. PastLimit before text kind formed (viable_next before state text b (fits_of state text header unopened allowed)) (limit_told state text kind h3))))
+    let no_whole : IsSentence (texts before) → text ≡ codes "}" → ⊥ = λ s text_is. absurd (let wrong : true ≡ false = sym (whole_closes place depth text (whole_now (texts before) state b s) text_is) ∙ sym closes_so ∙ unopened in cc) in
+    subst (IsWrong before text) same (Misplaced before text BadWord formed (unviable (texts before) state text b (none_allowed header_is closes_is allowed_is bad))
+    (Elsewhere (texts before) text (after_header place state.head.has_if text (length (texts before)) b.length_is bad) no_whole)))
+    (λ allowed h3. PastLimit before text kind formed (viable_next (texts before) state text b (fits_of state text header unopened allowed))
+    (limits_so before state text c (is_true header_is header) (is_true allowed_is allowed) ∙ h3))))
 
 unless_err : {P : Type 0} (found : Option ReadKind) (line : ℕ) (after : Result State ReadFault) (fault : ReadFault) → unless_fault found line after ≡ Err fault
     → ((kind : ReadKind) → found ≡ Some kind → fault_so kind line ≡ fault → P) → (found ≡ None → after ≡ Err fault → P) → P
 unless_err (Some kind) line after fault h here later = here kind refl cc
 unless_err None line after fault h here later = later refl h
 
-token_fault : (before later : List Token) (state : State) (token : Token) (end_line : ℕ) (fault : ReadFault) → Began (texts before) state → step state token ≡ Err fault → IsFirstFault (before ++ token ∷ later) end_line fault
+-- a token is wrong at which the reading stops
+token_wrong : (before : List Token) (state : State) (token : Token) (fault : ReadFault) → Counts before state → step state token ≡ Err fault → (kind : ReadKind) × IsWrong before token.text kind × (fault_so kind token.line ≡ fault)
 unfolding step
-token_fault before later state token end_line fault b h =
+token_wrong before state token fault c h =
     let inside : State = record state { bytes = state.bytes + length token.text } in
-    let told : (kind : ReadKind) → IsWrong (texts before) token.text kind → fault_so kind token.line ≡ fault → IsFirstFault (before ++ token ∷ later) end_line fault =
-    λ kind wrong same. subst (IsFirstFault (before ++ token ∷ later) end_line) same (AtToken before later token end_line kind (viable (texts before) state b) wrong) in
     unless_err (form_fault state.bytes token.text) token.line _ fault h
-    (λ kind form same. told kind (ByItself (texts before) token.text kind (subst (λ (n : ℕ). form_fault n token.text ≡ Some kind) b.bytes_are form)) same)
+    (λ kind form same. (kind, ByItself before token.text kind (subst (λ (n : ℕ). form_fault n token.text ≡ Some kind) c.began.bytes_are form), same))
     (λ form h1. unless_err (place_fault inside token.text) token.line _ fault h1
-    (λ kind place same. told kind (at_place (texts before) state token.text kind b (subst (λ (n : ℕ). form_fault n token.text ≡ None) b.bytes_are form) place) same)
+    (λ kind place same. (kind, at_place before state token.text kind c (subst (λ (n : ℕ). form_fault n token.text ≡ None) c.began.bytes_are form) place, same))
     (λ none wrong. absurd cc))
+
+token_fault : (before later : List Token) (state : State) (token : Token) (end_line : ℕ) (fault : ReadFault) → Counts before state → step state token ≡ Err fault → IsFirstFault (before ++ token ∷ later) end_line fault
+token_fault before later state token end_line fault c h =
+    let told = token_wrong before state token fault c h in
+    subst (IsFirstFault (before ++ token ∷ later) end_line) told.2 (AtToken before later token end_line told.0 c.right told.1)
+
+-- ---- one fault at most
+
+sentence_long : (before : List (List ℕ)) → IsSentence before → 2 ≤ length before
+sentence_long before s = omega (arith, ap (λ (ts : List (List ℕ)). length ts) s.spelled)
+
+two_kinds : (one other : ReadKind) (found : Option ReadKind) → found ≡ Some one → found ≡ Some other → one ≡ other
+two_kinds one other found h g = cc
+
+some_none : (kind : ReadKind) (found : Option ReadKind) → found ≡ Some kind → found ≡ None → ⊥
+some_none kind found h g = absurd cc
+
+right_not_wrong : (before : List Token) (text : List ℕ) (kind : ReadKind) → IsRight before text → IsWrong before text kind → ⊥
+right_not_wrong before text kind r (ByItself _ _ _ form) = some_none kind _ form r.formed
+right_not_wrong before text kind r (Misplaced _ _ _ form no_viable misplaced) = no_viable r.viable
+right_not_wrong before text kind r (PastLimit _ _ _ form viable_so limit) = some_none kind _ limit r.within
+
+misplaced_once : (before : List (List ℕ)) (text : List ℕ) (one other : ReadKind) → IsMisplaced before text one → IsMisplaced before text other → one ≡ other
+misplaced_once before text one other (OfHeader _ _ short) (OfHeader _ _ again) = refl
+misplaced_once before text one other (OfHeader _ _ short) (AfterWhole _ _ s text_is) = absurd (let long = sentence_long before s in omega (arith, short, long))
+misplaced_once before text one other (OfHeader _ _ short) (Elsewhere _ _ long no_whole) = absurd (omega (arith, short, long))
+misplaced_once before text one other (AfterWhole _ _ s text_is) (OfHeader _ _ short) = absurd (let long = sentence_long before s in omega (arith, short, long))
+misplaced_once before text one other (AfterWhole _ _ s text_is) (AfterWhole _ _ again text_so) = refl
+misplaced_once before text one other (AfterWhole _ _ s text_is) (Elsewhere _ _ long no_whole) = absurd (no_whole s text_is)
+misplaced_once before text one other (Elsewhere _ _ long no_whole) (OfHeader _ _ short) = absurd (omega (arith, short, long))
+misplaced_once before text one other (Elsewhere _ _ long no_whole) (AfterWhole _ _ s text_is) = absurd (no_whole s text_is)
+misplaced_once before text one other (Elsewhere _ _ long no_whole) (Elsewhere _ _ again none) = refl
+
+wrong_once : (before : List Token) (text : List ℕ) (one other : ReadKind) → IsWrong before text one → IsWrong before text other → one ≡ other
+wrong_once before text one other (ByItself _ _ _ form) (ByItself _ _ _ again) = two_kinds one other _ form again
+wrong_once before text one other (ByItself _ _ _ form) (Misplaced _ _ _ none no_viable misplaced) = absurd (some_none one _ form none)
+wrong_once before text one other (ByItself _ _ _ form) (PastLimit _ _ _ none viable_so limit) = absurd (some_none one _ form none)
+wrong_once before text one other (Misplaced _ _ _ none no_viable misplaced) (ByItself _ _ _ form) = absurd (some_none other _ form none)
+wrong_once before text one other (Misplaced _ _ _ none no_viable misplaced) (Misplaced _ _ _ again no_more misplaced_so) = misplaced_once (texts before) text one other misplaced misplaced_so
+wrong_once before text one other (Misplaced _ _ _ none no_viable misplaced) (PastLimit _ _ _ again viable_so limit) = absurd (no_viable viable_so)
+wrong_once before text one other (PastLimit _ _ _ none viable_so limit) (ByItself _ _ _ form) = absurd (some_none other _ form none)
+wrong_once before text one other (PastLimit _ _ _ none viable_so limit) (Misplaced _ _ _ again no_viable misplaced) = absurd (no_viable viable_so)
+wrong_once before text one other (PastLimit _ _ _ none viable_so limit) (PastLimit _ _ _ again viable_too limit_too) = two_kinds one other _ limit limit_too
+
+no_braces : (all : List Token) (line : ℕ) (others : List ℕ) → length all < 2 → open_braces (drop 2 all) ≡ line ∷ others → ⊥
+no_braces all line others short braces =
+    let none : open_braces (drop 2 all) ≡ [] = ap (λ (ts : List Token). open_braces ts) (nothing_after all (omega (arith, short))) in
+    absurd (let wrong : line ∷ others ≡ [] = sym braces ∙ none in cc)
+
+ends_once : (all : List Token) (end_line : ℕ) (one other : ReadFault) → EndsEarly all end_line one → EndsEarly all end_line other → one ≡ other
+ends_once all end_line one other (InHeader _ _ short) (InHeader _ _ again) = refl
+ends_once all end_line one other (InHeader _ _ short) (BlockOpen _ _ line others viable_so braces) = absurd (no_braces all line others short braces)
+ends_once all end_line one other (InHeader _ _ short) (Inside _ _ long no_viable) = absurd (omega (arith, short, long))
+ends_once all end_line one other (BlockOpen _ _ line others viable_so braces) (InHeader _ _ short) = absurd (no_braces all line others short braces)
+ends_once all end_line one other (BlockOpen _ _ line others viable_so braces) (BlockOpen _ _ line_too others_too again braces_too) =
+    let same : line ∷ others ≡ line_too ∷ others_too = sym braces ∙ braces_too in
+    let same_line : line ≡ line_too = cc in
+    ap (λ (n : ℕ). fault_so Unclosed n) same_line
+ends_once all end_line one other (BlockOpen _ _ line others viable_so braces) (Inside _ _ long no_viable) = absurd (no_viable viable_so)
+ends_once all end_line one other (Inside _ _ long no_viable) (InHeader _ _ short) = absurd (omega (arith, short, long))
+ends_once all end_line one other (Inside _ _ long no_viable) (BlockOpen _ _ line others viable_so braces) = absurd (no_viable viable_so)
+ends_once all end_line one other (Inside _ _ long no_viable) (Inside _ _ again none) = refl
 
 -- ---- the end
 
-end_by : (before : List (List ℕ)) (place : Place) (has_if : Bool) (blocks : List Block) (end_line : ℕ) (fault : ReadFault) → LengthAt place (length before)
-    → (fits_at place has_if (length blocks) (codes "}") ≡ true → IsViable (before ++ codes "}" ∷ [])) → (fits_at place has_if (length blocks) (codes "}") ≡ false → IsViable (before ++ codes "}" ∷ []) → ⊥)
-    → end_at place blocks end_line ≡ Some fault → EndsEarly before end_line fault
-end_by before Header has_if blocks end_line fault long can cannot h = let same : fault_so BadHeader end_line ≡ fault = cc in subst (EndsEarly before end_line) same (InHeader before end_line (omega (arith, long)))
-end_by before Version has_if blocks end_line fault long can cannot h = let same : fault_so BadHeader end_line ≡ fault = cc in subst (EndsEarly before end_line) same (InHeader before end_line (omega (arith, long)))
-end_by before Statement has_if [] end_line fault long can cannot h = absurd cc
-end_by before Statement has_if (block ∷ blocks) end_line fault long can cannot h = let same : fault_so Unclosed (line_of block) ≡ fault = cc in subst (EndsEarly before end_line) same (BlockOpen before end_line (line_of block) (can refl))
-end_by before _ has_if blocks end_line fault long can cannot h = let same : fault_so BadWord end_line ≡ fault = cc in subst (EndsEarly before end_line) same (Inside before end_line long (cannot refl))
+end_by : (all : List Token) (place : Place) (has_if : Bool) (blocks : List Block) (end_line : ℕ) (fault : ReadFault) → LengthAt place (length all) → open_braces (drop 2 all) ≡ map line_of blocks
+    → (fits_at place has_if (length blocks) (codes "}") ≡ true → IsViable (texts all ++ codes "}" ∷ [])) → (fits_at place has_if (length blocks) (codes "}") ≡ false → IsViable (texts all ++ codes "}" ∷ []) → ⊥)
+    → end_at place blocks end_line ≡ Some fault → EndsEarly all end_line fault
+end_by all Header has_if blocks end_line fault long braces can cannot h = let same : fault_so BadHeader end_line ≡ fault = cc in subst (EndsEarly all end_line) same (InHeader all end_line (omega (arith, long)))
+end_by all Version has_if blocks end_line fault long braces can cannot h = let same : fault_so BadHeader end_line ≡ fault = cc in subst (EndsEarly all end_line) same (InHeader all end_line (omega (arith, long)))
+end_by all Statement has_if [] end_line fault long braces can cannot h = absurd cc
+end_by all Statement has_if (block ∷ blocks) end_line fault long braces can cannot h =
+    let same : fault_so Unclosed (line_of block) ≡ fault = cc in subst (EndsEarly all end_line) same (BlockOpen all end_line (line_of block) (map line_of blocks) (can refl) braces)
+end_by all _ has_if blocks end_line fault long braces can cannot h = let same : fault_so BadWord end_line ≡ fault = cc in subst (EndsEarly all end_line) same (Inside all end_line long (cannot refl))
 
 whole_ends : (place : Place) (blocks : List Block) (line : ℕ) (fault : ReadFault) → is_whole place (length blocks) ≡ true → end_at place blocks line ≡ Some fault → ⊥
 whole_ends Statement [] line fault h g = absurd cc
@@ -318,11 +294,19 @@ ended_ok Statement has_if [] line state program h = nothing_follows has_if
 ended_ok Statement has_if (block ∷ blocks) line state program h = absurd cc
 ended_ok _ has_if blocks line state program h = absurd cc
 
-end_fault : (before : List Token) (state : State) (end_line : ℕ) (fault : ReadFault) → Began (texts before) state → end_at state.place state.tree.blocks end_line ≡ Some fault → IsFirstFault before end_line fault
-end_fault before state end_line fault b h =
-    AtEnd before end_line fault (viable (texts before) state b)
-    (λ s. whole_ends state.place state.tree.blocks end_line fault (whole_now (texts before) state b s) h)
-    (end_by (texts before) state.place state.head.has_if state.tree.blocks end_line fault b.length_is (viable_next (texts before) state (codes "}") b) (unviable (texts before) state (codes "}") b) h)
+early_at : (all : List Token) (state : State) (end_line : ℕ) (fault : ReadFault) → Counts all state → end_at state.place state.tree.blocks end_line ≡ Some fault → EndsEarly all end_line fault
+early_at all state end_line fault c h =
+    let b = c.began in
+    end_by all state.place state.head.has_if state.tree.blocks end_line fault (subst (λ (n : ℕ). LengthAt state.place n) (texts_long all) b.length_is)
+    (ap (λ (t : Tally). t.braces) c.tally_is) (viable_next (texts all) state (codes "}") b) (unviable (texts all) state (codes "}") b) h
+
+end_is : (state : State) (line : ℕ) (fault : ReadFault) → reading [] line state ≡ Err fault → end_at state.place state.tree.blocks line ≡ Some fault
+unfolding reading
+end_is state line fault h = ended_err (end_at state.place state.tree.blocks line) state fault h
+
+end_fault : (all : List Token) (state : State) (end_line : ℕ) (fault : ReadFault) → Counts all state → end_at state.place state.tree.blocks end_line ≡ Some fault → IsFirstFault all end_line fault
+end_fault all state end_line fault c h =
+    AtEnd all end_line fault c.right (λ s. whole_ends state.place state.tree.blocks end_line fault (whole_now (texts all) state c.began s) h) (early_at all state end_line fault c h)
 
 -- ---- the whole
 
@@ -331,34 +315,37 @@ stepped : {P : Type 0} (read : Result State ReadFault) (later : State → Result
 stepped (Ok next) later fault h on stops = on next refl h
 stepped (Err other) later fault h on stops = stops cc
 
-texts_more : (before : List Token) (token : Token) → texts (before ++ token ∷ []) ≡ texts before ++ token.text ∷ []
-texts_more before token = map_push (λ (t : Token). t.text) before token
-
-began_more : (before : List Token) (state next : State) (token : Token) → Began (texts before) state → step state token ≡ Ok next → Began (texts (before ++ token ∷ [])) next
-began_more before state next token b h = subst (λ (ts : List (List ℕ)). Began ts next) (sym (texts_more before token)) (step_begins (texts before) state next token b h)
-
-fault_from : (tokens before : List Token) (state : State) (end_line : ℕ) (fault : ReadFault) → Began (texts before) state → reading tokens end_line state ≡ Err fault → IsFirstFault (before ++ tokens) end_line fault
+fault_from : (tokens before : List Token) (state : State) (end_line : ℕ) (fault : ReadFault) → Counts before state → reading tokens end_line state ≡ Err fault → IsFirstFault (before ++ tokens) end_line fault
 unfolding reading
-fault_from [] before state end_line fault b h =
-    subst (λ (ts : List Token). IsFirstFault ts end_line fault) (sym (append-nil before)) (end_fault before state end_line fault b (ended_err (end_at state.place state.tree.blocks end_line) state fault h))
-fault_from (token ∷ tokens) before state end_line fault b h =
+fault_from [] before state end_line fault c h =
+    subst (λ (ts : List Token). IsFirstFault ts end_line fault) (sym (append-nil before)) (end_fault before state end_line fault c (ended_err (end_at state.place state.tree.blocks end_line) state fault h))
+fault_from (token ∷ tokens) before state end_line fault c h =
     stepped (step state token) (λ next. reading tokens end_line next) fault h
     (λ next one later. subst (λ (ts : List Token). IsFirstFault ts end_line fault) (append_assoc before (token ∷ []) tokens)
-    (fault_from tokens (before ++ token ∷ []) next end_line fault (began_more before state next token b one) later))
-    (λ stops. token_fault before tokens state token end_line fault b stops)
+    (fault_from tokens (before ++ token ∷ []) next end_line fault (counts_more before state next token c one) later))
+    (λ stops. token_fault before tokens state token end_line fault c stops)
 
-sentence_from : (tokens before : List Token) (state : State) (end_line : ℕ) (program : ProgramText) → Began (texts before) state → reading tokens end_line state ≡ Ok program → IsSentence (texts (before ++ tokens))
+abbrev Whole : List Token → Type 0
+Whole all = IsSentence (texts all) × AreRight all
+
+whole_from : (tokens before : List Token) (state : State) (end_line : ℕ) (program : ProgramText) → Counts before state → reading tokens end_line state ≡ Ok program → Whole (before ++ tokens)
 unfolding reading
-sentence_from [] before state end_line program b h =
-    let whole = b.follows [] (ended_ok state.place state.head.has_if state.tree.blocks end_line state program h) in
-    subst (λ (ts : List Token). IsSentence (texts ts)) (sym (append-nil before)) (subst IsSentence (append-nil (texts before)) whole)
-sentence_from (token ∷ tokens) before state end_line program b h =
+whole_from [] before state end_line program c h =
+    let whole = c.began.follows [] (ended_ok state.place state.head.has_if state.tree.blocks end_line state program h) in
+    subst Whole (sym (append-nil before)) (subst IsSentence (append-nil (texts before)) whole, c.right)
+whole_from (token ∷ tokens) before state end_line program c h =
     let went = step_went (step state token) (λ next. reading tokens end_line next) program h in
-    subst (λ (ts : List Token). IsSentence (texts ts)) (append_assoc before (token ∷ []) tokens)
-    (sentence_from tokens (before ++ token ∷ []) went.0 end_line program (began_more before state went.0 token b went.1) went.2)
+    subst Whole (append_assoc before (token ∷ []) tokens)
+    (whole_from tokens (before ++ token ∷ []) went.0 end_line program (counts_more before state went.0 token c went.1) went.2)
 
-at_start : Began [] start
-at_start = record { follows = λ later f. f; accepted = λ later s. sentence_accepted later s; length_is = refl; bytes_are = refl }
+at_start : Counts [] start
+at_start = record {
+  began = record { follows = λ later f. f; accepted = λ later s. sentence_accepted later s; length_is = refl; bytes_are = refl };
+  tally_is = nothing_counted;
+  within = record { tasks = omega arith; segments = omega arith; work = omega arith; nesting = omega arith; items = omega arith; names = omega arith; bytes = omega arith };
+  no_items = refl;
+  right = Nothing;
+}
 
 too_long : (text : List ℕ) → nat_lt most_bytes (length text) ≡ true → program_of text ≡ Err (fault_so TooLong 1)
 too_long text long = rw long refl
@@ -366,19 +353,118 @@ too_long text long = rw long refl
 same_fault : (read : Result ProgramText ReadFault) (one other : ReadFault) → read ≡ Err one → read ≡ Err other → one ≡ other
 same_fault read one other h g = cc
 
+-- ---- and whatever has the fault is refused with it
+
+-- where right tokens were read
+record ReadSo (before : List Token) : Type 0 where
+  state : State
+  counts : Counts before state
+  goes_on : (later : List Token) (line : ℕ) → reading (before ++ later) line start ≡ reading later line state
+
+step_cases : {P : Type 0} (read : Result State ReadFault) → ((next : State) → read ≡ Ok next → P) → ((fault : ReadFault) → read ≡ Err fault → P) → P
+step_cases (Ok next) on stops = on next refl
+step_cases (Err fault) on stops = stops fault refl
+
+one_on : (token : Token) (later : List Token) (line : ℕ) (state next : State) → step state token ≡ Ok next → reading (token ∷ later) line state ≡ reading later line next
+unfolding reading
+one_on token later line state next h = rw h refl
+
+one_stops : (token : Token) (later : List Token) (line : ℕ) (state : State) (fault : ReadFault) → step state token ≡ Err fault → reading (token ∷ later) line state ≡ Err fault
+unfolding reading
+one_stops token later line state fault h = rw h refl
+
+right_read : (before : List Token) → AreRight before → ReadSo before
+right_read before Nothing = record { state = start; counts = at_start; goes_on = λ later line. refl }
+right_read before (More others token rights right) =
+    let r = right_read others rights in
+    step_cases (step r.state token)
+    (λ next one. record {
+      state = next;
+      counts = counts_more others r.state next token r.counts one;
+      goes_on = λ later line.
+          ap (λ (ts : List Token). reading ts line start) (append_assoc others (token ∷ []) later) ∙ r.goes_on (token ∷ later) line ∙ one_on token later line r.state next one;
+    })
+    (λ fault stops. let wrong = token_wrong others r.state token fault r.counts stops in absurd (right_not_wrong others token.text wrong.0 right wrong.1))
+
+abbrev failed : ReadFault → Result ProgramText ReadFault
+failed fault = Err fault
+
+refused_at : (before later : List Token) (token : Token) (line : ℕ) (kind : ReadKind) → AreRight before → IsWrong before token.text kind → reading (before ++ token ∷ later) line start ≡ Err (fault_so kind token.line)
+refused_at before later token line kind rights wrong =
+    let r = right_read before rights in
+    step_cases (step r.state token)
+    (λ next one. absurd (right_not_wrong before token.text kind (token_right before r.state next token r.counts one) wrong))
+    (λ fault stops.
+    let told = token_wrong before r.state token fault r.counts stops in
+    let same : fault ≡ fault_so kind token.line = sym told.2 ∙ ap (λ (k : ReadKind). fault_so k token.line) (wrong_once before token.text told.0 kind told.1 wrong) in
+    r.goes_on (token ∷ later) line ∙ one_stops token later line r.state fault stops ∙ ap (λ (f : ReadFault). failed f) same)
+
+read_cases : {P : Type 0} (read : Result ProgramText ReadFault) → ((program : ProgramText) → read ≡ Ok program → P) → ((fault : ReadFault) → read ≡ Err fault → P) → P
+read_cases (Ok program) on stops = on program refl
+read_cases (Err fault) on stops = stops fault refl
+
+early_once : (all : List Token) (line : ℕ) (one other : ReadFault) → AreRight all → EndsEarly all line one → reading all line start ≡ Err other → one ≡ other
+early_once all line one other rights early h =
+    let r = right_read all rights in
+    let ended_so : reading [] line r.state ≡ Err other = sym (r.goes_on [] line) ∙ ap (λ (ts : List Token). reading ts line start) (append-nil all) ∙ h in
+    ends_once all line one other early (early_at all r.state line other r.counts (end_is r.state line other ended_so))
+
+refused_end : (all : List Token) (line : ℕ) (fault : ReadFault) → AreRight all → (IsSentence (texts all) → ⊥) → EndsEarly all line fault → reading all line start ≡ Err fault
+refused_end all line fault rights no_sentence early =
+    read_cases (reading all line start)
+    (λ program h. absurd (no_sentence (whole_from all [] start line program at_start h).0))
+    (λ other h. h ∙ ap (λ (f : ReadFault). failed f) (sym (early_once all line fault other rights early h)))
+
+refused_first : (tokens : List Token) (line : ℕ) (fault : ReadFault) → IsFirstFault tokens line fault → reading tokens line start ≡ Err fault
+refused_first tokens line fault (AtToken before later token _ kind rights wrong) = refused_at before later token line kind rights wrong
+refused_first tokens line fault (AtEnd _ _ _ rights no_sentence early) = refused_end tokens line fault rights no_sentence early
+
+-- a sentence of right tokens has no first fault
+whole_read : (all : List Token) (line : ℕ) → IsSentence (texts all) → AreRight all → (program : ProgramText) × (reading all line start ≡ Ok program)
+whole_read all line s rights =
+    let r = right_read all rights in
+    let to_end : reading all line start ≡ reading [] line r.state = ap (λ (ts : List Token). reading ts line start) (sym (append-nil all)) ∙ r.goes_on [] line in
+    read_cases (reading all line start)
+    (λ program h. (program, h))
+    (λ fault h. absurd (whole_ends r.state.place r.state.tree.blocks line fault (whole_now (texts all) r.state r.counts.began s) (end_is r.state line fault (sym to_end ∙ h))))
+
+short_refused : (text : List ℕ) (fault : ReadFault) → length text ≤ most_bytes → program_of text ≡ one_pass text → HasFault text fault → program_of text ≡ Err fault
+short_refused text fault fits so (TextTooLong _ long) = absurd (omega (arith, fits, long))
+short_refused text fault fits so (OfTokens _ _ short first) = so ∙ refused_first (tokens_of text) (line_at_end 1 text) fault first
+
 told_apart : (text : List ℕ) → begins_version_two (tokens_of text) ≡ false → nat_lt most_bytes (length text) ≡ false → IsToldApart text
 told_apart text one short =
-    let so : program_of text ≡ one_pass text = of_one text (ltb-false most_bytes (length text) short) one in
+    let fits = ltb-false most_bytes (length text) short in
+    let so : program_of text ≡ one_pass text = of_one text fits one in
+    let line = line_at_end 1 text in
     record {
-      read = λ program h. sentence_from (tokens_of text) [] start (line_at_end 1 text) program at_start (sym so ∙ h);
-      refused = λ fault h. OfTokens text fault (fault_from (tokens_of text) [] start (line_at_end 1 text) fault at_start (sym so ∙ h));
+      read = (
+        λ r. let whole = whole_from (tokens_of text) [] start line r.0 at_start (sym so ∙ r.1) in record { text_fits = fits; sentence = whole.0; right = whole.1 },
+        λ w. let r = whole_read (tokens_of text) line w.sentence w.right in (r.0, so ∙ r.1),
+      );
+      refused = λ fault. (
+        λ h. OfTokens text fault fits (fault_from (tokens_of text) [] start line fault at_start (sym so ∙ h)),
+        λ h. short_refused text fault fits so h,
+      );
     }
 
+long_refused : (text : List ℕ) (fault : ReadFault) → most_bytes < length text → program_of text ≡ Err (fault_so TooLong 1) → HasFault text fault → program_of text ≡ Err fault
+long_refused text fault long so (TextTooLong _ again) = so
+long_refused text fault long so (OfTokens _ _ short first) = absurd (omega (arith, short, long))
+
 long_apart : (text : List ℕ) → nat_lt most_bytes (length text) ≡ true → IsToldApart text
-long_apart text long = record {
-  read = λ program h. absurd (let wrong = sym (too_long text long) ∙ h in cc);
-  refused = λ fault h. subst (HasFault text) (same_fault (program_of text) (fault_so TooLong 1) fault (too_long text long) h) (TextTooLong text (ltb-true most_bytes (length text) long));
-}
+long_apart text long =
+    let longer = ltb-true most_bytes (length text) long in
+    record {
+      read = (
+        λ r. absurd (let wrong = sym (too_long text long) ∙ r.1 in cc),
+        λ w. absurd (omega (arith, longer, w.text_fits)),
+      );
+      refused = λ fault. (
+        λ h. subst (HasFault text) (same_fault (program_of text) (fault_so TooLong 1) fault (too_long text long) h) (TextTooLong text longer),
+        λ h. long_refused text fault longer (too_long text long) h,
+      );
+    }
 
 pub fault_is_first : (text : List ℕ) → FaultIsFirst text
 fault_is_first text one = bool_cases (nat_lt most_bytes (length text)) (λ long. long_apart text long) (λ short. told_apart text one short)

@@ -1,6 +1,6 @@
 -- What decides which token may come: the place, whether the task has an `if`, and how many blocks are open. What may
 -- follow where the reading stands so is what the grammar has there.
-use Rattle.std.proofs.Common.{◌≡◌, ℕ, zero, suc, ◌+◌, ◌≤◌, Bool, true, false, not, ◌&&◌, cond, eqb, List, [], ◌∷◌, ◌++◌, append_assoc, refl, sym, ap, subst, ◌∙◌, ◌||◌, arith, codes}
+use Rattle.std.proofs.Common.{◌≡◌, ℕ, zero, suc, ◌+◌, ◌≤◌, Bool, true, false, not, ◌&&◌, cond, eqb, List, [], ◌∷◌, ◌++◌, append_assoc, refl, sym, ap, subst, ◌∙◌, arith, codes}
 use Rattle.std.specs.Prelude.{All, count_by, if◌then◌else◌}
 use Rattle.std.specs.List.{flat_map}
 use Rattle.std.proofs.lemmas.Bool.{eqb-true}
@@ -10,8 +10,8 @@ use Rattle.task_program.specs.declared.place.Place.{Place}
 use Rattle.task_program.specs.declared.place.Place.TheVariants.{Header, Version, Statement, WorkNumber, GroupBrace, Clause, IfOpens, IfNumber, IfCloses, DependOpens, DependType, DependColon, DependName, DependMore}
 use Rattle.task_program.specs.declared.statement.DependKind.{DependKind}
 use Rattle.task_program.specs.declared.statement.DependKind.TheVariants.{DependIn}
-use Rattle.task_program.specs.Words.{is_text, is_word, is_number, value_of, is_type, type_word}
-use Rattle.task_program.specs.Faults.{is_statement_word, is_header, is_allowed, type_of}
+use Rattle.task_program.specs.Words.{is_text, is_number, value_of, type_word}
+use Rattle.task_program.specs.Faults.{is_header, is_allowed, type_of}
 use Rattle.task_program.specs.Grammar as grammar
 use Rattle.task_program.specs.Grammar.{Written, name_and_comma, clause_texts, texts_of, is_if}
 use Rattle.task_program.specs.Grammar.Clause.{IfClause, DependClause}

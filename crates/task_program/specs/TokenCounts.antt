@@ -1,0 +1,108 @@
+-- What the tokens after the header amount to, counted on the tokens alone, and which limit one token more passes. A text
+-- of version 1 has parentheses in its clauses only, and one `:` or `,` before each depend item.
+use Rattle.std.specs.Prelude.{ℕ, ◌+◌, Bool, true, false, not, ◌&&◌, ◌||◌, nat_lt, nat_le, if◌then◌else◌, List, [], ◌∷◌, length, drop, fold, sum_by, Option, Some, None, codes}
+use Rattle.task_program.specs.declared.fault.ReadKind.{ReadKind}
+use Rattle.task_program.specs.declared.fault.ReadKind.TheVariants.{BadNumber, TooDeep, TooManyTasks, TooManySegments, TooManyItems, WorkTooLarge}
+use Rattle.task_program.specs.Limits.{most_tasks, most_segments, most_nesting, most_items, most_work, most_total_work}
+use Rattle.task_program.specs.Tokens.{Token, texts}
+use Rattle.task_program.specs.Words.{is_text, is_number, value_of}
+
+-- ---- parentheses
+
+abbrev pub inside_after : (inside : Bool) → List ℕ → Bool
+inside_after inside text = if is_text text (codes "(") then true else (if is_text text (codes ")") then false else inside)
+
+-- a `(` is open
+abbrev pub is_inside : List (List ℕ) → Bool
+is_inside texts = fold inside_after false texts
+
+-- the tokens in front of which no `(` is open
+unfoldable pub outside_from : (inside : Bool) → List (List ℕ) → List (List ℕ)
+outside_from inside [] = []
+outside_from inside (text ∷ texts) =
+    let later = outside_from (inside_after inside text) texts in
+    if inside then later else text ∷ later
+
+abbrev pub outside : List (List ℕ) → List (List ℕ)
+outside texts = outside_from false texts
+
+-- ---- tasks, segments and work
+
+abbrev pub tasks_by : List ℕ → ℕ
+tasks_by text = if is_text text (codes "task") then 1 else 0
+
+abbrev pub is_waiting : List ℕ → Bool
+is_waiting text = is_text text (codes "taskwait") || is_text text (codes "taskgroup")
+
+abbrev pub segments_by : List ℕ → ℕ
+segments_by text = if is_text text (codes "task") then 2 else (if is_waiting text then 1 else 0)
+
+abbrev pub work_by : List ℕ → ℕ
+work_by text = if is_number text then value_of text else 0
+
+-- the words `task` outside parentheses
+abbrev pub tasks_in : List (List ℕ) → ℕ
+tasks_in texts = sum_by tasks_by (outside texts)
+
+-- 1, and 2 for each such `task`, 1 for each `taskwait` and `taskgroup`
+abbrev pub segments_in : List (List ℕ) → ℕ
+segments_in texts = 1 + sum_by segments_by (outside texts)
+
+-- the sum of the numbers outside parentheses
+abbrev pub work_in : List (List ℕ) → ℕ
+work_in texts = sum_by work_by (outside texts)
+
+-- ---- items
+
+abbrev pub items_after : ℕ → List ℕ → ℕ
+items_after items text = if is_text text (codes "{") then 0 else (if is_text text (codes ":") || is_text text (codes ",") then items + 1 else items)
+
+-- the `:` and `,` since the last `{`: of the task whose clauses are read, the items, the one that comes included
+abbrev pub items_in : List (List ℕ) → ℕ
+items_in texts = fold items_after 0 texts
+
+-- ---- open blocks
+
+abbrev pub braces_after : List ℕ → Token → List ℕ
+braces_after braces token =
+    if is_text token.text (codes "{") then token.line ∷ braces else (if is_text token.text (codes "}") then drop 1 braces else braces)
+
+-- the lines of the `{` that no `}` has closed, the innermost first
+abbrev pub open_braces : List Token → List ℕ
+open_braces tokens = fold braces_after [] tokens
+
+-- ---- the limits, in the order of their tests
+
+-- the number of an `if` stands in parentheses, that of a `work` outside
+abbrev pub is_value_too_large : (inside : Bool) → List ℕ → Bool
+is_value_too_large inside text = is_number text && (if inside then nat_lt 1 (value_of text) else nat_lt most_work (value_of text))
+
+abbrev pub is_too_deep : (open_blocks : ℕ) → List ℕ → Bool
+is_too_deep open_blocks text = is_text text (codes "{") && nat_le most_nesting open_blocks
+
+abbrev pub is_task_past : (inside : Bool) → (tasks : ℕ) → List ℕ → Bool
+is_task_past inside tasks text = not inside && (is_text text (codes "task") && nat_le most_tasks tasks)
+
+abbrev pub is_segment_past : (inside : Bool) → (segments : ℕ) → List ℕ → Bool
+is_segment_past inside segments text =
+    not inside && ((is_text text (codes "task") && nat_lt most_segments (segments + 2)) || (is_waiting text && nat_lt most_segments (segments + 1)))
+
+abbrev pub is_work_past : (inside : Bool) → (work : ℕ) → List ℕ → Bool
+is_work_past inside work text = not inside && (is_number text && nat_lt most_total_work (work + value_of text))
+
+-- the first limit that is passed with this token
+abbrev pub limit_by : (inside : Bool) → (tasks segments work items open_blocks : ℕ) → List ℕ → Option ReadKind
+limit_by inside tasks segments work items open_blocks text =
+    if is_value_too_large inside text then Some BadNumber
+    else (if is_too_deep open_blocks text then Some TooDeep
+    else (if is_task_past inside tasks text then Some TooManyTasks
+    else (if is_segment_past inside segments text then Some TooManySegments
+    else (if nat_lt most_items items then Some TooManyItems
+    else (if is_work_past inside work text then Some WorkTooLarge
+    else None)))))
+
+-- the limit that this token passes after these
+abbrev pub limit_fault_after : (body : List Token) → List ℕ → Option ReadKind
+limit_fault_after body text =
+    let before = texts body in
+    limit_by (is_inside before) (tasks_in before) (segments_in before) (work_in before) (items_in before) (length (open_braces body)) text
