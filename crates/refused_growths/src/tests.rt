@@ -1,0 +1,100 @@
+//! Each call that wants memory, at whichever growth it is refused.
+mod certificates;
+mod commands;
+mod little_memory;
+mod one_growth;
+mod programs;
+mod runs;
+mod schedules;
+mod supply;
+mod texts;
+
+use std::alloc::AllocGlobal;
+use std::process::Abort;
+use std::sync::Wait;
+use std::test::Fail;
+use std::thread::Threads;
+use supply::Supply;
+
+/// The calls that are made one after another. One that is refused is made once more with ample memory, and then has to
+/// answer as a first call does.
+#[derive(Clone, Copy)]
+enum Calls {
+    Program,
+    Words,
+    Input,
+    Rows,
+    Segments,
+    Siblings,
+    Core,
+    GivenRuns,
+    Analysis,
+    Greedy,
+    Curve,
+    Trial,
+    Certificate,
+    Check,
+    Lane,
+    Run { workers: u32 },
+    Command { place: usize },
+}
+
+fn make<H: AllocGlobal + Threads + Wait + Abort + Sync>(
+    rt: &H,
+    calls: Calls,
+    supply: &mut Supply,
+) -> Result<(), Fail> {
+    match calls {
+        Calls::Program => texts::program(rt, supply),
+        Calls::Words => texts::words(rt, supply),
+        Calls::Input => texts::input(rt, supply),
+        Calls::Rows => texts::rows(rt, supply),
+        Calls::Segments => programs::segments(rt, supply),
+        Calls::Siblings => programs::siblings(rt, supply),
+        Calls::Core => programs::core(rt, supply),
+        Calls::GivenRuns => programs::given_runs(rt, supply),
+        Calls::Analysis => schedules::analysis(rt, supply),
+        Calls::Greedy => schedules::greedy_run(rt, supply),
+        Calls::Curve => schedules::ends(rt, supply),
+        Calls::Trial => schedules::trial(rt, supply),
+        Calls::Certificate => certificates::written(rt, supply),
+        Calls::Check => certificates::checked(rt, supply),
+        Calls::Lane => runs::lane_of_two(rt, supply),
+        Calls::Run { workers } => runs::recorded(rt, supply, workers),
+        Calls::Command { place } => commands::report(rt, supply, place),
+    }
+}
+
+/// How many bytes more are left at each turn, and how many turns there are at most.
+const STEP: usize = 16;
+
+const TURNS: usize = 1 << 16;
+
+/// Makes the calls with ample memory, then with none, and then with a little more at each turn, until no growth is refused.
+fn refuse_each<H: AllocGlobal + Threads + Wait + Abort + Sync>(
+    rt: &H,
+    calls: Calls,
+) -> Result<(), Fail> {
+    let mut ample = Supply::ample(rt.alloc());
+    make(rt, calls, &mut ample)?;
+    assert!(rt;
+        !ample.was_refused(),
+        "a growth is refused with ample memory"
+    );
+    let mut supply = Supply::scarce(rt.alloc())?;
+    let mut refusals = 0usize;
+    let mut is_enough = false;
+    for turn in 0..TURNS {
+        supply.leave(STEP * turn);
+        make(rt, calls, &mut supply)?;
+        if !supply.was_refused() {
+            is_enough = true;
+            break;
+        }
+        refusals = refusals.saturating_add(1);
+    }
+    supply.restore();
+    assert!(rt; is_enough, "refused at every turn");
+    assert!(rt; refusals > 0, "no growth is refused");
+    Ok(())
+}

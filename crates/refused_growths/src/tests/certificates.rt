@@ -1,0 +1,123 @@
+//! Certificates, written and checked.
+ghost use Rattle.std.specs.Prelude.{◌≡◌, IfOk};
+ghost use Rattle.counted_io.specs.Counted.{faults_of};
+ghost use Rattle.span_cert.specs.Analysed.{IsAnalysisOf};
+
+use super::programs::WORKED;
+use super::supply::Supply;
+use super::texts::program_of;
+use counted_io::Counted;
+use dispatch_core::replay::in_order;
+use span_analysis::analysis::{Analysis, analyse};
+use span_cert::{CheckFault, Checked, WriteFault, check, write_certificate};
+use std::alloc::{AllocError, AllocGlobal, Global};
+use std::io;
+use std::io::Write;
+use std::process::Abort;
+use std::test::Fail;
+use std::thread::Threads;
+use task_program::AllocFault;
+use task_program::program::Program;
+use task_segments::cut;
+
+pub(super) const CERTIFICATE: &str =
+    "omptasks 1\nwork 5\ntask {\nwork 3\n}\nwork 2\ntaskwait\nwork 1\n---\nend 9\nstart 0 0\nstart 1 5\nstart 2 5\nstart 3 8\nchain 0 1 3\n";
+
+const ACCEPTED: Result<Checked, CheckFault> = Ok(Checked {
+    segments: 4,
+    ends_at: 9,
+});
+
+/// Has room for so many bytes, and takes no memory.
+#[derive(Drop)]
+pub(super) struct Room {
+    bytes: [u8; 200],
+    len: usize,
+}
+
+impl Room {
+    /// What was written.
+    pub(super) fn taken(&self) -> &[u8] {
+        &self.bytes[..self.len.min(self.bytes.len())]
+    }
+}
+
+impl Write for Room {
+    fn write(&mut self, bytes: &[u8]) -> io::Result<usize> {
+        let start = self.len.min(self.bytes.len());
+        let room = &mut self.bytes[start..];
+        let taken = bytes.len().min(room.len());
+        room[..taken].copy_from_slice(&bytes[..taken]);
+        self.len = start + taken;
+        Ok(taken)
+    }
+
+    fn flush(&mut self) -> io::Result<()> {
+        Ok(())
+    }
+}
+
+pub(super) fn empty_room() -> Counted<Room>
+    ensures { faults_of result ≡ 0 }
+{
+    Counted::new(Room {
+        bytes: [0; 200],
+        len: 0,
+    })
+}
+
+fn analysis_of(alloc: Global, program: &Program) -> Result<Analysis, AllocFault>
+    ensures { IfOk result (λ analysis. IsAnalysisOf program.now analysis) }
+{
+    let graph = match in_order(alloc, cut(alloc, program)?) {
+        Ok(graph) => graph,
+        Err(_) => return Err(AllocError),
+    };
+    analyse(alloc, &graph)
+}
+
+/// Nothing is written where a growth is refused.
+pub(super) fn written<H: AllocGlobal + Abort>(rt: &H, supply: &mut Supply) -> Result<(), Fail> {
+    let alloc = rt.alloc();
+    let program = program_of(rt, supply, WORKED)?;
+    let analysis = match analysis_of(alloc, &program) {
+        Ok(analysis) => analysis,
+        Err(_) => {
+            supply.refused();
+            analysis_of(alloc, &program)?
+        }
+    };
+    let mut writer = empty_room();
+    if let Err(fault) = write_certificate(alloc, &program, &analysis, &mut writer) {
+        supply.refused();
+        assert_eq!(rt; fault, WriteFault::OutOfMemory);
+        assert!(rt; writer.inner().taken().is_empty() && writer.faults() == 0);
+        let mut again = empty_room();
+        assert!(rt; write_certificate(alloc, &program, &analysis, &mut again).is_ok());
+        assert_eq!(rt; again.inner().taken(), CERTIFICATE.as_bytes());
+        return Ok(());
+    }
+    assert_eq!(rt; writer.inner().taken(), CERTIFICATE.as_bytes());
+    Ok(())
+}
+
+/// A certificate that holds, and one whose chain has a false step.
+pub(super) fn checked<H: AllocGlobal + Threads + Abort + Sync>(
+    rt: &H,
+    supply: &mut Supply,
+) -> Result<(), Fail> {
+    let alloc = rt.alloc();
+    let wrong = b"omptasks 1\nwork 5\n---\nend 5\nstart 0 0\nchain 0 0\n".as_slice();
+    let step = Err(CheckFault::ChainStep { s: 0, t: 0 });
+    for (document, wanted) in [(CERTIFICATE.as_bytes(), ACCEPTED), (wrong, step)] {
+        let answer = match check(rt, alloc, document) {
+            Err(CheckFault::OutOfMemory) => {
+                supply.refused();
+                check(rt, alloc, document)
+            }
+            answer => answer,
+        };
+        assert!(rt; answer == wanted);
+    }
+    Ok(())
+}

@@ -1,0 +1,97 @@
+//! All growths are refused from one on, whichever it is.
+use super::commands::COMMANDS;
+use super::{Calls, refuse_each};
+use std::test::Fail;
+
+#[test]
+fn programs(rt: HostRuntime) -> Result<(), Fail> {
+    refuse_each(&rt, Calls::Program)
+}
+
+#[test]
+fn words(rt: HostRuntime) -> Result<(), Fail> {
+    refuse_each(&rt, Calls::Words)
+}
+
+#[test]
+fn inputs(rt: HostRuntime) -> Result<(), Fail> {
+    refuse_each(&rt, Calls::Input)
+}
+
+#[test]
+fn rows(rt: HostRuntime) -> Result<(), Fail> {
+    refuse_each(&rt, Calls::Rows)
+}
+
+#[test]
+fn segments(rt: HostRuntime) -> Result<(), Fail> {
+    refuse_each(&rt, Calls::Segments)
+}
+
+#[test]
+fn siblings(rt: HostRuntime) -> Result<(), Fail> {
+    refuse_each(&rt, Calls::Siblings)
+}
+
+#[test]
+fn cores(rt: HostRuntime) -> Result<(), Fail> {
+    refuse_each(&rt, Calls::Core)
+}
+
+#[test]
+fn given_runs(rt: HostRuntime) -> Result<(), Fail> {
+    refuse_each(&rt, Calls::GivenRuns)
+}
+
+#[test]
+fn analyses(rt: HostRuntime) -> Result<(), Fail> {
+    refuse_each(&rt, Calls::Analysis)
+}
+
+#[test]
+fn greedy_runs(rt: HostRuntime) -> Result<(), Fail> {
+    refuse_each(&rt, Calls::Greedy)
+}
+
+#[test]
+fn curves(rt: HostRuntime) -> Result<(), Fail> {
+    refuse_each(&rt, Calls::Curve)
+}
+
+#[test]
+fn trials(rt: HostRuntime) -> Result<(), Fail> {
+    refuse_each(&rt, Calls::Trial)
+}
+
+#[test]
+fn certificates(rt: HostRuntime) -> Result<(), Fail> {
+    refuse_each(&rt, Calls::Certificate)
+}
+
+#[test]
+fn checks(rt: HostRuntime) -> Result<(), Fail> {
+    refuse_each(&rt, Calls::Check)
+}
+
+#[test]
+fn lanes(rt: HostRuntime) -> Result<(), Fail> {
+    refuse_each(&rt, Calls::Lane)
+}
+
+#[test]
+fn one_worker(rt: HostRuntime) -> Result<(), Fail> {
+    refuse_each(&rt, Calls::Run { workers: 1 })
+}
+
+#[test]
+fn two_workers(rt: HostRuntime) -> Result<(), Fail> {
+    refuse_each(&rt, Calls::Run { workers: 2 })
+}
+
+#[test]
+fn commands(rt: HostRuntime) -> Result<(), Fail> {
+    for place in 0..COMMANDS {
+        refuse_each(&rt, Calls::Command { place })?;
+    }
+    Ok(())
+}

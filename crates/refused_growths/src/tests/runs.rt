@@ -1,0 +1,50 @@
+//! Runs on worker threads, and lanes.
+use super::programs::{WORKED, table_of};
+use super::supply::Supply;
+use dispatch_core::kernel::MixKernel;
+use std::alloc::AllocGlobal;
+use std::process::Abort;
+use std::sync::Wait;
+use std::test::Fail;
+use std::thread::Threads;
+use worker_run::gate::OpenGate;
+use worker_run::lane::{close, lane};
+use worker_run::record::RunFault;
+use worker_run::run::{digest, run};
+
+/// A lane with two thieves.
+pub(super) fn lane_of_two<H: AllocGlobal + Abort>(rt: &H, supply: &mut Supply) -> Result<(), Fail> {
+    let (mut owner, mut thieves) = match lane(rt.alloc(), 3, 2) {
+        Ok(ends) => ends,
+        Err(_) => {
+            supply.refused();
+            lane(rt.alloc(), 3, 2)?
+        }
+    };
+    owner.put(1);
+    owner.put(2);
+    assert_eq!(rt; thieves[1].steal(), Some(1));
+    assert_eq!(rt; close(owner, thieves), 1);
+    Ok(())
+}
+
+/// A refused run spends its table, so that it is cut anew. A thread that does not start is out of memory too.
+pub(super) fn recorded<H: AllocGlobal + Threads + Wait + Abort + Sync>(
+    rt: &H,
+    supply: &mut Supply,
+    workers: u32,
+) -> Result<(), Fail> {
+    let table = table_of(rt, supply, WORKED)?;
+    let made = match run(rt, rt.alloc(), table, &MixKernel, &OpenGate, workers) {
+        Ok(made) => made,
+        Err(fault) => {
+            supply.refused();
+            assert_eq!(rt; fault, RunFault::OutOfMemory);
+            let table = table_of(rt, supply, WORKED)?;
+            run(rt, rt.alloc(), table, &MixKernel, &OpenGate, workers).map_err(|_| "refused twice")?
+        }
+    };
+    assert_eq!(rt; digest(made.values.as_slice()), 704969);
+    assert_eq!(rt; (made.history.len(), made.graph.edges()), (8, 4));
+    Ok(())
+}

@@ -1,0 +1,176 @@
+//! Texts: programs, words, inputs and rows.
+ghost use Rattle.std.specs.Prelude.{◌≡◌};
+
+use super::supply::Supply;
+use command_io::{InputFault, read_input};
+use command_words::request::{Request, WordsFault, read_words};
+use counted_io::Counted;
+use csv_table::Table;
+use std::alloc::{AllocError, AllocGlobal, Global};
+use std::process::Abort;
+use std::sync::Wait;
+use std::test::Fail;
+use std::thread::Threads;
+use task_program::fault::ReadKind;
+use task_program::print::print_program;
+use task_program::program::Program;
+use task_program::read::read_program;
+use task_program::statement::Items;
+
+const TEXT: &[u8] =
+    b"omptasks 1 work 1 task depend(in: a, b, c) depend(out: d, e, f) { taskgroup { taskwait taskwait taskwait taskwait taskwait } work 12 } task if(0) { }";
+
+const CANONICAL: &[u8] =
+    b"omptasks 1\nwork 1\ntask depend(in: a, b, c) depend(out: d, e, f) {\ntaskgroup {\ntaskwait\ntaskwait\ntaskwait\ntaskwait\ntaskwait\n}\nwork 12\n}\ntask if(0) {\n}\n";
+
+/// A text of version 2, and a text with a fault on line 3.
+const LOOPS: &[u8] =
+    b"omptasks 2 for i 1 3 { task depend(in: x[i-1]) depend(out: x[i]) { work 2 } }";
+
+const UNOPENED: &[u8] = b"omptasks 1\ntask depend(in: a, b) { work 1 }\n}";
+
+/// The program of a text that has one.
+pub(super) fn program_of<H: AllocGlobal + Abort>(
+    rt: &H,
+    supply: &mut Supply,
+    text: &[u8],
+) -> Result<Program, Fail> {
+    let alloc = rt.alloc();
+    match read_program(alloc, text) {
+        Ok(program) => Ok(program),
+        Err(fault) => {
+            assert_eq!(rt; (fault.kind, fault.line), (ReadKind::OutOfMemory, 0));
+            supply.refused();
+            Ok(read_program(alloc, text)?)
+        }
+    }
+}
+
+fn printed<H: AllocGlobal>(
+    rt: &H,
+    supply: &mut Supply,
+    program: &Program,
+) -> Result<Vec<u8>, Fail> {
+    let alloc = rt.alloc();
+    match print_program(alloc, program) {
+        Ok(text) => Ok(text),
+        Err(_) => {
+            supply.refused();
+            Ok(print_program(alloc, program)?)
+        }
+    }
+}
+
+/// Programs of both versions are read and printed, and a fault is told.
+pub(super) fn program<H: AllocGlobal + Abort>(rt: &H, supply: &mut Supply) -> Result<(), Fail> {
+    let alloc = rt.alloc();
+    let program = program_of(rt, supply, TEXT)?;
+    let text = printed(rt, supply, &program)?;
+    assert_eq!(rt; text.as_slice(), CANONICAL);
+    assert_eq!(rt; (program.names(), program.body().len()), (6, 3));
+    let looped = program_of(rt, supply, LOOPS)?;
+    assert_eq!(rt; (looped.names(), looped.body().len()), (4, 3));
+    let fault = match read_program(alloc, UNOPENED) {
+        Err(fault) if fault.kind == ReadKind::OutOfMemory => {
+            supply.refused();
+            read_program(alloc, UNOPENED).err()
+        }
+        answer => answer.err(),
+    };
+    assert!(rt; fault.map(|fault| (fault.kind, fault.line)) == Some((ReadKind::Unopened, 3)));
+    Ok(())
+}
+
+fn words_of(alloc: Global, words: &[&str]) -> Result<Vec<String>, AllocError> {
+    let mut list = Vec::new(alloc);
+    for word in words {
+        list.push(String::from_str(alloc, word)?)?;
+    }
+    Ok(list)
+}
+
+/// The words of a command line.
+pub(super) fn command_line(
+    alloc: Global,
+    supply: &mut Supply,
+    words: &[&str],
+) -> Result<Vec<String>, Fail> {
+    match words_of(alloc, words) {
+        Ok(list) => Ok(list),
+        Err(_) => {
+            supply.refused();
+            Ok(words_of(alloc, words)?)
+        }
+    }
+}
+
+fn request<H: AllocGlobal>(
+    rt: &H,
+    supply: &mut Supply,
+    words: &[&str],
+) -> Result<Result<Request, WordsFault>, Fail> {
+    let alloc = rt.alloc();
+    let list = command_line(alloc, supply, words)?;
+    match read_words(alloc, list.as_slice()) {
+        Err(WordsFault::OutOfMemory) => {
+            supply.refused();
+            Ok(read_words(alloc, list.as_slice()))
+        }
+        answer => Ok(answer),
+    }
+}
+
+/// Words that ask for something, and wrong words.
+pub(super) fn words<H: AllocGlobal + Abort>(rt: &H, supply: &mut Supply) -> Result<(), Fail> {
+    match request(rt, supply, &["spanprof", "whatif", "2=4", "1=5", "0=1"])? {
+        Ok(Request::WhatIf { changes }) => assert_eq!(rt; changes.as_slice().len(), 3),
+        _ => assert!(rt; false),
+    }
+    let run = request(rt, supply, &["spanprof", "run", "--workers", "2"])?;
+    assert!(rt; matches!(run, Ok(Request::Run { workers: 2 })));
+    let wrong = request(rt, supply, &["spanprof", "whatif", "2=4", "1"])?;
+    assert!(rt; matches!(wrong, Err(WordsFault::WrongWords)));
+    Ok(())
+}
+
+/// An input is read to its end.
+pub(super) fn input<H: AllocGlobal + Abort>(rt: &H, supply: &mut Supply) -> Result<(), Fail> {
+    let alloc = rt.alloc();
+    let mut retries = 0;
+    let mut reader = Counted::new(TEXT);
+    let bytes = match read_input(alloc, &mut reader, &mut retries) {
+        Ok(bytes) => bytes,
+        Err(fault) => {
+            assert_eq!(rt; (fault, reader.faults()), (InputFault::OutOfMemory, 0));
+            supply.refused();
+            let mut reader = Counted::new(TEXT);
+            read_input(alloc, &mut reader, &mut retries).map_err(|_| "refused twice")?
+        }
+    };
+    assert_eq!(rt; bytes.as_slice(), TEXT);
+    Ok(())
+}
+
+fn table_text(alloc: Global) -> Result<Vec<u8>, AllocError> {
+    Table::new(alloc, &["threads", "end"])?
+        .with_row(&[Some(1), None])?
+        .with_row(&[Some(u64::MAX), Some(0)])?
+        .into_text()
+}
+
+/// Rows of a table. A refused call spends the table, so that it is made anew.
+pub(super) fn rows<H: AllocGlobal + Abort>(rt: &H, supply: &mut Supply) -> Result<(), Fail> {
+    let alloc = rt.alloc();
+    let text = match table_text(alloc) {
+        Ok(text) => text,
+        Err(_) => {
+            supply.refused();
+            table_text(alloc)?
+        }
+    };
+    assert_eq!(rt;
+        text.as_slice(),
+        b"threads,end\n1,\n18446744073709551615,0\n".as_slice()
+    );
+    Ok(())
+}
