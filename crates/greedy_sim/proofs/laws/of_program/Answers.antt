@@ -10,26 +10,31 @@ use Rattle.greedy_sim.proofs.laws.of_program.Goals as goal
 pub returns-clause-greedy : goal.returns-clause-greedy
 returns-clause-greedy c graph p starts of =
     let table = c.args.table.now in
-    let edges : (s t : ℕ) → Precedes graph s t ↔ IsKeptEdge table s t = λ s t. c.same_schedules.ensures.edges graph s t of in
+    let edges : (s t : ℕ) → Precedes graph s t ↔ IsKeptEdge table s t =
+    λ s t. c.same_schedules.ensures.edges graph s t of in
     same_greedy graph.costs (MustPrecede table) (Precedes graph) c.goes_up.ensures
     (λ s t pair. c.same_chains.ensures.within s t ((edges s t).0 pair))
-    (λ s t pair. reach_map (λ a b kept. one ((edges a b).1 kept)) (reaches ((c.same_chains.ensures.joined s t).0 (joined (one pair)))))
+    (λ s t pair. reach_map (λ a b kept. one ((edges a b).1 kept))
+    (reaches ((c.same_chains.ensures.joined s t).0 (joined (one pair)))))
     (λ other. c.same_schedules.ensures.legal graph other of)
     p starts
 
 pub returns-clause-run : goal.returns-clause-run
 returns-clause-run c graph p starts threads of =
     let table = c.args.table.now in
-    let edges : (s t : ℕ) → Precedes graph s t ↔ IsKeptEdge table s t = λ s t. c.same_schedules.ensures.edges graph s t of in
+    let edges : (s t : ℕ) → Precedes graph s t ↔ IsKeptEdge table s t =
+    λ s t. c.same_schedules.ensures.edges graph s t of in
     same_run graph.costs (MustPrecede table) (Precedes graph) c.goes_up.ensures
     (λ s t pair. c.same_chains.ensures.within s t ((edges s t).0 pair))
-    (λ s t pair. reach_map (λ a b kept. one ((edges a b).1 kept)) (reaches ((c.same_chains.ensures.joined s t).0 (joined (one pair)))))
+    (λ s t pair. reach_map (λ a b kept. one ((edges a b).1 kept))
+    (reaches ((c.same_chains.ensures.joined s t).0 (joined (one pair)))))
     (λ other. c.same_schedules.ensures.legal graph other of)
     p starts threads
 
 pub returns-clause-ends_by : goal.returns-clause-ends_by
 returns-clause-ends_by c costs starts p span pos greedy is_span =
-    ends_by costs (MustPrecede c.args.table.now) p span starts (record { up = c.goes_up.ensures }) greedy is_span.greatest pos
+    ends_by costs (MustPrecede c.args.table.now) p span starts (record { up = c.goes_up.ensures }) greedy
+    is_span.greatest pos
 
 pub returns-clause-near_best : goal.returns-clause-near_best
 returns-clause-near_best c costs starts other p pos greedy on =

@@ -1,0 +1,21 @@
+//! Reading a program, and printing it.
+ghost use Rattle.std.specs.Prelude.{IfOk, ◌≡◌};
+ghost use Rattle.task_program.specs.Canonical.{canonical};
+ghost use Rattle.task_program.specs.ProgramText.{ProgramText};
+ghost use Rattle.task_program.specs.Trees.{HasTree};
+
+use std::alloc::Global;
+use task_program::fault::ReadFault;
+use task_program::print::print_program;
+use task_program::read::read_program;
+
+/// The canonical text of a program, from any text of it. Both texts have one tree.
+pub fn canonical_text(alloc: Global, text: &[u8]) -> Result<Vec<u8>, ReadFault>
+    ensures same { IfOk result (λ printed. (program : ProgramText)
+        × HasTree text.now program × HasTree printed.items program
+        × (printed.items ≡ canonical program)) }
+{
+    let program = read_program(alloc, text)?;
+    let printed = print_program(alloc, &program)?;
+    Ok(printed)
+}
