@@ -6,7 +6,8 @@ use Rattle.std.proofs.lemmas.List.Elements.{Contains-get_or}
 use Rattle.task_segments.specs.Schedule.{at}
 use Rattle.dispatch_core.specs.Recorded.{IsGraph, Precedes, Recorded, predecessors_of}
 use Rattle.greedy_sim.proofs.Members.{here, there}
-use Rattle.greedy_sim.proofs.Passing.{NextEnd, begin, finished, go_on, moment-le-work, next_early, pass_full, pass_over, start_at_once, start_on_thread}
+use Rattle.greedy_sim.proofs.Moments.{NextEnd, begin, finished, go_on, moment-le-work, next_early}
+use Rattle.greedy_sim.proofs.Passing.{pass_full, pass_over, start_at_once, start_on_thread}
 use Rattle.greedy_sim.proofs.Steps.{upward}
 use Rattle.greedy_sim.specs.Greedy.{IsGreedyRun, ReadyBy}
 use Rattle.greedy_sim.specs.Simulation.{IsSimulated, never}
