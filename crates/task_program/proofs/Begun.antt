@@ -135,10 +135,6 @@ pub record Began (before : List (List ℕ)) (state : State) : Type 0 where
   pub length_is : LengthAt state.place (length before)
   pub bytes_are : state.bytes ≡ sum_by length before
 
-pub viable : (before : List (List ℕ)) (state : State) → Began before state → IsViable before
-viable before state b =
-    let c = continued state.place state.head.has_if (length state.tree.blocks) in (c.0, b.follows c.0 c.1)
-
 -- a token that the grammar does not have
 pub unviable : (before : List (List ℕ)) (state : State) (text : List ℕ) → Began before state → fits (shape_of state) text ≡ false → IsViable (before ++ text ∷ []) → ⊥
 unviable before state text b wrong_here v =

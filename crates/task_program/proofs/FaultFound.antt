@@ -25,6 +25,7 @@ use Rattle.task_program.specs.FirstFault.EndsEarly.{InHeader, BlockOpen, Inside}
 use Rattle.task_program.specs.FirstFault.IsFirstFault.{AtToken, AtEnd}
 use Rattle.task_program.specs.FirstFault.HasFault.{TextTooLong, OfTokens}
 use Rattle.task_program.proofs.Keeping.{at, passes, bool_cases, unless_ok, ok_is, step_keeps}
+use Rattle.task_program.proofs.Found.{is_true}
 use Rattle.task_program.proofs.FoundWhole.{step_went}
 use Rattle.task_program.proofs.ReadWhole.{of_one}
 use Rattle.task_program.proofs.Shapes.{closes_none, fits_at, FollowsAt, nothing_follows}
@@ -123,10 +124,6 @@ tally_goes before state bytes next token c allowed same =
 
 texts_more : (before : List Token) (token : Token) → texts (before ++ token ∷ []) ≡ texts before ++ token.text ∷ []
 texts_more before token = map_push (λ (t : Token). t.text) before token
-
-is_true : (b : Bool) → not b ≡ false → b ≡ true
-is_true true h = refl
-is_true false h = absurd cc
 
 -- nothing is wrong with a token after which the reading goes on
 token_right : (before : List Token) (state next : State) (token : Token) → Counts before state → step state token ≡ Ok next → IsRight before token.text

@@ -22,6 +22,7 @@ use Rattle.task_program.specs.Faults.{State, Block, is_header, is_allowed, is_nu
 use Rattle.task_program.specs.Faults.Block.{TaskBlock, GroupBlock}
 use Rattle.task_program.specs.TokenCounts.{inside_after, is_inside, outside_from, outside, tasks_by, is_waiting, is_value_too_large, is_too_deep, is_task_past, is_segment_past, is_work_past, segments_by, work_by, tasks_in, segments_in, work_in, items_after, items_in, braces_after, open_braces, limit_by, limit_fault_after}
 use Rattle.task_program.proofs.Keeping.{at, bool_cases, with_one}
+use Rattle.task_program.proofs.Shapes.{and_left, and_right}
 use Rattle.task_program.proofs.Found.{same_text, type_is, is_depend, is_end, or_true_right}
 
 -- ---- one token more
@@ -450,14 +451,6 @@ version_limits text number value =
     same_table (is_value_too_large false text) (is_too_deep 0 text) (is_task_past false 0 text) (is_segment_past false 1 text) (nat_lt most_items 0) (is_work_past false 0 text)
     false false false false false false
     (rw (number, value) refl) (deep_off 0 text (other_text is_number text (codes "{") number refl)) (rw task refl) (rw (task, wait, group) refl) refl (rw (number, value) refl)
-
-and_left : (a b : Bool) → (a && b) ≡ true → a ≡ true
-and_left true b h = refl
-and_left false b h = h
-
-and_right : (a b : Bool) → (a && b) ≡ true → b ≡ true
-and_right true b h = h
-and_right false b h = absurd cc
 
 -- the header passes no limit
 pub header_limits : (place : Place) (text : List ℕ) → is_past_header place ≡ false → is_header place text ≡ true → limit_fault_after [] text ≡ None
