@@ -1,14 +1,14 @@
 -- The simulation from its first moment to its last.
-use Rattle.std.proofs.Common.{◌≡◌, ℕ, zero, suc, ◌+◌, ◌-◌, ◌<◌, ◌≤◌, ◌⊎◌, inl, inr, false, List, [], ◌∷◌, length, sum, count_by, refl, sym, ap, ◌∙◌, arith, get_or, set, Contains, Option, Some, None, get_or-set_same, get_or-set_other, length-set, subst, nat_lt, replicate}
-use Rattle.std.proofs.lemmas.Bool.{cases_lt, cases_eq, lt-ltb, le-ltb}
+use Rattle.std.proofs.Common.{◌≡◌, ℕ, ◌+◌, ◌-◌, ◌<◌, ◌≤◌, inl, inr, false, List, [], ◌∷◌, length, sum, count_by, refl, sym, ap, ◌∙◌, arith, get_or, Contains, Option, None, subst, nat_lt, replicate}
+use Rattle.std.proofs.lemmas.Bool.{cases_lt, lt-ltb, le-ltb}
 use Rattle.std.proofs.lemmas.List.{get_or_default, get_or_past, get_or-replicate, length-replicate}
-use Rattle.std.proofs.lemmas.List.Sums.{sum_by-cons, sum_by-set, get_or-le-sum_by, count_by-le-length}
+use Rattle.std.proofs.lemmas.List.Sums.{sum_by-cons, get_or-le-sum_by, count_by-le-length}
 use Rattle.task_segments.specs.Schedule.{at, end_of}
-use Rattle.greedy_sim.specs.Greedy.{runs_at, running, ReadyBy, IsFree, IsThreadOf, IsGreedyRun}
+use Rattle.greedy_sim.specs.Greedy.{running, ReadyBy, IsGreedyRun}
 use Rattle.task_segments.specs.StartsAndTails.{IsAscending}
 use Rattle.greedy_sim.specs.Simulation.{IsSimulated, never}
 use Rattle.task_segments.proofs.Schedules.{end_of-covers, end_of-least}
-use Rattle.greedy_sim.proofs.Sums.{strong, one_if, runs_yes, runs_before, runs_after, total-le, total-same, total-running-le, running_none, running_never, count_by-same, count_by-all, count_by-some}
+use Rattle.greedy_sim.proofs.Sums.{strong, total-le, total-same, total-running-le, running_none, running_never, count_by-same, count_by-all, count_by-some}
 use Rattle.greedy_sim.proofs.Passing.{thread_at, not_both}
 
 -- the moment is no later than the work
