@@ -23,3 +23,7 @@ pub mod GivenRuns
 pub mod Complete
 pub mod Carried
 pub mod Once
+pub mod Decisions
+pub mod DecidedEdges
+pub mod SomeGraph
+pub mod FirstRefused

@@ -19,7 +19,7 @@ first_or_later event history x worker s e (suc k, within, is) =
 finished_first : (event : Event) (history : List Event) (s : ℕ) (h : HasFinished (event ∷ history) s) → (event ≡ Finish h.worker s) ⊎ HasFinished history s
 finished_first event history s h = first_or_later event history (Finish h.worker s) h.worker s refl h.finished
 
-decide_finished : (history : List Event) (s : ℕ) → HasFinished history s ⊎ (¬ HasFinished history s)
+pub decide_finished : (history : List Event) (s : ℕ) → HasFinished history s ⊎ (¬ HasFinished history s)
 decide_finished [] s = inr (λ h. absurd (let within = h.finished.1 in omega arith))
 decide_finished (Start worker t ∷ history) s =
     elim (decide_finished history s) [

@@ -1,14 +1,18 @@
 //! Laws of runs.
-ghost use Rattle.std.specs.Prelude.{ℕ, List, ◌≡◌, ◌<◌, ◌↔◌, length, Some, slice_get};
-ghost use Rattle.task_segments.specs.Table.{Table};
-ghost use Rattle.task_segments.specs.Precedence.{MustPrecede};
+ghost use Rattle.std.specs.Prelude.{ℕ, List, ◌≡◌, ◌<◌, ◌↔◌, ◌⊎◌, length, Some, slice_get};
+ghost use Rattle.task_program.specs.ProgramText.{ProgramText};
+ghost use Rattle.task_program.specs.Programs.{IsProgram};
+ghost use Rattle.task_segments.specs.Table.{Table, table_of};
+ghost use Rattle.task_segments.specs.Precedence.{IsSegment, MustPrecede};
 ghost use Rattle.task_segments.specs.Schedule as schedule;
 ghost use Rattle.depend_table.specs.Kept.{IsKeptEdge};
 ghost use Rattle.dispatch_core.specs.declared.event.Event.{Event};
 ghost use Rattle.dispatch_core.specs.Graph.{IsGraphOf};
 ghost use Rattle.dispatch_core.specs.Recorded.{Recorded, Precedes};
 ghost use Rattle.dispatch_core.specs.Run.{Runs, IsFinished, IsReady, IsLegal, IsRunning};
+ghost use Rattle.dispatch_core.specs.Replays.{IsFirstRefused};
 ghost use Rattle.dispatch_core.specs.Values.{IsValue, IsInput};
+ghost use Rattle.dispatch_core.specs.declared.replay.ReplayRefusal.{ReplayRefusal};
 
 use crate::facts::sound;
 use task_segments::table::SegTable;
@@ -29,6 +33,17 @@ pub fn one_value()
 /// A program has one graph: two finished runs of it record the same.
 pub fn one_graph()
     ensures { (table : Table) (one other : Recorded) → IsGraphOf table one → IsGraphOf table other → one ≡ other }
+{}
+
+/// And each program has a graph.
+pub fn some_graph()
+    ensures { (program : ProgramText) → IsProgram program → (graph : Recorded) × IsGraphOf (table_of program.marks) graph }
+{}
+
+/// And each segment of a program has a value, whatever the kernel.
+pub fn some_value()
+    ensures { (program : ProgramText) → IsProgram program → (value_of : ℕ → ℕ → ℕ → ℕ) (s : ℕ)
+        → IsSegment (table_of program.marks) s → (value : ℕ) × IsValue (table_of program.marks) value_of s value }
 {}
 
 /// What runs in a legal history runs on one of 64 workers, is a segment, is open, and all that must precede it is
@@ -57,3 +72,9 @@ pub fn same_schedules(table: &SegTable)
 {
     sound(table);
 }
+
+/// A list of events is legal, or one of them is the first that is refused.
+pub fn some_refusal()
+    ensures { (program : ProgramText) → IsProgram program → (events : List Event) → IsLegal (table_of program.marks) events
+        ⊎ ((index : ℕ) × (why : ReplayRefusal) × IsFirstRefused (table_of program.marks) events index why) }
+{}

@@ -1,8 +1,9 @@
 -- Each words and input have a report.
 use Rattle.std.proofs.Common.{ℕ, zero, suc, ◌+◌, ◌<◌, ◌≤◌, ◌≡◌, ◌⊎◌, ◌∙◌, ◌^◌, Bool, true, false, List, [], ◌∷◌, ◌++◌, Option, Some, None, Result, Ok, Err, length, sum, get_or, refl, sym, subst, arith, inl, inr}
 use Rattle.std.specs.Prelude.{if◌then◌else◌, nat_le, nat_lt}
-use Rattle.std.proofs.lemmas.Bool.{cases_lt, ltb-false}
+use Rattle.std.proofs.lemmas.Bool.{both_ways, cases_lt, ltb-false}
 use Rattle.std.proofs.lemmas.List.{get_or_append_left, get_or_push, length-set, length_push}
+use Rattle.std.proofs.lemmas.Option.{get_or_from_slice_get, slice_get_within}
 use Rattle.command_words.specs.Request.{request_of}
 use Rattle.command_words.specs.declared.changes.Change.{Change}
 use Rattle.command_words.specs.declared.request.Request.{Request}
@@ -23,28 +24,33 @@ use Rattle.task_segments.specs.Table.{Table, costs_of, table_of}
 use Rattle.depend_table.proofs.Chains.{edge_reaches}
 use Rattle.depend_table.specs.Kept.{IsKeptEdge}
 use Rattle.dispatch_core.proofs.Ends.{graph_of_program}
+use Rattle.dispatch_core.specs.Facts.{IsSoundTable}
 use Rattle.dispatch_core.specs.Graph.{IsGraphOf}
 use Rattle.dispatch_core.specs.Mix.{mix_value}
 use Rattle.dispatch_core.specs.Recorded.{IsGraph, Precedes, Recorded}
+use Rattle.dispatch_core.specs.Values.{IsValue}
 use Rattle.greedy_sim.proofs.Existence.{some_run}
 use Rattle.greedy_sim.specs.Greedy.{IsCurve, IsGreedyEnd, IsGreedyRun}
 use Rattle.span_analysis.proofs.Existence.{earliest_exists}
 use Rattle.span_analysis.proofs.PassSteps.{IsAscending-graph}
+use Rattle.span_cert.proofs.SomeVerdict.{some_verdict}
 use Rattle.span_cert.specs.Analysed.{claim_of}
+use Rattle.span_cert.specs.OneVerdict.{Judges, is_verdict}
 use Rattle.span_cert.specs.Written.{certificate}
+use Rattle.span_cert.specs.declared.checker.Checked.{Checked}
+use Rattle.span_cert.specs.declared.fault.CheckFault.{CheckFault}
 use Rattle.whatif_costs.specs.Changed.{changed, refusal_of}
 use Rattle.whatif_costs.specs.declared.fault.WhatFault.{WhatFault}
 use Rattle.whatif_costs.specs.declared.fault.WhatFault.TheVariants.{CostTooLarge, UnknownSegment, WorkTooLarge}
 use Rattle.worker_run.specs.AllValues.{AreAllValues}
 use Rattle.worker_run.specs.Answer.{IsWorkerCount}
-use Rattle.spanprof_command.proofs.Decisions.{IsDecided, alike, decide_both, decide_most}
+use Rattle.dispatch_core.proofs.Decisions.{IsDecided, alike, decide_both, decide_most}
 use Rattle.spanprof_command.proofs.OneReport.{measured}
 use Rattle.spanprof_command.proofs.SomeAnalysis.{IsAnalysed, some_analysed}
-use Rattle.spanprof_command.proofs.SomeGraph.{IsWhole, some_graph, some_values, tree_fits, whole_table}
+use Rattle.dispatch_core.proofs.SomeGraph.{AreFirstValues, IsWhole, first_values, some_graph, tree_fits, whole_table}
 use Rattle.spanprof_command.proofs.SomeReplay.{some_said}
-use Rattle.spanprof_command.proofs.SomeVerdict.{some_check}
 use Rattle.spanprof_command.proofs.TriedSpans.{tells_trial}
-use Rattle.spanprof_command.specs.Certificates.{Certifies}
+use Rattle.spanprof_command.specs.Certificates.{AnswersCheck, Certifies, accepted, check_refused}
 use Rattle.spanprof_command.specs.GreedyRuns.{Curves, GreedyRuns, IsThreadCount, curve_header, curve_row, greedy_header, greedy_row, thread_count}
 use Rattle.spanprof_command.specs.OnProgram.{OnProgram}
 use Rattle.spanprof_command.specs.Report.{Output, input_too_long, refused, wrong_words}
@@ -98,7 +104,34 @@ some_certificate program whole =
       record { graph = analysed.graph; found = analysed.found; are_analysed = analysed.are_analysed; says = refl },
     )
 
+-- ---- check
+
+told_verdict : (document : List ℕ) (verdict : Result Checked CheckFault) → is_verdict verdict ≡ true → Judges document verdict
+    → (output : Output) × AnswersCheck document output
+told_verdict document (Ok checked) is judges = (accepted checked, inl (record { checked = checked; accepts = judges; says = refl }))
+told_verdict document (Err why) is judges =
+    let P : CheckFault → Type 0 = λ w. is_verdict (Err w) ≡ true in
+    (check_refused why, inr (record { why = why; refuses = judges; not_memory = λ e. both_ways false refl (subst P e is); says = refl }))
+
+some_check : (document : List ℕ) → (output : Output) × AnswersCheck document output
+some_check document = let verdict = some_verdict document in told_verdict document verdict.0 verdict.1 verdict.2
+
 -- ---- run
+
+all_values : (table : Table) (value_of : ℕ → ℕ → ℕ → ℕ) → IsSoundTable table → (values : List ℕ) × AreAllValues table value_of values
+all_values table value_of sound =
+    let n : ℕ = length table.segments in
+    let all : (values : List ℕ) × AreFirstValues table value_of n values = first_values table value_of sound n (omega arith) in (
+      all.0,
+      record {
+        each = all.1.each;
+        are_values = λ s value is.
+            let within : s < length all.0 = slice_get_within all.0 s value is in
+            let same : get_or all.0 s 0 ≡ value = get_or_from_slice_get all.0 s value 0 is in
+            let each = all.1.each in
+            subst (λ (v : ℕ). IsValue table value_of s v) same (all.1.are s (omega (arith, within, each)));
+      },
+    )
 
 decide_workers : (workers : ℕ) → IsDecided (IsWorkerCount workers)
 decide_workers workers =
@@ -112,7 +145,7 @@ some_worker_run workers program whole =
       | inr outside ↦ (worker_count, inl (record { outside = outside; says = refl }))
       | inl within ↦
           let graph : (graph : Recorded) × IsGraphOf table graph = some_graph table whole.sound in
-          let values : (values : List ℕ) × AreAllValues table mix_value values = some_values table mix_value whole.sound in
+          let values : (values : List ℕ) × AreAllValues table mix_value values = all_values table mix_value whole.sound in
           (run_told graph.0 values.0, inr (record { within = within; graph = graph.0; is_graph_of = graph.1; values = values.0; are_values = values.1; says = refl }))
     ]
 

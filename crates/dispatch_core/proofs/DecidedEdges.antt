@@ -16,7 +16,7 @@ use Rattle.depend_table.specs.Kept.{IsKeptEdge, KeptDependence, KeptGroupEnd, Ke
 use Rattle.depend_table.specs.Siblings.{IsAmong, IsKept, Sibling, conflict_at, rank}
 use Rattle.depend_table.specs.Siblings.IsAmong.{Below as Older, Newest}
 use Rattle.dispatch_core.proofs.Edges.{kept_sibling}
-use Rattle.spanprof_command.proofs.Decisions.{IsDecided, alike, decide_below, decide_both, decide_each, decide_either, decide_held, decide_implies, decide_less, decide_most, decide_options, decide_same, decide_some, decide_true}
+use Rattle.dispatch_core.proofs.Decisions.{IsDecided, alike, decide_below, decide_both, decide_each, decide_either, decide_held, decide_implies, decide_less, decide_most, decide_options, decide_same, decide_some, decide_true}
 
 decide_waits : (closing : Closing) → IsDecided (closing ≡ Waits)
 decide_waits (Creates child) = inr (λ e. cc)

@@ -2,7 +2,6 @@
 use Rattle.std.proofs.Common.{ℕ, zero, suc, ◌<◌, ◌≤◌, ◌≡◌, ◌∙◌, ◌%◌, ◌^◌, List, [], ◌∷◌, ◌++◌, length, get_or, refl, sym, subst, arith, inl, inr, sum_by}
 use Rattle.std.proofs.lemmas.Bool.{cases_lt}
 use Rattle.std.proofs.lemmas.List.{get_or_append_left, get_or_push, length_push}
-use Rattle.std.proofs.lemmas.Option.{get_or_from_slice_get, slice_get_within}
 use Rattle.task_program.specs.ProgramText.{ProgramText}
 use Rattle.task_program.specs.Programs.{IsProgram}
 use Rattle.task_program.specs.Trees.{HasTree, HasTreeIn}
@@ -15,7 +14,7 @@ use Rattle.task_segments.proofs.Reaches.{joined, one}
 use Rattle.task_segments.proofs.SameSchedules.{same_joined}
 use Rattle.task_segments.proofs.Work.{little_work}
 use Rattle.task_segments.specs.Nesting.{IsGroupedTable, IsNestedTable}
-use Rattle.task_segments.specs.Precedence.{MustPrecede}
+use Rattle.task_segments.specs.Precedence.{IsSegment, MustPrecede}
 use Rattle.task_segments.specs.Programs.{IsProgramTable}
 use Rattle.task_segments.specs.Table.{Table, costs_of, segment, table_of}
 use Rattle.depend_table.proofs.Chains.{edge_reaches, kept_within}
@@ -27,9 +26,8 @@ use Rattle.dispatch_core.specs.Graph.{IsGraphOf}
 use Rattle.dispatch_core.specs.Recorded.{Recorded}
 use Rattle.dispatch_core.specs.Values.{IsValue}
 use Rattle.dispatch_core.specs.Values.IsValue.{Computes}
-use Rattle.worker_run.specs.AllValues.{AreAllValues}
-use Rattle.spanprof_command.proofs.DecidedEdges.{decide_kept_edge}
-use Rattle.spanprof_command.proofs.Decisions.{some_list}
+use Rattle.dispatch_core.proofs.DecidedEdges.{decide_kept_edge}
+use Rattle.dispatch_core.proofs.Decisions.{some_list}
 
 fits_in : (version : Version) (text : List ℕ) (program : ProgramText) → HasTreeIn version text program → IsProgram program
 fits_in One text program h = h.program_fits
@@ -112,11 +110,12 @@ some_graph table sound =
 
 -- ---- the values
 
-record AreFirstValues (table : Table) (value_of : ℕ → ℕ → ℕ → ℕ) (n : ℕ) (values : List ℕ) : Type 0 where
-  each : length values ≡ n
-  are : (s : ℕ) → s < n → IsValue table value_of s (get_or values s 0)
+-- the values of the first n segments
+pub record AreFirstValues (table : Table) (value_of : ℕ → ℕ → ℕ → ℕ) (n : ℕ) (values : List ℕ) : Type 0 where
+  pub each : length values ≡ n
+  pub are : (s : ℕ) → s < n → IsValue table value_of s (get_or values s 0)
 
-first_values : (table : Table) (value_of : ℕ → ℕ → ℕ → ℕ) → IsSoundTable table → (n : ℕ) → n ≤ length table.segments
+pub first_values : (table : Table) (value_of : ℕ → ℕ → ℕ → ℕ) → IsSoundTable table → (n : ℕ) → n ≤ length table.segments
     → (values : List ℕ) × AreFirstValues table value_of n values
 first_values table value_of sound zero all = ([], record { each = refl; are = λ s less. absurd (omega (arith, less)) })
 first_values table value_of sound (suc n) all =
@@ -143,15 +142,13 @@ first_values table value_of sound (suc n) all =
       },
     )
 
-pub some_values : (table : Table) (value_of : ℕ → ℕ → ℕ → ℕ) → IsSoundTable table → (values : List ℕ) × AreAllValues table value_of values
-some_values table value_of sound =
-    let all : (values : List ℕ) × AreFirstValues table value_of (length table.segments) values = first_values table value_of sound (length table.segments) (omega arith) in (
-      all.0,
-      record {
-        each = all.1.each;
-        are_values = λ s value there.
-            let within : s < length all.0 = slice_get_within all.0 s value there in
-            let same : get_or all.0 s 0 ≡ value = get_or_from_slice_get all.0 s value 0 there in
-            subst (λ (v : ℕ). IsValue table value_of s v) same (all.1.are s (omega (arith, within, all.1.each)));
-      },
-    )
+pub some_graph_of : (program : ProgramText) → IsProgram program → (graph : Recorded) × IsGraphOf (table_of program.marks) graph
+some_graph_of program is = some_graph (table_of program.marks) (whole_table program is).sound
+
+pub some_value_of : (program : ProgramText) → IsProgram program → (value_of : ℕ → ℕ → ℕ → ℕ) (s : ℕ) → IsSegment (table_of program.marks) s
+    → (value : ℕ) × IsValue (table_of program.marks) value_of s value
+some_value_of program is value_of s known =
+    let table : Table = table_of program.marks in
+    let n : ℕ = length table.segments in
+    let all : (values : List ℕ) × AreFirstValues table value_of n values = first_values table value_of (whole_table program is).sound n (omega arith) in
+    (get_or all.0 s 0, all.1.are s known)

@@ -1,5 +1,5 @@
 -- Each document has a verdict: the claim holds, or some test is the first that fails.
-use Rattle.std.proofs.Common.{ℕ, zero, suc, ◌+◌, ◌-◌, ◌<◌, ◌≤◌, ◌≡◌, ◌≢◌, ◌⊎◌, ◌∙◌, List, [], ◌∷◌, Option, Some, None, Result, Ok, Err, length, get_or, take, refl, sym, ap, subst, arith, inl, inr}
+use Rattle.std.proofs.Common.{true, ℕ, zero, suc, ◌+◌, ◌-◌, ◌<◌, ◌≤◌, ◌≡◌, ◌≢◌, ◌⊎◌, ◌∙◌, List, [], ◌∷◌, Option, Some, None, Result, Ok, Err, length, get_or, take, refl, sym, ap, subst, arith, inl, inr}
 use Rattle.std.specs.List.{range_with_len}
 use Rattle.std.proofs.lemmas.Bool.{cases_lt}
 use Rattle.std.proofs.lemmas.List.{get_or_default, take_all}
@@ -21,6 +21,7 @@ use Rattle.span_cert.proofs.Counting.{bad_step, count_of, length-moments, one_li
 use Rattle.span_cert.proofs.Spelling.{reads_spelled, spelled_reads}
 use Rattle.span_cert.specs.Certificates.{Claims, HasClaim, IsChecked}
 use Rattle.span_cert.specs.Claims.{Claim, HasForm, moments, segments_of, word_says}
+use Rattle.span_cert.specs.OneVerdict.{Judges, is_verdict}
 use Rattle.span_cert.specs.Steps.{Progress, begin, step}
 use Rattle.span_cert.specs.Tests.{Fails, FirstBadStep, FirstBroken, IsBroken, IsCounted, IsKept, checked_of}
 use Rattle.span_cert.specs.declared.checker.Checked.{Checked}
@@ -28,11 +29,9 @@ use Rattle.span_cert.specs.declared.claim.Expected.{Expected}
 use Rattle.span_cert.specs.declared.claim.Expected.TheVariants as expected
 use Rattle.span_cert.specs.declared.fault.CheckFault.{CheckFault}
 use Rattle.span_cert.specs.declared.fault.CheckFault.TheVariants as fault
-use Rattle.spanprof_command.proofs.DecidedEdges.{decide_precedes}
-use Rattle.spanprof_command.proofs.Decisions.{IsDecided, alike, decide_below, decide_both, decide_each, decide_less, decide_same, find_first}
-use Rattle.spanprof_command.proofs.SomeGraph.{IsWhole, tree_fits, whole_table}
-use Rattle.spanprof_command.specs.Certificates.{AnswersCheck, accepted, check_refused}
-use Rattle.spanprof_command.specs.Report.{Output}
+use Rattle.dispatch_core.proofs.DecidedEdges.{decide_precedes}
+use Rattle.dispatch_core.proofs.Decisions.{IsDecided, alike, decide_below, decide_both, decide_each, decide_less, decide_same, find_first}
+use Rattle.dispatch_core.proofs.SomeGraph.{IsWhole, tree_fits, whole_table}
 
 -- ---- the form
 
@@ -192,46 +191,43 @@ verdict_on table claim sound some =
 
 -- ---- the verdict on a document
 
-refuses_claim : (document : List ℕ) (why : CheckFault) → Claims document (λ table claim. Fails table claim why) → why ≢ fault.OutOfMemory → (output : Output) × AnswersCheck document output
-refuses_claim document fault.WrongCount h other = (check_refused fault.WrongCount, inr (record { why = fault.WrongCount; refuses = h; not_memory = other; says = refl }))
-refuses_claim document (fault.Broken s t) h other = (check_refused (fault.Broken s t), inr (record { why = fault.Broken s t; refuses = h; not_memory = other; says = refl }))
-refuses_claim document fault.EndWrong h other = (check_refused fault.EndWrong, inr (record { why = fault.EndWrong; refuses = h; not_memory = other; says = refl }))
-refuses_claim document (fault.ChainStep s t) h other = (check_refused (fault.ChainStep s t), inr (record { why = fault.ChainStep s t; refuses = h; not_memory = other; says = refl }))
-refuses_claim document fault.ChainSum h other = (check_refused fault.ChainSum, inr (record { why = fault.ChainSum; refuses = h; not_memory = other; says = refl }))
+abbrev HasVerdict : List ℕ → Type 0
+HasVerdict document = (verdict : Result Checked CheckFault) × (is_verdict verdict ≡ true) × Judges document verdict
+
+refuses_claim : (document : List ℕ) (why : CheckFault) → Claims document (λ table claim. Fails table claim why) → why ≢ fault.OutOfMemory → HasVerdict document
+refuses_claim document fault.WrongCount h other = (Err fault.WrongCount, refl, h)
+refuses_claim document (fault.Broken s t) h other = (Err (fault.Broken s t), refl, h)
+refuses_claim document fault.EndWrong h other = (Err fault.EndWrong, refl, h)
+refuses_claim document (fault.ChainStep s t) h other = (Err (fault.ChainStep s t), refl, h)
+refuses_claim document fault.ChainSum h other = (Err fault.ChainSum, refl, h)
 refuses_claim document fault.OutOfMemory h other = absurd (other refl)
 refuses_claim document fault.BadForm h other = absurd h.says
 refuses_claim document (fault.BadProgram read) h other = absurd h.says
 
-checks_claim : (document : List ℕ) (program : ProgramText) (claim : Claim) → HasTree (program_part document) program → HasClaim document claim → (output : Output) × AnswersCheck document output
+checks_claim : (document : List ℕ) (program : ProgramText) (claim : Claim) → HasTree (program_part document) program → HasClaim document claim → HasVerdict document
 checks_claim document program claim tree has =
     let table : Table = table_of program.marks in
     let whole : IsWhole table = whole_table program (tree_fits (program_part document) program tree) in
     elim (verdict_on table claim whole.sound has.has_form.some) [
-      | inl good ↦ (
-        accepted good.0,
-        inl (record { checked = good.0; accepts = record { program = program; tree = tree; claim = claim; has_claim = has; says = good.1 }; says = refl }),
-      )
+      | inl good ↦ (Ok good.0, refl, record { program = program; tree = tree; claim = claim; has_claim = has; says = good.1 })
       | inr bad ↦ refuses_claim document bad.0 (record { program = program; tree = tree; claim = claim; has_claim = has; says = bad.1 }) bad.2
     ]
 
-bad_form : (document : List ℕ) (program : ProgramText) → HasTree (program_part document) program → ((claim : Claim) → ¬ HasClaim document claim) → (output : Output) × AnswersCheck document output
-bad_form document program tree none =
-    (check_refused fault.BadForm, inr (record { why = fault.BadForm; refuses = record { program = program; tree = tree; none = none }; not_memory = λ e. cc; says = refl }))
-
-checks_rest : (document : List ℕ) (program : ProgramText) (rest : Option (List ℕ)) → rest_part document ≡ rest → HasTree (program_part document) program
-    → (output : Output) × AnswersCheck document output
-checks_rest document program None is tree = bad_form document program tree (λ claim h. none-some h.text (sym is ∙ h.is_text))
+checks_rest : (document : List ℕ) (program : ProgramText) (rest : Option (List ℕ)) → rest_part document ≡ rest → HasTree (program_part document) program → HasVerdict document
+checks_rest document program None is tree =
+    (Err fault.BadForm, refl, record { program = program; tree = tree; none = λ claim h. none-some h.text (sym is ∙ h.is_text) })
 checks_rest document program (Some text) is tree = elim (form_or_none text) [
   | inl form ↦ checks_claim document program form.0 tree (record { text = text; is_text = is; has_form = form.1 })
-  | inr none ↦ bad_form document program tree (λ claim h.
+  | inr none ↦
+      let other : (claim : Claim) → ¬ HasClaim document claim = λ claim h.
       let same : h.text ≡ text = same_Some h.text text (sym h.is_text ∙ is) in
-      none claim (subst (λ (t : List ℕ). HasForm t claim) same h.has_form))
+      none claim (subst (λ (t : List ℕ). HasForm t claim) same h.has_form) in
+      (Err fault.BadForm, refl, record { program = program; tree = tree; none = other })
 ]
 
-checks_read : (document : List ℕ) (read : Result ProgramText ReadFault) → program_of (program_part document) ≡ read → (output : Output) × AnswersCheck document output
+checks_read : (document : List ℕ) (read : Result ProgramText ReadFault) → program_of (program_part document) ≡ read → HasVerdict document
 checks_read document (Ok program) is = checks_rest document program (rest_part document) refl (found_tree_of (program_part document) program is)
-checks_read document (Err why) is =
-    (check_refused (fault.BadProgram why), inr (record { why = fault.BadProgram why; refuses = is; not_memory = λ e. cc; says = refl }))
+checks_read document (Err why) is = (Err (fault.BadProgram why), refl, is)
 
-pub some_check : (document : List ℕ) → (output : Output) × AnswersCheck document output
-some_check document = checks_read document (program_of (program_part document)) refl
+pub some_verdict : (document : List ℕ) → HasVerdict document
+some_verdict document = checks_read document (program_of (program_part document)) refl
