@@ -1,6 +1,5 @@
 //! Worked runs, as the rules of tasks give them by hand.
 mod graphs;
-mod memory;
 mod runs;
 
 use crate::dispatch::Core;

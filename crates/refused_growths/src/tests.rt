@@ -9,6 +9,7 @@ mod schedules;
 mod supply;
 mod texts;
 
+use commands::Command;
 use std::alloc::AllocGlobal;
 use std::process::Abort;
 use std::sync::Wait;
@@ -36,7 +37,7 @@ enum Calls {
     Check,
     Lane,
     Run { workers: u32 },
-    Command { place: usize },
+    Of(Command),
 }
 
 fn make<H: AllocGlobal + Threads + Wait + Abort + Sync>(
@@ -61,14 +62,23 @@ fn make<H: AllocGlobal + Threads + Wait + Abort + Sync>(
         Calls::Check => certificates::checked(rt, supply),
         Calls::Lane => runs::lane_of_two(rt, supply),
         Calls::Run { workers } => runs::recorded(rt, supply, workers),
-        Calls::Command { place } => commands::report(rt, supply, place),
+        Calls::Of(command) => commands::report(rt, supply, command),
     }
 }
 
-/// How many bytes more are left at each turn, and how many turns there are at most.
-const STEP: usize = 16;
+/// What is left at a turn: 32 bytes more at each, since no growth takes less, and twice as much at each of the last ones, which
+/// have room for the stacks of threads.
+fn left_at(turn: usize) -> usize {
+    if turn < SMALL_TURNS {
+        32 * turn
+    } else {
+        (32 * SMALL_TURNS) << (turn - SMALL_TURNS).min(13)
+    }
+}
 
-const TURNS: usize = 1 << 16;
+const SMALL_TURNS: usize = 2048;
+
+const TURNS: usize = SMALL_TURNS + 14;
 
 /// Makes the calls with ample memory, then with none, and then with a little more at each turn, until no growth is refused.
 fn refuse_each<H: AllocGlobal + Threads + Wait + Abort + Sync>(
@@ -85,7 +95,7 @@ fn refuse_each<H: AllocGlobal + Threads + Wait + Abort + Sync>(
     let mut refusals = 0usize;
     let mut is_enough = false;
     for turn in 0..TURNS {
-        supply.leave(STEP * turn);
+        supply.leave(left_at(turn));
         make(rt, calls, &mut supply)?;
         if !supply.was_refused() {
             is_enough = true;

@@ -1,5 +1,4 @@
 //! Worked programs: their tables and the pairs that must precede, as the rules of tasks give them by hand.
-mod memory;
 
 use crate::cutter::cut;
 use crate::table::{Closing, SegTable};

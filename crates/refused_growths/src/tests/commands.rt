@@ -23,8 +23,20 @@ const WORKED: &str = "omptasks 1\nwork 5 task { work 3 } work 2 taskwait work 1\
 const LOGGED: &str =
     "omptasks 1\nwork 5 task { work 3 } work 2 taskwait work 1\n---\nstart 0 0\nfinish 0 0\nstart 0 2\nfinish 0 2\nstart 1 1\nfinish 1 1\nstart 0 3\nfinish 0 3\n";
 
-/// How many commands there are.
-pub(super) const COMMANDS: usize = 10;
+/// Each command.
+#[derive(Clone, Copy)]
+pub(super) enum Command {
+    Span,
+    Show,
+    Slack,
+    Greedy,
+    Curve,
+    WhatIf,
+    Certify,
+    Run,
+    Check,
+    Replay,
+}
 
 fn on_worked(words: &'static [&'static str], text: &'static str) -> Example {
     Example {
@@ -34,56 +46,54 @@ fn on_worked(words: &'static [&'static str], text: &'static str) -> Example {
     }
 }
 
-fn examples() -> [Example; COMMANDS] {
-    [
-        on_worked(&["spanprof", "span"], "segments 4\nwork 11\nspan 9\n"),
-        on_worked(
+fn example_of(command: Command) -> Example {
+    match command {
+        Command::Span => on_worked(&["spanprof", "span"], "segments 4\nwork 11\nspan 9\n"),
+        Command::Show => on_worked(
             &["spanprof", "show"],
             "omptasks 1\nwork 5\ntask {\nwork 3\n}\nwork 2\ntaskwait\nwork 1\n",
         ),
-        on_worked(
+        Command::Slack => on_worked(
             &["spanprof", "slack"],
             "segment,task,cost,start,slack,chain\n0,0,5,0,0,1\n1,1,3,5,0,1\n2,0,2,5,1,0\n3,0,1,8,0,1\n",
         ),
-        on_worked(
+        Command::Greedy => on_worked(
             &["spanprof", "greedy", "--threads", "2"],
             "segment,start,end,thread\n0,0,5,0\n1,5,8,0\n2,5,7,1\n3,8,9,0\n",
         ),
-        on_worked(
+        Command::Curve => on_worked(
             &["spanprof", "curve", "--upto", "2"],
             "threads,end,least,bound\n1,11,11,11\n2,9,9,10\n",
         ),
-        on_worked(
+        Command::WhatIf => on_worked(
             &["spanprof", "whatif", "2=4", "1=5"],
             "work 15\nspan 11\nwas 9\n",
         ),
-        on_worked(&["spanprof", "certify"], CERTIFICATE),
-        on_worked(
+        Command::Certify => on_worked(&["spanprof", "certify"], CERTIFICATE),
+        Command::Run => on_worked(
             &["spanprof", "run", "--workers", "2"],
             "segments 4\nedges 4\ndigest 704969\npreds 0\npreds 1 0\npreds 2 0\npreds 3 1 2\n",
         ),
-        Example {
+        Command::Check => Example {
             words: &["spanprof", "check"],
             input: CERTIFICATE,
             text: "accepted\nsegments 4\nend 9\n",
         },
-        Example {
+        Command::Replay => Example {
             words: &["spanprof", "replay"],
             input: LOGGED,
             text: "events 8\nfinished 4\npreds 0\npreds 1 0\npreds 2 0\npreds 3 1 2\n",
         },
-    ]
+    }
 }
 
 /// A command writes its text, or the one line that tells of memory.
 pub(super) fn report<H: AllocGlobal + Threads + Wait + Abort + Sync>(
     rt: &H,
     supply: &mut Supply,
-    place: usize,
+    asked: Command,
 ) -> Result<(), Fail> {
-    let Some(Example { words, input, text }) = examples().get(place).copied() else {
-        return Ok(());
-    };
+    let Example { words, input, text } = example_of(asked);
     let line = command_line(rt.alloc(), supply, words)?;
     let mut reader = Counted::new(input.as_bytes());
     let mut writer = empty_room();

@@ -1,5 +1,5 @@
 //! All growths are refused from one on, whichever it is.
-use super::commands::COMMANDS;
+use super::commands::Command;
 use super::{Calls, refuse_each};
 use std::test::Fail;
 
@@ -89,9 +89,51 @@ fn two_workers(rt: HostRuntime) -> Result<(), Fail> {
 }
 
 #[test]
-fn commands(rt: HostRuntime) -> Result<(), Fail> {
-    for place in 0..COMMANDS {
-        refuse_each(&rt, Calls::Command { place })?;
-    }
-    Ok(())
+fn command_span(rt: HostRuntime) -> Result<(), Fail> {
+    refuse_each(&rt, Calls::Of(Command::Span))
+}
+
+#[test]
+fn command_show(rt: HostRuntime) -> Result<(), Fail> {
+    refuse_each(&rt, Calls::Of(Command::Show))
+}
+
+#[test]
+fn command_slack(rt: HostRuntime) -> Result<(), Fail> {
+    refuse_each(&rt, Calls::Of(Command::Slack))
+}
+
+#[test]
+fn command_greedy(rt: HostRuntime) -> Result<(), Fail> {
+    refuse_each(&rt, Calls::Of(Command::Greedy))
+}
+
+#[test]
+fn command_curve(rt: HostRuntime) -> Result<(), Fail> {
+    refuse_each(&rt, Calls::Of(Command::Curve))
+}
+
+#[test]
+fn command_whatif(rt: HostRuntime) -> Result<(), Fail> {
+    refuse_each(&rt, Calls::Of(Command::WhatIf))
+}
+
+#[test]
+fn command_certify(rt: HostRuntime) -> Result<(), Fail> {
+    refuse_each(&rt, Calls::Of(Command::Certify))
+}
+
+#[test]
+fn command_run(rt: HostRuntime) -> Result<(), Fail> {
+    refuse_each(&rt, Calls::Of(Command::Run))
+}
+
+#[test]
+fn command_check(rt: HostRuntime) -> Result<(), Fail> {
+    refuse_each(&rt, Calls::Of(Command::Check))
+}
+
+#[test]
+fn command_replay(rt: HostRuntime) -> Result<(), Fail> {
+    refuse_each(&rt, Calls::Of(Command::Replay))
 }

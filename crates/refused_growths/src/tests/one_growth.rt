@@ -1,5 +1,5 @@
 //! One growth is refused, which `checks/refused_growths.py tests` does from outside: the first, the second, and so on.
-use super::commands::COMMANDS;
+use super::commands::Command;
 use super::supply::Supply;
 use super::{Calls, make};
 use std::alloc::AllocGlobal;
@@ -99,13 +99,87 @@ fn two_workers(rt: HostRuntime) -> Result<(), Fail> {
 }
 
 #[test]
-fn commands(rt: HostRuntime) -> Result<(), Fail> {
-    for place in 0..COMMANDS {
-        make(
-            &rt,
-            Calls::Command { place },
-            &mut Supply::ample(rt.alloc()),
-        )?;
-    }
-    Ok(())
+fn command_span(rt: HostRuntime) -> Result<(), Fail> {
+    make(
+        &rt,
+        Calls::Of(Command::Span),
+        &mut Supply::ample(rt.alloc()),
+    )
+}
+
+#[test]
+fn command_show(rt: HostRuntime) -> Result<(), Fail> {
+    make(
+        &rt,
+        Calls::Of(Command::Show),
+        &mut Supply::ample(rt.alloc()),
+    )
+}
+
+#[test]
+fn command_slack(rt: HostRuntime) -> Result<(), Fail> {
+    make(
+        &rt,
+        Calls::Of(Command::Slack),
+        &mut Supply::ample(rt.alloc()),
+    )
+}
+
+#[test]
+fn command_greedy(rt: HostRuntime) -> Result<(), Fail> {
+    make(
+        &rt,
+        Calls::Of(Command::Greedy),
+        &mut Supply::ample(rt.alloc()),
+    )
+}
+
+#[test]
+fn command_curve(rt: HostRuntime) -> Result<(), Fail> {
+    make(
+        &rt,
+        Calls::Of(Command::Curve),
+        &mut Supply::ample(rt.alloc()),
+    )
+}
+
+#[test]
+fn command_whatif(rt: HostRuntime) -> Result<(), Fail> {
+    make(
+        &rt,
+        Calls::Of(Command::WhatIf),
+        &mut Supply::ample(rt.alloc()),
+    )
+}
+
+#[test]
+fn command_certify(rt: HostRuntime) -> Result<(), Fail> {
+    make(
+        &rt,
+        Calls::Of(Command::Certify),
+        &mut Supply::ample(rt.alloc()),
+    )
+}
+
+#[test]
+fn command_run(rt: HostRuntime) -> Result<(), Fail> {
+    make(&rt, Calls::Of(Command::Run), &mut Supply::ample(rt.alloc()))
+}
+
+#[test]
+fn command_check(rt: HostRuntime) -> Result<(), Fail> {
+    make(
+        &rt,
+        Calls::Of(Command::Check),
+        &mut Supply::ample(rt.alloc()),
+    )
+}
+
+#[test]
+fn command_replay(rt: HostRuntime) -> Result<(), Fail> {
+    make(
+        &rt,
+        Calls::Of(Command::Replay),
+        &mut Supply::ample(rt.alloc()),
+    )
 }

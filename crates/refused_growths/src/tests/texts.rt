@@ -1,6 +1,4 @@
 //! Texts: programs, words, inputs and rows.
-ghost use Rattle.std.specs.Prelude.{◌≡◌};
-
 use super::supply::Supply;
 use command_io::{InputFault, read_input};
 use command_words::request::{Request, WordsFault, read_words};
@@ -8,14 +6,12 @@ use counted_io::Counted;
 use csv_table::Table;
 use std::alloc::{AllocError, AllocGlobal, Global};
 use std::process::Abort;
-use std::sync::Wait;
 use std::test::Fail;
-use std::thread::Threads;
 use task_program::fault::ReadKind;
 use task_program::print::print_program;
 use task_program::program::Program;
 use task_program::read::read_program;
-use task_program::statement::Items;
+use task_program::statement::{Items, Stmt};
 
 const TEXT: &[u8] =
     b"omptasks 1 work 1 task depend(in: a, b, c) depend(out: d, e, f) { taskgroup { taskwait taskwait taskwait taskwait taskwait } work 12 } task if(0) { }";
@@ -61,13 +57,30 @@ fn printed<H: AllocGlobal>(
     }
 }
 
-/// Programs of both versions are read and printed, and a fault is told.
+fn copied(supply: &mut Supply, items: &Items) -> Result<Items, Fail> {
+    match items.copy() {
+        Ok(copy) => Ok(copy),
+        Err(_) => {
+            supply.refused();
+            Ok(items.copy()?)
+        }
+    }
+}
+
+/// Programs of both versions are read and printed, a list of items is copied, and a fault is told.
 pub(super) fn program<H: AllocGlobal + Abort>(rt: &H, supply: &mut Supply) -> Result<(), Fail> {
     let alloc = rt.alloc();
     let program = program_of(rt, supply, TEXT)?;
     let text = printed(rt, supply, &program)?;
     assert_eq!(rt; text.as_slice(), CANONICAL);
-    assert_eq!(rt; (program.names(), program.body().len()), (6, 3));
+    let [Stmt::Work(1), Stmt::Task(task), Stmt::Task(_)] = program.body() else {
+        return Err(Fail::new("work and two tasks"));
+    };
+    let copy = copied(supply, &task.items)?;
+    assert_eq!(rt;
+        (program.names(), copy.as_slice()),
+        (6, task.items.as_slice())
+    );
     let looped = program_of(rt, supply, LOOPS)?;
     assert_eq!(rt; (looped.names(), looped.body().len()), (4, 3));
     let fault = match read_program(alloc, UNOPENED) {
@@ -133,21 +146,24 @@ pub(super) fn words<H: AllocGlobal + Abort>(rt: &H, supply: &mut Supply) -> Resu
     Ok(())
 }
 
+/// Longer than one read asks for.
+const LONG: &[u8] = &[b' '; 10_000];
+
 /// An input is read to its end.
 pub(super) fn input<H: AllocGlobal + Abort>(rt: &H, supply: &mut Supply) -> Result<(), Fail> {
     let alloc = rt.alloc();
     let mut retries = 0;
-    let mut reader = Counted::new(TEXT);
+    let mut reader = Counted::new(LONG);
     let bytes = match read_input(alloc, &mut reader, &mut retries) {
         Ok(bytes) => bytes,
         Err(fault) => {
             assert_eq!(rt; (fault, reader.faults()), (InputFault::OutOfMemory, 0));
             supply.refused();
-            let mut reader = Counted::new(TEXT);
+            let mut reader = Counted::new(LONG);
             read_input(alloc, &mut reader, &mut retries).map_err(|_| "refused twice")?
         }
     };
-    assert_eq!(rt; bytes.as_slice(), TEXT);
+    assert!(rt; bytes.as_slice() == LONG);
     Ok(())
 }
 
