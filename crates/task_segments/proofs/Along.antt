@@ -31,9 +31,11 @@ continued table nested s is_s less = by_closing (segment table s).closing refl
     by_closing EndsGroup e = (s + 1, nested.after_group s is_s e)
     by_closing EndsTask e = absurd (let last = nested.ends s is_s e in omega arith)
 
+-- a segment is of a task that there is
 pub is_owner : (table : Table) → IsNestedTable table → (u s : ℕ) → IsOf table u s → IsTask table u
 is_owner table nested u s a = subst (λ n. IsTask table n) a.of_task (nested.tasks s a.is_segment)
 
+-- a chain leads along a task from one of its segments to a later one
 pub along : (fuel : ℕ) (table : Table) → IsNestedTable table → (s t u : ℕ) → IsOf table u s → IsOf table u t → s ≤ t → t - s ≤ fuel → Reaches (Continues table) s t
 along zero table nested s t u a b h bound = let same : s ≡ t = omega arith in subst (Reaches (Continues table) s) same Stays
 along (suc fuel) table nested s t u a b h bound =
@@ -49,6 +51,7 @@ along (suc fuel) table nested s t u a b h bound =
           Goes next.1 (along fuel table nested next.0 t u (record { is_segment = next.1.is_to; of_task = next.1.same_task ∙ a.of_task }) b nearest (omega arith))
     ]
 
+-- the last segment of a task is of it
 pub is_last : (table : Table) → IsNestedTable table → (u : ℕ) → IsTask table u → IsOf table u (task table u).last
 is_last table nested u is_u =
     let whole = nested.segments u is_u in

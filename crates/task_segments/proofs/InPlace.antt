@@ -1,5 +1,5 @@
 -- A nested table with its groups is read in place.
-use Rattle.std.proofs.Common.{◌≡◌, ◌⊎◌, ℕ, zero, suc, ◌+◌, ◌-◌, ◌<◌, ◌≤◌, List, [], ◌∷◌, Option, Some, None, length, get_or, refl, sym, ap, subst, ◌∙◌, inl, inr, arith}
+use Rattle.std.proofs.Common.{◌≡◌, ◌⊎◌, ℕ, zero, suc, ◌+◌, ◌-◌, ◌<◌, ◌≤◌, Option, Some, None, length, refl, sym, ap, subst, ◌∙◌, inl, inr, arith}
 use Rattle.std.proofs.lemmas.Bool.{cases_lt}
 use Rattle.std.proofs.lemmas.Option.{same_Some}
 use Rattle.task_segments.specs.declared.table.Closing.{Closing}
@@ -10,35 +10,26 @@ use Rattle.task_segments.specs.Schedule.{IsJoined}
 use Rattle.task_segments.specs.Nesting.{IsChild, IsNestedTable, IsGroupedTable, HasInnermost}
 use Rattle.task_segments.specs.InPlace.{EndsBefore, IsOf, IsCreated, Opens, IsReadInPlace}
 use Rattle.task_segments.proofs.Reaches.{joined}
-use Rattle.task_segments.proofs.Along.{along, continued, next_is_nearest}
+use Rattle.task_segments.proofs.Along.{along, continued, next_is_nearest, is_owner, is_last}
 use Rattle.task_segments.proofs.Order.{after_child, after_created, continues_up, creator_within, last_of_all, next_is, none_next, not_root, not_root_made, one_next, reached, same_place, siblings_apart}
-
--- a number past the end has no parent and no creator
-past_the_end : (tasks : List Task) (u : ℕ) → length tasks ≤ u → get_or tasks u no_task ≡ no_task
-past_the_end [] u past = refl
-past_the_end (row ∷ tasks) zero past = absurd (omega arith)
-past_the_end (row ∷ tasks) (suc u) past = past_the_end tasks u (omega arith)
+use Rattle.std.proofs.lemmas.List.{get_or_past}
 
 pub with_parent : (table : Table) (u p : ℕ) → (task table u).parent ≡ Some p → IsTask table u
 with_parent table u p e =
     elim (cases_lt u (length table.tasks)) [
       | inl within ↦ within
-      | inr past ↦ let none : None ≡ Some p = sym (ap (λ (row : Task). row.parent) (past_the_end table.tasks u past)) ∙ e in cc
+      | inr past ↦ let none : None ≡ Some p = sym (ap (λ (row : Task). row.parent) (get_or_past table.tasks u no_task past)) ∙ e in cc
     ]
 
 pub with_creator : (table : Table) (u s : ℕ) → (task table u).creator ≡ Some s → IsTask table u
 with_creator table u s e =
     elim (cases_lt u (length table.tasks)) [
       | inl within ↦ within
-      | inr past ↦ let none : None ≡ Some s = sym (ap (λ (row : Task). row.creator) (past_the_end table.tasks u past)) ∙ e in cc
+      | inr past ↦ let none : None ≡ Some s = sym (ap (λ (row : Task). row.creator) (get_or_past table.tasks u no_task past)) ∙ e in cc
     ]
 
 pub some_segment : (table : Table) → IsNestedTable table → IsSegment table 0
 some_segment table h = let k = (h.segments 0 h.root.is_task).is_last in omega arith
-
--- a segment of a task, which then is one
-pub owned : (table : Table) → IsNestedTable table → (u s : ℕ) → IsOf table u s → IsTask table u
-owned table h u s i = subst (λ n. IsTask table n) i.of_task (h.tasks s i.is_segment)
 
 pub root_last : (table : Table) → IsNestedTable table → (s : ℕ) → IsSegment table s → s ≤ (task table 0).last
 root_last table h s i =
@@ -49,10 +40,10 @@ root_last table h s i =
     omega arith
 
 pub from_first : (table : Table) → IsNestedTable table → (u s : ℕ) → IsOf table u s → (task table u).first ≤ s
-from_first table h u s i = ((h.segments u (owned table h u s i)).between s i.is_segment i.of_task).0
+from_first table h u s i = ((h.segments u (is_owner table h u s i)).between s i.is_segment i.of_task).0
 
 pub to_last : (table : Table) → IsNestedTable table → (u s : ℕ) → IsOf table u s → s ≤ (task table u).last
-to_last table h u s i = ((h.segments u (owned table h u s i)).between s i.is_segment i.of_task).1
+to_last table h u s i = ((h.segments u (is_owner table h u s i)).between s i.is_segment i.of_task).1
 
 pub first_of : (table : Table) → IsNestedTable table → (u : ℕ) → IsTask table u → IsOf table u (task table u).first
 first_of table h u i =
@@ -60,9 +51,6 @@ first_of table h u i =
     let order = k.in_order in
     let within = k.is_last in
     record { is_segment = omega arith; of_task = k.of_first }
-
-pub last_of : (table : Table) → IsNestedTable table → (u : ℕ) → IsTask table u → IsOf table u (task table u).last
-last_of table h u i = let k = h.segments u i in record { is_segment = k.is_last; of_task = k.of_last }
 
 pub last_followed : (table : Table) → IsNestedTable table → (u t : ℕ) → IsTask table u → Continues table (task table u).last t → ⊥
 last_followed table h u t i next =
@@ -91,7 +79,7 @@ pub first_of_one : (table : Table) → IsNestedTable table → (u v : ℕ) → I
 first_of_one table h u v i j same = sym (first_of table h u i).of_task ∙ ap (λ (s : ℕ). (segment table s).task) same ∙ (first_of table h v j).of_task
 
 pub last_of_one : (table : Table) → IsNestedTable table → (u v : ℕ) → IsTask table u → IsTask table v → (task table u).last ≡ (task table v).last → u ≡ v
-last_of_one table h u v i j same = sym (last_of table h u i).of_task ∙ ap (λ (s : ℕ). (segment table s).task) same ∙ (last_of table h v j).of_task
+last_of_one table h u v i j same = sym (is_last table h u i).of_task ∙ ap (λ (s : ℕ). (segment table s).task) same ∙ (is_last table h v j).of_task
 
 pub follows_one : (table : Table) → IsNestedTable table → (a b t : ℕ) → Continues table a t → Continues table b t → a ≡ b
 follows_one table h a b t x y =
@@ -282,7 +270,7 @@ read_in_place table h g = record {
   from_first = from_first table h;
   to_last = to_last table h;
   first_of = first_of table h;
-  last_of = last_of table h;
+  last_of = is_last table h;
   last_ends = last_ends table h;
   ends_last = h.ends;
   firsts_ascend = h.created_in_order;

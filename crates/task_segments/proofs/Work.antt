@@ -12,7 +12,7 @@ use Rattle.task_program.specs.ProgramText.{ProgramText}
 use Rattle.task_program.specs.Programs.{IsProgram}
 use Rattle.task_program.proofs.Nested.{is_nested}
 use Rattle.task_segments.specs.declared.table.Segment.{Segment}
-use Rattle.task_segments.specs.Moments.{segments_so_far, opening, opens, cost_of, is_latest, read, last_moment, IsProper}
+use Rattle.task_segments.specs.Moments.{segments_so_far, opening_of, opens, cost_of, is_latest, moment_after, last_moment, IsProper}
 use Rattle.task_segments.specs.Programs.{IsProgramTable}
 use Rattle.task_segments.specs.Table.{Table, costs_of, segment_row, table_at, table_of}
 use Rattle.task_segments.proofs.Facts.{begun_some_segment}
@@ -25,13 +25,13 @@ total : List Mark → ℕ → ℕ
 total e zero = 0
 total e (suc n) = total e n + cost_of n e
 
-total_is : (e : List Mark) (n : ℕ) → sum_by (λ (row : Segment). row.cost) (map (λ s. segment_row e s (opening s e)) (range_with_len 0 n)) ≡ total e n
+total_is : (e : List Mark) (n : ℕ) → sum_by (λ (row : Segment). row.cost) (map (λ s. segment_row e s (opening_of s e)) (range_with_len 0 n)) ≡ total e n
 unfolding total
 total_is e zero = refl
 total_is e (suc n) =
     let next : suc n ≡ n + 1 = omega arith in
-    ap (λ (k : ℕ). sum_by (λ (row : Segment). row.cost) (map (λ s. segment_row e s (opening s e)) (range_with_len 0 k))) next
-    ∙ sum_by-map-range_with_len_more (λ (row : Segment). row.cost) (λ s. segment_row e s (opening s e)) 0 n n (omega arith)
+    ap (λ (k : ℕ). sum_by (λ (row : Segment). row.cost) (map (λ s. segment_row e s (opening_of s e)) (range_with_len 0 k))) next
+    ∙ sum_by-map-range_with_len_more (λ (row : Segment). row.cost) (λ s. segment_row e s (opening_of s e)) 0 n n (omega arith)
     ∙ ap (λ k. k + cost_of n e) (total_is e n)
 
 none : (n : ℕ) → total [] n ≤ 0
@@ -115,7 +115,7 @@ sums_all (Waits ∷ e) p = omega (arith, opens_same Waits e refl (λ s. refl), s
 sums_all (GroupBegins ∷ e) p = omega (arith, same GroupBegins e (λ s. refl) (segments_so_far e), sums_all e p.1, sum_by-cons work_done GroupBegins e)
 sums_all (GroupEnds ∷ e) p = omega (arith, opens_same GroupEnds e refl (λ s. refl), sums_all e p.1, sum_by-cons work_done GroupEnds e)
 
-work_read : (e marks : List Mark) → work_of (read e marks) ≡ work_of e + work_of marks
+work_read : (e marks : List Mark) → work_of (moment_after e marks) ≡ work_of e + work_of marks
 work_read e [] = omega arith
 work_read e (m ∷ marks) = omega (arith, work_read (m ∷ e) marks, sum_by-cons work_done m e, sum_by-cons work_done m marks)
 
