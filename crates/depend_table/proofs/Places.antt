@@ -13,7 +13,7 @@ use Rattle.depend_table.specs.Marks.{AreWithin, IsMarked, IsMarkedNumber}
 use Rattle.depend_table.specs.Siblings.{Sibling, IsAmong, IsKept}
 use Rattle.depend_table.specs.Siblings.IsAmong.{Newest, Below}
 use Rattle.depend_table.specs.Generations.{HasRank, AreGenerations, mentions, sharing_at}
-use Rattle.depend_table.specs.Entries.{Names, Entry, entry_at, entry_after, entered, joins_to, predecessors_of, predecessors_for, sibling_of, newest_first, tasks_of, AreTied, IsInOrder, IsTableOf}
+use Rattle.depend_table.specs.Entries.{Names, Entry, entry_at, entry_after, entry_with, joins_to, predecessors_of, predecessors_for, sibling_of, newest_first, tasks_of, AreTied, IsInOrder, IsTableOf}
 use Rattle.depend_table.proofs.Entered.{IsKeptPlace, predecessors_are_kept, kept_are_predecessors, tied_after, newest_first-push}
 use Rattle.depend_table.proofs.Lists.{increasing_push, lists_same}
 use Rattle.depend_table.proofs.Members.{reverse-cons, contains_member, member_contains, member_map, member_of_map, member_reverse}
@@ -117,7 +117,7 @@ kept_listed names calls items first marks end kept table marked within lists =
 one_in_order : (place : ℕ) → IsStrictlyIncreasing (place ∷ [])
 one_in_order place k h = absurd (omega arith)
 
-entered_in_order : (name : ℕ) (siblings : List Sibling) (sharing : Option DependKind) (entry : Entry) → AreGenerations name siblings entry.sharing entry.current entry.previous → IsInOrder entry → IsInOrder (entered (length siblings) sharing entry)
+entered_in_order : (name : ℕ) (siblings : List Sibling) (sharing : Option DependKind) (entry : Entry) → AreGenerations name siblings entry.sharing entry.current entry.previous → IsInOrder entry → IsInOrder (entry_with (length siblings) sharing entry)
 entered_in_order name siblings sharing entry generations in_order = by_join (joins_to entry.sharing sharing)
   where
     joined : Entry
@@ -136,7 +136,7 @@ entered_in_order name siblings sharing entry generations in_order = by_join (joi
 after_in_order : (name : ℕ) (siblings : List Sibling) (items : List Item) (entry : Entry) → AreGenerations name siblings entry.sharing entry.current entry.previous → IsInOrder entry → IsInOrder (entry_after (length siblings) items items name entry)
 after_in_order name siblings items entry generations in_order = by_test (mentions name items)
   where
-    by_test : (test : Bool) → IsInOrder (cond test (entered (length siblings) (sharing_at name items) entry) entry)
+    by_test : (test : Bool) → IsInOrder (cond test (entry_with (length siblings) (sharing_at name items) entry) entry)
     by_test true = entered_in_order name siblings (sharing_at name items) entry generations in_order
     by_test false = in_order
 
