@@ -120,7 +120,8 @@ same_row a b e i =
     ap (λ (p : TaskFacts). row p a.items) e ∙ ap (λ (items : List Item). row (facts_of b) items) i
 
 -- two tasks of which the same facts hold are the same where their items are
-pub same_task : (a b : Task) (p q : TaskFacts) (xs ys : List Item) (r : Bool) → p ≡ facts_of a → q ≡ facts_of b → true ≡ facts_eq.ghosts.eq p q → xs ≡ a.items → ys ≡ b.items → Decides r (xs ≡ ys) → Decides r (a ≡ b)
+pub same_task : (a b : Task) (p q : TaskFacts) (xs ys : List Item) (r : Bool) → p ≡ facts_of a → q ≡ facts_of b
+    → true ≡ facts_eq.ghosts.eq p q → xs ≡ a.items → ys ≡ b.items → Decides r (xs ≡ ys) → Decides r (a ≡ b)
 same_task a b p q xs ys r u v e x y d =
     let facts : facts_of a ≡ facts_of b = sym u ∙ (facts_decide p q).0 (sym e) ∙ v in
     through r (λ i. same_row a b facts (sym x ∙ i ∙ y)) (λ i. x ∙ ap (λ (t : Task). t.items) i ∙ sym y) d
