@@ -28,6 +28,7 @@ increasing_push xs n up below k h =
           omega arith
     ]
 
+-- a list with one greater number more
 pub lists_push : (P Q : ℕ → Type 0) (xs : List ℕ) (n : ℕ) → Lists P xs → ((m : ℕ) → P m → m < n)
     → ((m : ℕ) → P m → Q m) → Q n → ((m : ℕ) → Q m → P m ⊎ (n ≡ m)) → Lists Q (xs ++ n ∷ [])
 lists_push P Q xs n lists above widened new cases = record {
@@ -38,6 +39,7 @@ lists_push P Q xs n lists above widened new cases = record {
   );
 }
 
+-- the same numbers by another property
 pub lists_same : (P Q : ℕ → Type 0) (xs : List ℕ) → Lists P xs → ((m : ℕ) → P m → Q m) → ((m : ℕ) → Q m → P m)
     → Lists Q xs
 lists_same P Q xs lists there back = record {

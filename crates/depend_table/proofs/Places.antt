@@ -32,6 +32,7 @@ pub record IsPlaced (siblings : List Sibling) (x : Sibling) (older : List Siblin
   pub below : length older < length siblings
   pub found : get_or (oldest_first siblings) (length older) 0 ≡ x.task
 
+-- a sibling's place is how many are older
 pub placed : (siblings : List Sibling) (x : Sibling) (older : List Sibling) → IsAmong siblings x older
     → IsPlaced siblings x older
 placed siblings x older Newest = record {
@@ -73,6 +74,7 @@ ranked_within name siblings level place r =
     let at_place = r.placed in
     omega arith
 
+-- what an entry names are places of siblings
 pub predecessors_within : (names : Names) (siblings : List Sibling) (name : ℕ) (sharing : Option DependKind) (place : ℕ)
     → AreTied names siblings → Contains (predecessors_of (entry_at names name) sharing) place
     → place < length siblings
@@ -83,6 +85,7 @@ predecessors_within names siblings name sharing place tied = by_join (joins_to (
     by_join true c = let p = ((tied name).is_previous place).0 c in ranked_within name siblings p.0 place p.2
     by_join false c = ranked_within name siblings (tied name).top place (((tied name).is_current place).0 c)
 
+-- and so they are below the count of calls
 pub predecessors_below : (names : Names) (calls : List Call) (name : ℕ) (sharing : Option DependKind)
     → IsTableOf names calls → All (λ place. place < length calls) (predecessors_of (entry_at names name) sharing)
 predecessors_below names calls name sharing table k d h =
@@ -132,6 +135,7 @@ kept_listed names calls items first marks end kept table marked within lists =
 one_in_order : (place : ℕ) → IsStrictlyIncreasing (place ∷ [])
 one_in_order place k h = absurd (omega arith)
 
+-- an entry with a new task is in order
 entered_in_order : (name : ℕ) (siblings : List Sibling) (sharing : Option DependKind) (entry : Entry)
     → AreGenerations name siblings entry.sharing entry.current entry.previous → IsInOrder entry
     → IsInOrder (entry_with (length siblings) sharing entry)
@@ -150,6 +154,7 @@ entered_in_order name siblings sharing entry generations in_order = by_join (joi
     }
     by_join false = record { current = one_in_order (length siblings); previous = in_order.current }
 
+-- and so is the entry after the task, whether its items mention the name or not
 after_in_order : (name : ℕ) (siblings : List Sibling) (items : List Item) (entry : Entry)
     → AreGenerations name siblings entry.sharing entry.current entry.previous → IsInOrder entry
     → IsInOrder (entry_after (length siblings) items items name entry)
@@ -159,6 +164,7 @@ after_in_order name siblings items entry generations in_order = by_test (mention
     by_test true = entered_in_order name siblings (sharing_at name items) entry generations in_order
     by_test false = in_order
 
+-- what an entry names ascends
 pub predecessors_in_order : (names : Names) (calls : List Call) (name : ℕ) (sharing : Option DependKind)
     → IsTableOf names calls → IsStrictlyIncreasing (predecessors_of (entry_at names name) sharing)
 predecessors_in_order names calls name sharing table = by_join (joins_to (entry_at names name).sharing sharing)

@@ -28,9 +28,11 @@ with_creator table u s e =
       | inr past ↦ let none : None ≡ Some s = sym (ap (λ (row : Task). row.creator) (get_or_past table.tasks u no_task past)) ∙ e in cc
     ]
 
+-- there is a segment
 pub some_segment : (table : Table) → IsNestedTable table → IsSegment table 0
 some_segment table h = let k = (h.segments 0 h.root.is_task).is_last in omega arith
 
+-- no segment comes after the root's last
 pub root_last : (table : Table) → IsNestedTable table → (s : ℕ) → IsSegment table s → s ≤ (task table 0).last
 root_last table h s i =
     let u = (segment table s).task in
@@ -52,6 +54,7 @@ first_of table h u i =
     let within = k.is_last in
     record { is_segment = omega arith; of_task = k.of_first }
 
+-- nothing follows the last segment of a task
 pub last_followed : (table : Table) → IsNestedTable table → (u t : ℕ) → IsTask table u
     → Continues table (task table u).last t → ⊥
 last_followed table h u t i next =
@@ -71,6 +74,7 @@ followed_or_last table h s i = by_closing (segment table s).closing refl
     by_closing EndsGroup e = inl (s + 1, h.after_group s i e)
     by_closing EndsTask e = inr e
 
+-- and it ends its task
 pub last_ends : (table : Table) → IsNestedTable table → (u : ℕ) → IsTask table u
     → (segment table (task table u).last).closing ≡ EndsTask
 last_ends table h u i =
@@ -79,16 +83,19 @@ last_ends table h u i =
       | inr ends ↦ ends
     ]
 
+-- a segment is the first of one task
 pub first_of_one : (table : Table) → IsNestedTable table → (u v : ℕ) → IsTask table u → IsTask table v
     → (task table u).first ≡ (task table v).first → u ≡ v
 first_of_one table h u v i j same =
     sym (first_of table h u i).of_task ∙ ap (λ (s : ℕ). (segment table s).task) same ∙ (first_of table h v j).of_task
 
+-- and the last of one
 pub last_of_one : (table : Table) → IsNestedTable table → (u v : ℕ) → IsTask table u → IsTask table v
     → (task table u).last ≡ (task table v).last → u ≡ v
 last_of_one table h u v i j same =
     sym (is_last table h u i).of_task ∙ ap (λ (s : ℕ). (segment table s).task) same ∙ (is_last table h v j).of_task
 
+-- a segment follows one
 pub follows_one : (table : Table) → IsNestedTable table → (a b t : ℕ) → Continues table a t → Continues table b t
     → a ≡ b
 follows_one table h a b t x y =
@@ -96,6 +103,7 @@ follows_one table h a b t x y =
     let other = y.next in
     same_place table h a b x.is_from y.is_from (sym x.same_task ∙ y.same_task) (omega arith)
 
+-- the first of a task follows none
 pub first_follows : (table : Table) → IsNestedTable table → (u s : ℕ) → IsTask table u
     → Continues table s (task table u).first → ⊥
 first_follows table h u s i x =
@@ -174,6 +182,7 @@ creation_once table h a b t x y =
     let same = first_of_one table h x.child y.child x.is_child y.is_child (x.first ∙ sym y.first) in
     same_Some _ _ (sym x.creator ∙ ap (λ (u : ℕ). (task table u).creator) same ∙ y.creator)
 
+-- a segment opens at the end of one
 pub opens_once : (table : Table) → IsNestedTable table → (a b t : ℕ) → Opens table a t → Opens table b t → a ≡ b
 opens_once table h a b t (inl x) (inl y) = follows_one table h a b t x y
 opens_once table h a b t (inl x) (inr y) = absurd (first_follows_none table h a b t x y)
@@ -188,6 +197,7 @@ next_other table h u s i e next =
     let later = created_before table h u s i e in
     omega arith
 
+-- the creator of a task closes by creating it
 pub created : (table : Table) → IsNestedTable table → (s child : ℕ) → IsTask table child
     → (task table child).creator ≡ Some s → (segment table s).closing ≡ Creates child
 created table h s child i e = by_closing (segment table s).closing refl
@@ -205,6 +215,7 @@ created table h s child i e = by_closing (segment table s).closing refl
     by_closing EndsGroup c = absurd (next_other table h child s i e (h.after_group s is_s c))
     by_closing EndsTask c = absurd (none_next table h s ((task table child).last + 1) c (after_task table h child s i e))
 
+-- a child generated before a segment of its parent has ended before it
 pub children : (table : Table) → IsNestedTable table → (u p s t : ℕ) → (task table u).parent ≡ Some p
     → (task table u).creator ≡ Some s → IsOf table p t → s < t → (task table u).last < t
 children table h u p s t e f o l =
@@ -292,6 +303,7 @@ pub group : (table : Table) → IsNestedTable table → IsGroupedTable table →
     → (task table u).innermost_group ≡ Some t → (ends : EndsBefore table t) × ((task table u).last < ends.before)
 group table h g u t i e = let k = group_from (suc u) table h g u t (omega arith) i e in (k.ends, k.later)
 
+-- a nested table with its groups is read in place
 pub read_in_place : (table : Table) → IsNestedTable table → IsGroupedTable table → IsReadInPlace table
 read_in_place table h g = record {
   root = h.root.is_task;

@@ -110,6 +110,7 @@ span-unique costs R a b is_a is_b =
     let k : chain_sum costs is_b.chain ≤ a = is_a.greatest is_b.chain is_b.segments is_b.linked in
     omega (arith, is_a.reached, is_b.reached)
 
+-- there is one least end
 pub least_end-unique : (costs : List ℕ) (R : ℕ → ℕ → Type 0) (a b : ℕ) → IsLeastEnd costs R a → IsLeastEnd costs R b
     → a ≡ b
 least_end-unique costs R a b is_a is_b =
@@ -117,6 +118,7 @@ least_end-unique costs R a b is_a is_b =
     let k : b ≤ end_of costs is_a.starts = is_b.least is_a.starts is_a.legal in
     omega (arith, is_a.ends, is_b.ends)
 
+-- one least start
 pub least_start-unique : (costs : List ℕ) (R : ℕ → ℕ → Type 0) (s a b : ℕ) → IsLeastStart costs R s a
     → IsLeastStart costs R s b → a ≡ b
 least_start-unique costs R s a b is_a is_b =
@@ -132,6 +134,7 @@ slack-le costs R s a b is_a is_b =
     let h : at is_a.starts s ≤ is_b.start + b = is_b.greatest is_a.starts is_a.legal (is_a.ends ∙ ends) in
     omega (arith, is_a.delayed)
 
+-- and one slack
 pub slack-unique : (costs : List ℕ) (R : ℕ → ℕ → Type 0) (s a b : ℕ) → IsSlack costs R s a → IsSlack costs R s b
     → a ≡ b
 slack-unique costs R s a b is_a is_b =

@@ -31,6 +31,7 @@ opened_in : (marks : List Mark) → sum_by segments_opened marks ≡ 2 * tasks_i
 opened_in [] = refl
 opened_in (m ∷ marks) = omega (arith, sum_by-cons segments_opened m marks, opened_in marks, one_more m marks)
 
+-- the table of a program has all of it
 pub has_all : (program : ProgramText) → IsProgram program → HasAllOf program.marks (table_of program.marks)
 has_all program h =
     let e = last_moment program.marks in

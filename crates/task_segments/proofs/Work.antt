@@ -130,6 +130,7 @@ work_read e [] = omega arith
 work_read e (m ∷ marks) =
     omega (arith, work_read (m ∷ e) marks, sum_by-cons work_done m e, sum_by-cons work_done m marks)
 
+-- the limit of the work of a table
 pub little_work : (table : Table) → IsProgramTable table
     → sum (map (λ (row : Segment). row.cost) table.segments) ≤ 10 ^ 15
 little_work table h =
@@ -137,6 +138,7 @@ little_work table h =
     let k = ap (λ (t : Table). sum (map (λ (row : Segment). row.cost) t.segments)) h.is in
     omega (arith, k, sum-map (λ (row : Segment). row.cost) (table_at e).segments, total_is e (segments_so_far e), sums e (segments_so_far e), work_read (Begins false [] ∷ []) h.program.marks, h.is_program.work)
 
+-- a table has all work of its program
 pub all_work : (program : ProgramText) → IsProgram program
     → sum (costs_of (table_of program.marks)) ≡ work_of program.marks
 all_work program h =
