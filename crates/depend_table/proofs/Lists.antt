@@ -8,24 +8,29 @@ use Rattle.std.proofs.Math.Seq.{get_or-append_seam}
 use Rattle.depend_table.specs.Lists.{Lists}
 
 -- one more number, above all of them
-pub increasing_push : (xs : List ℕ) (n : ℕ) → IsStrictlyIncreasing xs → ((m : ℕ) → Contains xs m → m < n) → IsStrictlyIncreasing (xs ++ n ∷ [])
+pub increasing_push : (xs : List ℕ) (n : ℕ) → IsStrictlyIncreasing xs → ((m : ℕ) → Contains xs m → m < n)
+    → IsStrictlyIncreasing (xs ++ n ∷ [])
 increasing_push xs n up below k h =
     let len : length (xs ++ n ∷ []) ≡ length xs + 1 = length_push xs n in
     let within : k < length xs = omega arith in
     let here : get_or (xs ++ n ∷ []) k 0 ≡ get_or xs k 0 = get_or_append_left xs (n ∷ []) 0 k within in
     elim (cases_lt (k + 1) (length xs)) [
       | inl inside ↦
-          let there : get_or (xs ++ n ∷ []) (k + 1) 0 ≡ get_or xs (k + 1) 0 = get_or_append_left xs (n ∷ []) 0 (k + 1) inside in
+          let there : get_or (xs ++ n ∷ []) (k + 1) 0 ≡ get_or xs (k + 1) 0 =
+          get_or_append_left xs (n ∷ []) 0 (k + 1) inside in
           let less : get_or xs k 0 < get_or xs (k + 1) 0 = up k inside in
           omega arith
       | inr outside ↦
           let last : length xs ≡ k + 1 = omega arith in
-          let there : get_or (xs ++ n ∷ []) (k + 1) 0 ≡ n = ap (λ i. get_or (xs ++ n ∷ []) i 0) (sym last) ∙ get_or-append_seam xs n [] 0 in
+          let there : get_or (xs ++ n ∷ []) (k + 1) 0 ≡ n =
+          ap (λ i. get_or (xs ++ n ∷ []) i 0) (sym last) ∙ get_or-append_seam xs n [] 0 in
           let less : get_or xs k 0 < n = below (get_or xs k 0) (Contains-get_or xs k 0 within) in
           omega arith
     ]
 
-pub lists_push : (P Q : ℕ → Type 0) (xs : List ℕ) (n : ℕ) → Lists P xs → ((m : ℕ) → P m → m < n) → ((m : ℕ) → P m → Q m) → Q n → ((m : ℕ) → Q m → P m ⊎ (n ≡ m)) → Lists Q (xs ++ n ∷ [])
+-- a list with one greater number more
+pub lists_push : (P Q : ℕ → Type 0) (xs : List ℕ) (n : ℕ) → Lists P xs → ((m : ℕ) → P m → m < n)
+    → ((m : ℕ) → P m → Q m) → Q n → ((m : ℕ) → Q m → P m ⊎ (n ≡ m)) → Lists Q (xs ++ n ∷ [])
 lists_push P Q xs n lists above widened new cases = record {
   ascending = increasing_push xs n lists.ascending (λ m c. above m ((lists.each m).0 c));
   each = λ m. (
@@ -34,7 +39,9 @@ lists_push P Q xs n lists above widened new cases = record {
   );
 }
 
-pub lists_same : (P Q : ℕ → Type 0) (xs : List ℕ) → Lists P xs → ((m : ℕ) → P m → Q m) → ((m : ℕ) → Q m → P m) → Lists Q xs
+-- the same numbers by another property
+pub lists_same : (P Q : ℕ → Type 0) (xs : List ℕ) → Lists P xs → ((m : ℕ) → P m → Q m) → ((m : ℕ) → Q m → P m)
+    → Lists Q xs
 lists_same P Q xs lists there back = record {
   ascending = lists.ascending;
   each = λ m. (λ c. there m ((lists.each m).0 c), λ q. (lists.each m).1 (back m q));

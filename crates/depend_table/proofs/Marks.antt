@@ -11,7 +11,9 @@ use Rattle.depend_table.specs.Marks.{AreWithin, IsMarked, AreMarkedToo, IsMarked
 use Rattle.depend_table.proofs.Lists.{lists_push, lists_same}
 
 -- one more place is marked
-pub mark_one : (first : ℕ) (old marks : List Bool) (done : List ℕ) (place : ℕ) → first ≤ place → place - first < length marks → AreMarkedToo first old marks done → AreMarkedToo first old (set marks (place - first) true) (done ++ place ∷ [])
+pub mark_one : (first : ℕ) (old marks : List Bool) (done : List ℕ) (place : ℕ) → first ≤ place
+    → place - first < length marks → AreMarkedToo first old marks done
+    → AreMarkedToo first old (set marks (place - first) true) (done ++ place ∷ [])
 mark_one first old marks done place from within so_far = record {
   same_length = length-set marks (place - first) true ∙ so_far.same_length;
   each = λ p. (there p, back p);
@@ -24,7 +26,8 @@ mark_one first old marks done place from within so_far = record {
           | inr other ↦ (m.0, get_or-set_other marks (place - first) (p - first) true false other ∙ m.1)
         ]
 
-    there : (p : ℕ) → IsMarked first (set marks (place - first) true) p → IsMarked first old p ⊎ Contains (done ++ place ∷ []) p
+    there : (p : ℕ) → IsMarked first (set marks (place - first) true) p
+        → IsMarked first old p ⊎ Contains (done ++ place ∷ []) p
     there p m =
         let above = m.0 in
         elim (cases_eq (p - first) (place - first)) [
@@ -36,7 +39,8 @@ mark_one first old marks done place from within so_far = record {
               ]
         ]
 
-    back : (p : ℕ) → IsMarked first old p ⊎ Contains (done ++ place ∷ []) p → IsMarked first (set marks (place - first) true) p
+    back : (p : ℕ) → IsMarked first old p ⊎ Contains (done ++ place ∷ []) p
+        → IsMarked first (set marks (place - first) true) p
     back p (inl before) = still p ((so_far.each p).1 (inl before))
     back p (inr listed) =
         elim (Contains-push_cases done place p listed) [
@@ -45,14 +49,17 @@ mark_one first old marks done place from within so_far = record {
         ]
 
 -- the marks of two lists of places, in turn
-pub marked_in_turn : (first : ℕ) (old marks : List Bool) (before after : List ℕ) → ((place : ℕ) → IsMarked first old place ↔ Contains before place) → AreMarkedToo first old marks after → (place : ℕ) → IsMarked first marks place ↔ Contains (before ++ after) place
+pub marked_in_turn : (first : ℕ) (old marks : List Bool) (before after : List ℕ)
+    → ((place : ℕ) → IsMarked first old place ↔ Contains before place) → AreMarkedToo first old marks after
+    → (place : ℕ) → IsMarked first marks place ↔ Contains (before ++ after) place
 marked_in_turn first old marks before after so_far more place = (
   (λ m. elim ((more.each place).0 m) [ inl earlier ↦ Contains-append_left before after place ((so_far place).0 earlier) | inr new ↦ Contains-append_right before after place new ]),
   (λ c. elim (Contains-append_cases before after place c) [ inl earlier ↦ (more.each place).1 (inl ((so_far place).1 earlier)) | inr new ↦ (more.each place).1 (inr new) ]),
 )
 
 -- past the marks nothing is marked
-pub marked_within : (first : ℕ) (marks : List Bool) (place : ℕ) → IsMarked first marks place → place < first + length marks
+pub marked_within : (first : ℕ) (marks : List Bool) (place : ℕ) → IsMarked first marks place
+    → place < first + length marks
 marked_within first marks place marked =
     let from = marked.0 in
     elim (cases_lt (place - first) (length marks)) [
@@ -61,11 +68,15 @@ marked_within first marks place marked =
     ]
 
 -- marks that are written back over as many
-pub written_back : (n : ℕ) (old new : List Bool) → length new ≡ length old → n ≡ length old → take n (new ++ drop (length new) old) ≡ new
-written_back n old new same len = ap (λ k. take k (new ++ drop (length new) old)) (len ∙ sym same) ∙ take-append_seam new (drop (length new) old)
+pub written_back : (n : ℕ) (old new : List Bool) → length new ≡ length old → n ≡ length old
+    → take n (new ++ drop (length new) old) ≡ new
+written_back n old new same len =
+    ap (λ k. take k (new ++ drop (length new) old)) (len ∙ sym same) ∙ take-append_seam new (drop (length new) old)
 
 -- the numbers at marked places, one place further on
-pub numbers_unmarked : (first : ℕ) (marks : List Bool) (numbers kept : List ℕ) (i : ℕ) → get_or marks (i - first) false ≡ false → Lists (IsMarkedNumber first marks numbers i) kept → Lists (IsMarkedNumber first marks numbers (i + 1)) kept
+pub numbers_unmarked : (first : ℕ) (marks : List Bool) (numbers kept : List ℕ) (i : ℕ)
+    → get_or marks (i - first) false ≡ false → Lists (IsMarkedNumber first marks numbers i) kept
+    → Lists (IsMarkedNumber first marks numbers (i + 1)) kept
 numbers_unmarked first marks numbers kept i unmarked lists = lists_same (IsMarkedNumber first marks numbers i) (IsMarkedNumber first marks numbers (i + 1)) kept lists there back
   where
     there : (m : ℕ) → IsMarkedNumber first marks numbers i m → IsMarkedNumber first marks numbers (i + 1) m
@@ -80,20 +91,25 @@ numbers_unmarked first marks numbers kept i unmarked lists = lists_same (IsMarke
           | inr not_less ↦ let same : at_mark.place ≡ i = omega arith in absurd (false≢true (sym unmarked ∙ subst (λ k. get_or marks (k - first) false ≡ true) same marked.1))
         ]
 
-pub numbers_marked : (first : ℕ) (marks : List Bool) (numbers kept : List ℕ) (i number : ℕ) → i < length numbers → IsStrictlyIncreasing numbers → IsMarked first marks i → get_or numbers i 0 ≡ number → Lists (IsMarkedNumber first marks numbers i) kept → Lists (IsMarkedNumber first marks numbers (i + 1)) (kept ++ number ∷ [])
+pub numbers_marked : (first : ℕ) (marks : List Bool) (numbers kept : List ℕ) (i number : ℕ) → i < length numbers
+    → IsStrictlyIncreasing numbers → IsMarked first marks i → get_or numbers i 0 ≡ number
+    → Lists (IsMarkedNumber first marks numbers i) kept
+    → Lists (IsMarkedNumber first marks numbers (i + 1)) (kept ++ number ∷ [])
 numbers_marked first marks numbers kept i number within up marked found lists =
     lists_push (IsMarkedNumber first marks numbers i) (IsMarkedNumber first marks numbers (i + 1)) kept number lists above there (record { place = i; below = omega arith; marked = marked; found = found }) back
   where
     above : (m : ℕ) → IsMarkedNumber first marks numbers i m → m < number
     above m at_mark =
         let before : get_or numbers at_mark.place 0 ≡ m = at_mark.found in
-        let less : get_or numbers at_mark.place 0 < get_or numbers i 0 = AllPairs-from_increasing numbers up at_mark.place i 0 at_mark.below within in
+        let less : get_or numbers at_mark.place 0 < get_or numbers i 0 =
+        AllPairs-from_increasing numbers up at_mark.place i 0 at_mark.below within in
         omega arith
 
     there : (m : ℕ) → IsMarkedNumber first marks numbers i m → IsMarkedNumber first marks numbers (i + 1) m
     there m at_mark = let below = at_mark.below in record { place = at_mark.place; below = omega arith; marked = at_mark.marked; found = at_mark.found }
 
-    back : (m : ℕ) → IsMarkedNumber first marks numbers (i + 1) m → IsMarkedNumber first marks numbers i m ⊎ (number ≡ m)
+    back : (m : ℕ) → IsMarkedNumber first marks numbers (i + 1) m
+        → IsMarkedNumber first marks numbers i m ⊎ (number ≡ m)
     back m at_mark =
         let below = at_mark.below in
         elim (cases_lt at_mark.place i) [
@@ -102,7 +118,8 @@ numbers_marked first marks numbers kept i number within up marked found lists =
         ]
 
 -- ascending places stand between the first of them and the last
-pub between_ends : (places : List ℕ) → IsStrictlyIncreasing places → 0 < length places → AreWithin (get_or places 0 0) (get_or places (length places - 1) 0 + 1) places
+pub between_ends : (places : List ℕ) → IsStrictlyIncreasing places → 0 < length places
+    → AreWithin (get_or places 0 0) (get_or places (length places - 1) 0 + 1) places
 between_ends places up some k d h =
     let low : get_or places 0 d ≡ get_or places 0 0 = get_or_default places 0 d 0 some in
     let high : get_or places (length places - 1) d ≡ get_or places (length places - 1) 0 = get_or_default places (length places - 1) d 0 (omega arith) in (
@@ -117,5 +134,7 @@ between_ends places up some k d h =
     )
 
 -- a wider window
-pub within_wider : (first end from to : ℕ) (places : List ℕ) → from ≤ first → end ≤ to → AreWithin first end places → AreWithin from to places
-within_wider first end from to places lower higher within k d h = let inside = within k d h in let low = inside.0 in let high = inside.1 in ((omega arith), (omega arith))
+pub within_wider : (first end from to : ℕ) (places : List ℕ) → from ≤ first → end ≤ to → AreWithin first end places
+    → AreWithin from to places
+within_wider first end from to places lower higher within k d h =
+    let inside = within k d h in let low = inside.0 in let high = inside.1 in ((omega arith), (omega arith))

@@ -7,7 +7,7 @@ use Rattle.task_segments.specs.declared.table.Closing.TheVariants.{Creates, Ends
 use Rattle.task_segments.specs.declared.table.Closing.TheVariants as closings
 use Rattle.task_segments.specs.declared.table.Segment.{Segment}
 use Rattle.task_segments.specs.Alike.{AnswerAlike}
-use Rattle.task_segments.specs.Copies.{place_of}
+use Rattle.task_segments.specs.Copies.{facts_of}
 use Rattle.task_segments.specs.Nesting.{IsNestedTable}
 use Rattle.task_segments.specs.Precedence.{IsSegment, IsTask, Continues, Encloses, IsEarlierChild, Descends, GroupEnd, MustPrecede}
 use Rattle.task_segments.specs.Precedence.Descends.{Itself}
@@ -17,7 +17,7 @@ use Rattle.task_segments.proofs.Children.{IsNumbered, numbered_program}
 use Rattle.task_segments.proofs.InPlace.{created, first_follows, follows_one, last_followed, last_of_one}
 use Rattle.task_segments.proofs.Order.{OpensAfter, one_branch}
 use Rattle.task_segments.proofs.Programs.{nested_program}
-use Rattle.task_segments.proofs.Same.{same_segment, same_place, place_of_same}
+use Rattle.task_segments.proofs.Same.{same_segment, same_facts, same_row}
 
 alike_itself : (table : Table) → AnswerAlike table table
 alike_itself table = record {
@@ -176,9 +176,9 @@ alike_is_equal a b p q x =
     let siblings : SameSiblings a b = λ u l. same_siblings (suc u) a b one other x u (omega arith) l in
     let children = same_children a b (nested_program a p) (nested_program b q) one other x siblings in
     let row : (s : ℕ) → IsSegment a s → segment a s ≡ segment b s = λ s l. same_segment (segment a s) (segment b s) (x.task_of s l, (x.index s l, (x.cost s l, (x.closing s l, children s l)))) in
-    let place : (u : ℕ) → IsTask a u → place_of (task a u) ≡ place_of (task b u) = λ u l. same_place (place_of (task a u)) (place_of (task b u)) (x.parent u l, (x.creator u l, (x.undeferred u l, (x.first u l, (x.last u l, (x.innermost_group u l, siblings u l)))))) in
+    let facts : (u : ℕ) → IsTask a u → facts_of (task a u) ≡ facts_of (task b u) = λ u l. same_facts (facts_of (task a u)) (facts_of (task b u)) (x.parent u l, (x.creator u l, (x.undeferred u l, (x.first u l, (x.last u l, (x.innermost_group u l, siblings u l)))))) in
     let segments : a.segments ≡ b.segments = ext_get_or no_segment a.segments b.segments x.len row in
-    let tasks : a.tasks ≡ b.tasks = ext_get_or no_task a.tasks b.tasks x.tasks (λ u l. place_of_same (task a u) (task b u) (place u l) (x.items u l)) in
+    let tasks : a.tasks ≡ b.tasks = ext_get_or no_task a.tasks b.tasks x.tasks (λ u l. same_row (task a u) (task b u) (facts u l) (x.items u l)) in
     ap (λ (rows : List Segment). record a { segments = rows }) segments
     ∙ ap (λ (rows : List Task). record b { tasks = rows }) tasks
 

@@ -6,12 +6,12 @@ use Rattle.std.proofs.lemmas.Option.{same_Some}
 use Rattle.task_program.specs.Marks.{Mark}
 use Rattle.task_program.specs.Marks.Mark.{Begins, Ends, Works, Waits, GroupBegins, GroupEnds}
 use Rattle.task_segments.specs.declared.table.Closing.TheVariants as closings
-use Rattle.task_segments.specs.Moments.{begins_task, opens, OpenGroup, segments_so_far, tasks_so_far, open_tasks, open_groups, running, runs, is_innermost, opening, beginning, children_of, closing_of, before_group, innermost_children_before, last_moment, IsProper}
+use Rattle.task_segments.specs.Moments.{begins_task, opens, OpenGroup, segments_so_far, tasks_so_far, open_tasks, open_groups, running_task, runs, is_innermost, opening_of, beginning_of, children_of, closing_of, before_group, innermost_children_before, last_moment, IsProper}
 use Rattle.task_segments.specs.Table.{Table, segment, task, table_at}
 use Rattle.task_segments.specs.Precedence.{IsSegment, IsTask, Continues, IsEarlierChild}
 use Rattle.task_segments.specs.Programs.{IsProgramTable}
 use Rattle.task_program.proofs.Nested.{is_nested}
-use Rattle.task_segments.proofs.Steps.{count-cons, begun, running_below, tasks_begins, beginning-old, beginning-new}
+use Rattle.task_segments.proofs.Steps.{count-cons, begun, running_below, tasks_begins, beginning_of-old, beginning_of-new}
 use Rattle.task_segments.proofs.Places.{after_end}
 use Rattle.task_segments.proofs.Grouping.{IsGrouped, before_task, innermost, no_group, counted, closes_with, past}
 use Rattle.task_segments.proofs.Facts.{IsLast, nested, row, segment-at, segments-at, tasks-at, owner-at, continues, nothing_before, beginning_within}
@@ -19,6 +19,7 @@ use Rattle.task_segments.proofs.Order.{OpensAfter, not_root}
 use Rattle.task_segments.proofs.Groups.{child}
 use Rattle.task_segments.proofs.Programs.{last_of_nested}
 
+-- which task runs, by the test
 innermost_is : (p : ℕ) (stack : List ℕ) → is_innermost p stack ≡ true → (0 < length stack) × (get_or stack 0 0 ≡ p)
 innermost_is p [] h = absurd cc
 innermost_is p (x ∷ stack) h = (omega arith, grind (arith, nat_tests))
@@ -27,7 +28,7 @@ innermost_is p (x ∷ stack) h = (omega arith, grind (arith, nat_tests))
 record IsChildAt (e : List Mark) (p k u : ℕ) : Type 0 where
   above : 0 < u
   has_begun : u < tasks_so_far e
-  parent : running (before_task u e) ≡ p
+  parent : running_task (before_task u e) ≡ p
   count : children_of p (before_task u e) ≡ k
 
 -- the child seen from another moment
@@ -36,7 +37,7 @@ child_from : (x e : List Mark) (p k u : ℕ) → before_task u e ≡ before_task
 child_from x e p k u same l c = record {
   above = c.above;
   has_begun = l;
-  parent = ap running same ∙ c.parent;
+  parent = ap running_task same ∙ c.parent;
   count = ap (children_of p) same ∙ c.count;
 }
 
@@ -45,12 +46,12 @@ newest_child : (m : Mark) (e : List Mark) (p : ℕ) → begins_task m ≡ true �
     → IsChildAt (m ∷ e) p (children_of p e) (tasks_so_far e)
 newest_child m e p b now =
     let runs_now = innermost_is p (open_tasks e) now in
-    let is : before_task (tasks_so_far e) (m ∷ e) ≡ e = ap (drop 1) (beginning-new m e b) in
+    let is : before_task (tasks_so_far e) (m ∷ e) ≡ e = ap (drop 1) (beginning_of-new m e b) in
     let one : ◌≡◌ {A = ℕ} (cond (begins_task m) 1 0) 1 = rw b refl in
     record {
       above = omega (arith, running_below e runs_now.0);
       has_begun = omega (arith, count-cons begins_task m e);
-      parent = ap running is ∙ runs_now.1;
+      parent = ap running_task is ∙ runs_now.1;
       count = ap (children_of p) is;
     }
 
@@ -61,7 +62,7 @@ nth_child (Begins d i ∷ e) p k l = elim (cases_lt k (children_of p e)) [
   | inl older ↦ (
       let c = nth_child e p k older in
       let same : before_task c.0 (Begins d i ∷ e) ≡ before_task c.0 e =
-      ap (drop 1) (beginning-old (Begins d i) e c.0 c.1.has_begun) in
+      ap (drop 1) (beginning_of-old (Begins d i) e c.0 c.1.has_begun) in
       (c.0, child_from e (Begins d i ∷ e) p k c.0 same (omega (arith, c.1.has_begun, tasks_begins d i e)) c.1))
   | inr newest ↦ elim (cases_Bool (runs p e)) [
     | inl now ↦ (
@@ -82,13 +83,14 @@ nth_child (GroupBegins ∷ e) p k l =
 nth_child (GroupEnds ∷ e) p k l =
     let c = nth_child e p k l in (c.0, child_from e (GroupEnds ∷ e) p k c.0 refl c.1.has_begun c.1)
 
+-- a child's row has its parent and its number among its siblings
 row_of_child : (e : List Mark) → IsLast e → (p k u : ℕ) → IsChildAt e p k u
     → ((task (table_at e) u).parent ≡ Some p) × ((task (table_at e) u).siblings_before ≡ k)
 row_of_child e h p k u c =
     let r = child e h u c.above c.has_begun in
     let at = sym r.is_before in (
-      r.parent ∙ ap (λ (xs : List Mark). Some (running xs)) at ∙ ap Some c.parent,
-      r.siblings ∙ ap (λ (xs : List Mark). children_of (running xs) xs) at
+      r.parent ∙ ap (λ (xs : List Mark). Some (running_task xs)) at ∙ ap Some c.parent,
+      r.siblings ∙ ap (λ (xs : List Mark). children_of (running_task xs) xs) at
           ∙ ap (λ (q : ℕ). children_of q (before_task u e)) c.parent ∙ c.count,
     )
 
@@ -124,14 +126,15 @@ root_siblings : (e : List Mark) → IsProper e → 0 < tasks_so_far e → (task 
 root_siblings e p l =
     let b = begun e p 0 l in
     let none : b.earlier ≡ [] = nothing_before b.earlier b.proper (sym b.number) in
-    ap (λ r. r.siblings_before) (row e 0 l b) ∙ ap (λ (xs : List Mark). children_of (running xs) xs) none
+    ap (λ r. r.siblings_before) (row e 0 l b) ∙ ap (λ (xs : List Mark). children_of (running_task xs) xs) none
 
+-- each number below the number of siblings before a task is that of an earlier one
 siblings_at : (e : List Mark) → IsLast e → (u k : ℕ) → u < tasks_so_far e → k < (task (table_at e) u).siblings_before
     → HasSiblingAt (table_at e) u k
 siblings_at e h u k l less = elim (cases_lt 0 u) [
   | inl above ↦ (
       let c = child e h u above l in
-      let p = running c.before in
+      let p = running_task c.before in
       let found = nth_child c.before p k (omega (arith, c.siblings)) in
       let v = found.0 in
       let earlier : v < u = omega (arith, found.1.has_begun, c.number) in
@@ -145,24 +148,25 @@ siblings_at e h u k l less = elim (cases_lt 0 u) [
       omega (arith, root_siblings e h.proper (omega arith)))
 ]
 
+-- a later sibling has more siblings before it
 siblings_ascend : (e : List Mark) → IsLast e → (u v : ℕ) → u < v → v < tasks_so_far e
     → (task (table_at e) u).parent ≡ (task (table_at e) v).parent
     → (task (table_at e) u).siblings_before < (task (table_at e) v).siblings_before
 siblings_ascend e h u v a l same =
     let later = child e h v (omega arith) l in
-    let above = not_root (table_at e) (nested e h) u (running later.before) (same ∙ later.parent) in
+    let above = not_root (table_at e) (nested e h) u (running_task later.before) (same ∙ later.parent) in
     let earlier = child e h u above (omega arith) in
-    let parent : running earlier.before ≡ running later.before =
+    let parent : running_task earlier.before ≡ running_task later.before =
     same_Some _ _ (sym earlier.parent ∙ same ∙ later.parent) in
     let since = past later.before later.proper later.grouped u above (omega (arith, later.number)) in
     let at : before_task u later.before ≡ earlier.before =
     sym (before_within e u v later.before a l later.is_before) ∙ earlier.is_before in
-    let more = subst (λ (xs : List Mark). children_of (running xs) xs < children_of (running xs) later.before) at since.more in
+    let more = subst (λ (xs : List Mark). children_of (running_task xs) xs < children_of (running_task xs) later.before) at since.more in
     omega (arith, more, ap (λ (p : ℕ). children_of p later.before) parent, earlier.siblings, later.siblings)
 
 -- what holds at a moment and at those before it holds where a segment opened
 at_opening : (P : List Mark → Type 0) → ((m : Mark) (e : List Mark) → P (m ∷ e) → P e) → (e : List Mark) (t : ℕ) → P e
-    → P (opening t e)
+    → P (opening_of t e)
 at_opening P back [] t h = h
 at_opening P back (m ∷ e) t h = elim (cases_Bool (opens m && eqb (segments_so_far e) t)) [
   | inl here ↦ rw here h
@@ -170,7 +174,7 @@ at_opening P back (m ∷ e) t h = elim (cases_Bool (opens m && eqb (segments_so_
 ]
 
 -- a segment's number is how many had opened before it
-opening_number : (e : List Mark) (t : ℕ) (m : Mark) (before : List Mark) → opening t e ≡ m ∷ before
+opening_number : (e : List Mark) (t : ℕ) (m : Mark) (before : List Mark) → opening_of t e ≡ m ∷ before
     → segments_so_far before ≡ t
 opening_number [] t m before o = absurd cc
 opening_number (n ∷ e) t m before o = elim (cases_Bool (opens n && eqb (segments_so_far e) t)) [
@@ -182,22 +186,24 @@ opening_number (n ∷ e) t m before o = elim (cases_Bool (opens n && eqb (segmen
 ]
 
 -- a task that had begun where a segment opened
-begun_by_opening : (e : List Mark) (t u : ℕ) → u < tasks_so_far (opening t e)
-    → (u < tasks_so_far e) × (beginning u e ≡ beginning u (opening t e))
+begun_by_opening : (e : List Mark) (t u : ℕ) → u < tasks_so_far (opening_of t e)
+    → (u < tasks_so_far e) × (beginning_of u e ≡ beginning_of u (opening_of t e))
 begun_by_opening [] t u l = (l, refl)
 begun_by_opening (m ∷ e) t u l = elim (cases_Bool (opens m && eqb (segments_so_far e) t)) [
   | inl here ↦ (rw here at l, rw here refl)
   | inr before ↦ (
       let k = begun_by_opening e t u (rw before at l) in
-      (omega (arith, k.0, count-cons begins_task m e), beginning-old m e u k.0 ∙ rw before k.1))
+      (omega (arith, k.0, count-cons begins_task m e), beginning_of-old m e u k.0 ∙ rw before k.1))
 ]
 
+-- of the open groups the innermost counts
 innermost_count : (groups : List OpenGroup) → innermost_children_before groups ≡ (innermost groups).children_before
 innermost_count [] = refl
 innermost_count (g ∷ groups) = refl
 
+-- a segment that opens with the end of a group goes on after it
 after_group_end : (e : List Mark) → IsLast e → (t : ℕ) (before : List Mark) → 0 < t → t < segments_so_far e
-    → opening t e ≡ GroupEnds ∷ before → OpensAfter (table_at e) closings.EndsGroup t
+    → opening_of t e ≡ GroupEnds ∷ before → OpensAfter (table_at e) closings.EndsGroup t
 after_group_end e h t before above l o =
     let closing : closing_of (t - 1) e ≡ closings.EndsGroup = closes_with e t before above l o in
     let same : t - 1 + 1 ≡ t = omega arith in (
@@ -206,23 +212,23 @@ after_group_end e h t before above l o =
       subst (λ (n : ℕ). Continues (table_at e) (t - 1) n) same (continues e (t - 1) (after_end e h.proper (t - 1) closing)),
     )
 
-proper_opening : (e : List Mark) (t : ℕ) (xs : List Mark) → IsProper e → opening t e ≡ xs → IsProper xs
+proper_opening : (e : List Mark) (t : ℕ) (xs : List Mark) → IsProper e → opening_of t e ≡ xs → IsProper xs
 proper_opening e t xs p o =
     subst (λ (xs : List Mark). IsProper xs) o (at_opening (λ xs. IsProper xs) (λ m x p. p.1) e t p)
 
-grouped_opening : (e : List Mark) (t : ℕ) (xs : List Mark) → IsGrouped e → opening t e ≡ xs → IsGrouped xs
+grouped_opening : (e : List Mark) (t : ℕ) (xs : List Mark) → IsGrouped e → opening_of t e ≡ xs → IsGrouped xs
 grouped_opening e t xs g o =
     subst (λ (xs : List Mark). IsGrouped xs) o (at_opening (λ xs. IsGrouped xs) (λ m x p. p.2) e t g)
 
 -- a child that its task had generated before the end of a group
 child_before_end : (e : List Mark) → IsLast e → (t k u : ℕ) (before : List Mark)
-    → t < segments_so_far e → opening t e ≡ GroupEnds ∷ before → IsChildAt before (running before) k u → HasChildAt (table_at e) t k
+    → t < segments_so_far e → opening_of t e ≡ GroupEnds ∷ before → IsChildAt before (running_task before) k u → HasChildAt (table_at e) t k
 child_before_end e h t k u before l o found =
     let proper = proper_opening e t (GroupEnds ∷ before) h.proper o in
     let whole = begun_by_opening e t u (subst (λ (xs : List Mark). u < tasks_so_far xs) (sym o) found.has_begun) in
     let at : before_task u e ≡ before_task u before = ap (drop 1) whole.1 ∙ ap (before_task u) o in
-    let here = child_from before e (running before) k u at whole.0 found in
-    let is = row_of_child e h (running before) k u here in
+    let here = child_from before e (running_task before) k u at whole.0 found in
+    let is = row_of_child e h (running_task before) k u here in
     let c = child e h u here.above here.has_begun in
     let b = begun before proper.1 u found.has_begun in
     let first : segments_so_far c.before ≡ segments_so_far b.earlier =
@@ -234,7 +240,7 @@ child_before_end e h t k u before l o found =
       child = u;
       generated = record {
         is_child = omega (arith, whole.0, tasks-at e);
-        parent = is.0 ∙ ap Some (sym (owner-at e t l ∙ ap running o));
+        parent = is.0 ∙ ap Some (sym (owner-at e t l ∙ ap running_task o));
         creator = segments_so_far c.before - 1;
         is_creator = c.creator;
         earlier = omega (arith, b.before, c.opened);
@@ -243,19 +249,20 @@ child_before_end e h t k u before l o found =
     }
 
 -- a group begins where its task had generated no more children than where it ends
-group_children : (e : List Mark) (t k : ℕ) (before : List Mark) → IsGrouped e → opening t e ≡ GroupEnds ∷ before
-    → k < before_group (GroupEnds ∷ before) → k < children_of (running before) before
+group_children : (e : List Mark) (t k : ℕ) (before : List Mark) → IsGrouped e → opening_of t e ≡ GroupEnds ∷ before
+    → k < before_group (GroupEnds ∷ before) → k < children_of (running_task before) before
 group_children e t k before g o less =
     let grouped = grouped_opening e t (GroupEnds ∷ before) g o in
     let own = ap (λ (q : ℕ). children_of q before) grouped.1.1 in
     omega (arith, counted before 0 no_group grouped.1.0, innermost_count (open_groups before))
 
+-- each number that a segment counts is that of a child generated before it
 children_at : (e : List Mark) → IsLast e → (t k : ℕ) → t < segments_so_far e
     → k < (segment (table_at e) t).children_before → HasChildAt (table_at e) t k
 children_at e h t k l less =
-    by_mark (opening t e) refl (omega (arith, ap (λ r. r.children_before) (segment-at e t l)))
+    by_mark (opening_of t e) refl (omega (arith, ap (λ r. r.children_before) (segment-at e t l)))
   where
-    by_mark : (moment : List Mark) → opening t e ≡ moment → k < before_group moment → HasChildAt (table_at e) t k
+    by_mark : (moment : List Mark) → opening_of t e ≡ moment → k < before_group moment → HasChildAt (table_at e) t k
     by_mark [] o few = absurd (omega arith)
     by_mark (Begins d i ∷ before) o few = absurd (omega arith)
     by_mark (Ends ∷ before) o few = absurd (omega arith)
@@ -263,7 +270,7 @@ children_at e h t k l less =
     by_mark (Waits ∷ before) o few = absurd (omega arith)
     by_mark (GroupBegins ∷ before) o few = absurd (omega arith)
     by_mark (GroupEnds ∷ before) o few =
-        let found = nth_child before (running before) k (group_children e t k before h.grouped o few) in
+        let found = nth_child before (running_task before) k (group_children e t k before h.grouped o few) in
         child_before_end e h t k found.0 before l o found.1
 
 numbered : (e : List Mark) → IsLast e → IsNumbered (table_at e)

@@ -1,5 +1,5 @@
 -- A nested table with its groups is read in place.
-use Rattle.std.proofs.Common.{◌≡◌, ◌⊎◌, ℕ, zero, suc, ◌+◌, ◌-◌, ◌<◌, ◌≤◌, List, [], ◌∷◌, Option, Some, None, length, get_or, refl, sym, ap, subst, ◌∙◌, inl, inr, arith}
+use Rattle.std.proofs.Common.{◌≡◌, ◌⊎◌, ℕ, zero, suc, ◌+◌, ◌-◌, ◌<◌, ◌≤◌, Option, Some, None, length, refl, sym, ap, subst, ◌∙◌, inl, inr, arith}
 use Rattle.std.proofs.lemmas.Bool.{cases_lt}
 use Rattle.std.proofs.lemmas.Option.{same_Some}
 use Rattle.task_segments.specs.declared.table.Closing.{Closing}
@@ -10,36 +10,29 @@ use Rattle.task_segments.specs.Schedule.{IsJoined}
 use Rattle.task_segments.specs.Nesting.{IsChild, IsNestedTable, IsGroupedTable, HasInnermost}
 use Rattle.task_segments.specs.InPlace.{EndsBefore, IsOf, IsCreated, Opens, IsReadInPlace}
 use Rattle.task_segments.proofs.Reaches.{joined}
-use Rattle.task_segments.proofs.Along.{along, continued, next_is_nearest}
+use Rattle.task_segments.proofs.Along.{along, continued, next_is_nearest, is_owner, is_last}
 use Rattle.task_segments.proofs.Order.{after_child, after_created, continues_up, creator_within, last_of_all, next_is, none_next, not_root, not_root_made, one_next, reached, same_place, siblings_apart}
-
--- a number past the end has no parent and no creator
-past_the_end : (tasks : List Task) (u : ℕ) → length tasks ≤ u → get_or tasks u no_task ≡ no_task
-past_the_end [] u past = refl
-past_the_end (row ∷ tasks) zero past = absurd (omega arith)
-past_the_end (row ∷ tasks) (suc u) past = past_the_end tasks u (omega arith)
+use Rattle.std.proofs.lemmas.List.{get_or_past}
 
 pub with_parent : (table : Table) (u p : ℕ) → (task table u).parent ≡ Some p → IsTask table u
 with_parent table u p e =
     elim (cases_lt u (length table.tasks)) [
       | inl within ↦ within
-      | inr past ↦ let none : None ≡ Some p = sym (ap (λ (row : Task). row.parent) (past_the_end table.tasks u past)) ∙ e in cc
+      | inr past ↦ let none : None ≡ Some p = sym (ap (λ (row : Task). row.parent) (get_or_past table.tasks u no_task past)) ∙ e in cc
     ]
 
 pub with_creator : (table : Table) (u s : ℕ) → (task table u).creator ≡ Some s → IsTask table u
 with_creator table u s e =
     elim (cases_lt u (length table.tasks)) [
       | inl within ↦ within
-      | inr past ↦ let none : None ≡ Some s = sym (ap (λ (row : Task). row.creator) (past_the_end table.tasks u past)) ∙ e in cc
+      | inr past ↦ let none : None ≡ Some s = sym (ap (λ (row : Task). row.creator) (get_or_past table.tasks u no_task past)) ∙ e in cc
     ]
 
+-- there is a segment
 pub some_segment : (table : Table) → IsNestedTable table → IsSegment table 0
 some_segment table h = let k = (h.segments 0 h.root.is_task).is_last in omega arith
 
--- a segment of a task, which then is one
-pub owned : (table : Table) → IsNestedTable table → (u s : ℕ) → IsOf table u s → IsTask table u
-owned table h u s i = subst (λ n. IsTask table n) i.of_task (h.tasks s i.is_segment)
-
+-- no segment comes after the root's last
 pub root_last : (table : Table) → IsNestedTable table → (s : ℕ) → IsSegment table s → s ≤ (task table 0).last
 root_last table h s i =
     let u = (segment table s).task in
@@ -49,10 +42,10 @@ root_last table h s i =
     omega arith
 
 pub from_first : (table : Table) → IsNestedTable table → (u s : ℕ) → IsOf table u s → (task table u).first ≤ s
-from_first table h u s i = ((h.segments u (owned table h u s i)).between s i.is_segment i.of_task).0
+from_first table h u s i = ((h.segments u (is_owner table h u s i)).between s i.is_segment i.of_task).0
 
 pub to_last : (table : Table) → IsNestedTable table → (u s : ℕ) → IsOf table u s → s ≤ (task table u).last
-to_last table h u s i = ((h.segments u (owned table h u s i)).between s i.is_segment i.of_task).1
+to_last table h u s i = ((h.segments u (is_owner table h u s i)).between s i.is_segment i.of_task).1
 
 pub first_of : (table : Table) → IsNestedTable table → (u : ℕ) → IsTask table u → IsOf table u (task table u).first
 first_of table h u i =
@@ -61,54 +54,69 @@ first_of table h u i =
     let within = k.is_last in
     record { is_segment = omega arith; of_task = k.of_first }
 
-pub last_of : (table : Table) → IsNestedTable table → (u : ℕ) → IsTask table u → IsOf table u (task table u).last
-last_of table h u i = let k = h.segments u i in record { is_segment = k.is_last; of_task = k.of_last }
-
-pub last_followed : (table : Table) → IsNestedTable table → (u t : ℕ) → IsTask table u → Continues table (task table u).last t → ⊥
+-- nothing follows the last segment of a task
+pub last_followed : (table : Table) → IsNestedTable table → (u t : ℕ) → IsTask table u
+    → Continues table (task table u).last t → ⊥
 last_followed table h u t i next =
     let up = continues_up table h (task table u).last t next in
     let below = to_last table h u t (record { is_segment = next.is_to; of_task = next.same_task ∙ (h.segments u i).of_last }) in
     omega arith
 
 -- a segment is followed, where it does not end its task
-pub followed_or_last : (table : Table) → IsNestedTable table → (s : ℕ) → IsSegment table s → ((t : ℕ) × Continues table s t) ⊎ ((segment table s).closing ≡ EndsTask)
+pub followed_or_last : (table : Table) → IsNestedTable table → (s : ℕ) → IsSegment table s
+    → ((t : ℕ) × Continues table s t) ⊎ ((segment table s).closing ≡ EndsTask)
 followed_or_last table h s i = by_closing (segment table s).closing refl
   where
-    by_closing : (closing : Closing) → (segment table s).closing ≡ closing → ((t : ℕ) × Continues table s t) ⊎ ((segment table s).closing ≡ EndsTask)
+    by_closing : (closing : Closing) → (segment table s).closing ≡ closing
+        → ((t : ℕ) × Continues table s t) ⊎ ((segment table s).closing ≡ EndsTask)
     by_closing (Creates u) e = inl ((task table u).last + 1, after_created table h s u i e)
     by_closing Waits e = inl (s + 1, h.after_wait s i e)
     by_closing EndsGroup e = inl (s + 1, h.after_group s i e)
     by_closing EndsTask e = inr e
 
-pub last_ends : (table : Table) → IsNestedTable table → (u : ℕ) → IsTask table u → (segment table (task table u).last).closing ≡ EndsTask
+-- and it ends its task
+pub last_ends : (table : Table) → IsNestedTable table → (u : ℕ) → IsTask table u
+    → (segment table (task table u).last).closing ≡ EndsTask
 last_ends table h u i =
     elim (followed_or_last table h (task table u).last (h.segments u i).is_last) [
       | inl next ↦ absurd (last_followed table h u next.0 i next.1)
       | inr ends ↦ ends
     ]
 
-pub first_of_one : (table : Table) → IsNestedTable table → (u v : ℕ) → IsTask table u → IsTask table v → (task table u).first ≡ (task table v).first → u ≡ v
-first_of_one table h u v i j same = sym (first_of table h u i).of_task ∙ ap (λ (s : ℕ). (segment table s).task) same ∙ (first_of table h v j).of_task
+-- a segment is the first of one task
+pub first_of_one : (table : Table) → IsNestedTable table → (u v : ℕ) → IsTask table u → IsTask table v
+    → (task table u).first ≡ (task table v).first → u ≡ v
+first_of_one table h u v i j same =
+    sym (first_of table h u i).of_task ∙ ap (λ (s : ℕ). (segment table s).task) same ∙ (first_of table h v j).of_task
 
-pub last_of_one : (table : Table) → IsNestedTable table → (u v : ℕ) → IsTask table u → IsTask table v → (task table u).last ≡ (task table v).last → u ≡ v
-last_of_one table h u v i j same = sym (last_of table h u i).of_task ∙ ap (λ (s : ℕ). (segment table s).task) same ∙ (last_of table h v j).of_task
+-- and the last of one
+pub last_of_one : (table : Table) → IsNestedTable table → (u v : ℕ) → IsTask table u → IsTask table v
+    → (task table u).last ≡ (task table v).last → u ≡ v
+last_of_one table h u v i j same =
+    sym (is_last table h u i).of_task ∙ ap (λ (s : ℕ). (segment table s).task) same ∙ (is_last table h v j).of_task
 
-pub follows_one : (table : Table) → IsNestedTable table → (a b t : ℕ) → Continues table a t → Continues table b t → a ≡ b
+-- a segment follows one
+pub follows_one : (table : Table) → IsNestedTable table → (a b t : ℕ) → Continues table a t → Continues table b t
+    → a ≡ b
 follows_one table h a b t x y =
     let same = x.next in
     let other = y.next in
     same_place table h a b x.is_from y.is_from (sym x.same_task ∙ y.same_task) (omega arith)
 
-pub first_follows : (table : Table) → IsNestedTable table → (u s : ℕ) → IsTask table u → Continues table s (task table u).first → ⊥
+-- the first of a task follows none
+pub first_follows : (table : Table) → IsNestedTable table → (u s : ℕ) → IsTask table u
+    → Continues table s (task table u).first → ⊥
 first_follows table h u s i x =
     let up = continues_up table h s (task table u).first x in
     let from = from_first table h u s (record { is_segment = x.is_from; of_task = sym x.same_task ∙ (first_of table h u i).of_task }) in
     omega arith
 
-pub nearest : (table : Table) → IsNestedTable table → (s t other : ℕ) → Continues table s t → IsOf table (segment table s).task other → s < other → t ≤ other
+pub nearest : (table : Table) → IsNestedTable table → (s t other : ℕ) → Continues table s t
+    → IsOf table (segment table s).task other → s < other → t ≤ other
 nearest table h s t other x o l = next_is_nearest table h s t other x o.is_segment o.of_task l
 
-pub between : (table : Table) → IsNestedTable table → (u a b : ℕ) → IsOf table u a → IsOf table u b → a < b → IsJoined (Continues table) a b
+pub between : (table : Table) → IsNestedTable table → (u a b : ℕ) → IsOf table u a → IsOf table u b → a < b
+    → IsJoined (Continues table) a b
 between table h u a b i j l = joined (along (b - a) table h a b u i j (omega arith) (omega arith))
 
 -- what a creator tells of a task
@@ -116,18 +124,23 @@ record Made (table : Table) (u s : ℕ) : Type 0 where
   child : IsChild table u
   creator : child.creator ≡ s
 
-made : (table : Table) → IsNestedTable table → (u s : ℕ) → IsTask table u → (task table u).creator ≡ Some s → Made table u s
+made : (table : Table) → IsNestedTable table → (u s : ℕ) → IsTask table u → (task table u).creator ≡ Some s
+    → Made table u s
 made table h u s i e =
     let k = h.children u (not_root_made table h u s e) i in
     record { child = k; creator = same_Some _ _ (sym k.is_creator ∙ e) }
 
-pub after_task : (table : Table) → IsNestedTable table → (u s : ℕ) → IsTask table u → (task table u).creator ≡ Some s → Continues table s ((task table u).last + 1)
-after_task table h u s i e = let m = made table h u s i e in subst (λ n. Continues table n ((task table u).last + 1)) m.creator m.child.resumes
+pub after_task : (table : Table) → IsNestedTable table → (u s : ℕ) → IsTask table u → (task table u).creator ≡ Some s
+    → Continues table s ((task table u).last + 1)
+after_task table h u s i e =
+    let m = made table h u s i e in subst (λ n. Continues table n ((task table u).last + 1)) m.creator m.child.resumes
 
-pub first_created : (table : Table) → IsNestedTable table → (u s : ℕ) → IsTask table u → (task table u).creator ≡ Some s → (task table u).first ≡ s + 1
+pub first_created : (table : Table) → IsNestedTable table → (u s : ℕ) → IsTask table u
+    → (task table u).creator ≡ Some s → (task table u).first ≡ s + 1
 first_created table h u s i e = let m = made table h u s i e in m.child.first ∙ ap (λ (n : ℕ). n + 1) m.creator
 
-pub created_before : (table : Table) → IsNestedTable table → (u s : ℕ) → IsTask table u → (task table u).creator ≡ Some s → s < (task table u).last
+pub created_before : (table : Table) → IsNestedTable table → (u s : ℕ) → IsTask table u
+    → (task table u).creator ≡ Some s → s < (task table u).last
 created_before table h u s i e =
     let first = first_created table h u s i e in
     let order = (h.segments u i).in_order in
@@ -145,10 +158,12 @@ below_root table h u l i =
       of_parent = record { is_segment = creator_within table h u k.creator i k.is_creator; of_task = k.of_creator };
     }
 
-pub has_creator : (table : Table) → IsNestedTable table → (u p : ℕ) → IsTask table u → (task table u).parent ≡ Some p → (s : ℕ) × ((task table u).creator ≡ Some s)
+pub has_creator : (table : Table) → IsNestedTable table → (u p : ℕ) → IsTask table u → (task table u).parent ≡ Some p
+    → (s : ℕ) × ((task table u).creator ≡ Some s)
 has_creator table h u p i e = let k = h.children u (not_root table h u p e) i in (k.creator, k.is_creator)
 
-pub creator_of : (table : Table) → IsNestedTable table → (u p s : ℕ) → IsTask table u → (task table u).parent ≡ Some p → (task table u).creator ≡ Some s → IsOf table p s
+pub creator_of : (table : Table) → IsNestedTable table → (u p s : ℕ) → IsTask table u → (task table u).parent ≡ Some p
+    → (task table u).creator ≡ Some s → IsOf table p s
 creator_of table h u p s i e f =
     let m = made table h u s i f in
     let same : m.child.parent ≡ p = same_Some _ _ (sym m.child.is_parent ∙ e) in
@@ -157,14 +172,17 @@ creator_of table h u p s i e f =
       of_task = ap (λ (n : ℕ). (segment table n).task) (sym m.creator) ∙ m.child.of_creator ∙ same;
     }
 
-first_follows_none : (table : Table) → IsNestedTable table → (a b t : ℕ) → Continues table a t → Creation table b t → ⊥
-first_follows_none table h a b t next creation = first_follows table h creation.child a creation.is_child (subst (Continues table a) (sym creation.first) next)
+first_follows_none : (table : Table) → IsNestedTable table → (a b t : ℕ) → Continues table a t → Creation table b t
+    → ⊥
+first_follows_none table h a b t next creation =
+    first_follows table h creation.child a creation.is_child (subst (Continues table a) (sym creation.first) next)
 
 creation_once : (table : Table) → IsNestedTable table → (a b t : ℕ) → Creation table a t → Creation table b t → a ≡ b
 creation_once table h a b t x y =
     let same = first_of_one table h x.child y.child x.is_child y.is_child (x.first ∙ sym y.first) in
     same_Some _ _ (sym x.creator ∙ ap (λ (u : ℕ). (task table u).creator) same ∙ y.creator)
 
+-- a segment opens at the end of one
 pub opens_once : (table : Table) → IsNestedTable table → (a b t : ℕ) → Opens table a t → Opens table b t → a ≡ b
 opens_once table h a b t (inl x) (inl y) = follows_one table h a b t x y
 opens_once table h a b t (inl x) (inr y) = absurd (first_follows_none table h a b t x y)
@@ -172,13 +190,16 @@ opens_once table h a b t (inr x) (inl y) = absurd (first_follows_none table h b 
 opens_once table h a b t (inr x) (inr y) = creation_once table h a b t x y
 
 -- the segment after the creator is the child's first: so the creator does not go on with that number
-next_other : (table : Table) → IsNestedTable table → (u s : ℕ) → IsTask table u → (task table u).creator ≡ Some s → Continues table s (s + 1) → ⊥
+next_other : (table : Table) → IsNestedTable table → (u s : ℕ) → IsTask table u → (task table u).creator ≡ Some s
+    → Continues table s (s + 1) → ⊥
 next_other table h u s i e next =
     let same = one_next table h s ((task table u).last + 1) (s + 1) (after_task table h u s i e) next in
     let later = created_before table h u s i e in
     omega arith
 
-pub created : (table : Table) → IsNestedTable table → (s child : ℕ) → IsTask table child → (task table child).creator ≡ Some s → (segment table s).closing ≡ Creates child
+-- the creator of a task closes by creating it
+pub created : (table : Table) → IsNestedTable table → (s child : ℕ) → IsTask table child
+    → (task table child).creator ≡ Some s → (segment table s).closing ≡ Creates child
 created table h s child i e = by_closing (segment table s).closing refl
   where
     is_s : IsSegment table s
@@ -194,7 +215,9 @@ created table h s child i e = by_closing (segment table s).closing refl
     by_closing EndsGroup c = absurd (next_other table h child s i e (h.after_group s is_s c))
     by_closing EndsTask c = absurd (none_next table h s ((task table child).last + 1) c (after_task table h child s i e))
 
-pub children : (table : Table) → IsNestedTable table → (u p s t : ℕ) → (task table u).parent ≡ Some p → (task table u).creator ≡ Some s → IsOf table p t → s < t → (task table u).last < t
+-- a child generated before a segment of its parent has ended before it
+pub children : (table : Table) → IsNestedTable table → (u p s t : ℕ) → (task table u).parent ≡ Some p
+    → (task table u).creator ≡ Some s → IsOf table p t → s < t → (task table u).last < t
 children table h u p s t e f o l =
     let m = made table h u s (with_parent table u p e) f in
     let same : m.child.parent ≡ p = same_Some _ _ (sym m.child.is_parent ∙ e) in
@@ -202,10 +225,12 @@ children table h u p s t e f o l =
     after_child table h u m.child t (o.of_task ∙ sym same) (omega arith)
 
 -- a child generated before t has ended before the segment that t follows by one, where that one does not create it
-ended_before : (table : Table) → IsNestedTable table → (child before : ℕ) → IsEarlierChild table child (before + 1) → Continues table before (before + 1) → (task table child).last < before
+ended_before : (table : Table) → IsNestedTable table → (child before : ℕ) → IsEarlierChild table child (before + 1)
+    → Continues table before (before + 1) → (task table child).last < before
 ended_before table h child before generated next =
     let earlier = generated.earlier in
-    let parent : (task table child).parent ≡ Some (segment table before).task = generated.parent ∙ ap Some next.same_task in
+    let parent : (task table child).parent ≡ Some (segment table before).task =
+    generated.parent ∙ ap Some next.same_task in
     elim (cases_lt generated.creator before) [
       | inl less ↦ children table h child (segment table before).task generated.creator before parent generated.is_creator (record { is_segment = next.is_from; of_task = refl }) less
       | inr same ↦
@@ -213,27 +238,34 @@ ended_before table h child before generated next =
           absurd (next_other table h child before generated.is_child (generated.is_creator ∙ ap Some e) next)
     ]
 
-next_ended : (table : Table) → IsNestedTable table → (child before t : ℕ) → IsEarlierChild table child t → Continues table before t → Continues table before (before + 1) → (task table child).last < before
+next_ended : (table : Table) → IsNestedTable table → (child before t : ℕ) → IsEarlierChild table child t
+    → Continues table before t → Continues table before (before + 1) → (task table child).last < before
 next_ended table h child before t generated after next =
     ended_before table h child before (subst (λ n. IsEarlierChild table child n) (next_is table h before t after next) generated) next
 
-pub waited : (table : Table) → IsNestedTable table → (child before t : ℕ) → IsEarlierChild table child t → Continues table before t → (segment table before).closing ≡ Waits → (task table child).last < before
-waited table h child before t generated after waits = next_ended table h child before t generated after (h.after_wait before after.is_from waits)
+pub waited : (table : Table) → IsNestedTable table → (child before t : ℕ) → IsEarlierChild table child t
+    → Continues table before t → (segment table before).closing ≡ Waits → (task table child).last < before
+waited table h child before t generated after waits =
+    next_ended table h child before t generated after (h.after_wait before after.is_from waits)
 
-pub enclosed : (table : Table) → IsNestedTable table → (child t : ℕ) → (encloses : Encloses table t child) → (task table child).last < encloses.before
-enclosed table h child t e = next_ended table h child e.before t e.generated e.opens (h.after_group e.before e.opens.is_from e.ends_group)
+pub enclosed : (table : Table) → IsNestedTable table → (child t : ℕ) → (encloses : Encloses table t child)
+    → (task table child).last < encloses.before
+enclosed table h child t e =
+    next_ended table h child e.before t e.generated e.opens (h.after_group e.before e.opens.is_from e.ends_group)
 
 -- the end of a task's innermost group, which comes after the task
 pub record EndsAfter (table : Table) (u t : ℕ) : Type 0 where
   pub ends : EndsBefore table t
   pub later : (task table u).last < ends.before
 
-last_lower : (table : Table) → IsNestedTable table → (u : ℕ) → (c : IsChild table u) → IsTask table u → (task table u).last < (task table c.parent).last
+last_lower : (table : Table) → IsNestedTable table → (u : ℕ) → (c : IsChild table u) → IsTask table u
+    → (task table u).last < (task table c.parent).last
 last_lower table h u c i =
     let within = to_last table h c.parent ((task table u).last + 1) (record { is_segment = c.resumes.is_to; of_task = c.resumes.same_task ∙ c.of_creator }) in
     omega arith
 
-own_group : (table : Table) → IsNestedTable table → (u t : ℕ) → HasInnermost table u → (task table u).innermost_group ≡ Some t → EndsAfter table u t
+own_group : (table : Table) → IsNestedTable table → (u t : ℕ) → HasInnermost table u
+    → (task table u).innermost_group ≡ Some t → EndsAfter table u t
 own_group table h u t g e =
     let same : g.group ≡ t = same_Some _ _ (sym g.is_group ∙ e) in
     let c = g.encloses in
@@ -242,7 +274,8 @@ own_group table h u t g e =
       later = enclosed table h u g.group c;
     })
 
-group_from : (fuel : ℕ) (table : Table) → IsNestedTable table → IsGroupedTable table → (u t : ℕ) → u < fuel → IsTask table u → (task table u).innermost_group ≡ Some t → EndsAfter table u t
+group_from : (fuel : ℕ) (table : Table) → IsNestedTable table → IsGroupedTable table → (u t : ℕ) → u < fuel
+    → IsTask table u → (task table u).innermost_group ≡ Some t → EndsAfter table u t
 group_from zero table h g u t below i e = absurd (omega arith)
 group_from (suc fuel) table h g u t below i e =
     elim (cases_lt 0 u) [
@@ -252,7 +285,8 @@ group_from (suc fuel) table h g u t below i e =
             let c = h.children u above i in
             let parent_lower = c.lower in
             let same : inherits.parent ≡ c.parent = same_Some _ _ (sym inherits.is_parent ∙ c.is_parent) in
-            let parents : (task table c.parent).innermost_group ≡ Some t = ap (λ (n : ℕ). (task table n).innermost_group) (sym same) ∙ sym inherits.inherited ∙ e in
+            let parents : (task table c.parent).innermost_group ≡ Some t =
+            ap (λ (n : ℕ). (task table n).innermost_group) (sym same) ∙ sym inherits.inherited ∙ e in
             let up = group_from fuel table h g c.parent t (omega arith) (omega arith) parents in
             let later = up.later in
             let lower = last_lower table h u c i in
@@ -260,13 +294,16 @@ group_from (suc fuel) table h g u t below i e =
       ]
       | inr none ↦
           let zero_is : u ≡ 0 = omega arith in
-          let k : ◌≡◌ {A = Option ℕ} None (Some t) = sym g.root ∙ ap (λ (n : ℕ). (task table n).innermost_group) (sym zero_is) ∙ e in
+          let k : ◌≡◌ {A = Option ℕ} None (Some t) =
+          sym g.root ∙ ap (λ (n : ℕ). (task table n).innermost_group) (sym zero_is) ∙ e in
           cc
     ]
 
-pub group : (table : Table) → IsNestedTable table → IsGroupedTable table → (u t : ℕ) → IsTask table u → (task table u).innermost_group ≡ Some t → (ends : EndsBefore table t) × ((task table u).last < ends.before)
+pub group : (table : Table) → IsNestedTable table → IsGroupedTable table → (u t : ℕ) → IsTask table u
+    → (task table u).innermost_group ≡ Some t → (ends : EndsBefore table t) × ((task table u).last < ends.before)
 group table h g u t i e = let k = group_from (suc u) table h g u t (omega arith) i e in (k.ends, k.later)
 
+-- a nested table with its groups is read in place
 pub read_in_place : (table : Table) → IsNestedTable table → IsGroupedTable table → IsReadInPlace table
 read_in_place table h g = record {
   root = h.root.is_task;
@@ -282,7 +319,7 @@ read_in_place table h g = record {
   from_first = from_first table h;
   to_last = to_last table h;
   first_of = first_of table h;
-  last_of = last_of table h;
+  last_of = is_last table h;
   last_ends = last_ends table h;
   ends_last = h.ends;
   firsts_ascend = h.created_in_order;

@@ -17,9 +17,9 @@ use Rattle.task_segments.specs.declared.table.Segment.{Segment}
 use Rattle.task_segments.specs.contracts.table.ClosingPartialEq.TheImpl as closing_eq
 use Rattle.task_segments.specs.contracts.table.SegmentPartialEq.TheImpl as segment_eq
 use Rattle.task_segments.specs.Table.{Task}
-use Rattle.task_segments.specs.declared.copies.Place.{Place}
-use Rattle.task_segments.specs.contracts.copies.PlacePartialEq.TheImpl as place_eq
-use Rattle.task_segments.specs.Copies.{place_of}
+use Rattle.task_segments.specs.declared.copies.TaskFacts.{TaskFacts}
+use Rattle.task_segments.specs.contracts.copies.TaskFactsPartialEq.TheImpl as facts_eq
+use Rattle.task_segments.specs.Copies.{facts_of}
 use denote.Enum.Bare.{same_true}
 
 pub through : {P Q : Type 0} (b : Bool) → (P → Q) → (Q → P) → Decides b P → Decides b Q
@@ -88,11 +88,11 @@ option_decides None (Some y) = (λ e. cc, λ e. cc)
 option_decides (Some x) None = (λ e. cc, λ e. cc)
 option_decides (Some x) (Some y) = through (eqb x y) (λ e. ap Some e) (λ e. cc) (Decides-eqb x y)
 
-abbrev AreOnePlace : Place → Place → Type 0
-AreOnePlace a b = (a.parent ≡ b.parent) × ((a.creator ≡ b.creator) × ((a.undeferred ≡ b.undeferred) × ((a.first ≡ b.first) × ((a.last ≡ b.last) × ((a.innermost_group ≡ b.innermost_group) × (a.siblings_before ≡ b.siblings_before))))))
+abbrev HaveSameFacts : TaskFacts → TaskFacts → Type 0
+HaveSameFacts a b = (a.parent ≡ b.parent) × ((a.creator ≡ b.creator) × ((a.undeferred ≡ b.undeferred) × ((a.first ≡ b.first) × ((a.last ≡ b.last) × ((a.innermost_group ≡ b.innermost_group) × (a.siblings_before ≡ b.siblings_before))))))
 
-pub same_place : (a b : Place) → AreOnePlace a b → a ≡ b
-same_place a b (p, (c, (d, (f, (l, (g, n)))))) =
+pub same_facts : (a b : TaskFacts) → HaveSameFacts a b → a ≡ b
+same_facts a b (p, (c, (d, (f, (l, (g, n)))))) =
     ap (λ (v : Option ℕ). record a { parent = v }) p
     ∙ ap (λ (v : Option ℕ). record a { parent = b.parent; creator = v }) c
     ∙ ap (λ (v : Bool). record a { parent = b.parent; creator = b.creator; undeferred = v }) d
@@ -101,12 +101,12 @@ same_place a b (p, (c, (d, (f, (l, (g, n)))))) =
     ∙ ap (λ (v : Option ℕ). record b { innermost_group = v; siblings_before = a.siblings_before }) g
     ∙ ap (λ (v : ℕ). record b { siblings_before = v }) n
 
-parts_of : (a b : Place) → a ≡ b → AreOnePlace a b
-parts_of a b e = (ap (λ (r : Place). r.parent) e, (ap (λ (r : Place). r.creator) e, (ap (λ (r : Place). r.undeferred) e, (ap (λ (r : Place). r.first) e, (ap (λ (r : Place). r.last) e, (ap (λ (r : Place). r.innermost_group) e, ap (λ (r : Place). r.siblings_before) e))))))
+parts_of : (a b : TaskFacts) → a ≡ b → HaveSameFacts a b
+parts_of a b e = (ap (λ (r : TaskFacts). r.parent) e, (ap (λ (r : TaskFacts). r.creator) e, (ap (λ (r : TaskFacts). r.undeferred) e, (ap (λ (r : TaskFacts). r.first) e, (ap (λ (r : TaskFacts). r.last) e, (ap (λ (r : TaskFacts). r.innermost_group) e, ap (λ (r : TaskFacts). r.siblings_before) e))))))
 
-place_decides : (a b : Place) → Decides (place_eq.ghosts.eq a b) (a ≡ b)
-place_decides a b =
-    through (place_eq.ghosts.eq a b) (same_place a b) (parts_of a b)
+facts_decide : (a b : TaskFacts) → Decides (facts_eq.ghosts.eq a b) (a ≡ b)
+facts_decide a b =
+    through (facts_eq.ghosts.eq a b) (same_facts a b) (parts_of a b)
     (Decides-and (option_eq eqb a.parent b.parent) _ (option_decides a.parent b.parent)
     (Decides-and (option_eq eqb a.creator b.creator) _ (option_decides a.creator b.creator)
     (Decides-and (beq a.undeferred b.undeferred) _ (booleans_Decides a.undeferred b.undeferred)
@@ -114,13 +114,14 @@ place_decides a b =
     (Decides-and (eqb a.last b.last) _ (Decides-eqb a.last b.last)
     (Decides-and (option_eq eqb a.innermost_group b.innermost_group) _ (option_decides a.innermost_group b.innermost_group) (Decides-eqb a.siblings_before b.siblings_before)))))))
 
-pub place_of_same : (a b : Task) → place_of a ≡ place_of b → a.items ≡ b.items → a ≡ b
-place_of_same a b e i =
-    let row : Place → List Item → Task = λ p items. record { parent = p.parent; creator = p.creator; undeferred = p.undeferred; items = items; first = p.first; last = p.last; innermost_group = p.innermost_group; siblings_before = p.siblings_before } in
-    ap (λ (p : Place). row p a.items) e ∙ ap (λ (items : List Item). row (place_of b) items) i
+pub same_row : (a b : Task) → facts_of a ≡ facts_of b → a.items ≡ b.items → a ≡ b
+same_row a b e i =
+    let row : TaskFacts → List Item → Task = λ p items. record { parent = p.parent; creator = p.creator; undeferred = p.undeferred; items = items; first = p.first; last = p.last; innermost_group = p.innermost_group; siblings_before = p.siblings_before } in
+    ap (λ (p : TaskFacts). row p a.items) e ∙ ap (λ (items : List Item). row (facts_of b) items) i
 
--- two tasks of one place are the same where their items are
-pub same_task : (a b : Task) (p q : Place) (xs ys : List Item) (r : Bool) → p ≡ place_of a → q ≡ place_of b → true ≡ place_eq.ghosts.eq p q → xs ≡ a.items → ys ≡ b.items → Decides r (xs ≡ ys) → Decides r (a ≡ b)
+-- two tasks of which the same facts hold are the same where their items are
+pub same_task : (a b : Task) (p q : TaskFacts) (xs ys : List Item) (r : Bool) → p ≡ facts_of a → q ≡ facts_of b
+    → true ≡ facts_eq.ghosts.eq p q → xs ≡ a.items → ys ≡ b.items → Decides r (xs ≡ ys) → Decides r (a ≡ b)
 same_task a b p q xs ys r u v e x y d =
-    let place : place_of a ≡ place_of b = sym u ∙ (place_decides p q).0 (sym e) ∙ v in
-    through r (λ i. place_of_same a b place (sym x ∙ i ∙ y)) (λ i. x ∙ ap (λ (t : Task). t.items) i ∙ sym y) d
+    let facts : facts_of a ≡ facts_of b = sym u ∙ (facts_decide p q).0 (sym e) ∙ v in
+    through r (λ i. same_row a b facts (sym x ∙ i ∙ y)) (λ i. x ∙ ap (λ (t : Task). t.items) i ∙ sym y) d

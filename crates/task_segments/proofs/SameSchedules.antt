@@ -14,7 +14,8 @@ record ChainFrom (costs : List ℕ) (R : ℕ → ℕ → Type 0) (s least : ℕ)
   inside : AreSegments costs (s ∷ more)
   at_least : least ≤ chain_sum costs (s ∷ more)
 
-one_more : (costs : List ℕ) (R : ℕ → ℕ → Type 0) (s m least : ℕ) → R s m → s < length costs → ChainFrom costs R m least → ChainFrom costs R s (at costs s + least)
+one_more : (costs : List ℕ) (R : ℕ → ℕ → Type 0) (s m least : ℕ) → R s m → s < length costs
+    → ChainFrom costs R m least → ChainFrom costs R s (at costs s + least)
 one_more costs R s m least r within c =
     let at_least = c.at_least in
     let sum = sum_by-cons (at costs) s (m ∷ c.more) in
@@ -26,7 +27,8 @@ one_more costs R s m least r within c =
     }
 
 -- a way to a chain leads on along it
-lead_on : (costs : List ℕ) (R : ℕ → ℕ → Type 0) → ((s t : ℕ) → R s t → s < t) → (s t least : ℕ) → Reaches R s t → ChainFrom costs R t least → ChainFrom costs R s least
+lead_on : (costs : List ℕ) (R : ℕ → ℕ → Type 0) → ((s t : ℕ) → R s t → s < t) → (s t least : ℕ) → Reaches R s t
+    → ChainFrom costs R t least → ChainFrom costs R s least
 lead_on costs R forward s t least Stays c = c
 lead_on costs R forward s t least (Goes {m} r rest) c =
     let after = lead_on costs R forward m t least rest c in
@@ -37,7 +39,8 @@ lead_on costs R forward s t least (Goes {m} r rest) c =
     record { more = longer.more; linked = longer.linked; inside = longer.inside; at_least = omega arith }
 
 -- a way that is no standing still adds the cost of its first segment
-step_on : (costs : List ℕ) (R : ℕ → ℕ → Type 0) → ((s t : ℕ) → R s t → s < t) → (s t least : ℕ) → s < t → Reaches R s t → ChainFrom costs R t least → ChainFrom costs R s (at costs s + least)
+step_on : (costs : List ℕ) (R : ℕ → ℕ → Type 0) → ((s t : ℕ) → R s t → s < t) → (s t least : ℕ) → s < t
+    → Reaches R s t → ChainFrom costs R t least → ChainFrom costs R s (at costs s + least)
 step_on costs R forward s t least less Stays c = absurd (omega arith)
 step_on costs R forward s t least less (Goes {m} r rest) c =
     let after = lead_on costs R forward m t least rest c in
@@ -46,14 +49,23 @@ step_on costs R forward s t least less (Goes {m} r rest) c =
     one_more costs R s m least r (omega arith) after
 
 -- two relations with the same legal schedules have the same least ends and least starts
-pub least_end_map : (costs : List ℕ) (R Q : ℕ → ℕ → Type 0) → ((starts : List ℕ) → IsLegal costs R starts → IsLegal costs Q starts) → ((starts : List ℕ) → IsLegal costs Q starts → IsLegal costs R starts) → (end : ℕ) → IsLeastEnd costs R end → IsLeastEnd costs Q end
+pub least_end_map : (costs : List ℕ) (R Q : ℕ → ℕ → Type 0)
+    → ((starts : List ℕ) → IsLegal costs R starts → IsLegal costs Q starts)
+    → ((starts : List ℕ) → IsLegal costs Q starts → IsLegal costs R starts) → (end : ℕ) → IsLeastEnd costs R end
+    → IsLeastEnd costs Q end
 least_end_map costs R Q there back end h = record { starts = h.starts; legal = there h.starts h.legal; ends = h.ends; least = λ other legal. h.least other (back other legal) }
 
-pub least_start_map : (costs : List ℕ) (R Q : ℕ → ℕ → Type 0) → ((starts : List ℕ) → IsLegal costs R starts → IsLegal costs Q starts) → ((starts : List ℕ) → IsLegal costs Q starts → IsLegal costs R starts) → (s start : ℕ) → IsLeastStart costs R s start → IsLeastStart costs Q s start
+pub least_start_map : (costs : List ℕ) (R Q : ℕ → ℕ → Type 0)
+    → ((starts : List ℕ) → IsLegal costs R starts → IsLegal costs Q starts)
+    → ((starts : List ℕ) → IsLegal costs Q starts → IsLegal costs R starts) → (s start : ℕ)
+    → IsLeastStart costs R s start → IsLeastStart costs Q s start
 least_start_map costs R Q there back s start h = record { starts = h.starts; legal = there h.starts h.legal; starts_so = h.starts_so; least = λ other legal. h.least other (back other legal) }
 
 -- and the same slacks
-pub slack_map : (costs : List ℕ) (R Q : ℕ → ℕ → Type 0) → ((starts : List ℕ) → IsLegal costs R starts → IsLegal costs Q starts) → ((starts : List ℕ) → IsLegal costs Q starts → IsLegal costs R starts) → (s slack : ℕ) → IsSlack costs R s slack → IsSlack costs Q s slack
+pub slack_map : (costs : List ℕ) (R Q : ℕ → ℕ → Type 0)
+    → ((starts : List ℕ) → IsLegal costs R starts → IsLegal costs Q starts)
+    → ((starts : List ℕ) → IsLegal costs Q starts → IsLegal costs R starts) → (s slack : ℕ) → IsSlack costs R s slack
+    → IsSlack costs Q s slack
 slack_map costs R Q there back s slack h = record {
   end = h.end;
   is_least_end = least_end_map costs R Q there back h.end h.is_least_end;
@@ -94,7 +106,8 @@ module _ (R Q : ℕ → ℕ → Type 0) (forward : (s t : ℕ) → R s t → s <
   pub same_slack : (costs : List ℕ) (s slack : ℕ) → IsSlack costs R s slack ↔ IsSlack costs Q s slack
   same_slack costs s slack = (slack_map costs R Q (legal_within costs) (legal_joined costs) s slack, slack_map costs Q R (legal_joined costs) (legal_within costs) s slack)
 
-  refined : (costs : List ℕ) (s : ℕ) (rest : List ℕ) → IsChain R (s ∷ rest) → AreSegments costs (s ∷ rest) → ChainFrom costs Q s (chain_sum costs (s ∷ rest))
+  refined : (costs : List ℕ) (s : ℕ) (rest : List ℕ) → IsChain R (s ∷ rest) → AreSegments costs (s ∷ rest)
+      → ChainFrom costs Q s (chain_sum costs (s ∷ rest))
   refined costs s [] linked inside = record { more = []; linked = tt; inside = inside; at_least = omega arith }
   refined costs s (t ∷ rest) linked inside =
       subst (ChainFrom costs Q s) (sym (sum_by-cons (at costs) s (t ∷ rest)))
@@ -106,7 +119,9 @@ module _ (R Q : ℕ → ℕ → Type 0) (forward : (s t : ℕ) → R s t → s <
   chain_within (s ∷ []) linked = tt
   chain_within (s ∷ t ∷ rest) linked = (within s t linked.0, chain_within (t ∷ rest) linked.1)
 
-  at_most : (costs : List ℕ) (greatest : ℕ) → ((other : List ℕ) → AreSegments costs other → IsChain Q other → chain_sum costs other ≤ greatest) → (other : List ℕ) → AreSegments costs other → IsChain R other → chain_sum costs other ≤ greatest
+  at_most : (costs : List ℕ) (greatest : ℕ)
+      → ((other : List ℕ) → AreSegments costs other → IsChain Q other → chain_sum costs other ≤ greatest)
+      → (other : List ℕ) → AreSegments costs other → IsChain R other → chain_sum costs other ≤ greatest
   at_most costs greatest most [] inside linked = absurd linked
   at_most costs greatest most (s ∷ rest) inside linked =
       let c = refined costs s rest linked inside in
@@ -120,7 +135,8 @@ module _ (R Q : ℕ → ℕ → Type 0) (forward : (s t : ℕ) → R s t → s <
   span_within : (costs : List ℕ) (span : ℕ) → IsSpan costs R span → IsSpan costs Q span
   span_within costs span h = by_chain h.chain h.segments h.linked h.reached
     where
-      by_chain : (chain : List ℕ) → AreSegments costs chain → IsChain R chain → chain_sum costs chain ≡ span → IsSpan costs Q span
+      by_chain : (chain : List ℕ) → AreSegments costs chain → IsChain R chain → chain_sum costs chain ≡ span
+          → IsSpan costs Q span
       by_chain [] inside linked reached = absurd linked
       by_chain (s ∷ rest) inside linked reached =
           let c = refined costs s rest linked inside in

@@ -1,10 +1,10 @@
 -- What two rows are compared by.
 use Rattle.task_segments.specs.Table.{Task}
-use Rattle.task_segments.specs.declared.copies.Place.{Place}
+use Rattle.task_segments.specs.declared.copies.TaskFacts.{TaskFacts}
 
 -- what the table says of a task, but for its depend items
-abbrev pub place_of : Task → Place
-place_of task = record {
+abbrev pub facts_of : Task → TaskFacts
+facts_of task = record {
   parent = task.parent;
   creator = task.creator;
   undeferred = task.undeferred;

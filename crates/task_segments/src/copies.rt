@@ -1,6 +1,6 @@
 //! Copies of a table, and whether two tables are the same.
 ghost use Rattle.std.specs.Prelude.{◌<◌, ◌↔◌, ◌≡◌, IfOk, IsTrue};
-ghost use Rattle.task_segments.specs.Copies.{place_of};
+ghost use Rattle.task_segments.specs.Copies.{facts_of};
 ghost use Rattle.task_segments.specs.Precedence.{IsTask};
 ghost use Rattle.task_segments.specs.Table.{task};
 
@@ -9,7 +9,7 @@ use task_program::AllocFault;
 
 /// What the table says of a task, but for its depend items.
 #[derive(Clone, Copy, PartialEq, Eq)]
-pub struct Place {
+pub struct TaskFacts {
     pub parent: Option<u32>,
     pub creator: Option<u32>,
     pub undeferred: bool,
@@ -64,14 +64,14 @@ impl SegTable {
         requires other { IsTask other.now t }
         ensures { IsTrue result ↔ (task self.now t ≡ task other.now t) }
     {
-        self.place(t) == other.place(t) && self.items(t) == other.items(t)
+        self.facts(t) == other.facts(t) && self.items(t) == other.items(t)
     }
 
-    fn place(&self, t: u32) -> Place
+    fn facts(&self, t: u32) -> TaskFacts
         requires { IsTask self.now t }
-        ensures { result ≡ place_of (task self.now t) }
+        ensures { result ≡ facts_of (task self.now t) }
     {
-        Place {
+        TaskFacts {
             parent: self.parent(t),
             creator: self.creator(t),
             undeferred: self.undeferred(t),
