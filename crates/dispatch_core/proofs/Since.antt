@@ -1,5 +1,5 @@
 -- Where the children since a task's previous wait begin, and the tasks inside a group.
-use Rattle.std.proofs.Common.{ℕ, zero, suc, ◌+◌, ◌<◌, ◌≤◌, ◌≡◌, ◌≢◌, ◌↔◌, Some, refl, sym, ap, ◌∙◌, subst, arith, inl, inr}
+use Rattle.std.proofs.Common.{ℕ, zero, suc, ◌<◌, ◌≤◌, ◌≡◌, ◌↔◌, Some, refl, sym, ap, ◌∙◌, subst, arith, inl, inr}
 use Rattle.std.proofs.lemmas.Bool.{cases_eq, cases_lt}
 use Rattle.std.proofs.lemmas.Option.{same_Some}
 use Rattle.task_segments.specs.Table.{Table, segment, task}
@@ -7,7 +7,7 @@ use Rattle.task_segments.specs.declared.table.Closing.{Closing}
 use Rattle.task_segments.specs.declared.table.Closing.TheVariants.{Waits, EndsGroup}
 use Rattle.task_segments.specs.InPlace.{IsOf, IsReadInPlace}
 use Rattle.task_segments.specs.Nesting.{IsNestedTable, IsGroupedTable}
-use Rattle.task_segments.specs.Precedence.{IsSegment, IsTask, Continues, IsEarlierChild, IsBranch, Encloses, GroupEnd, Descends, MustPrecede}
+use Rattle.task_segments.specs.Precedence.{IsSegment, IsTask, Continues, IsEarlierChild, IsBranch, Encloses, GroupEnd, MustPrecede}
 use Rattle.task_segments.specs.Precedence.Descends.{Itself, Below}
 use Rattle.task_segments.proofs.Order.{ancestor_lower, descendant_last, goes_up, not_root, siblings_apart}
 use Rattle.depend_table.specs.Kept.{KeptWait, KeptGroupEnd}

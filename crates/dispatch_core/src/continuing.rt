@@ -72,7 +72,8 @@ fn after_wait(
     let from = wait_begin(table, before, next);
     let mut preds = Vec::new(alloc);
     for segment in from..before {
-        push_if(&mut preds, segment, ends_child(table, segment, parent))?;
+        let waited = ends_child(table, segment, parent);
+        push_if(&mut preds, segment, waited)?;
     }
     preds.push(before)?;
     Ok(preds)

@@ -29,11 +29,11 @@ loop-segment-preserved c =
     let s : ℕ = c.loop-segment.segment in
     let P : ℕ → Type 0 = λ p. Joins table p c.args.next in
     let joins = wait_joins table c.wait_begin-from.result c.args.before c.args.next s c.reads_in_place.ensures c.requires.follows c.requires.waits c.wait_begin-from.ensures.waited c.loop-segment.auto.segment c.loop-segment-test.true in
-    let keep : IsTrue c.ends_child.result ↔ P s = (
-      λ is. joins.0 (subst (λ (u : ℕ). EndsChild table u s) c.task_of-parent.ensures (c.ends_child.ensures.0 is)),
-      λ joined. c.ends_child.ensures.1 (subst (λ (u : ℕ). EndsChild table u s) (sym c.task_of-parent.ensures) (joins.1 joined)),
+    let keep : IsTrue c.ends_child-waited.result ↔ P s = (
+      λ is. joins.0 (subst (λ (u : ℕ). EndsChild table u s) c.task_of-parent.ensures (c.ends_child-waited.ensures.0 is)),
+      λ joined. c.ends_child-waited.ensures.1 (subst (λ (u : ℕ). EndsChild table u s) (sym c.task_of-parent.ensures) (joins.1 joined)),
     ) in
-    subst (λ (l : List ℕ). Lists (Below P (s + 1)) l) (sym c.in_ok-push_if.ensures) (Lists-step P s c.loop-segment.preds.items c.ends_child.result keep c.loop-segment.invariant)
+    subst (λ (l : List ℕ). Lists (Below P (s + 1)) l) (sym c.in_ok-push_if.ensures) (Lists-step P s c.loop-segment.preds.items c.ends_child-waited.result keep c.loop-segment.invariant)
 
 pub returns : goal.returns
 returns c =

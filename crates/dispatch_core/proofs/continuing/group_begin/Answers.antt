@@ -1,6 +1,6 @@
-use Rattle.std.proofs.Common.{ℕ, ◌<◌, ◌≡◌, ap, sym, subst, arith}
+use Rattle.std.proofs.Common.{ℕ, sym, subst, arith}
 use Rattle.std.proofs.lemmas.Bool.{both_ways}
-use Rattle.task_segments.specs.Table.{Table, task}
+use Rattle.task_segments.specs.Table.{Table}
 use Rattle.task_segments.specs.Precedence.{MustPrecede}
 use Rattle.dispatch_core.proofs.Since.{above_root, passed_all}
 use Rattle.dispatch_core.proofs.continuing.group_begin.Goals as goal

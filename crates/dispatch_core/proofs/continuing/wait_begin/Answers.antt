@@ -1,4 +1,4 @@
-use Rattle.std.proofs.Common.{ℕ, sym, ◌∙◌}
+use Rattle.std.proofs.Common.{sym, ◌∙◌}
 use Rattle.dispatch_core.proofs.Since.{unwaited_step, waited_since, since_first, since_wait}
 use Rattle.dispatch_core.proofs.continuing.wait_begin.Goals as goal
 
