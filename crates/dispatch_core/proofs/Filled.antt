@@ -1,5 +1,5 @@
 -- Lists of kept predecessors, filled in place by place.
-use Rattle.std.proofs.Common.{ℕ, ◌+◌, ◌<◌, ◌≤◌, ◌≡◌, ◌≢◌, ◌⊎◌, Bool, true, false, List, [], ◌∷◌, ◌++◌, Option, Some, None, length, refl, sym, ap, ◌∙◌, subst, arith, inl, inr}
+use Rattle.std.proofs.Common.{ℕ, ◌+◌, ◌<◌, ◌≤◌, ◌≡◌, ◌≢◌, ◌⊎◌, Bool, true, false, List, [], ◌∷◌, Option, Some, None, length, refl, sym, ap, ◌∙◌, subst, arith, inl, inr}
 use Rattle.std.specs.Prelude.{slice_get, slice_set, Vec, replicate, if◌then◌else◌}
 use Rattle.std.specs.declared.alloc.Global.{Global}
 use Rattle.std.proofs.lemmas.Bool.{cases_eq, eq-eqb, eqb-true, both_ways}
@@ -19,8 +19,8 @@ use Rattle.dispatch_core.specs.Joins.{AreJoined}
 use Rattle.dispatch_core.specs.Listed.{items_of}
 use Rattle.dispatch_core.specs.Places.{Joins}
 use Rattle.dispatch_core.proofs.PlaceLemmas.{get-set_same, get-set_other}
-use Rattle.dispatch_core.proofs.ListLemmas.{Lists-like, Lists-end}
-use Rattle.dispatch_core.proofs.Edges.{next_cases, join_edge, join_before, join_creates_none, resumed_creates}
+use Rattle.dispatch_core.proofs.ListLemmas.{Lists-like}
+use Rattle.dispatch_core.proofs.Edges.{join_edge, join_creates_none}
 use Rattle.dispatch_core.proofs.Children.{children_more}
 use Rattle.dispatch_core.proofs.Turning.{get-replicate}
 
@@ -28,20 +28,6 @@ use Rattle.dispatch_core.proofs.Turning.{get-replicate}
 pub none_listed : (P : ℕ → Type 0) (list : List ℕ) → Lists P list → ((n : ℕ) → ¬ P n) → list ≡ []
 none_listed P [] lists none = refl
 none_listed P (x ∷ xs) lists none = absurd (none x ((lists.each x).0 (0, omega arith, refl)))
-
--- after a wait or the end of a group
-pub after_join : (table : Table) (before next : ℕ) (list : List ℕ) → IsReadInPlace table → Continues table before next → ((child : ℕ) → ¬ ((segment table before).closing ≡ Creates child))
-    → Lists (λ p. Joins table p next) list → Lists (λ p. IsKeptEdge table p next) (list ++ before ∷ [])
-after_join table before next list facts follows none joined =
-    Lists-end (λ p. Joins table p next) (λ p. IsKeptEdge table p next) before list joined
-    (λ p h. join_before table p before next facts follows h)
-    (λ p h. join_edge table p next h)
-    (inl follows)
-    (λ p edge. elim (next_cases table p before next facts follows edge) [
-      | inl same ↦ inr same
-      | inr (inl resumption) ↦ absurd (none resumption.child (resumed_creates table p before next facts follows resumption))
-      | inr (inr joins) ↦ inl joins
-    ])
 
 -- the closing of a segment after which its task goes on with the next number
 goes_on : (table : Table) (before : ℕ) (closing : Closing) → IsReadInPlace table → IsSegment table before → (segment table before).closing ≡ closing

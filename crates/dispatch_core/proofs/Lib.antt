@@ -3,6 +3,7 @@ pub mod ListLemmas
 pub mod Within
 pub mod Children
 pub mod Edges
+pub mod Since
 pub mod Turning
 pub mod Waiting
 pub mod NextWaits

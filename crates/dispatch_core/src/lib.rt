@@ -1,6 +1,7 @@
 //! The dispatch core: which segments may start, what each computes on, and the record of a run.
 #![tactic(auto)]
 
+mod continuing;
 mod counters;
 pub mod dispatch;
 pub mod event;

@@ -6,7 +6,8 @@ use Rattle.depend_table.specs.Kept.{IsKeptEdge}
 use Rattle.depend_table.specs.Lists.{Lists}
 use Rattle.dispatch_core.specs.Filling.{IsNoFirst}
 use Rattle.std.proofs.lemmas.Result.{IfOk-weaker}
-use Rattle.dispatch_core.proofs.Filled.{after_join, goes_on_here, first_of_child}
+use Rattle.dispatch_core.proofs.Edges.{after_join}
+use Rattle.dispatch_core.proofs.Filled.{goes_on_here, first_of_child}
 use Rattle.dispatch_core.proofs.kept.add_before.Goals as goal
 
 pub returns-in-Creates : goal.returns-in-Creates
