@@ -41,7 +41,8 @@ decide_continues table s t =
     (λ c. (c.is_from, (c.is_to, (c.same_task, c.next))))
     (decide_both A (B × (C × D)) (decide_less s (length table.segments))
     (decide_both B (C × D) (decide_less t (length table.segments))
-    (decide_both C D (decide_same (segment table t).task (segment table s).task) (decide_same (segment table t).index ((segment table s).index + 1)))))
+    (decide_both C D (decide_same (segment table t).task (segment table s).task)
+    (decide_same (segment table t).index ((segment table s).index + 1)))))
 
 pub decide_creation : (table : Table) (s t : ℕ) → IsDecided (Creation table s t)
 decide_creation table s t =
@@ -50,7 +51,8 @@ decide_creation table s t =
     (λ h. record { child = h.0; is_child = h.1; creator = h.2.0; first = h.2.1 })
     (λ c. (c.child, c.is_child, (c.creator, c.first)))
     (decide_below P (length table.tasks) (λ u.
-    decide_both ((task table u).creator ≡ Some s) ((task table u).first ≡ t) (decide_some (task table u).creator s) (decide_same (task table u).first t)))
+    decide_both ((task table u).creator ≡ Some s) ((task table u).first ≡ t) (decide_some (task table u).creator s)
+    (decide_same (task table u).first t)))
 
 decide_resumption : (table : Table) (s t : ℕ) → IsDecided (Resumption table s t)
 decide_resumption table s t =
@@ -58,12 +60,21 @@ decide_resumption table s t =
     let B : ℕ → Type 0 = λ u. (task table u).last ≡ s in
     let C : ℕ → Type 0 = λ u. (creator : ℕ) × ((task table u).creator ≡ Some creator) × Continues table creator t in
     alike ((u : ℕ) × (u < length table.tasks) × (A u × (B u × C u))) (Resumption table s t)
-    (λ h. let c = h.2.1.1 in record { child = h.0; is_child = h.1; undeferred = h.2.0; last = h.2.1.0; creator = c.0; is_creator = c.1; resumes = c.2 })
+    (λ h. let c = h.2.1.1 in record {
+      child = h.0;
+      is_child = h.1;
+      undeferred = h.2.0;
+      last = h.2.1.0;
+      creator = c.0;
+      is_creator = c.1;
+      resumes = c.2;
+    })
     (λ c. (c.child, c.is_child, (c.undeferred, (c.last, (c.creator, c.is_creator, c.resumes)))))
     (decide_below (λ u. A u × (B u × C u)) (length table.tasks) (λ u.
     decide_both (A u) (B u × C u) (decide_true (task table u).undeferred)
     (decide_both (B u) (C u) (decide_same (task table u).last s)
-    (decide_held (task table u).creator (λ creator. Continues table creator t) (λ creator. decide_continues table creator t)))))
+    (decide_held (task table u).creator (λ creator. Continues table creator t)
+    (λ creator. decide_continues table creator t)))))
 
 decide_dependence : (table : Table) (s t : ℕ) → IsDecided (Dependence table s t)
 decide_dependence table s t =
@@ -81,12 +92,15 @@ decide_dependence table s t =
       last = e.2.1.1;
       first = h.2.0;
     })
-    (λ d. (d.later, d.is_later, (d.first, (d.earlier, d.depends.in_order, (d.depends.siblings, (d.depends.conflict, d.last))))))
+    (λ d.
+    let e = d.depends in
+    (d.later, d.is_later, (d.first, (d.earlier, e.in_order, (e.siblings, (e.conflict, d.last))))))
     (decide_below (λ v. D v × E v) (length table.tasks) (λ v.
     decide_both (D v) (E v) (decide_same (task table v).first t)
     (decide_below (λ u. A u v × (B u v × C u)) v (λ u.
     decide_both (A u v) (B u v × C u) (decide_options (task table u).parent (task table v).parent)
-    (decide_both (B u v) (C u) (decide_true (items_conflict (task table u).items (task table v).items)) (decide_same (task table u).last s))))))
+    (decide_both (B u v) (C u) (decide_true (items_conflict (task table u).items (task table v).items))
+    (decide_same (task table u).last s))))))
 
 -- a child that the task of t generated before t
 decide_earlier_child : (table : Table) (child t : ℕ) → IsDecided (IsEarlierChild table child t)
@@ -108,25 +122,36 @@ decide_wait table s t =
     let Before : Type 0 = (before : ℕ) × (before < length table.segments) × A before in
     let Child : Type 0 = (child : ℕ) × (child < length table.tasks) × B child in
     alike (Before × Child) (Wait table s t)
-    (λ h. let b = h.0 in let c = h.1 in record { before = b.0; waits = b.2.0; opens = b.2.1; child = c.0; generated = c.2.0; last = c.2.1 })
+    (λ h. let b = h.0 in let c = h.1 in record {
+      before = b.0;
+      waits = b.2.0;
+      opens = b.2.1;
+      child = c.0;
+      generated = c.2.0;
+      last = c.2.1;
+    })
     (λ w. ((w.before, w.opens.is_from, (w.waits, w.opens)), (w.child, w.generated.is_child, (w.generated, w.last))))
     (decide_both Before Child
     (decide_below A (length table.segments) (λ before.
-    decide_both ((segment table before).closing ≡ Waits) (Continues table before t) (decide_waits (segment table before).closing) (decide_continues table before t)))
+    decide_both ((segment table before).closing ≡ Waits) (Continues table before t)
+    (decide_waits (segment table before).closing) (decide_continues table before t)))
     (decide_below B (length table.tasks) (λ child.
-    decide_both (IsEarlierChild table child t) ((task table child).last ≡ s) (decide_earlier_child table child t) (decide_same (task table child).last s))))
+    decide_both (IsEarlierChild table child t) ((task table child).last ≡ s) (decide_earlier_child table child t)
+    (decide_same (task table child).last s))))
 
 -- ---- descendants
 
 -- a descendant is the task itself, or its parent is one
-descends_cases : (table : Table) (d u : ℕ) → Descends table d u → (d ≡ u) ⊎ ((v : ℕ) × (IsTask table d) × ((task table d).parent ≡ Some v) × Descends table v u)
+descends_cases : (table : Table) (d u : ℕ) → Descends table d u
+    → (d ≡ u) ⊎ ((v : ℕ) × (IsTask table d) × ((task table d).parent ≡ Some v) × Descends table v u)
 descends_cases table d u (Itself _) = inl refl
 descends_cases table d u (Below _ v _ is parent above) = inr (v, is, parent, above)
 
 lower_parent : (table : Table) (d v : ℕ) → IsReadInPlace table → (task table d).parent ≡ Some v → v < d
 lower_parent table d v facts parent =
     let above : 0 < d = elim (cases_eq d 0) [
-      | inl same ↦ absurd (none-some v (sym facts.root_parent ∙ ap (λ (n : ℕ). (task table n).parent) (sym same) ∙ parent))
+      | inl same ↦ absurd (none-some v
+          (sym facts.root_parent ∙ ap (λ (n : ℕ). (task table n).parent) (sym same) ∙ parent))
       | inr apart ↦ omega (arith, apart)
     ] in
     let created = facts.below_root d above (facts.with_parent d v parent) in
@@ -141,7 +166,8 @@ descends_by table (suc n) d u facts less = elim (cases_eq d u) [
   | inr apart ↦
       let P : ℕ → Type 0 = λ v. (v < d) × Descends table v u in
       let up : (v : ℕ) → IsDecided (P v) = λ v. elim (cases_lt v d) [
-        | inl lower ↦ decide_both (v < d) (Descends table v u) (inl lower) (descends_by table n v u facts (omega (arith, less, lower)))
+        | inl lower ↦ decide_both (v < d) (Descends table v u) (inl lower)
+            (descends_by table n v u facts (omega (arith, less, lower)))
         | inr fails ↦ inr (λ h. absurd (omega (arith, h.0, fails)))
       ] in
       alike ((v : ℕ) × ((task table d).parent ≡ Some v) × P v) (Descends table d u)
@@ -173,16 +199,23 @@ decide_group table s t facts =
     })
     (λ g. let e = g.encloses in (
       (e.before, e.opens.is_from, (e.ends_group, e.opens)),
-      (g.child, e.generated.is_child, (e.generated, (e.inside, (g.descendant, g.is_descendant, (g.descends, g.last))))),
+      (
+        g.child,
+        e.generated.is_child,
+        (e.generated, (e.inside, (g.descendant, g.is_descendant, (g.descends, g.last)))),
+      ),
     ))
     (decide_both Before Child
     (decide_below A (length table.segments) (λ before.
-    decide_both ((segment table before).closing ≡ EndsGroup) (Continues table before t) (decide_group_end (segment table before).closing) (decide_continues table before t)))
+    decide_both ((segment table before).closing ≡ EndsGroup) (Continues table before t)
+    (decide_group_end (segment table before).closing) (decide_continues table before t)))
     (decide_below B (length table.tasks) (λ child.
     decide_both (IsEarlierChild table child t) (Inside child × Below child) (decide_earlier_child table child t)
-    (decide_both (Inside child) (Below child) (decide_most (segment table t).children_before (task table child).siblings_before)
+    (decide_both (Inside child) (Below child)
+    (decide_most (segment table t).children_before (task table child).siblings_before)
     (decide_below (D child) (length table.tasks) (λ d.
-    decide_both (Descends table d child) ((task table d).last ≡ s) (descends_by table (suc d) d child facts (omega arith)) (decide_same (task table d).last s)))))))
+    decide_both (Descends table d child) ((task table d).last ≡ s)
+    (descends_by table (suc d) d child facts (omega arith)) (decide_same (task table d).last s)))))))
 
 pub decide_precedes : (table : Table) (s t : ℕ) → IsReadInPlace table → IsDecided (MustPrecede table s t)
 decide_precedes table s t facts =
@@ -200,32 +233,42 @@ decide_precedes table s t facts =
 
 -- ---- kept edges
 
+nobody : (x : Sibling) (older : List Sibling) → IsAmong [] x older → ⊥
+nobody x older h = elim h [ ]
+
+newest_or_older : (Q : Sibling → List Sibling → Type 0) (y : Sibling) (ys : List Sibling) (x : Sibling) (older : List Sibling)
+    → IsAmong (y ∷ ys) x older → Q x older → Q y ys ⊎ IsAmong ys x older
+newest_or_older Q y ys x older Newest q = inl q
+newest_or_older Q y ys x older (Older h) q = inr h
+
 -- of some sibling with those generated before it
-decide_among : (Q : Sibling → List Sibling → Type 0) → ((x : Sibling) (older : List Sibling) → IsDecided (Q x older)) → (siblings : List Sibling)
+decide_among : (Q : Sibling → List Sibling → Type 0) → ((x : Sibling) (older : List Sibling) → IsDecided (Q x older))
+    → (siblings : List Sibling)
     → IsDecided ((x : Sibling) × (older : List Sibling) × IsAmong siblings x older × Q x older)
 decide_among Q each [] = inr (λ h. nobody h.0 h.1 h.2)
-  where
-    nobody : (x : Sibling) (older : List Sibling) → IsAmong [] x older → ⊥
-    nobody x older h = elim h [ ]
 decide_among Q each (y ∷ ys) = elim (each y ys) [
   | inl here ↦ inl (y, ys, Newest, here)
   | inr fails ↦ elim (decide_among Q each ys) [
     | inl found ↦ inl (found.0, found.1, Older found.2, found.3)
-    | inr none ↦ inr (λ h. elim (newest_or_older Q y ys h.0 h.1 h.2 h.3) [ inl q ↦ fails q | inr later ↦ none (h.0, h.1, later, h.3) ])
+    | inr none ↦ inr (λ h. elim (newest_or_older Q y ys h.0 h.1 h.2 h.3) [
+      | inl q ↦ fails q
+      | inr later ↦ none (h.0, h.1, later, h.3)
+    ])
   ]
 ]
-  where
-    newest_or_older : (Q : Sibling → List Sibling → Type 0) (y : Sibling) (ys : List Sibling) (x : Sibling) (older : List Sibling)
-        → IsAmong (y ∷ ys) x older → Q x older → Q y ys ⊎ IsAmong ys x older
-    newest_or_older Q y ys x older Newest q = inl q
-    newest_or_older Q y ys x older (Older h) q = inr h
+
+nothing : (x : Item) → Member [] x → ⊥
+nothing x h = elim h [ ]
+
+head_or_tail : (P : ℕ → Type 0) (y : Item) (ys : List Item) (x : Item) → Member (y ∷ ys) x → P x.name
+    → P y.name ⊎ Member ys x
+head_or_tail P y ys x Head q = inl q
+head_or_tail P y ys x (Tail h) q = inr h
 
 -- of the name of some item
-decide_named : (P : ℕ → Type 0) → ((name : ℕ) → IsDecided (P name)) → (items : List Item) → IsDecided ((item : Item) × Member items item × P item.name)
+decide_named : (P : ℕ → Type 0) → ((name : ℕ) → IsDecided (P name)) → (items : List Item)
+    → IsDecided ((item : Item) × Member items item × P item.name)
 decide_named P each [] = inr (λ h. nothing h.0 h.1)
-  where
-    nothing : (x : Item) → Member [] x → ⊥
-    nothing x h = elim h [ ]
 decide_named P each (y ∷ ys) = elim (each y.name) [
   | inl here ↦ inl (y, Head, here)
   | inr fails ↦ elim (decide_named P each ys) [
@@ -233,21 +276,28 @@ decide_named P each (y ∷ ys) = elim (each y.name) [
     | inr none ↦ inr (λ h. elim (head_or_tail P y ys h.0 h.1 h.2) [ inl q ↦ fails q | inr later ↦ none (h.0, later, h.2) ])
   ]
 ]
-  where
-    head_or_tail : (P : ℕ → Type 0) (y : Item) (ys : List Item) (x : Item) → Member (y ∷ ys) x → P x.name → P y.name ⊎ Member ys x
-    head_or_tail P y ys x Head q = inl q
-    head_or_tail P y ys x (Tail h) q = inr h
 
 -- a sibling is kept at some name of its own items
 decide_kept : (siblings : List Sibling) (items : List Item) (number : ℕ) → IsDecided (IsKept siblings items number)
 decide_kept siblings items number =
     let A : Sibling → Type 0 = λ x. x.task ≡ number in
     let B : Sibling → ℕ → Type 0 = λ x name. conflict_at name x.items items ≡ true in
-    let C : Sibling → List Sibling → ℕ → Type 0 = λ x older name. rank name x.items older + 1 ≡ rank name items siblings in
-    let N : Sibling → List Sibling → Type 0 = λ x older. (item : Item) × Member x.items item × (B x item.name × C x older item.name) in
+    let C : Sibling → List Sibling → ℕ → Type 0 =
+    λ x older name. rank name x.items older + 1 ≡ rank name items siblings in
+    let N : Sibling → List Sibling → Type 0 =
+    λ x older. (item : Item) × Member x.items item × (B x item.name × C x older item.name) in
     let Q : Sibling → List Sibling → Type 0 = λ x older. A x × N x older in
-    alike ((x : Sibling) × (older : List Sibling) × IsAmong siblings x older × Q x older) (IsKept siblings items number)
-    (λ h. let n = h.3.1 in record { earlier = h.0; older = h.1; among = h.2; number = h.3.0; name = n.0.name; conflicts = n.2.0; one_less = n.2.1 })
+    alike ((x : Sibling) × (older : List Sibling) × IsAmong siblings x older × Q x older)
+    (IsKept siblings items number)
+    (λ h. let n = h.3.1 in record {
+      earlier = h.0;
+      older = h.1;
+      among = h.2;
+      number = h.3.0;
+      name = n.0.name;
+      conflicts = n.2.0;
+      one_less = n.2.1;
+    })
     (λ k.
     let by : Mentions k.name k.earlier.items = earlier_mentions k.name k.earlier.items items k.conflicts in
     let P : ℕ → Type 0 = λ name. B k.earlier name × C k.earlier k.older name in
@@ -255,7 +305,8 @@ decide_kept siblings items number =
     (decide_among Q (λ x older.
     decide_both (A x) (N x older) (decide_same x.task number)
     (decide_named (λ name. B x name × C x older name) (λ name.
-    decide_both (B x name) (C x older name) (decide_true (conflict_at name x.items items)) (decide_same (rank name x.items older + 1) (rank name items siblings))) x.items)) siblings)
+    decide_both (B x name) (C x older name) (decide_true (conflict_at name x.items items))
+    (decide_same (rank name x.items older + 1) (rank name items siblings))) x.items)) siblings)
 
 decide_kept_dependence : (table : Table) (s t : ℕ) → IsDecided (KeptDependence table s t)
 decide_kept_dependence table s t =
@@ -265,17 +316,30 @@ decide_kept_dependence table s t =
     let B : ℕ → ℕ → Type 0 = λ v parent. (u : ℕ) × (u < v) × (K v parent u × L u) in
     let C : ℕ → Type 0 = λ v. (parent : ℕ) × ((task table v).parent ≡ Some parent) × B v parent in
     alike ((v : ℕ) × (v < length table.tasks) × (A v × C v)) (KeptDependence table s t)
-    (λ h. let p = h.2.1 in let e = p.2 in record { earlier = e.0; later = h.0; is_later = h.1; parent = p.0; of_parent = p.1; kept = e.2.0; last = e.2.1; first = h.2.0 })
-    (λ d. (d.later, d.is_later, (d.first, (d.parent, d.of_parent, (d.earlier, (kept_sibling table d.parent d.later d.earlier d.kept).below, (d.kept, d.last))))))
+    (λ h. let p = h.2.1 in let e = p.2 in record {
+      earlier = e.0;
+      later = h.0;
+      is_later = h.1;
+      parent = p.0;
+      of_parent = p.1;
+      kept = e.2.0;
+      last = e.2.1;
+      first = h.2.0;
+    })
+    (λ d.
+    let sibling = kept_sibling table d.parent d.later d.earlier d.kept in
+    (d.later, d.is_later, (d.first, (d.parent, d.of_parent, (d.earlier, sibling.below, (d.kept, d.last))))))
     (decide_below (λ v. A v × C v) (length table.tasks) (λ v.
     decide_both (A v) (C v) (decide_same (task table v).first t)
     (decide_held (task table v).parent (B v) (λ parent.
     decide_below (λ u. K v parent u × L u) v (λ u.
-    decide_both (K v parent u) (L u) (decide_kept (children_below table parent v) (task table v).items u) (decide_same (task table u).last s))))))
+    decide_both (K v parent u) (L u) (decide_kept (children_below table parent v) (task table v).items u)
+    (decide_same (task table u).last s))))))
 
 -- no wait of the task lies between the creator and the wait
 decide_none_between : (table : Table) (t creator before : ℕ)
-    → IsDecided ((w : ℕ) → w < length table.segments → (segment table w).task ≡ (segment table t).task → (segment table w).closing ≡ Waits → creator < w → before ≤ w)
+    → IsDecided ((w : ℕ) → w < length table.segments → (segment table w).task ≡ (segment table t).task →
+    (segment table w).closing ≡ Waits → creator < w → before ≤ w)
 decide_none_between table t creator before =
     let A : ℕ → Type 0 = λ w. (segment table w).task ≡ (segment table t).task in
     let B : ℕ → Type 0 = λ w. (segment table w).closing ≡ Waits in
@@ -288,12 +352,15 @@ decide_kept_wait : (table : Table) (s t : ℕ) → IsDecided (KeptWait table s t
 decide_kept_wait table s t =
     let A : ℕ → Type 0 = λ before. ((segment table before).closing ≡ Waits) × Continues table before t in
     let N : ℕ → ℕ → Type 0 = λ before creator.
-    (w : ℕ) → w < length table.segments → (segment table w).task ≡ (segment table t).task → (segment table w).closing ≡ Waits → creator < w → before ≤ w in
+    (w : ℕ) → w < length table.segments → (segment table w).task ≡ (segment table t).task →
+    (segment table w).closing ≡ Waits → creator < w → before ≤ w in
     let B : ℕ → Type 0 = λ child. (task table child).parent ≡ Some (segment table t).task in
     let L : ℕ → Type 0 = λ child. (task table child).last ≡ s in
     let M : ℕ → ℕ → Type 0 = λ before creator. (creator < t) × N before creator in
-    let C : ℕ → ℕ → Type 0 = λ before child. (creator : ℕ) × ((task table child).creator ≡ Some creator) × M before creator in
-    let D : ℕ → Type 0 = λ before. (child : ℕ) × (child < length table.tasks) × (B child × (L child × C before child)) in
+    let C : ℕ → ℕ → Type 0 =
+    λ before child. (creator : ℕ) × ((task table child).creator ≡ Some creator) × M before creator in
+    let D : ℕ → Type 0 =
+    λ before. (child : ℕ) × (child < length table.tasks) × (B child × (L child × C before child)) in
     alike ((before : ℕ) × (before < length table.segments) × (A before × D before)) (KeptWait table s t)
     (λ h.
     let a = h.2.0 in
@@ -313,15 +380,18 @@ decide_kept_wait table s t =
     (λ k.
     let w = k.wait in
     let g = w.generated in
-    (w.before, w.opens.is_from, ((w.waits, w.opens), (w.child, g.is_child, (g.parent, (w.last, (g.creator, g.is_creator, (g.earlier, k.none_between))))))))
+    let made : C w.before w.child = (g.creator, g.is_creator, (g.earlier, k.none_between)) in
+    (w.before, w.opens.is_from, ((w.waits, w.opens), (w.child, g.is_child, (g.parent, (w.last, made))))))
     (decide_below (λ before. A before × D before) (length table.segments) (λ before.
     decide_both (A before) (D before)
-    (decide_both ((segment table before).closing ≡ Waits) (Continues table before t) (decide_waits (segment table before).closing) (decide_continues table before t))
+    (decide_both ((segment table before).closing ≡ Waits) (Continues table before t)
+    (decide_waits (segment table before).closing) (decide_continues table before t))
     (decide_below (λ child. B child × (L child × C before child)) (length table.tasks) (λ child.
     decide_both (B child) (L child × C before child) (decide_some (task table child).parent (segment table t).task)
     (decide_both (L child) (C before child) (decide_same (task table child).last s)
     (decide_held (task table child).creator (M before) (λ creator.
-    decide_both (creator < t) (N before creator) (decide_less creator t) (decide_none_between table t creator before))))))))
+    decide_both (creator < t) (N before creator) (decide_less creator t)
+    (decide_none_between table t creator before))))))))
 
 decide_kept_group_end : (table : Table) (s t : ℕ) → IsDecided (KeptGroupEnd table s t)
 decide_kept_group_end table s t =
@@ -330,7 +400,8 @@ decide_kept_group_end table s t =
     (λ h. record { inside = h.0; is_inside = h.1; innermost = h.2.0; last = h.2.1 })
     (λ g. (g.inside, g.is_inside, (g.innermost, g.last)))
     (decide_below P (length table.tasks) (λ u.
-    decide_both ((task table u).innermost_group ≡ Some t) ((task table u).last ≡ s) (decide_some (task table u).innermost_group t) (decide_same (task table u).last s)))
+    decide_both ((task table u).innermost_group ≡ Some t) ((task table u).last ≡ s)
+    (decide_some (task table u).innermost_group t) (decide_same (task table u).last s)))
 
 pub decide_kept_edge : (table : Table) (s t : ℕ) → IsDecided (IsKeptEdge table s t)
 decide_kept_edge table s t =

@@ -35,10 +35,12 @@ pub decide_same : (a b : ℕ) → IsDecided (a ≡ b)
 decide_same a b = elim (cases_eq a b) [ inl same ↦ inl same | inr apart ↦ inr apart ]
 
 pub decide_less : (a b : ℕ) → IsDecided (a < b)
-decide_less a b = elim (cases_lt a b) [ inl less ↦ inl less | inr more ↦ inr (λ less. absurd (omega (arith, less, more))) ]
+decide_less a b =
+    elim (cases_lt a b) [ inl less ↦ inl less | inr more ↦ inr (λ less. absurd (omega (arith, less, more))) ]
 
 pub decide_most : (a b : ℕ) → IsDecided (a ≤ b)
-decide_most a b = elim (cases_lt b a) [ inl less ↦ inr (λ most. absurd (omega (arith, less, most))) | inr most ↦ inl most ]
+decide_most a b =
+    elim (cases_lt b a) [ inl less ↦ inr (λ most. absurd (omega (arith, less, most))) | inr most ↦ inl most ]
 
 pub decide_true : (b : Bool) → IsDecided (b ≡ true)
 decide_true true = inl refl
@@ -46,7 +48,8 @@ decide_true false = inr (λ e. both_ways false refl e)
 
 pub decide_some : (o : Option ℕ) (n : ℕ) → IsDecided (o ≡ Some n)
 decide_some None n = inr (λ e. none-some n e)
-decide_some (Some m) n = alike (m ≡ n) (Some m ≡ Some n) (λ e. ap (λ k. Some k) e) (λ e. same_Some m n e) (decide_same m n)
+decide_some (Some m) n =
+    alike (m ≡ n) (Some m ≡ Some n) (λ e. ap (λ k. Some k) e) (λ e. same_Some m n e) (decide_same m n)
 
 pub decide_options : (a b : Option ℕ) → IsDecided (a ≡ b)
 decide_options a (Some n) = decide_some a n
@@ -54,7 +57,8 @@ decide_options None None = inl refl
 decide_options (Some m) None = inr (λ e. none-some m (sym e))
 
 -- of the number that an option holds
-pub decide_held : (o : Option ℕ) (P : ℕ → Type 0) → ((n : ℕ) → IsDecided (P n)) → IsDecided ((n : ℕ) × (o ≡ Some n) × P n)
+pub decide_held : (o : Option ℕ) (P : ℕ → Type 0) → ((n : ℕ) → IsDecided (P n))
+    → IsDecided ((n : ℕ) × (o ≡ Some n) × P n)
 decide_held None P each = inr (λ h. none-some h.0 h.1)
 decide_held (Some m) P each = elim (each m) [
   | inl here ↦ inl (m, refl, here)
@@ -95,10 +99,18 @@ pub record IsFirst (P : ℕ → Type 0) (n k : ℕ) : Type 0 where
   pub holds : P k
   pub none_before : (j : ℕ) → j < k → ¬ P j
 
-pub find_first : (P : ℕ → Type 0) (n : ℕ) → ((k : ℕ) → IsDecided (P k)) → ((k : ℕ) → k < n → ¬ P k) ⊎ ((k : ℕ) × IsFirst P n k)
+pub find_first : (P : ℕ → Type 0) (n : ℕ) → ((k : ℕ) → IsDecided (P k))
+    → ((k : ℕ) → k < n → ¬ P k) ⊎ ((k : ℕ) × IsFirst P n k)
 find_first P zero each = inl (λ k less. absurd (omega (arith, less)))
 find_first P (suc n) each = elim (find_first P n each) [
-  | inr found ↦ inr (found.0, record { below = let less = found.1.below in omega (arith, less); holds = found.1.holds; none_before = found.1.none_before })
+  | inr found ↦ inr (
+    found.0,
+    record {
+      below = let less = found.1.below in omega (arith, less);
+      holds = found.1.holds;
+      none_before = found.1.none_before;
+    },
+  )
   | inl none ↦ elim (each n) [
     | inl here ↦ inr (n, record { below = omega arith; holds = here; none_before = none })
     | inr fails ↦ inl (λ k less. elim (cases_lt k n) [
@@ -115,10 +127,16 @@ list_below P (suc n) each =
     let before : (list : List ℕ) × Lists (Below P n) list = list_below P n each in
     let next : n + 1 ≡ suc n = omega arith in
     elim (each n) [
-      | inl here ↦ (before.0 ++ n ∷ [], subst (λ m. Lists (Below P m) (before.0 ++ n ∷ [])) next (Lists-push P n before.0 here before.1))
+      | inl here ↦ (
+        before.0 ++ n ∷ [],
+        subst (λ m. Lists (Below P m) (before.0 ++ n ∷ [])) next
+            (Lists-push P n before.0 here before.1),
+      )
       | inr fails ↦ (before.0, subst (λ m. Lists (Below P m) before.0) next (Lists-skip P n before.0 fails before.1))
     ]
 
-pub some_list : (P : ℕ → Type 0) (n : ℕ) → ((k : ℕ) → IsDecided (P k)) → ((k : ℕ) → P k → k < n) → (list : List ℕ) × Lists P list
+pub some_list : (P : ℕ → Type 0) (n : ℕ) → ((k : ℕ) → IsDecided (P k)) → ((k : ℕ) → P k → k < n)
+    → (list : List ℕ) × Lists P list
 some_list P n each all =
-    let below : (list : List ℕ) × Lists (Below P n) list = list_below P n each in (below.0, Lists-all P n below.0 all below.1)
+    let below : (list : List ℕ) × Lists (Below P n) list = list_below P n each in
+    (below.0, Lists-all P n below.0 all below.1)

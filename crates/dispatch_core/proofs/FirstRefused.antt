@@ -31,14 +31,18 @@ decide_same_event : (a b : Event) → IsDecided (a ≡ b)
 decide_same_event (Start v s) (Finish w t) = inr (λ e. cc)
 decide_same_event (Finish v s) (Start w t) = inr (λ e. cc)
 decide_same_event (Start v s) (Start w t) =
-    alike ((v ≡ w) × (s ≡ t)) (Start v s ≡ Start w t) (λ h. ap (λ n. Start n s) h.0 ∙ ap (λ n. Start w n) h.1) (λ e. (cc, cc))
+    alike ((v ≡ w) × (s ≡ t)) (Start v s ≡ Start w t) (λ h. ap (λ n. Start n s) h.0 ∙ ap (λ n. Start w n) h.1)
+    (λ e. (cc, cc))
     (decide_both (v ≡ w) (s ≡ t) (decide_same v w) (decide_same s t))
 decide_same_event (Finish v s) (Finish w t) =
-    alike ((v ≡ w) × (s ≡ t)) (Finish v s ≡ Finish w t) (λ h. ap (λ n. Finish n s) h.0 ∙ ap (λ n. Finish w n) h.1) (λ e. (cc, cc))
+    alike ((v ≡ w) × (s ≡ t)) (Finish v s ≡ Finish w t) (λ h. ap (λ n. Finish n s) h.0 ∙ ap (λ n. Finish w n) h.1)
+    (λ e. (cc, cc))
     (decide_both (v ≡ w) (s ≡ t) (decide_same v w) (decide_same s t))
 
 decide_has : (history : List Event) (event : Event) → IsDecided (Contains history event)
-decide_has history event = decide_below (λ k. get_or history k event ≡ event) (length history) (λ k. decide_same_event (get_or history k event) event)
+decide_has history event =
+    decide_below (λ k. get_or history k event ≡ event) (length history)
+    (λ k. decide_same_event (get_or history k event) event)
 
 is_start_of : (event : Event) (s : ℕ) → IsDecided ((worker : ℕ) × (event ≡ Start worker s))
 is_start_of (Finish w t) s = inr (λ h. let e = h.1 in cc)
@@ -54,8 +58,10 @@ some_event = Start 0 0
 at_place : (history : List Event) (event : Event) (h : Contains history event) → get_or history h.0 some_event ≡ event
 at_place history event h = get_or_default history h.0 some_event event h.1 ∙ h.2
 
-holds_at : (history : List Event) (k : ℕ) (event : Event) → k < length history → get_or history k some_event ≡ event → Contains history event
-holds_at history k event within is = subst (λ (e : Event). Contains history e) is (Contains-get_or history k some_event within)
+holds_at : (history : List Event) (k : ℕ) (event : Event) → k < length history → get_or history k some_event ≡ event
+    → Contains history event
+holds_at history k event within is =
+    subst (λ (e : Event). Contains history e) is (Contains-get_or history k some_event within)
 
 decide_started : (history : List Event) (s : ℕ) → IsDecided (HasStarted history s)
 decide_started history s =
@@ -69,17 +75,21 @@ decide_runs : (history : List Event) (worker s : ℕ) → IsDecided (Runs histor
 decide_runs history worker s =
     let A : Type 0 = Contains history (Start worker s) in
     let B : Type 0 = ¬ HasFinished history s in
-    alike (A × B) (Runs history worker s) (λ h. record { started = h.0; unfinished = h.1 }) (λ r. (r.started, r.unfinished))
-    (decide_both A B (decide_has history (Start worker s)) (decide_not (HasFinished history s) (decide_finished history s)))
+    alike (A × B) (Runs history worker s) (λ h. record { started = h.0; unfinished = h.1 })
+    (λ r. (r.started, r.unfinished))
+    (decide_both A B (decide_has history (Start worker s))
+    (decide_not (HasFinished history s) (decide_finished history s)))
 
 -- an event that starts a segment which the worker still runs
-keeps_busy : (history : List Event) (worker : ℕ) (event : Event) → IsDecided ((s : ℕ) × (event ≡ Start worker s) × ¬ HasFinished history s)
+keeps_busy : (history : List Event) (worker : ℕ) (event : Event)
+    → IsDecided ((s : ℕ) × (event ≡ Start worker s) × ¬ HasFinished history s)
 keeps_busy history worker (Finish w t) = inr (λ h. let e = h.1 in cc)
 keeps_busy history worker (Start w t) = elim (decide_same w worker) [
   | inr apart ↦ inr (λ h. let e = h.1 in apart (cc))
   | inl same ↦ elim (decide_finished history t) [
     | inr unfinished ↦ inl (t, ap (λ n. Start n t) same, unfinished)
-    | inl done ↦ inr (λ h. let e = h.1 in let is : t ≡ h.0 = cc in h.2 (subst (λ (s : ℕ). HasFinished history s) is done))
+    | inl done ↦ inr (λ h. let e = h.1 in let is : t ≡ h.0 = cc in h.2
+        (subst (λ (s : ℕ). HasFinished history s) is done))
   ]
 ]
 
@@ -95,19 +105,31 @@ decide_busy history worker =
 
 -- all that must precede the segment is finished, or one of it is the first that is not
 ready_or_waits : (table : Table) (history : List Event) (s : ℕ) → IsSoundTable table
-    → ((pred : ℕ) → MustPrecede table pred s → HasFinished history pred) ⊎ ((pred : ℕ) × IsFirstUnfinished table history s pred)
+    → ((pred : ℕ) → MustPrecede table pred s → HasFinished history pred) ⊎
+    ((pred : ℕ) × IsFirstUnfinished table history s pred)
 ready_or_waits table history s sound =
     let P : ℕ → Type 0 = λ pred. MustPrecede table pred s × (¬ HasFinished history pred) in
     let decided : (pred : ℕ) → IsDecided (P pred) = λ pred.
     decide_both (MustPrecede table pred s) (¬ HasFinished history pred) (decide_precedes table pred s sound.in_place)
     (decide_not (HasFinished history pred) (decide_finished history pred)) in
     let done : (pred : ℕ) → ¬ P pred → MustPrecede table pred s → HasFinished history pred = λ pred fails edge.
-    elim (decide_finished history pred) [ inl finished ↦ finished | inr unfinished ↦ absurd (fails (edge, unfinished)) ] in
+    elim (decide_finished history pred) [
+      | inl finished ↦ finished
+      | inr unfinished ↦ absurd
+          (fails (edge, unfinished))
+    ] in
     elim (find_first P s decided) [
       | inl none ↦ inl (λ pred edge. done pred (none pred (sound.goes_up.ascending pred s edge)) edge)
       | inr found ↦
           let first = found.1 in
-          inr (found.0, record { precedes = first.holds.0; unfinished = first.holds.1; smallest = λ other less edge. done other (first.none_before other less) edge })
+          inr (
+            found.0,
+            record {
+              precedes = first.holds.0;
+              unfinished = first.holds.1;
+              smallest = λ other less edge. done other (first.none_before other less) edge;
+            },
+          )
     ]
 
 start_or_refusal : (table : Table) (history : List Event) (worker s : ℕ) → IsSoundTable table
@@ -125,7 +147,11 @@ start_or_refusal table history worker s sound = elim (cases_lt worker 64) [
               elim (decide_started history s) [
                 | inl started ↦ inr (AlreadyStarted, (both, is_idle, started))
                 | inr not_started ↦ elim (ready_or_waits table history s sound) [
-                  | inl ready ↦ inl (record { known = known; idle = is_idle; ready = record { known = within; not_started = not_started; after = ready } })
+                  | inl ready ↦ inl (record {
+                    known = known;
+                    idle = is_idle;
+                    ready = record { known = within; not_started = not_started; after = ready };
+                  })
                   | inr waits ↦ inr (NotReady waits.0, (both, is_idle, not_started, waits.1))
                 ]
               ]
@@ -146,9 +172,11 @@ next_or_refusal table history (Finish worker s) sound = elim (decide_runs histor
 
 -- all events are legal, or some event is the first that is refused
 abbrev pub LegalOrRefused : Table → List Event → Type 0
-LegalOrRefused table events = IsLegal table events ⊎ ((index : ℕ) × (why : ReplayRefusal) × IsFirstRefused table events index why)
+LegalOrRefused table events =
+    IsLegal table events ⊎ ((index : ℕ) × (why : ReplayRefusal) × IsFirstRefused table events index why)
 
-legal_from : (table : Table) (events : List Event) (d i : ℕ) → IsSoundTable table → i + d ≡ length events → IsLegal table (take i events) → LegalOrRefused table events
+legal_from : (table : Table) (events : List Event) (d i : ℕ) → IsSoundTable table → i + d ≡ length events
+    → IsLegal table (take i events) → LegalOrRefused table events
 legal_from table events zero i sound all legal =
     inl (subst (λ (es : List Event). IsLegal table es) (take_all i events (omega (arith, all))) legal)
 legal_from table events (suc d) i sound all legal =
@@ -158,12 +186,24 @@ legal_from table events (suc d) i sound all legal =
       | inl may ↦
           let more : take (i + 1) events ≡ take i events ++ event ∷ [] = take_more events i some_event within in
           legal_from table events d (i + 1) sound (omega (arith, all))
-          (subst (λ (es : List Event). IsLegal table es) (sym more) (legal_push table (take i events) event legal may))
-      | inr refused ↦ inr (i, refused.0, record { event = event; is_there = slice_get-get_or events i some_event within; legal = legal; refused = refused.1 })
+          (subst (λ (es : List Event). IsLegal table es) (sym more)
+          (legal_push table (take i events) event legal may))
+      | inr refused ↦ inr (
+        i,
+        refused.0,
+        record {
+          event = event;
+          is_there = slice_get-get_or events i some_event within;
+          legal = legal;
+          refused = refused.1;
+        },
+      )
     ]
 
 pub legal_or_refused : (table : Table) (events : List Event) → IsSoundTable table → LegalOrRefused table events
-legal_or_refused table events sound = legal_from table events (length events) 0 sound (omega arith) (λ k event is. absurd (none-some event is))
+legal_or_refused table events sound =
+    legal_from table events (length events) 0 sound (omega arith) (λ k event is. absurd (none-some event is))
 
-pub refused_of : (program : ProgramText) → IsProgram program → (events : List Event) → LegalOrRefused (table_of program.marks) events
+pub refused_of : (program : ProgramText) → IsProgram program → (events : List Event)
+    → LegalOrRefused (table_of program.marks) events
 refused_of program is events = legal_or_refused (table_of program.marks) events (whole_table program is).sound

@@ -29,7 +29,8 @@ use Rattle.dispatch_core.specs.Values.IsValue.{Computes}
 use Rattle.dispatch_core.proofs.DecidedEdges.{decide_kept_edge}
 use Rattle.dispatch_core.proofs.Decisions.{some_list}
 
-fits_in : (version : Version) (text : List ℕ) (program : ProgramText) → HasTreeIn version text program → IsProgram program
+fits_in : (version : Version) (text : List ℕ) (program : ProgramText) → HasTreeIn version text program
+    → IsProgram program
 fits_in One text program h = h.program_fits
 fits_in Two text program h = h.expanded.program_fits
 
@@ -48,8 +49,11 @@ whole_table program is =
     let of_program : IsProgramTable table = record { program = program; is_program = is; is = refl } in
     let nested : IsNestedTable table = nested_program table of_program in
     let grouped : IsGroupedTable table = grouped_program table of_program in
-    let within : (s t : ℕ) → IsKeptEdge table s t → MustPrecede table s t = λ s t. kept_within table s t nested grouped in
-    let chains = same_joined (MustPrecede table) (IsKeptEdge table) (goes_up table nested) within (edge_reaches table nested grouped) in
+    let within : (s t : ℕ) → IsKeptEdge table s t → MustPrecede table s t =
+    λ s t. kept_within table s t nested grouped in
+    let chains =
+    same_joined (MustPrecede table) (IsKeptEdge table) (goes_up table nested) within
+    (edge_reaches table nested grouped) in
     record {
       nested = nested;
       grouped = grouped;
@@ -63,16 +67,22 @@ whole_table program is =
           within = λ s t edge. within_table table s t nested edge;
           reached = reached table nested;
         };
-        chains = record { within = within; joined = λ s t edge. (chains s t).0 (joined {R = MustPrecede table} (one edge)) };
+        chains = record {
+          within = within;
+          joined = λ s t edge. (chains s t).0
+              (joined {R = MustPrecede table} (one edge));
+        };
         in_place = read_in_place table nested grouped;
       };
     }
 
 -- ---- the graph
 
-pub kept_list : (table : Table) → IsSoundTable table → (t : ℕ) → (list : List ℕ) × Lists (λ s. IsKeptEdge table s t) list
+pub kept_list : (table : Table) → IsSoundTable table → (t : ℕ)
+    → (list : List ℕ) × Lists (λ s. IsKeptEdge table s t) list
 kept_list table sound t =
-    some_list (λ s. IsKeptEdge table s t) t (λ s. decide_kept_edge table s t) (λ s edge. sound.goes_up.ascending s t (sound.chains.within s t edge))
+    some_list (λ s. IsKeptEdge table s t) t (λ s. decide_kept_edge table s t)
+    (λ s edge. sound.goes_up.ascending s t (sound.chains.within s t edge))
 
 -- the kept predecessors of the first n segments
 record AreFirstRows (table : Table) (n : ℕ) (rows : List (List ℕ)) : Type 0 where
@@ -90,7 +100,8 @@ first_rows table sound (suc n) =
         each = length_push before.0 next.0 ∙ omega (arith, each);
         kept = λ t less. elim (cases_lt t n) [
           | inl below ↦
-              let same : get_or (before.0 ++ next.0 ∷ []) t [] ≡ get_or before.0 t [] = get_or_append_left before.0 (next.0 ∷ []) [] t (omega (arith, below, each)) in
+              let same : get_or (before.0 ++ next.0 ∷ []) t [] ≡ get_or before.0 t [] =
+              get_or_append_left before.0 (next.0 ∷ []) [] t (omega (arith, below, each)) in
               subst (λ (l : List ℕ). Lists (λ s. IsKeptEdge table s t) l) (sym same) (before.1.kept t below)
           | inr last ↦
               let is : n ≡ t = omega (arith, less, last) in
@@ -103,7 +114,8 @@ first_rows table sound (suc n) =
 
 pub some_graph : (table : Table) → IsSoundTable table → (graph : Recorded) × IsGraphOf table graph
 some_graph table sound =
-    let rows : (rows : List (List ℕ)) × AreFirstRows table (length table.segments) rows = first_rows table sound (length table.segments) in (
+    let rows : (rows : List (List ℕ)) × AreFirstRows table (length table.segments) rows = first_rows table sound
+    (length table.segments) in (
       record { costs = costs_of table; predecessors = rows.0 },
       record { costs = refl; each = rows.1.each; predecessors = λ t known. rows.1.kept t known },
     )
@@ -115,23 +127,27 @@ pub record AreFirstValues (table : Table) (value_of : ℕ → ℕ → ℕ → �
   pub each : length values ≡ n
   pub are : (s : ℕ) → s < n → IsValue table value_of s (get_or values s 0)
 
-pub first_values : (table : Table) (value_of : ℕ → ℕ → ℕ → ℕ) → IsSoundTable table → (n : ℕ) → n ≤ length table.segments
-    → (values : List ℕ) × AreFirstValues table value_of n values
-first_values table value_of sound zero all = ([], record { each = refl; are = λ s less. absurd (omega (arith, less)) })
+pub first_values : (table : Table) (value_of : ℕ → ℕ → ℕ → ℕ) → IsSoundTable table → (n : ℕ)
+    → n ≤ length table.segments → (values : List ℕ) × AreFirstValues table value_of n values
+first_values table value_of sound zero all =
+    ([], record { each = refl; are = λ s less. absurd (omega (arith, less)) })
 first_values table value_of sound (suc n) all =
-    let before : (values : List ℕ) × AreFirstValues table value_of n values = first_values table value_of sound n (omega (arith, all)) in
+    let before : (values : List ℕ) × AreFirstValues table value_of n values =
+    first_values table value_of sound n (omega (arith, all)) in
     let preds : (list : List ℕ) × Lists (λ s. IsKeptEdge table s n) list = kept_list table sound n in
     let earlier : ℕ → ℕ = λ s. get_or before.0 s 0 in
     let next : ℕ = value_of n (segment table n).cost (sum_by earlier preds.0 % 2 ^ 64) in
     let is_next : IsValue table value_of n next =
-    Computes n next (omega (arith, all)) preds.0 preds.1 earlier (λ p edge. before.1.are p (sound.goes_up.ascending p n (sound.chains.within p n edge))) refl in
+    Computes n next (omega (arith, all)) preds.0 preds.1 earlier
+    (λ p edge. before.1.are p (sound.goes_up.ascending p n (sound.chains.within p n edge))) refl in
     let each = before.1.each in (
       before.0 ++ next ∷ [],
       record {
         each = length_push before.0 next ∙ omega (arith, each);
         are = λ s less. elim (cases_lt s n) [
           | inl below ↦
-              let same : get_or (before.0 ++ next ∷ []) s 0 ≡ get_or before.0 s 0 = get_or_append_left before.0 (next ∷ []) 0 s (omega (arith, below, each)) in
+              let same : get_or (before.0 ++ next ∷ []) s 0 ≡ get_or before.0 s 0 =
+              get_or_append_left before.0 (next ∷ []) 0 s (omega (arith, below, each)) in
               subst (λ (v : ℕ). IsValue table value_of s v) (sym same) (before.1.are s below)
           | inr last ↦
               let is : n ≡ s = omega (arith, less, last) in
@@ -142,13 +158,15 @@ first_values table value_of sound (suc n) all =
       },
     )
 
-pub some_graph_of : (program : ProgramText) → IsProgram program → (graph : Recorded) × IsGraphOf (table_of program.marks) graph
+pub some_graph_of : (program : ProgramText) → IsProgram program
+    → (graph : Recorded) × IsGraphOf (table_of program.marks) graph
 some_graph_of program is = some_graph (table_of program.marks) (whole_table program is).sound
 
-pub some_value_of : (program : ProgramText) → IsProgram program → (value_of : ℕ → ℕ → ℕ → ℕ) (s : ℕ) → IsSegment (table_of program.marks) s
-    → (value : ℕ) × IsValue (table_of program.marks) value_of s value
+pub some_value_of : (program : ProgramText) → IsProgram program → (value_of : ℕ → ℕ → ℕ → ℕ) (s : ℕ)
+    → IsSegment (table_of program.marks) s → (value : ℕ) × IsValue (table_of program.marks) value_of s value
 some_value_of program is value_of s known =
     let table : Table = table_of program.marks in
     let n : ℕ = length table.segments in
-    let all : (values : List ℕ) × AreFirstValues table value_of n values = first_values table value_of (whole_table program is).sound n (omega arith) in
+    let all : (values : List ℕ) × AreFirstValues table value_of n values =
+    first_values table value_of (whole_table program is).sound n (omega arith) in
     (get_or all.0 s 0, all.1.are s known)

@@ -35,12 +35,12 @@ pub fn one_graph()
     ensures { (table : Table) (one other : Recorded) → IsGraphOf table one → IsGraphOf table other → one ≡ other }
 {}
 
-/// And each program has a graph.
+/// Each program has a graph.
 pub fn some_graph()
     ensures { (program : ProgramText) → IsProgram program → (graph : Recorded) × IsGraphOf (table_of program.marks) graph }
 {}
 
-/// And each segment of a program has a value, whatever the kernel.
+/// Each segment of a program has a value, whatever the kernel.
 pub fn some_value()
     ensures { (program : ProgramText) → IsProgram program → (value_of : ℕ → ℕ → ℕ → ℕ) (s : ℕ)
         → IsSegment (table_of program.marks) s → (value : ℕ) × IsValue (table_of program.marks) value_of s value }

@@ -4,6 +4,7 @@ use Rattle.std.proofs.lemmas.Bool.{cases_lt}
 use Rattle.std.proofs.lemmas.List.{get_or_default, get_or_past}
 use Rattle.std.proofs.lemmas.List.Elements.{Contains-get_or}
 use Rattle.task_segments.specs.Schedule.{at}
+use Rattle.dispatch_core.proofs.Decisions.{IsDecided, alike, decide_both, decide_each, decide_most, find_first}
 use Rattle.dispatch_core.specs.Recorded.{IsGraph, Precedes, Recorded, predecessors_of}
 use Rattle.greedy_sim.proofs.Members.{here, there}
 use Rattle.greedy_sim.proofs.Moments.{NextEnd, begin, finished, go_on, moment-le-work, next_early}
@@ -22,66 +23,33 @@ record HasCome (graph : Recorded) (p m i : ℕ) : Type 0 where
 
 -- ---- one segment
 
--- the first n of these segments have ended by m, or one has not
-ended_or_not : (costs row starts : List ℕ) (m n : ℕ) → ((k : ℕ) → k < n → at starts (get_or row k 0) + at costs (get_or row k 0) ≤ m)
-    ⊎ ((k : ℕ) × (k < n) × (m < at starts (get_or row k 0) + at costs (get_or row k 0)))
-ended_or_not costs row starts m zero = inl (λ k less. absurd (omega (arith, less)))
-ended_or_not costs row starts m (suc n) = elim (ended_or_not costs row starts m n) [
-  | inr later ↦ inr (later.0, omega (arith, later.1), later.2)
-  | inl before ↦ elim (cases_lt m (at starts (get_or row n 0) + at costs (get_or row n 0))) [
-    | inl late ↦ inr (n, omega arith, late)
-    | inr fails ↦ inl (λ k less. elim (cases_lt k n) [
-      | inl below ↦ before k below
-      | inr last ↦
-          let same : n ≡ k = omega (arith, less, last) in
-          let P : ℕ → Type 0 = λ j. at starts (get_or row j 0) + at costs (get_or row j 0) ≤ m in
-          subst P same fails
-    ])
-  ]
-]
-
-ready_or_not : (graph : Recorded) (starts : List ℕ) (s m : ℕ) → ReadyBy graph.costs (Precedes graph) starts s m ⊎ (ReadyBy graph.costs (Precedes graph) starts s m → ⊥)
+ready_or_not : (graph : Recorded) (starts : List ℕ) (s m : ℕ)
+    → IsDecided (ReadyBy graph.costs (Precedes graph) starts s m)
 ready_or_not graph starts s m =
     let row : List ℕ = predecessors_of graph s in
-    elim (ended_or_not graph.costs row starts m (length row)) [
-      | inl all ↦ inl (λ r pred.
-          let same : get_or row pred.0 0 ≡ r = get_or_default row pred.0 0 r pred.1 ∙ pred.2 in
-          let P : ℕ → Type 0 = λ t. at starts t + at graph.costs t ≤ m in
-          subst P same (all pred.0 pred.1))
-      | inr one ↦ inr (λ ready.
-          let ended = ready (get_or row one.0 0) (Contains-get_or row one.0 0 one.1) in
-          absurd (omega (arith, ended, one.2)))
-    ]
+    let Ended : ℕ → Type 0 = λ r. at starts r + at graph.costs r ≤ m in
+    alike ((k : ℕ) → k < length row → Ended (get_or row k 0)) (ReadyBy graph.costs (Precedes graph) starts s m)
+    (λ all r pred. subst Ended (get_or_default row pred.0 0 r pred.1 ∙ pred.2) (all pred.0 pred.1))
+    (λ ready k within. ready (get_or row k 0) (Contains-get_or row k 0 within))
+    (decide_each (λ k. Ended (get_or row k 0)) (length row)
+    (λ k. decide_most (at starts (get_or row k 0) + at graph.costs (get_or row k 0)) m))
 
--- the smallest thread below p and not below the cursor that is free
-record IsFirstFree (busy : List ℕ) (m cursor p k : ℕ) : Type 0 where
-  above : cursor ≤ k
-  below : k < p
-  free : at busy k ≤ m
-  before : (j : ℕ) → cursor ≤ j → j < k → m < at busy j
+-- not below the cursor, and free at m
+abbrev MayTake : List ℕ → ℕ → ℕ → ℕ → Type 0
+MayTake busy m cursor k = (cursor ≤ k) × (at busy k ≤ m)
 
-first_free : (busy : List ℕ) (m cursor p : ℕ) → ((k : ℕ) → cursor ≤ k → k < p → m < at busy k) ⊎ ((k : ℕ) × IsFirstFree busy m cursor p k)
-first_free busy m cursor zero = inl (λ k above below. absurd (omega (arith, below)))
-first_free busy m cursor (suc p) = elim (first_free busy m cursor p) [
-  | inr found ↦
-      let f = found.1 in
-      let below = f.below in
-      inr (found.0, record { above = f.above; below = omega (arith, below); free = f.free; before = f.before })
-  | inl none ↦ elim (cases_lt m (at busy p)) [
-    | inl taken ↦ inl (λ k above below. elim (cases_lt k p) [
-      | inl lower ↦ none k above lower
-      | inr last ↦ let same : p ≡ k = omega (arith, below, last) in let P : ℕ → Type 0 = λ j. m < at busy j in subst P same taken
-    ])
-    | inr free ↦ elim (cases_lt p cursor) [
-      | inl under ↦ inl (λ k above below. absurd (omega (arith, under, above, below)))
-      | inr above ↦ inr (p, record { above = above; below = omega arith; free = free; before = λ j from less. none j from less })
-    ]
-  ]
-]
+decide_take : (busy : List ℕ) (m cursor k : ℕ) → IsDecided (MayTake busy m cursor k)
+decide_take busy m cursor k =
+    decide_both (cursor ≤ k) (at busy k ≤ m) (decide_most cursor k) (decide_most (at busy k) m)
+
+busy_after : (busy : List ℕ) (m cursor k : ℕ) → ¬ MayTake busy m cursor k → cursor ≤ k → m < at busy k
+busy_after busy m cursor k fails above =
+    elim (cases_lt m (at busy k)) [ inl later ↦ later | inr free ↦ absurd (fails (above, free)) ]
 
 -- a segment that has not started and whose predecessors have ended
-starts_now : (graph : Recorded) (p m i : ℕ) → IsGraph graph → m < never → i < length graph.costs → (come : HasCome graph p m i) → at come.starts i ≡ never
-    → ReadyBy graph.costs (Precedes graph) come.starts i m → HasCome graph p m (i + 1)
+starts_now : (graph : Recorded) (p m i : ℕ) → IsGraph graph → m < never → i < length graph.costs
+    → (come : HasCome graph p m i) → at come.starts i ≡ never → ReadyBy graph.costs (Precedes graph) come.starts i m
+    → HasCome graph p m (i + 1)
 starts_now graph p m i is early inside come was ready =
     elim (cases_lt 0 (at graph.costs i)) [
       | inr none ↦ record {
@@ -91,25 +59,42 @@ starts_now graph p m i is early inside come was ready =
         busy = come.busy;
         state = start_at_once (upward is) come.state early inside was (omega (arith, none)) ready;
       }
-      | inl positive ↦ elim (first_free come.busy m come.cursor p) [
-        | inl full ↦ record { cursor = p; starts = come.starts; threads = come.threads; busy = come.busy; state = pass_full come.state positive full }
+      | inl positive ↦ elim (find_first (MayTake come.busy m come.cursor) p (decide_take come.busy m come.cursor)) [
+        | inl none ↦ record {
+          cursor = p;
+          starts = come.starts;
+          threads = come.threads;
+          busy = come.busy;
+          state = pass_full come.state positive
+              (λ k above below. busy_after come.busy m come.cursor k (none k below) above);
+        }
         | inr found ↦
             let k : ℕ = found.0 in
-            let f = found.1 in
+            let first = found.1 in
             record {
               cursor = k + 1;
               starts = set come.starts i m;
               threads = set come.threads i (Some k);
               busy = set come.busy k (m + at graph.costs i);
-              state = start_on_thread k (upward is) come.state early inside was positive ready f.above f.below f.free f.before;
+              state = start_on_thread k
+                  (upward is) come.state early inside was positive ready first.holds.0 first.below first.holds.1
+                  (λ j above lower. busy_after come.busy m come.cursor j (first.none_before j lower) above);
             }
       ]
     ]
 
-one_more : (graph : Recorded) (p m i : ℕ) → IsGraph graph → m < never → i < length graph.costs → HasCome graph p m i → HasCome graph p m (i + 1)
+one_more : (graph : Recorded) (p m i : ℕ) → IsGraph graph → m < never → i < length graph.costs → HasCome graph p m i
+    → HasCome graph p m (i + 1)
 one_more graph p m i is early inside come =
-    let passed : (at come.starts i ≤ m) ⊎ (ReadyBy graph.costs (Precedes graph) come.starts i m → ⊥) → HasCome graph p m (i + 1) = λ why.
-    record { cursor = come.cursor; starts = come.starts; threads = come.threads; busy = come.busy; state = pass_over come.state why } in
+    let passed : (at come.starts i ≤ m) ⊎ (ReadyBy graph.costs (Precedes graph) come.starts i m → ⊥)
+    → HasCome graph p m (i + 1) = λ why.
+    record {
+      cursor = come.cursor;
+      starts = come.starts;
+      threads = come.threads;
+      busy = come.busy;
+      state = pass_over come.state why;
+    } in
     elim (ready_or_not graph come.starts i m) [
       | inr not_ready ↦ passed (inr not_ready)
       | inl ready ↦ elim (come.state.started i inside) [
@@ -123,12 +108,17 @@ one_more graph p m i is early inside come =
 
 -- ---- one moment
 
-all_more : (graph : Recorded) (p m d i : ℕ) → IsGraph graph → m < never → i + d ≡ length graph.costs → HasCome graph p m i → HasCome graph p m (length graph.costs)
-all_more graph p m zero i is early all come = let same : i ≡ length graph.costs = omega (arith, all) in subst (λ (n : ℕ). HasCome graph p m n) same come
-all_more graph p m (suc d) i is early all come = all_more graph p m d (i + 1) is early (omega (arith, all)) (one_more graph p m i is early (omega (arith, all)) come)
+all_more : (graph : Recorded) (p m d i : ℕ) → IsGraph graph → m < never → i + d ≡ length graph.costs
+    → HasCome graph p m i → HasCome graph p m (length graph.costs)
+all_more graph p m zero i is early all come =
+    let same : i ≡ length graph.costs = omega (arith, all) in subst (λ (n : ℕ). HasCome graph p m n) same come
+all_more graph p m (suc d) i is early all come =
+    all_more graph p m d (i + 1) is early (omega (arith, all))
+    (one_more graph p m i is early (omega (arith, all)) come)
 
 -- the ends after m come no sooner
-no_sooner : (b : ℕ) (bs : List ℕ) (m next : ℕ) → (m < b → next ≤ b) → ((k : ℕ) → m < at bs k → next ≤ at bs k) → (k : ℕ) → m < at (b ∷ bs) k → next ≤ at (b ∷ bs) k
+no_sooner : (b : ℕ) (bs : List ℕ) (m next : ℕ) → (m < b → next ≤ b) → ((k : ℕ) → m < at bs k → next ≤ at bs k)
+    → (k : ℕ) → m < at (b ∷ bs) k → next ≤ at (b ∷ bs) k
 no_sooner b bs m next here first zero more = here more
 no_sooner b bs m next here first (suc k) more = first k more
 
@@ -141,16 +131,44 @@ next_end [] m = inl (λ k. omega (arith, get_or_past {X = ℕ} [] k 0 (omega ari
 next_end (b ∷ bs) m = elim (next_end bs m) [
   | inl none ↦ elim (cases_lt m b) [
     | inr done ↦ inl (none_later b bs m done none)
-    | inl later ↦ inr (b, record { later = later; found = here b b bs refl; first = no_sooner b bs m b (λ h. omega arith) (λ k more. absurd (omega (arith, more, none k))) })
+    | inl later ↦ inr (
+      b,
+      record {
+        later = later;
+        found = here b b bs refl;
+        first = no_sooner b bs m b (λ h. omega arith) (λ k more. absurd (omega (arith, more, none k)));
+      },
+    )
   ]
   | inr found ↦
       let next : ℕ = found.0 in
       let ahead = found.1 in
       elim (cases_lt m b) [
-        | inr done ↦ inr (next, record { later = ahead.later; found = there b next bs ahead.found; first = no_sooner b bs m next (λ h. absurd (omega (arith, h, done))) ahead.first })
+        | inr done ↦ inr (
+          next,
+          record {
+            later = ahead.later;
+            found = there b next bs ahead.found;
+            first = no_sooner b bs m next (λ h. absurd (omega (arith, h, done))) ahead.first;
+          },
+        )
         | inl later ↦ elim (cases_lt b next) [
-          | inl sooner ↦ inr (b, record { later = later; found = here b b bs refl; first = no_sooner b bs m b (λ h. omega arith) (λ k more. omega (arith, sooner, ahead.first k more)) })
-          | inr fails ↦ inr (next, record { later = ahead.later; found = there b next bs ahead.found; first = no_sooner b bs m next (λ h. fails) ahead.first })
+          | inl sooner ↦ inr (
+            b,
+            record {
+              later = later;
+              found = here b b bs refl;
+              first = no_sooner b bs m b (λ h. omega arith) (λ k more. omega (arith, sooner, ahead.first k more));
+            },
+          )
+          | inr fails ↦ inr (
+            next,
+            record {
+              later = ahead.later;
+              found = there b next bs ahead.found;
+              first = no_sooner b bs m next (λ h. fails) ahead.first;
+            },
+          )
         ]
       ]
 ]
@@ -158,13 +176,15 @@ next_end (b ∷ bs) m = elim (next_end bs m) [
 -- ---- the whole
 
 -- no moment is later than the work, so there are enough of them
-runs_from : (graph : Recorded) (p moments m : ℕ) → IsGraph graph → 0 < p → sum graph.costs < m + moments → HasCome graph p m 0
+runs_from : (graph : Recorded) (p moments m : ℕ) → IsGraph graph → 0 < p → sum graph.costs < m + moments
+    → HasCome graph p m 0
     → (starts : List ℕ) × (threads : List (Option ℕ)) × IsGreedyRun graph.costs (Precedes graph) p starts threads
 runs_from graph p zero m is some enough come = absurd (omega (arith, enough, moment-le-work come.state))
 runs_from graph p (suc moments) m is some enough come =
     let small = is.small in
     let early : m < never = omega (arith, small, moment-le-work come.state) in
-    let over : HasCome graph p m (length graph.costs) = all_more graph p m (length graph.costs) 0 is early (omega arith) come in
+    let over : HasCome graph p m (length graph.costs) =
+    all_more graph p m (length graph.costs) 0 is early (omega arith) come in
     elim (next_end over.busy m) [
       | inl none ↦ (over.starts, over.threads, finished (upward is) over.state some early none)
       | inr found ↦
@@ -185,4 +205,10 @@ pub some_run : (graph : Recorded) (p : ℕ) → IsGraph graph → 0 < p
 some_run graph p is some =
     let n : ℕ = length graph.costs in
     runs_from graph p (suc (sum graph.costs)) 0 is some (omega arith)
-    (record { cursor = 0; starts = replicate n never; threads = replicate n None; busy = replicate p 0; state = begin graph.costs (Precedes graph) p n refl })
+    (record {
+      cursor = 0;
+      starts = replicate n never;
+      threads = replicate n None;
+      busy = replicate p 0;
+      state = begin graph.costs (Precedes graph) p n refl;
+    })

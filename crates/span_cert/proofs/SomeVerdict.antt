@@ -1,5 +1,5 @@
 -- Each document has a verdict: the claim holds, or some test is the first that fails.
-use Rattle.std.proofs.Common.{true, ℕ, zero, suc, ◌+◌, ◌-◌, ◌<◌, ◌≤◌, ◌≡◌, ◌≢◌, ◌⊎◌, ◌∙◌, List, [], ◌∷◌, Option, Some, None, Result, Ok, Err, length, get_or, take, refl, sym, ap, subst, arith, inl, inr}
+use Rattle.std.proofs.Common.{ℕ, zero, suc, ◌+◌, ◌-◌, ◌<◌, ◌≤◌, ◌≡◌, ◌≢◌, ◌⊎◌, ◌∙◌, List, [], ◌∷◌, Option, Some, None, Result, Ok, Err, length, get_or, take, refl, sym, ap, subst, arith, inl, inr}
 use Rattle.std.specs.List.{range_with_len}
 use Rattle.std.proofs.lemmas.Bool.{cases_lt}
 use Rattle.std.proofs.lemmas.List.{get_or_default, take_all}
@@ -21,7 +21,7 @@ use Rattle.span_cert.proofs.Counting.{bad_step, count_of, length-moments, one_li
 use Rattle.span_cert.proofs.Spelling.{reads_spelled, spelled_reads}
 use Rattle.span_cert.specs.Certificates.{Claims, HasClaim, IsChecked}
 use Rattle.span_cert.specs.Claims.{Claim, HasForm, moments, segments_of, word_says}
-use Rattle.span_cert.specs.OneVerdict.{Judges, is_verdict}
+use Rattle.span_cert.specs.OneVerdict.{HasVerdict}
 use Rattle.span_cert.specs.Steps.{Progress, begin, step}
 use Rattle.span_cert.specs.Tests.{Fails, FirstBadStep, FirstBroken, IsBroken, IsCounted, IsKept, checked_of}
 use Rattle.span_cert.specs.declared.checker.Checked.{Checked}
@@ -57,7 +57,8 @@ claim_in (Some p) = p.claim
 nothing_read : (p : Progress) → None ≡ Some p → ⊥
 nothing_read p e = cc
 
-form_of : (text : List ℕ) (read : Option Progress) → all_steps (step_by word_says step) begin (words_of text) ≡ read → length text ≤ 4194304 → FormOrNone text
+form_of : (text : List ℕ) (read : Option Progress) → all_steps (step_by word_says step) begin (words_of text) ≡ read
+    → length text ≤ 4194304 → FormOrNone text
 form_of text None is fits = inr (λ claim form. nothing_read _ (sym is ∙ spelled_reads text claim form))
 form_of text (Some p) is fits = elim (decide_link p.next) [
   | inr other ↦ inr (λ claim form. other (ap next_in (sym is ∙ spelled_reads text claim form)))
@@ -105,18 +106,24 @@ decide_counted table claim =
     let A : Type 0 = segments_of claim.starts ≡ range_with_len 0 (length table.segments) in
     let B : Type 0 = AreSegments (costs_of table) claim.chain in
     alike (A × B) (IsCounted table claim) (λ h. record { starts = h.0; chain = h.1 }) (λ c. (c.starts, c.chain))
-    (decide_both A B (same_lists (segments_of claim.starts) (range_with_len 0 (length table.segments))) (decide_inside (costs_of table) claim.chain))
+    (decide_both A B (same_lists (segments_of claim.starts) (range_with_len 0 (length table.segments)))
+    (decide_inside (costs_of table) claim.chain))
 
-decide_broken : (table : Table) (starts : List ℕ) (s t : ℕ) → IsSoundTable table → IsDecided (IsBroken table starts s t)
+decide_broken : (table : Table) (starts : List ℕ) (s t : ℕ) → IsSoundTable table
+    → IsDecided (IsBroken table starts s t)
 decide_broken table starts s t sound =
     let A : Type 0 = IsSegment table t in
     let B : Type 0 = MustPrecede table s t in
     let C : Type 0 = at starts t < at starts s + at (costs_of table) s in
-    alike (A × (B × C)) (IsBroken table starts s t) (λ h. record { is_segment = h.0; precedes = h.1.0; too_soon = h.1.1 }) (λ b. (b.is_segment, (b.precedes, b.too_soon)))
+    alike (A × (B × C)) (IsBroken table starts s t)
+    (λ h. record { is_segment = h.0; precedes = h.1.0; too_soon = h.1.1 })
+    (λ b. (b.is_segment, (b.precedes, b.too_soon)))
     (decide_both A (B × C) (decide_less t (length table.segments))
-    (decide_both B C (decide_precedes table s t sound.in_place) (decide_less (at starts t) (at starts s + at (costs_of table) s))))
+    (decide_both B C (decide_precedes table s t sound.in_place)
+    (decide_less (at starts t) (at starts s + at (costs_of table) s))))
 
-kept_or_broken : (table : Table) (starts : List ℕ) → IsSoundTable table → IsKept table starts ⊎ ((s : ℕ) × (t : ℕ) × FirstBroken table starts s t)
+kept_or_broken : (table : Table) (starts : List ℕ) → IsSoundTable table
+    → IsKept table starts ⊎ ((s : ℕ) × (t : ℕ) × FirstBroken table starts s t)
 kept_or_broken table starts sound =
     let n : ℕ = length table.segments in
     let B : ℕ → ℕ → Type 0 = λ t s. IsBroken table starts s t in
@@ -132,14 +139,21 @@ kept_or_broken table starts sound =
           to.0,
           record {
             broken = from.1.holds;
-            least_to = λ r u b. elim (cases_lt u to.0) [ inl less ↦ absurd (to.1.none_before u less (r, known r u b, b)) | inr more ↦ more ];
-            least_from = λ r b. elim (cases_lt r from.0) [ inl less ↦ absurd (from.1.none_before r less b) | inr more ↦ more ];
+            least_to = λ r u b. elim
+                (cases_lt u to.0) [
+                  | inl less ↦ absurd
+                      (to.1.none_before u less (r, known r u b, b))
+                  | inr more ↦ more
+                ];
+            least_from = λ r b. elim
+                (cases_lt r from.0) [ inl less ↦ absurd (from.1.none_before r less b) | inr more ↦ more ];
           },
         )
       ]
     ]
 
-linked_from : (table : Table) (chain : List ℕ) (d k : ℕ) → IsSoundTable table → 0 < k → k + d ≡ length chain → IsChain (MustPrecede table) (take k chain)
+linked_from : (table : Table) (chain : List ℕ) (d k : ℕ) → IsSoundTable table → 0 < k → k + d ≡ length chain
+    → IsChain (MustPrecede table) (take k chain)
     → IsChain (MustPrecede table) chain ⊎ ((s : ℕ) × (t : ℕ) × FirstBadStep table chain s t)
 linked_from table chain zero k sound some all linked =
     inl (subst (λ (xs : List ℕ). IsChain (MustPrecede table) xs) (take_all k chain (omega (arith, all))) linked)
@@ -147,14 +161,17 @@ linked_from table chain (suc d) k sound some all linked =
     let s : ℕ = get_or chain (k - 1) 0 in
     let t : ℕ = get_or chain k 0 in
     elim (decide_precedes table s t sound.in_place) [
-      | inl edge ↦ linked_from table chain d (k + 1) sound (omega arith) (omega (arith, all)) (one_link_more (MustPrecede table) chain k s t some (omega (arith, all)) linked refl refl edge)
+      | inl edge ↦ linked_from table chain d (k + 1) sound (omega arith) (omega (arith, all))
+          (one_link_more (MustPrecede table) chain k s t some (omega (arith, all)) linked refl refl edge)
       | inr apart ↦ inr (s, t, bad_step table chain k s t some (omega (arith, all)) refl refl apart linked)
     ]
 
 -- ---- the verdict on a claim
 
 abbrev Verdict : Table → Claim → Type 0
-Verdict table claim = ((checked : Checked) × IsChecked checked table claim) ⊎ ((why : CheckFault) × Fails table claim why × (why ≢ fault.OutOfMemory))
+Verdict table claim =
+    ((checked : Checked) × IsChecked checked table claim) ⊎
+    ((why : CheckFault) × Fails table claim why × (why ≢ fault.OutOfMemory))
 
 verdict_on : (table : Table) (claim : Claim) → IsSoundTable table → 0 < length claim.chain → Verdict table claim
 verdict_on table claim sound some =
@@ -165,36 +182,57 @@ verdict_on table claim sound some =
       | inl counted ↦ elim (kept_or_broken table starts sound) [
         | inr pair ↦ inr (fault.Broken pair.0 pair.1, record { counted = counted; first = pair.2 }, λ e. cc)
         | inl kept ↦ elim (decide_same (end_of costs starts) claim.end) [
-          | inr elsewhere ↦ inr (fault.EndWrong, record { counted = counted; kept = kept; elsewhere = elsewhere }, λ e. cc)
-          | inl ends ↦ elim (linked_from table claim.chain (length claim.chain - 1) 1 sound (omega arith) (omega (arith, some)) (one_link (MustPrecede table) claim.chain some)) [
-            | inr pair ↦ inr (fault.ChainStep pair.0 pair.1, record { counted = counted; kept = kept; ends = ends; first = pair.2 }, λ e. cc)
-            | inl linked ↦ elim (decide_same (chain_sum costs claim.chain) claim.end) [
-              | inr elsewhere ↦ inr (fault.ChainSum, record { counted = counted; kept = kept; ends = ends; linked = linked; elsewhere = elsewhere }, λ e. cc)
-              | inl reached ↦ inl (
-                checked_of table claim,
-                record {
-                  holds = record {
+          | inr elsewhere ↦ inr
+              (fault.EndWrong, record { counted = counted; kept = kept; elsewhere = elsewhere }, λ e. cc)
+          | inl ends ↦ elim (linked_from table claim.chain (length claim.chain - 1) 1 sound (omega arith)
+              (omega (arith, some)) (one_link (MustPrecede table) claim.chain some)) [
+                | inr pair ↦ inr (
+                  fault.ChainStep pair.0 pair.1,
+                  record {
                     counted = counted;
-                    legal = legal_kept table starts (length-moments claim.starts ∙ count_of claim.starts (length table.segments) counted.starts) kept;
+                    kept = kept;
                     ends = ends;
-                    linked = linked;
-                    reached = reached;
-                  };
-                  told = refl;
-                },
-              )
-            ]
-          ]
+                    first = pair.2;
+                  },
+                  λ e. cc,
+                )
+                | inl linked ↦ elim (decide_same (chain_sum costs claim.chain) claim.end) [
+                  | inr elsewhere ↦ inr (
+                    fault.ChainSum,
+                    record {
+                      counted = counted;
+                      kept = kept;
+                      ends = ends;
+                      linked = linked;
+                      elsewhere = elsewhere;
+                    },
+                    λ e. cc,
+                  )
+                  | inl reached ↦ inl (
+                    checked_of table claim,
+                    record {
+                      holds = record {
+                        counted = counted;
+                        legal = legal_kept table starts
+                            (length-moments claim.starts ∙ count_of claim.starts
+                            (length table.segments) counted.starts) kept;
+                        ends = ends;
+                        linked = linked;
+                        reached = reached;
+                      };
+                      told = refl;
+                    },
+                  )
+                ]
+              ]
         ]
       ]
     ]
 
 -- ---- the verdict on a document
 
-abbrev HasVerdict : List ℕ → Type 0
-HasVerdict document = (verdict : Result Checked CheckFault) × (is_verdict verdict ≡ true) × Judges document verdict
-
-refuses_claim : (document : List ℕ) (why : CheckFault) → Claims document (λ table claim. Fails table claim why) → why ≢ fault.OutOfMemory → HasVerdict document
+refuses_claim : (document : List ℕ) (why : CheckFault) → Claims document (λ table claim. Fails table claim why)
+    → why ≢ fault.OutOfMemory → HasVerdict document
 refuses_claim document fault.WrongCount h other = (Err fault.WrongCount, refl, h)
 refuses_claim document (fault.Broken s t) h other = (Err (fault.Broken s t), refl, h)
 refuses_claim document fault.EndWrong h other = (Err fault.EndWrong, refl, h)
@@ -204,18 +242,38 @@ refuses_claim document fault.OutOfMemory h other = absurd (other refl)
 refuses_claim document fault.BadForm h other = absurd h.says
 refuses_claim document (fault.BadProgram read) h other = absurd h.says
 
-checks_claim : (document : List ℕ) (program : ProgramText) (claim : Claim) → HasTree (program_part document) program → HasClaim document claim → HasVerdict document
+checks_claim : (document : List ℕ) (program : ProgramText) (claim : Claim) → HasTree (program_part document) program
+    → HasClaim document claim → HasVerdict document
 checks_claim document program claim tree has =
     let table : Table = table_of program.marks in
     let whole : IsWhole table = whole_table program (tree_fits (program_part document) program tree) in
     elim (verdict_on table claim whole.sound has.has_form.some) [
-      | inl good ↦ (Ok good.0, refl, record { program = program; tree = tree; claim = claim; has_claim = has; says = good.1 })
-      | inr bad ↦ refuses_claim document bad.0 (record { program = program; tree = tree; claim = claim; has_claim = has; says = bad.1 }) bad.2
+      | inl good ↦ (
+        Ok good.0,
+        refl,
+        record {
+          program = program;
+          tree = tree;
+          claim = claim;
+          has_claim = has;
+          says = good.1;
+        },
+      )
+      | inr bad ↦ refuses_claim document bad.0
+          (record { program = program; tree = tree; claim = claim; has_claim = has; says = bad.1 }) bad.2
     ]
 
-checks_rest : (document : List ℕ) (program : ProgramText) (rest : Option (List ℕ)) → rest_part document ≡ rest → HasTree (program_part document) program → HasVerdict document
-checks_rest document program None is tree =
-    (Err fault.BadForm, refl, record { program = program; tree = tree; none = λ claim h. none-some h.text (sym is ∙ h.is_text) })
+checks_rest : (document : List ℕ) (program : ProgramText) (rest : Option (List ℕ)) → rest_part document ≡ rest
+    → HasTree (program_part document) program → HasVerdict document
+checks_rest document program None is tree = (
+  Err fault.BadForm,
+  refl,
+  record {
+    program = program;
+    tree = tree;
+    none = λ claim h. none-some h.text (sym is ∙ h.is_text);
+  },
+)
 checks_rest document program (Some text) is tree = elim (form_or_none text) [
   | inl form ↦ checks_claim document program form.0 tree (record { text = text; is_text = is; has_form = form.1 })
   | inr none ↦
@@ -225,8 +283,10 @@ checks_rest document program (Some text) is tree = elim (form_or_none text) [
       (Err fault.BadForm, refl, record { program = program; tree = tree; none = other })
 ]
 
-checks_read : (document : List ℕ) (read : Result ProgramText ReadFault) → program_of (program_part document) ≡ read → HasVerdict document
-checks_read document (Ok program) is = checks_rest document program (rest_part document) refl (found_tree_of (program_part document) program is)
+checks_read : (document : List ℕ) (read : Result ProgramText ReadFault) → program_of (program_part document) ≡ read
+    → HasVerdict document
+checks_read document (Ok program) is =
+    checks_rest document program (rest_part document) refl (found_tree_of (program_part document) program is)
 checks_read document (Err why) is = (Err (fault.BadProgram why), refl, is)
 
 pub some_verdict : (document : List ℕ) → HasVerdict document

@@ -42,7 +42,8 @@ next_in (Some p) = p.next
 nothing_read : (p : Progress) → None ≡ Some p → ⊥
 nothing_read p e = cc
 
-events_of : (text : List ℕ) (read : Option Progress) → all_steps (step_by word_says step) begin (words_of text) ≡ read → EventsOrNone text
+events_of : (text : List ℕ) (read : Option Progress) → all_steps (step_by word_says step) begin (words_of text) ≡ read
+    → EventsOrNone text
 events_of text None is = inr (λ events spells. nothing_read _ (sym is ∙ spells_reads text events spells))
 events_of text (Some p) is = elim (decide_at_event p.next) [
   | inl whole ↦ inl (p.events, reads_spells text p.next p.events is whole)
@@ -64,69 +65,105 @@ decide_open table history s sound =
     (alike ((pred : ℕ) × (pred < s) × P pred) Opened (λ h. (h.0, h.2.0, h.2.1)) (λ h. (h.0, up h.0 h.1, (h.1, h.2)))
     (decide_below P s (λ pred.
     decide_both (E pred) (HasFinished history pred)
-    (decide_either (Continues table pred s) (Creation table pred s) (decide_continues table pred s) (decide_creation table pred s)) (decide_finished history pred))))
+    (decide_either (Continues table pred s) (Creation table pred s) (decide_continues table pred s)
+    (decide_creation table pred s)) (decide_finished history pred))))
 
 -- the rows of these segments
 record AreRowsOf (table : Table) (segments : List ℕ) (rows : List Row) : Type 0 where
   are : segments_of rows ≡ segments
   kept : (row : Row) → Contains rows row → Lists (λ p. IsKeptEdge table p row.segment) row.preds
 
-some_rows : (table : Table) (segments : List ℕ) → IsSoundTable table → (rows : List Row) × AreRowsOf table segments rows
-some_rows table [] sound = ([], record { are = refl; kept = λ row h. absurd (let within = h.1 in omega (arith, within)) })
+some_rows : (table : Table) (segments : List ℕ) → IsSoundTable table
+    → (rows : List Row) × AreRowsOf table segments rows
+some_rows table [] sound =
+    ([], record { are = refl; kept = λ row h. absurd (let within = h.1 in omega (arith, within)) })
 some_rows table (s ∷ segments) sound =
     let rest : (rows : List Row) × AreRowsOf table segments rows = some_rows table segments sound in
     let preds : (list : List ℕ) × Lists (λ p. IsKeptEdge table p s) list = kept_list table sound s in
-    let first : Row = record { segment = s; preds = preds.0 } in
-    (first ∷ rest.0, record { are = ap (λ (ss : List ℕ). s ∷ ss) rest.1.are; kept = kept_first table first rest.0 preds.1 rest.1.kept })
+    let first : Row = record { segment = s; preds = preds.0 } in (
+      first ∷ rest.0,
+      record {
+        are = ap (λ (ss : List ℕ). s ∷ ss) rest.1.are;
+        kept = kept_first table first rest.0 preds.1 rest.1.kept;
+      },
+    )
   where
-    kept_first : (table : Table) (first : Row) (rows : List Row) → Lists (λ p. IsKeptEdge table p first.segment) first.preds
-        → ((row : Row) → Contains rows row → Lists (λ p. IsKeptEdge table p row.segment) row.preds)
-        → (row : Row) → Contains (first ∷ rows) row → Lists (λ p. IsKeptEdge table p row.segment) row.preds
-    kept_first table first rows here later row (zero, within, is) = let P : Row → Type 0 = λ r. Lists (λ p. IsKeptEdge table p r.segment) r.preds in subst P is here
+    kept_first : (table : Table) (first : Row) (rows : List Row)
+        → Lists (λ p. IsKeptEdge table p first.segment) first.preds
+        → ((row : Row) → Contains rows row → Lists (λ p. IsKeptEdge table p row.segment) row.preds) → (row : Row)
+        → Contains (first ∷ rows) row → Lists (λ p. IsKeptEdge table p row.segment) row.preds
+    kept_first table first rows here later row (zero, within, is) =
+        let P : Row → Type 0 = λ r. Lists (λ p. IsKeptEdge table p r.segment) r.preds in
+        subst P is here
     kept_first table first rows here later row (suc k, within, is) = later row (k, omega (arith, within), is)
 
-some_recount : (table : Table) (events : List Event) → IsSoundTable table → IsLegal table events → (output : Output) × Recounts table events output
+some_recount : (table : Table) (events : List Event) → IsSoundTable table → IsLegal table events
+    → (output : Output) × Recounts table events output
 some_recount table events sound legal =
     let n : ℕ = length table.segments in
     let F : ℕ → Type 0 = λ s. IsSegment table s × HasFinished events s in
     let O : ℕ → Type 0 = λ s. IsSegment table s × IsOpen table events s in
     let finished : (list : List ℕ) × Lists F list =
-    some_list F n (λ s. decide_both (IsSegment table s) (HasFinished events s) (decide_less s n) (decide_finished events s)) (λ s h. h.0) in
+    some_list F n (λ s. decide_both (IsSegment table s) (HasFinished events s) (decide_less s n)
+    (decide_finished events s)) (λ s h. h.0) in
     let opened : (list : List ℕ) × Lists O list =
-    some_list O n (λ s. decide_both (IsSegment table s) (IsOpen table events s) (decide_less s n) (decide_open table events s sound)) (λ s h. h.0) in
+    some_list O n (λ s. decide_both (IsSegment table s) (IsOpen table events s) (decide_less s n)
+    (decide_open table events s sound)) (λ s h. h.0) in
     let rows : (rows : List Row) × AreRowsOf table opened.0 rows = some_rows table opened.0 sound in (
-      record { text = number_line (codes "events") (length events) ++ (number_line (codes "finished") (length finished.0) ++ flat_map row_line rows.0); status = Done },
+      record {
+        text = number_line (codes "events") (length events) ++
+            (number_line (codes "finished") (length finished.0) ++ flat_map row_line rows.0);
+        status = Done;
+      },
       record {
         legal = legal;
         finished = finished.0;
         are_finished = finished.1;
         rows = rows.0;
-        are_rows = record { are_open = subst (λ (ss : List ℕ). Lists O ss) (sym rows.1.are) opened.1; kept = rows.1.kept };
+        are_rows = record {
+          are_open = subst (λ (ss : List ℕ). Lists O ss)
+              (sym rows.1.are) opened.1;
+          kept = rows.1.kept;
+        };
         says = refl;
       },
     )
 
-some_replay : (table : Table) (events : List Event) → IsSoundTable table → (output : Output) × Replays table events output
+some_replay : (table : Table) (events : List Event) → IsSoundTable table
+    → (output : Output) × Replays table events output
 some_replay table events sound = elim (legal_or_refused table events sound) [
   | inl legal ↦
       let told : (output : Output) × Recounts table events output = some_recount table events sound legal in
       (told.0, inl told.1)
-  | inr refused ↦ (event_refused refused.0 refused.1, inr (record { index = refused.0; refusal = refused.1; is_first = refused.2; says = refl }))
-]
-
-pub some_said : (rest : Option (List ℕ)) (program : ProgramText) → IsWhole (table_of program.marks) → (output : Output) × SaysOfEvents rest program output
-some_said None program whole = (bad_form, inl (record { none = λ events h. none-some h.text h.is_text; says = refl }))
-some_said (Some text) program whole = elim (events_of text (all_steps (step_by word_says step) begin (words_of text)) refl) [
-  | inl read ↦
-      let told : (output : Output) × Replays (table_of program.marks) read.0 output = some_replay (table_of program.marks) read.0 whole.sound in
-      (told.0, inr (record { events = read.0; has_events = record { text = text; is_text = refl; spells = read.1 }; replays = told.1 }))
-  | inr none ↦ (
-    bad_form,
-    inl (record {
-      none = λ events h.
-          let same : text ≡ h.text = same_Some text h.text h.is_text in
-          none events (subst (λ (t : List ℕ). Spells t events) (sym same) h.spells);
-      says = refl;
-    }),
+  | inr refused ↦ (
+    event_refused refused.0 refused.1,
+    inr
+        (record { index = refused.0; refusal = refused.1; is_first = refused.2; says = refl }),
   )
 ]
+
+pub some_said : (rest : Option (List ℕ)) (program : ProgramText) → IsWhole (table_of program.marks)
+    → (output : Output) × SaysOfEvents rest program output
+some_said None program whole = (bad_form, inl (record { none = λ events h. none-some h.text h.is_text; says = refl }))
+some_said (Some text) program whole =
+    elim (events_of text (all_steps (step_by word_says step) begin (words_of text)) refl) [
+      | inl read ↦
+          let told : (output : Output) × Replays (table_of program.marks) read.0 output =
+          some_replay (table_of program.marks) read.0 whole.sound in (
+            told.0,
+            inr (record {
+              events = read.0;
+              has_events = record { text = text; is_text = refl; spells = read.1 };
+              replays = told.1;
+            }),
+          )
+      | inr none ↦ (
+        bad_form,
+        inl (record {
+          none = λ events h.
+              let same : text ≡ h.text = same_Some text h.text h.is_text in
+              none events (subst (λ (t : List ℕ). Spells t events) (sym same) h.spells);
+          says = refl;
+        }),
+      )
+    ]

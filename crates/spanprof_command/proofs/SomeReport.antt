@@ -53,10 +53,10 @@ use Rattle.spanprof_command.proofs.TriedSpans.{tells_trial}
 use Rattle.spanprof_command.specs.Certificates.{AnswersCheck, Certifies, accepted, check_refused}
 use Rattle.spanprof_command.specs.GreedyRuns.{Curves, GreedyRuns, IsThreadCount, curve_header, curve_row, greedy_header, greedy_row, thread_count}
 use Rattle.spanprof_command.specs.OnProgram.{OnProgram}
+use Rattle.spanprof_command.specs.OneReport.{HasReport}
 use Rattle.spanprof_command.specs.Report.{Output, input_too_long, refused, wrong_words}
 use Rattle.spanprof_command.specs.Reports.{Answers, AnswersWithin, ReportsBy, Shows, Spans}
 use Rattle.spanprof_command.specs.Slacks.{Slacks, slack_header, slack_row}
-use Rattle.spanprof_command.specs.SomeReport.{HasReport}
 use Rattle.spanprof_command.specs.Tables.{numbered_table}
 use Rattle.spanprof_command.specs.Trials.{Trials, TriesChanges, after_changes, change_refused, spans_told, unless_refused}
 use Rattle.spanprof_command.specs.WorkerRuns.{WorkerRuns, run_told, worker_count}
@@ -66,15 +66,18 @@ use Rattle.spanprof_command.specs.declared.report.Status.TheVariants.{Done}
 abbrev SaysSome : (ProgramText → Output → Type 0) → Type 0
 SaysSome Says = (program : ProgramText) → IsWhole (table_of program.marks) → (output : Output) × Says program output
 
-on_read : (Says : ProgramText → Output → Type 0) → SaysSome Says → (input : List ℕ) (read : Result ProgramText ReadFault) → program_of input ≡ read
+on_read : (Says : ProgramText → Output → Type 0) → SaysSome Says
+    → (input : List ℕ) (read : Result ProgramText ReadFault) → program_of input ≡ read
     → (output : Output) × OnProgram Says input output
 on_read Says some input (Ok program) is =
     let tree : HasTree input program = found_tree_of input program is in
-    let said : (output : Output) × Says program output = some program (whole_table program (tree_fits input program tree)) in
+    let said : (output : Output) × Says program output =
+    some program (whole_table program (tree_fits input program tree)) in
     (said.0, inl (record { program = program; tree = tree; says = said.1 }))
 on_read Says some input (Err fault) is = (refused fault, inr (record { fault = fault; is_fault = is; says = refl }))
 
-on_program : (Says : ProgramText → Output → Type 0) → SaysSome Says → (input : List ℕ) → (output : Output) × OnProgram Says input output
+on_program : (Says : ProgramText → Output → Type 0) → SaysSome Says → (input : List ℕ)
+    → (output : Output) × OnProgram Says input output
 on_program Says some input = on_read Says some input (program_of input) refl
 
 -- ---- span, show, slack and certify
@@ -83,8 +86,15 @@ some_spans : SaysSome Spans
 some_spans program whole =
     let table : Table = table_of program.marks in
     let analysed : IsAnalysed table = some_analysed table whole in
-    let are = analysed.are_analysed.are_findings in
-    (measured table analysed.found.span, record { span = analysed.found.span; is_span = are.greatest_sum; is_least_end = are.least_end; says = refl })
+    let are = analysed.are_analysed.are_findings in (
+      measured table analysed.found.span,
+      record {
+        span = analysed.found.span;
+        is_span = are.greatest_sum;
+        is_least_end = are.least_end;
+        says = refl;
+      },
+    )
 
 some_show : SaysSome Shows
 some_show program whole = (record { text = canonical program; status = Done }, refl)
@@ -93,7 +103,11 @@ some_slacks : SaysSome Slacks
 some_slacks program whole =
     let table : Table = table_of program.marks in
     let analysed : IsAnalysed table = some_analysed table whole in (
-      record { text = numbered_table slack_header (slack_row table analysed.found) 0 (length table.segments); status = Done },
+      record {
+        text = numbered_table slack_header (slack_row table analysed.found) 0
+            (length table.segments);
+        status = Done;
+      },
       record { graph = analysed.graph; found = analysed.found; are_analysed = analysed.are_analysed; says = refl },
     )
 
@@ -106,22 +120,28 @@ some_certificate program whole =
 
 -- ---- check
 
-told_verdict : (document : List ℕ) (verdict : Result Checked CheckFault) → is_verdict verdict ≡ true → Judges document verdict
-    → (output : Output) × AnswersCheck document output
-told_verdict document (Ok checked) is judges = (accepted checked, inl (record { checked = checked; accepts = judges; says = refl }))
+told_verdict : (document : List ℕ) (verdict : Result Checked CheckFault) → is_verdict verdict ≡ true
+    → Judges document verdict → (output : Output) × AnswersCheck document output
+told_verdict document (Ok checked) is judges =
+    (accepted checked, inl (record { checked = checked; accepts = judges; says = refl }))
 told_verdict document (Err why) is judges =
-    let P : CheckFault → Type 0 = λ w. is_verdict (Err w) ≡ true in
-    (check_refused why, inr (record { why = why; refuses = judges; not_memory = λ e. both_ways false refl (subst P e is); says = refl }))
+    let P : CheckFault → Type 0 = λ w. is_verdict (Err w) ≡ true in (
+      check_refused why,
+      inr
+          (record { why = why; refuses = judges; not_memory = λ e. both_ways false refl (subst P e is); says = refl }),
+    )
 
 some_check : (document : List ℕ) → (output : Output) × AnswersCheck document output
 some_check document = let verdict = some_verdict document in told_verdict document verdict.0 verdict.1 verdict.2
 
 -- ---- run
 
-all_values : (table : Table) (value_of : ℕ → ℕ → ℕ → ℕ) → IsSoundTable table → (values : List ℕ) × AreAllValues table value_of values
+all_values : (table : Table) (value_of : ℕ → ℕ → ℕ → ℕ) → IsSoundTable table
+    → (values : List ℕ) × AreAllValues table value_of values
 all_values table value_of sound =
     let n : ℕ = length table.segments in
-    let all : (values : List ℕ) × AreFirstValues table value_of n values = first_values table value_of sound n (omega arith) in (
+    let all : (values : List ℕ) × AreFirstValues table value_of n values = first_values table value_of sound n
+    (omega arith) in (
       all.0,
       record {
         each = all.1.each;
@@ -145,8 +165,19 @@ some_worker_run workers program whole =
       | inr outside ↦ (worker_count, inl (record { outside = outside; says = refl }))
       | inl within ↦
           let graph : (graph : Recorded) × IsGraphOf table graph = some_graph table whole.sound in
-          let values : (values : List ℕ) × AreAllValues table mix_value values = all_values table mix_value whole.sound in
-          (run_told graph.0 values.0, inr (record { within = within; graph = graph.0; is_graph_of = graph.1; values = values.0; are_values = values.1; says = refl }))
+          let values : (values : List ℕ) × AreAllValues table mix_value values =
+          all_values table mix_value whole.sound in (
+            run_told graph.0 values.0,
+            inr
+                (record {
+                  within = within;
+                  graph = graph.0;
+                  is_graph_of = graph.1;
+                  values = values.0;
+                  are_values = values.1;
+                  says = refl;
+                }),
+          )
     ]
 
 -- ---- greedy and curve
@@ -170,36 +201,59 @@ some_greedy count program whole =
           let graph : (graph : Recorded) × IsGraphOf table graph = some_graph table whole.sound in
           let is_graph : IsGraph graph.0 = graph_of_program table graph.0 whole.sound graph.1 in
           let some = within.some in
-          let run : (starts : List ℕ) × (threads : List (Option ℕ)) × IsGreedyRun graph.0.costs (Precedes graph.0) count starts threads =
+          let run : (starts : List ℕ) × (threads : List (Option ℕ)) × IsGreedyRun graph.0.costs
+          (Precedes graph.0) count starts threads =
           some_run graph.0 count is_graph (omega (arith, some)) in (
-            record { text = numbered_table greedy_header (greedy_row graph.0.costs run.0 run.1) 0 (length graph.0.costs); status = Done },
-            inr (record { within = within; graph = graph.0; is_graph = is_graph; is_graph_of = graph.1; starts = run.0; threads = run.1; is_run = run.2; says = refl }),
+            record {
+              text = numbered_table greedy_header (greedy_row graph.0.costs run.0 run.1) 0
+                  (length graph.0.costs);
+              status = Done;
+            },
+            inr (record {
+              within = within;
+              graph = graph.0;
+              is_graph = is_graph;
+              is_graph_of = graph.1;
+              starts = run.0;
+              threads = run.1;
+              is_run = run.2;
+              says = refl;
+            }),
           )
     ]
 
-some_end : (graph : Recorded) (p : ℕ) → IsGraph graph → 0 < p → (end : ℕ) × IsGreedyEnd graph.costs (Precedes graph) p end
+some_end : (graph : Recorded) (p : ℕ) → IsGraph graph → 0 < p
+    → (end : ℕ) × IsGreedyEnd graph.costs (Precedes graph) p end
 some_end graph p is some =
-    let run : (starts : List ℕ) × (threads : List (Option ℕ)) × IsGreedyRun graph.costs (Precedes graph) p starts threads = some_run graph p is some in
+    let run : (starts : List ℕ) × (threads : List (Option ℕ)) × IsGreedyRun graph.costs
+    (Precedes graph) p starts threads =
+    some_run graph p is some in
     (end_of graph.costs run.0, (run.0, run.1, run.2, refl))
 
-some_ends : (graph : Recorded) (upto : ℕ) → IsGraph graph → (ends : List ℕ) × IsCurve graph.costs (Precedes graph) upto ends
+some_ends : (graph : Recorded) (upto : ℕ) → IsGraph graph
+    → (ends : List ℕ) × IsCurve graph.costs (Precedes graph) upto ends
 some_ends graph zero is = ([], record { each = refl; at_each = λ k less. absurd (omega (arith, less)) })
 some_ends graph (suc n) is =
     let before : (ends : List ℕ) × IsCurve graph.costs (Precedes graph) n ends = some_ends graph n is in
-    let next : (end : ℕ) × IsGreedyEnd graph.costs (Precedes graph) (n + 1) end = some_end graph (n + 1) is (omega arith) in
+    let next : (end : ℕ) × IsGreedyEnd graph.costs (Precedes graph) (n + 1) end =
+    some_end graph (n + 1) is (omega arith) in
     let each = before.1.each in (
       before.0 ++ next.0 ∷ [],
       record {
         each = length_push before.0 next.0 ∙ omega (arith, each);
         at_each = λ k less. elim (cases_lt k n) [
           | inl below ↦
-              let same : get_or (before.0 ++ next.0 ∷ []) k 0 ≡ get_or before.0 k 0 = get_or_append_left before.0 (next.0 ∷ []) 0 k (omega (arith, below, each)) in
-              subst (λ (e : ℕ). IsGreedyEnd graph.costs (Precedes graph) (k + 1) e) (sym same) (before.1.at_each k below)
+              let same : get_or (before.0 ++ next.0 ∷ []) k 0 ≡ get_or before.0 k 0 =
+              get_or_append_left before.0 (next.0 ∷ []) 0 k (omega (arith, below, each)) in
+              subst (λ (e : ℕ). IsGreedyEnd graph.costs (Precedes graph) (k + 1) e) (sym same)
+              (before.1.at_each k below)
           | inr last ↦
               let is_last : n ≡ k = omega (arith, less, last) in
               let same : get_or (before.0 ++ next.0 ∷ []) n 0 ≡ next.0 = get_or_push before.0 next.0 0 n each in
-              let P : ℕ → Type 0 = λ j. IsGreedyEnd graph.costs (Precedes graph) (j + 1) (get_or (before.0 ++ next.0 ∷ []) j 0) in
-              subst P is_last (subst (λ (e : ℕ). IsGreedyEnd graph.costs (Precedes graph) (n + 1) e) (sym same) next.1)
+              let P : ℕ → Type 0 =
+              λ j. IsGreedyEnd graph.costs (Precedes graph) (j + 1) (get_or (before.0 ++ next.0 ∷ []) j 0) in
+              subst P is_last (subst (λ (e : ℕ). IsGreedyEnd graph.costs (Precedes graph) (n + 1) e)
+              (sym same) next.1)
         ];
       },
     )
@@ -213,9 +267,14 @@ some_curve upto program whole =
           let analysed : IsAnalysed table = some_analysed table whole in
           let are = analysed.are_analysed in
           let graph : Recorded = analysed.graph in
-          let ends : (ends : List ℕ) × IsCurve graph.costs (Precedes graph) upto ends = some_ends graph upto are.is_graph in
+          let ends : (ends : List ℕ) × IsCurve graph.costs (Precedes graph) upto ends =
+          some_ends graph upto are.is_graph in
           let span : ℕ = analysed.found.span in (
-            record { text = numbered_table curve_header (curve_row (sum (costs_of table)) span ends.0) 1 upto; status = Done },
+            record {
+              text = numbered_table curve_header
+                  (curve_row (sum (costs_of table)) span ends.0) 1 upto;
+              status = Done;
+            },
             inr (record {
               within = within;
               graph = graph;
@@ -234,13 +293,16 @@ some_curve upto program whole =
 
 -- a change that is not refused leaves no more work than a program may have
 within_work : (unknown large heavy : Bool)
-    → (if unknown then Some UnknownSegment else (if large then Some CostTooLarge else (if heavy then Some WorkTooLarge else None))) ≡ None → heavy ≡ false
+    → (if unknown then Some UnknownSegment else
+    (if large then Some CostTooLarge else (if heavy then Some WorkTooLarge else None))) ≡ None
+    → heavy ≡ false
 within_work false false false is = refl
 within_work false false true is = absurd cc
 within_work false true heavy is = absurd cc
 within_work true large heavy is = absurd cc
 
-changed_graph : (graph : Recorded) (s cost : ℕ) → IsGraph graph → refusal_of graph s cost ≡ None → IsGraph (changed graph s cost)
+changed_graph : (graph : Recorded) (s cost : ℕ) → IsGraph graph → refusal_of graph s cost ≡ None
+    → IsGraph (changed graph s cost)
 changed_graph graph s cost is allowed =
     let each : length (changed graph s cost).costs ≡ length graph.costs = length-set graph.costs s cost in
     let all = is.each in
@@ -250,13 +312,16 @@ changed_graph graph s cost is allowed =
       each = all ∙ sym each;
       some = omega (arith, each, some);
       few = omega (arith, each, few);
-      small = ltb-false (10 ^ 15) (sum (changed graph s cost).costs) (within_work (nat_le (length graph.costs) s) (nat_lt (10 ^ 15) cost) (nat_lt (10 ^ 15) (sum (changed graph s cost).costs)) allowed);
+      small = ltb-false (10 ^ 15) (sum (changed graph s cost).costs)
+          (within_work (nat_le (length graph.costs) s) (nat_lt (10 ^ 15) cost)
+          (nat_lt (10 ^ 15) (sum (changed graph s cost).costs)) allowed);
       smaller = is.smaller;
       ascending = is.ascending;
       reached = λ t later known. is.reached t later (omega (arith, known, each));
     }
 
-passed : (refusal : Option WhatFault) (next : Result Recorded WhatFault) (tried : Recorded) → unless_refused refusal next ≡ Ok tried → (refusal ≡ None) × (next ≡ Ok tried)
+passed : (refusal : Option WhatFault) (next : Result Recorded WhatFault) (tried : Recorded)
+    → unless_refused refusal next ≡ Ok tried → (refusal ≡ None) × (next ≡ Ok tried)
 passed None next tried is = (refl, is)
 passed (Some why) next tried is = absurd cc
 
@@ -266,7 +331,8 @@ accepted_as graph = Ok graph
 same_as : (graph tried : Recorded) → accepted_as graph ≡ accepted_as tried → graph ≡ tried
 same_as graph tried e = cc
 
-tried_graph : (graph tried : Recorded) (changes : List Change) → IsGraph graph → after_changes graph changes ≡ Ok tried → IsGraph tried
+tried_graph : (graph tried : Recorded) (changes : List Change) → IsGraph graph
+    → after_changes graph changes ≡ Ok tried → IsGraph tried
 tried_graph graph tried [] is all = subst IsGraph (same_as graph tried all) is
 tried_graph graph tried (change ∷ changes) is all =
     let next : Recorded = changed graph change.segment change.cost in
@@ -275,20 +341,36 @@ tried_graph graph tried (change ∷ changes) is all =
 
 some_span : (graph : Recorded) → IsGraph graph → (span : ℕ) × IsSpan graph.costs (Precedes graph) span
 some_span graph is =
-    let starts : (starts : List ℕ) × IsEarliest graph.costs (Precedes graph) starts = earliest_exists graph is in
-    (end_of graph.costs starts.0, IsSpan-earliest graph.costs (Precedes graph) starts.0 (IsAscending-graph graph is) starts.1 is.some)
+    let starts : (starts : List ℕ) × IsEarliest graph.costs (Precedes graph) starts = earliest_exists graph is in (
+      end_of graph.costs starts.0,
+      IsSpan-earliest graph.costs (Precedes graph) starts.0
+          (IsAscending-graph graph is) starts.1 is.some,
+    )
 
-tries : (table : Table) (graph : Recorded) (changes : List Change) (tried : Result Recorded WhatFault) → IsWhole table → IsGraphOf table graph
-    → after_changes graph changes ≡ tried → (output : Output) × TriesChanges changes table output
-tries table graph changes (Err why) whole of all =
-    (change_refused why, record { graph = graph; is_graph_of = of; says = inl (record { why = why; refused = all; says = refl }) })
+tries : (table : Table) (graph : Recorded) (changes : List Change) (tried : Result Recorded WhatFault) → IsWhole table
+    → IsGraphOf table graph → after_changes graph changes ≡ tried
+    → (output : Output) × TriesChanges changes table output
+tries table graph changes (Err why) whole of all = (
+  change_refused why,
+  record {
+    graph = graph;
+    is_graph_of = of;
+    says = inl (record { why = why; refused = all; says = refl });
+  },
+)
 tries table graph changes (Ok tried) whole of all =
     let is : IsGraph graph = graph_of_program table graph whole.sound of in
-    let span : (span : ℕ) × IsSpan tried.costs (Precedes tried) span = some_span tried (tried_graph graph tried changes is all) in
+    let span : (span : ℕ) × IsSpan tried.costs (Precedes tried) span =
+    some_span tried (tried_graph graph tried changes is all) in
     let was : (span : ℕ) × IsSpan graph.costs (Precedes graph) span = some_span graph is in
-    let spans = same_span (MustPrecede table) (IsKeptEdge table) whole.sound.goes_up.ascending whole.sound.chains.within (edge_reaches table whole.nested whole.grouped) in
-    let output : Output = spans_told (sum tried.costs) span.0 was.0 in
-    (output, tells_trial table graph graph tried changes (sum tried.costs) span.0 was.0 of refl all spans span.1 was.1 refl output refl)
+    let spans =
+    same_span (MustPrecede table) (IsKeptEdge table) whole.sound.goes_up.ascending whole.sound.chains.within
+    (edge_reaches table whole.nested whole.grouped) in
+    let output : Output = spans_told (sum tried.costs) span.0 was.0 in (
+      output,
+      tells_trial table graph graph tried changes
+          (sum tried.costs) span.0 was.0 of refl all spans span.1 was.1 refl output refl,
+    )
 
 some_trial : (changes : List Change) → SaysSome (Trials changes)
 some_trial changes program whole =
