@@ -18,7 +18,8 @@ use Rattle.dispatch_core.specs.Values.IsValue.{Computes}
 use Rattle.dispatch_core.specs.Refusals.{MayFinish}
 use Rattle.dispatch_core.specs.Entry.{entry}
 use Rattle.dispatch_core.specs.Sound.{IsSound, AreStarted, AreRunning, AreValues}
-use Rattle.dispatch_core.specs.Counters.{AreCounts}
+use Rattle.dispatch_core.specs.declared.counters.Counters.{Counters}
+use Rattle.dispatch_core.specs.UpToDate.{IsUpToDate}
 use Rattle.dispatch_core.proofs.PlaceLemmas.{entry-set_same, entry-set_none, entry-set_other, count_by-set, count_by_some_no}
 use Rattle.dispatch_core.proofs.Histories.{finished_kept, started_kept, finished_cases, started_was, legal_push, one_starter, get_at_place, Contains-from_take}
 
@@ -76,7 +77,7 @@ running_after_finish table history running worker s legal are runs =
           entry-set_other running worker w None apart ∙ are.runs w t was;
     }
 
-values_after_finish : (table : Table) (history : List Event) (value_of : ℕ → ℕ → ℕ → ℕ) (values : List (Option ℕ)) (worker s value : ℕ) → s < length table.segments
+pub values_after_finish : (table : Table) (history : List Event) (value_of : ℕ → ℕ → ℕ → ℕ) (values : List (Option ℕ)) (worker s value : ℕ) → s < length table.segments
     → IsValue table value_of s value → AreValues table history value_of values → AreValues table (history ++ Finish worker s ∷ []) value_of (slice_set values s (Some value))
 values_after_finish table history value_of values worker s value known is are =
     let within : s < length values = omega (arith, are.tell.each) in
@@ -104,7 +105,7 @@ values_after_finish table history value_of values worker s value known is are =
     }
 
 -- a segment's value, from a result for its cost and its input
-computed_value : (table : Table) (value_of : ℕ → ℕ → ℕ → ℕ) (history : List Event) (worker : ℕ) (result : Computed) (value : ℕ)
+pub computed_value : (table : Table) (value_of : ℕ → ℕ → ℕ → ℕ) (history : List Event) (worker : ℕ) (result : Computed) (value : ℕ)
     → MayFinish table history value_of worker result → value ≡ value_of result.segment result.cost result.input → IsValue table value_of result.segment value
 computed_value table value_of history worker result value may is =
     let s : ℕ = result.segment in
@@ -137,19 +138,19 @@ pub no_value : (table : Table) (history : List Event) (value_of : ℕ → ℕ �
 no_value table history value_of values s are unfinished = no_entry (entry values s) (λ v is. unfinished (are.tell.is_finished s v is))
 
 pub has_room_to_finish : (value_of : ℕ → ℕ → ℕ → ℕ) (table : Table) (history : List Event) (capacity : ℕ) (started : List Bool) (running : List (Option ℕ)) (values : List (Option ℕ))
-    (preds : List (List ℕ)) (counts costs : List ℕ) (worker s : ℕ) → IsSound value_of table history capacity started running values preds counts costs → Runs history worker s
+    (counters : Counters) (costs : List ℕ) (worker s : ℕ) → IsSound value_of table history capacity started running values counters costs → Runs history worker s
     → length history < capacity
-has_room_to_finish value_of table history capacity started running values preds counts costs worker s sound runs =
+has_room_to_finish value_of table history capacity started running values counters costs worker s sound runs =
     let known = started_known table history worker s sound.legal runs.started in
     let off : slice_get values s ≡ Some None = not_valued table history value_of values s sound.are_values known.1 runs.unfinished in
     omega (arith, sound.counted, sound.reserved, sound.are_started.each, sound.are_values.tell.each, count_by_some_no is_some values s None off refl, count_by-le-length (λ (b : Bool). b) started)
 
 pub sound_after_finish : (value_of : ℕ → ℕ → ℕ → ℕ) (table : Table) (history : List Event) (capacity later : ℕ) (started : List Bool) (running : List (Option ℕ)) (values : List (Option ℕ))
-    (preds : List (List ℕ)) (counts after costs : List ℕ) (worker : ℕ) (result : Computed) (value : ℕ) → IsSound value_of table history capacity started running values preds counts costs
+    (counters after : Counters) (costs : List ℕ) (worker : ℕ) (result : Computed) (value : ℕ) → IsSound value_of table history capacity started running values counters costs
     → MayFinish table history value_of worker result → value ≡ value_of result.segment result.cost result.input
-    → AreCounts (slice_set values result.segment (Some value)) preds after → capacity ≤ later
-    → IsSound value_of table (history ++ Finish worker result.segment ∷ []) later started (slice_set running worker None) (slice_set values result.segment (Some value)) preds after costs
-sound_after_finish value_of table history capacity later started running values preds counts after costs worker result value sound may is lowered more =
+    → IsUpToDate table (slice_set values result.segment (Some value)) after → capacity ≤ later
+    → IsSound value_of table (history ++ Finish worker result.segment ∷ []) later started (slice_set running worker None) (slice_set values result.segment (Some value)) after costs
+sound_after_finish value_of table history capacity later started running values counters after costs worker result value sound may is up_to_date more =
     let s : ℕ = result.segment in
     let known = started_known table history worker s sound.legal may.runs.started in
     let off : slice_get values s ≡ Some None = not_valued table history value_of values s sound.are_values known.1 may.runs.unfinished in
@@ -159,8 +160,7 @@ sound_after_finish value_of table history capacity later started running values 
       are_started = started_after_finish table history started worker s sound.are_started;
       are_running = running_after_finish table history running worker s sound.legal sound.are_running may.runs;
       are_values = values_after_finish table history value_of values worker s value known.1 (computed_value table value_of history worker result value may is) sound.are_values;
-      are_kept = sound.are_kept;
-      are_counts = lowered;
+      up_to_date = up_to_date;
       are_costs = sound.are_costs;
       counted = omega (arith, sound.counted, length-append history (Finish worker s ∷ []), count_by-set is_some values s (Some value) None off refl refl);
       reserved = omega (arith, sound.reserved);
