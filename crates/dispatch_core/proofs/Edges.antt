@@ -130,6 +130,20 @@ resumed_edges table b t child facts follows creates undeferred =
       | inr (inr joins) ↦ absurd (join_creates_none table p b t child facts follows joins creates)
     ])
 
+-- those that it joins, and then the one before it, where that one creates no task
+pub after_join : (table : Table) (before next : ℕ) (list : List ℕ) → IsReadInPlace table → Continues table before next → ((child : ℕ) → ¬ ((segment table before).closing ≡ Creates child))
+    → Lists (λ p. Joins table p next) list → Lists (λ p. IsKeptEdge table p next) (list ++ before ∷ [])
+after_join table before next list facts follows none joined =
+    Lists-end (λ p. Joins table p next) (λ p. IsKeptEdge table p next) before list joined
+    (λ p h. join_before table p before next facts follows h)
+    (λ p h. join_edge table p next h)
+    (inl follows)
+    (λ p edge. elim (next_cases table p before next facts follows edge) [
+      | inl same ↦ inr same
+      | inr (inl resumption) ↦ absurd (none resumption.child (resumed_creates table p before next facts follows resumption))
+      | inr (inr joins) ↦ inl joins
+    ])
+
 -- a child of the task with a number below n
 pub record IsAmongChildren (table : Table) (parent n : ℕ) (one : Sibling) : Type 0 where
   pub of_parent : (task table one.task).parent ≡ Some parent

@@ -4,6 +4,7 @@ pub mod Within
 pub mod Children
 pub mod Edges
 pub mod Openers
+pub mod Since
 pub mod Falls
 pub mod Turning
 pub mod Rooms

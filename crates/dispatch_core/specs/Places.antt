@@ -19,3 +19,9 @@ last_segment table u = (task table u).last
 -- t opens after a wait or the end of a group, and s is one of the segments that it is recorded after for that
 abbrev pub Joins : Table → ℕ → ℕ → Type 0
 Joins table s t = KeptWait table s t ⊎ KeptGroupEnd table s t
+
+-- s is the last segment of a child of the task
+pub record EndsChild (table : Table) (parent s : ℕ) : Type 0 where
+  pub child : ℕ
+  pub of_parent : (task table child).parent ≡ Some parent
+  pub last : (task table child).last ≡ s

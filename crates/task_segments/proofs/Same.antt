@@ -82,7 +82,7 @@ item_decides a b =
     through (item_eq.ghosts.eq a b) (same_item a b) (λ e. (ap (λ (i : Item). i.kind) e, ap (λ (i : Item). i.name) e))
     (Decides-and (kind_eq.ghosts.eq a.kind b.kind) _ (kind_decides a.kind b.kind) (Decides-eqb a.name b.name))
 
-option_decides : (a b : Option ℕ) → Decides (option_eq eqb a b) (a ≡ b)
+pub option_decides : (a b : Option ℕ) → Decides (option_eq eqb a b) (a ≡ b)
 option_decides None None = (λ e. refl, λ e. refl)
 option_decides None (Some y) = (λ e. cc, λ e. cc)
 option_decides (Some x) None = (λ e. cc, λ e. cc)
