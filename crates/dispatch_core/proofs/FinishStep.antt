@@ -1,6 +1,6 @@
 -- What a core keeps is kept when a segment finishes.
-use Rattle.std.proofs.Common.{ℕ, ◌<◌, ◌≤◌, ◌≡◌, ◌≢◌, Bool, List, [], ◌∷◌, ◌++◌, Option, Some, None, length, take, refl, sym, ap, ◌∙◌, subst, arith, inl, inr, get_or}
-use Rattle.std.specs.Prelude.{slice_get, slice_set, Contains, is_some}
+use Rattle.std.proofs.Common.{ℕ, ◌+◌, ◌<◌, ◌≤◌, ◌≡◌, ◌≢◌, Bool, List, [], ◌∷◌, ◌++◌, Option, Some, None, length, take, refl, sym, ap, ◌∙◌, subst, arith, inl, inr, get_or}
+use Rattle.std.specs.Prelude.{slice_get, slice_set, Contains, count_by, is_some}
 use Rattle.std.proofs.lemmas.Bool.{cases_eq}
 use Rattle.std.proofs.lemmas.Option.{slice_get-get_or, same_Some, none-some}
 use Rattle.std.proofs.lemmas.List.{length-set, length-append}
@@ -19,6 +19,7 @@ use Rattle.dispatch_core.specs.Refusals.{MayFinish}
 use Rattle.dispatch_core.specs.Entry.{entry}
 use Rattle.dispatch_core.specs.Sound.{IsSound, AreStarted, AreRunning, AreValues}
 use Rattle.dispatch_core.specs.declared.counters.Counters.{Counters}
+use Rattle.dispatch_core.specs.Counters.{TellFinished}
 use Rattle.dispatch_core.specs.UpToDate.{IsUpToDate}
 use Rattle.dispatch_core.proofs.PlaceLemmas.{entry-set_same, entry-set_none, entry-set_other, count_by-set, count_by_some_no}
 use Rattle.dispatch_core.proofs.Histories.{finished_kept, started_kept, finished_cases, started_was, legal_push, one_starter, get_at_place, Contains-from_take}
@@ -77,7 +78,7 @@ running_after_finish table history running worker s legal are runs =
           entry-set_other running worker w None apart ∙ are.runs w t was;
     }
 
-pub values_after_finish : (table : Table) (history : List Event) (value_of : ℕ → ℕ → ℕ → ℕ) (values : List (Option ℕ)) (worker s value : ℕ) → s < length table.segments
+values_after_finish : (table : Table) (history : List Event) (value_of : ℕ → ℕ → ℕ → ℕ) (values : List (Option ℕ)) (worker s value : ℕ) → s < length table.segments
     → IsValue table value_of s value → AreValues table history value_of values → AreValues table (history ++ Finish worker s ∷ []) value_of (slice_set values s (Some value))
 values_after_finish table history value_of values worker s value known is are =
     let within : s < length values = omega (arith, are.tell.each) in
@@ -105,7 +106,7 @@ values_after_finish table history value_of values worker s value known is are =
     }
 
 -- a segment's value, from a result for its cost and its input
-pub computed_value : (table : Table) (value_of : ℕ → ℕ → ℕ → ℕ) (history : List Event) (worker : ℕ) (result : Computed) (value : ℕ)
+computed_value : (table : Table) (value_of : ℕ → ℕ → ℕ → ℕ) (history : List Event) (worker : ℕ) (result : Computed) (value : ℕ)
     → MayFinish table history value_of worker result → value ≡ value_of result.segment result.cost result.input → IsValue table value_of result.segment value
 computed_value table value_of history worker result value may is =
     let s : ℕ = result.segment in
@@ -165,3 +166,26 @@ sound_after_finish value_of table history capacity later started running values 
       counted = omega (arith, sound.counted, length-append history (Finish worker s ∷ []), count_by-set is_some values s (Some value) None off refl refl);
       reserved = omega (arith, sound.reserved);
     }
+
+-- where the finish is refused, the record agrees with the same values
+pub sound_when_refused : (value_of : ℕ → ℕ → ℕ → ℕ) (table : Table) (history : List Event) (capacity : ℕ) (started : List Bool) (running values later : List (Option ℕ)) (counters after : Counters) (costs : List ℕ)
+    → IsSound value_of table history capacity started running values counters costs → later ≡ values → IsUpToDate table later after → IsSound value_of table history capacity started running later after costs
+sound_when_refused value_of table history capacity started running values later counters after costs sound same up_to_date = record {
+  sound_table = sound.sound_table;
+  legal = sound.legal;
+  are_started = sound.are_started;
+  are_running = sound.are_running;
+  are_values = subst (λ (v : List (Option ℕ)). AreValues table history value_of v) (sym same) sound.are_values;
+  up_to_date = up_to_date;
+  are_costs = sound.are_costs;
+  counted = subst (λ (v : List (Option ℕ)). length history ≡ count_by (λ b. b) started + count_by is_some v) (sym same) sound.counted;
+  reserved = sound.reserved;
+}
+
+-- the values after a finish
+pub tell_after : (table : Table) (history : List Event) (value_of : ℕ → ℕ → ℕ → ℕ) (values : List (Option ℕ)) (worker : ℕ) (result : Computed) (value : ℕ) → IsLegal table history → AreValues table history value_of values
+    → MayFinish table history value_of worker result → value ≡ value_of result.segment result.cost result.input
+    → TellFinished (length table.segments) (history ++ Finish worker result.segment ∷ []) (slice_set values result.segment (Some value))
+tell_after table history value_of values worker result value legal are may is =
+    let known = started_known table history worker result.segment legal may.runs.started in
+    (values_after_finish table history value_of values worker result.segment value known.1 (computed_value table value_of history worker result value may is) are).tell

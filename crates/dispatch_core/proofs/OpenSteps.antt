@@ -230,24 +230,24 @@ freed_opened preds counts ready later s t count list within c_within closed has 
     (listed_still preds t u s list apart h.0, get-set_other counts t u count apart ∙ h.1) in
     elim (cases_eq count 0) [
       | inl zero_left ↦ (
-          λ h. elim (Contains-push_cases ready t u (subst (λ (l : List ℕ). Contains l u) (free zero_left) h)) [
-            | inl before ↦ still ((so_far u).0 before)
-            | inr same ↦ subst (λ (n : ℕ). IsListed (slice_set preds t list) n s × (slice_get (slice_set counts t count) n ≡ Some 0)) same
-                (listed_here preds t s list within has, get-set_same counts t count c_within ∙ ap (λ (n : ℕ). Some n) zero_left)
-          ],
-          λ h. subst (λ (l : List ℕ). Contains l u) (sym (free zero_left)) (elim (listed_cases preds t u s list within h.0) [
-            | inl here ↦ subst (λ (n : ℕ). Contains (ready ++ t ∷ []) n) (sym here.0) (Contains-push ready t)
-            | inr other ↦ Contains-append_left ready (t ∷ []) u ((so_far u).1 (other.1, sym (get-set_other counts t u count other.0) ∙ h.1))
-          ]),
-        )
+        λ h. elim (Contains-push_cases ready t u (subst (λ (l : List ℕ). Contains l u) (free zero_left) h)) [
+          | inl before ↦ still ((so_far u).0 before)
+          | inr same ↦ subst (λ (n : ℕ). IsListed (slice_set preds t list) n s × (slice_get (slice_set counts t count) n ≡ Some 0)) same
+              (listed_here preds t s list within has, get-set_same counts t count c_within ∙ ap (λ (n : ℕ). Some n) zero_left)
+        ],
+        λ h. subst (λ (l : List ℕ). Contains l u) (sym (free zero_left)) (elim (listed_cases preds t u s list within h.0) [
+          | inl here ↦ subst (λ (n : ℕ). Contains (ready ++ t ∷ []) n) (sym here.0) (Contains-push ready t)
+          | inr other ↦ Contains-append_left ready (t ∷ []) u ((so_far u).1 (other.1, sym (get-set_other counts t u count other.0) ∙ h.1))
+        ]),
+      )
       | inr above ↦ (
-          λ h. still ((so_far u).0 (subst (λ (l : List ℕ). Contains l u) (counted above) h)),
-          λ h. subst (λ (l : List ℕ). Contains l u) (sym (counted above)) (elim (listed_cases preds t u s list within h.0) [
-            | inl here ↦
-                absurd (above (same_Some count 0 (sym (get-set_same counts t count c_within) ∙ ap (λ (n : ℕ). slice_get (slice_set counts t count) n) (sym here.0) ∙ h.1)))
-            | inr other ↦ (so_far u).1 (other.1, sym (get-set_other counts t u count other.0) ∙ h.1)
-          ]),
-        )
+        λ h. still ((so_far u).0 (subst (λ (l : List ℕ). Contains l u) (counted above) h)),
+        λ h. subst (λ (l : List ℕ). Contains l u) (sym (counted above)) (elim (listed_cases preds t u s list within h.0) [
+          | inl here ↦
+              absurd (above (same_Some count 0 (sym (get-set_same counts t count c_within) ∙ ap (λ (n : ℕ). slice_get (slice_set counts t count) n) (sym here.0) ∙ h.1)))
+          | inr other ↦ (so_far u).1 (other.1, sym (get-set_other counts t u count other.0) ∙ h.1)
+        ]),
+      )
     ]
 
 once_opened : (preds : List (List ℕ)) (counts ready later : List ℕ) (s t count : ℕ) → slice_get preds t ≡ Some []

@@ -261,10 +261,10 @@ impl<K: Kernel> Core<K> {
         requires { segment < length self.now.table.segments }
         ensures { IsTrue result ↔ ((pred : ℕ) → MustPrecede self.now.table pred segment → HasFinished self.now.history pred) }
     {
-        if !self.is_open(segment) {
+        if self.counters.count(segment) > 0 {
             return false;
         }
-        self.counters.count(segment) == 0
+        self.is_open(segment)
     }
 
     /// The sum of the values of the segment's kept predecessors.
