@@ -1,24 +1,32 @@
 -- A core at the start of a run, and the graph at its end.
-use Rattle.std.proofs.Common.{ℕ, ◌*◌, ◌<◌, ◌≤◌, ◌≡◌, ◌⊎◌, zero, suc, Bool, true, false, List, [], ◌∷◌, Option, Some, None, length, refl, sym, ap, ◌∙◌, subst, arith, inl, inr, sum, sum_by, cond, get_or}
+use Rattle.std.proofs.Common.{ℕ, ◌*◌, ◌<◌, ◌≤◌, ◌≡◌, ◌≢◌, ◌⊎◌, zero, suc, Bool, true, false, List, [], ◌∷◌, Option, Some, None, length, refl, sym, ap, ◌∙◌, subst, arith, inl, inr, sum, sum_by, cond, get_or}
 use Rattle.std.specs.Prelude.{All}
 use Rattle.std.proofs.lemmas.List.Sums.{sum_by-le}
 use Rattle.std.proofs.lemmas.Option.{slice_get-get_or}
 use Rattle.dispatch_core.proofs.Uniqueness.{length_below, Lists-same}
-use Rattle.std.specs.Prelude.{slice_get, replicate, Contains, is_some}
-use Rattle.std.proofs.lemmas.Bool.{cases_lt, both_ways}
-use Rattle.std.proofs.lemmas.Option.{same_Some, none-some}
+use Rattle.std.specs.Prelude.{slice_get, replicate, AllPairs, Contains, is_some}
+use Rattle.std.proofs.lemmas.Bool.{cases_eq, cases_lt, both_ways}
+use Rattle.std.proofs.lemmas.Option.{same_Some, none-some, slice_get_within}
 use Rattle.std.proofs.lemmas.List.{length-map, length-replicate, get_or_past, get_or_default}
 use Rattle.std.proofs.lemmas.List.Folds.{sum_by-replicate}
 use Rattle.task_segments.specs.Table.{Table}
 use Rattle.task_segments.specs.declared.table.Segment.{Segment}
 use Rattle.task_segments.specs.Precedence.{MustPrecede, Continues, Creation}
-use Rattle.depend_table.specs.Kept.{IsKeptEdge}
 use Rattle.dispatch_core.specs.declared.event.Event.{Event}
-use Rattle.dispatch_core.specs.Run.{HasStarted, HasFinished, Runs, IsOpen}
+use Rattle.dispatch_core.specs.Run.{HasStarted, HasFinished, Runs, IsFinished, IsOpen}
 use Rattle.dispatch_core.specs.Facts.{costs_of, IsSoundTable}
 use Rattle.dispatch_core.specs.Entry.{entry}
 use Rattle.dispatch_core.specs.Sound.{IsSound}
-use Rattle.dispatch_core.specs.Counters.{AreKept, AreCounts}
+use Rattle.dispatch_core.specs.declared.counters.Counters.{Counters}
+use Rattle.dispatch_core.specs.Counters.{unfinished, AreCounts, AreKept, AreKeptOf, AreSiblings, AreSuccessors, GoesUp, HasValue, IsOpenBy, TellFinished}
+use Rattle.depend_table.specs.Siblings.{Sibling}
+use Rattle.depend_table.specs.Kept.{IsKeptEdge}
+use Rattle.depend_table.specs.Lists.{Lists}
+use Rattle.dispatch_core.proofs.ListLemmas.{Lists-none}
+use Rattle.dispatch_core.proofs.SiblingSteps.{siblings_first}
+use Rattle.dispatch_core.specs.Listed.{items_of}
+use Rattle.dispatch_core.specs.UpToDate.{IsUpToDate}
+use Rattle.dispatch_core.proofs.KeptEnough.{kept_at, open_after}
 use Rattle.dispatch_core.specs.Recorded.{Recorded, IsGraph, Precedes, predecessors_of}
 use Rattle.dispatch_core.specs.Graph.{IsGraphOf}
 
@@ -41,10 +49,61 @@ nothing_finished s h = let within = h.finished.1 in absurd (omega arith)
 nothing_runs : (worker s : ℕ) → ¬ Runs [] worker s
 nothing_runs worker s h = let within = h.started.1 in absurd (omega arith)
 
-pub sound_at_start : (value_of : ℕ → ℕ → ℕ → ℕ) (table : Table) (capacity : ℕ) (preds : List (List ℕ)) (counts : List ℕ) → IsSoundTable table → 2 * length table.segments ≤ capacity
-    → AreKept table preds → AreCounts (replicate (length table.segments) None) preds counts
-    → IsSound value_of table [] capacity (replicate (length table.segments) false) (replicate 64 None) (replicate (length table.segments) None) preds counts (costs_of table)
-sound_at_start value_of table capacity preds counts sound room kept counted = record {
+nothing_valued : (n s : ℕ) → ¬ HasValue (replicate n None) s
+nothing_valued n s has = entry-replicate n has.value s has.is
+
+-- at the start of a run only the first segment is open, and it is kept after none
+first_list : (table : Table) (t : ℕ) → IsSoundTable table → AreKeptOf table (IsOpenBy table (replicate (length table.segments) None)) t []
+first_list table t sound = elim (cases_eq t 0) [
+  | inl first ↦ inl (inl first, Lists-none (λ p. IsKeptEdge table p t) (λ p edge. let less = sound.goes_up.ascending p t (sound.chains.within p t edge) in absurd (omega (arith, less, first))))
+  | inr later ↦ inr (λ opened. elim opened [ inl first ↦ later first | inr by ↦ nothing_valued (length table.segments) by.0 by.2 ], refl)
+]
+
+kept_first : (table : Table) → IsSoundTable table → AreKept table (IsOpenBy table (replicate (length table.segments) None)) (replicate (length table.segments) [])
+kept_first table sound = record {
+  each = length-replicate {A = List ℕ} (length table.segments) [];
+  lists = λ t list is. subst (λ (l : List ℕ). AreKeptOf table (IsOpenBy table (replicate (length table.segments) None)) t l) (get-replicate (length table.segments) [] list t is) (first_list table t sound);
+}
+
+counts_first : (values : List (Option ℕ)) (n : ℕ) → AreCounts values (replicate n []) (replicate n 0)
+counts_first values n = record {
+  each = length-replicate {A = ℕ} n 0 ∙ sym (length-replicate {A = List ℕ} n []);
+  counted = λ t list is.
+      let less : t < length (replicate {A = List ℕ} n []) = slice_get_within (replicate n []) t list is in
+      let within : t < length (replicate {A = ℕ} n 0) = omega (arith, less, length-replicate {A = List ℕ} n [], length-replicate {A = ℕ} n 0) in
+      let there = slice_get-get_or (replicate n 0) t 0 within in
+      let zero_there : 0 ≡ get_or (replicate n 0) t 0 = get-replicate n 0 (get_or (replicate n 0) t 0) t there in
+      there ∙ ap (λ (k : ℕ). Some k) (sym zero_there) ∙ ap (λ (l : List ℕ). Some (unfinished values l)) (get-replicate n [] list t is);
+}
+
+successors_first : (values : List (Option ℕ)) (n : ℕ) → AreSuccessors values (replicate n []) (replicate n [])
+successors_first values n = record {
+  each = refl;
+  listed = λ s list is none t. (
+    λ h. let w = (subst (λ (l : List ℕ). Contains l t) (sym (get-replicate n [] list s is)) h).1 in absurd (omega (arith, w)),
+    λ h. let w = (subst (λ (l : List ℕ). Contains l s) (sym (get-replicate n [] h.list t h.is_list)) h.has).1 in absurd (omega (arith, w)),
+  );
+  once = λ s list is none. subst (λ (l : List ℕ). AllPairs (λ x y. x ≢ y) l) (get-replicate n [] list s is) (λ i j d less within. let w = within in absurd (omega (arith, w)));
+}
+
+pub up_to_date_first : (table : Table) (counters : Counters) → IsSoundTable table → items_of counters.preds.items ≡ replicate (length table.segments) []
+    → items_of counters.successors.items ≡ replicate (length table.segments) [] → counters.counts.items ≡ replicate (length table.segments) 0
+    → counters.siblings.items ≡ replicate (length table.tasks) [] → IsUpToDate table (replicate (length table.segments) None) counters
+up_to_date_first table counters sound preds successors counts siblings =
+    let n : ℕ = length table.segments in
+    let values : List (Option ℕ) = replicate n None in
+    record {
+      kept = subst (λ (p : List (List ℕ)). AreKept table (IsOpenBy table values) p) (sym preds) (kept_first table sound);
+      counts = subst (λ (p : List (List ℕ)). AreCounts values p counters.counts.items) (sym preds) (subst (λ (k : List ℕ). AreCounts values (replicate n []) k) (sym counts) (counts_first values n));
+      successors = subst (λ (p : List (List ℕ)). AreSuccessors values p (items_of counters.successors.items)) (sym preds)
+          (subst (λ (l : List (List ℕ)). AreSuccessors values (replicate n []) l) (sym successors) (successors_first values n));
+      siblings = subst (λ (l : List (List Sibling)). AreSiblings table values l) (sym siblings) (siblings_first table (length table.tasks) values refl (λ s. nothing_valued n s));
+    }
+
+pub sound_at_start : (value_of : ℕ → ℕ → ℕ → ℕ) (table : Table) (capacity : ℕ) (counters : Counters) → IsSoundTable table → 2 * length table.segments ≤ capacity
+    → IsUpToDate table (replicate (length table.segments) None) counters
+    → IsSound value_of table [] capacity (replicate (length table.segments) false) (replicate 64 None) (replicate (length table.segments) None) counters (costs_of table)
+sound_at_start value_of table capacity counters sound room state = record {
   sound_table = sound;
   legal = λ k event h. absurd (none-some event h);
   are_started = record {
@@ -65,24 +124,23 @@ sound_at_start value_of table capacity preds counts sound room kept counted = re
     };
     is_value = λ s v h. absurd (entry-replicate (length table.segments) v s h);
   };
-  are_kept = kept;
-  are_counts = counted;
+  up_to_date = state;
   are_costs = refl;
   counted = omega (arith, sum_by-replicate (λ (b : Bool). cond {A = ℕ} b 1 0) (length table.segments) false, sum_by-replicate (λ (o : Option ℕ). cond {A = ℕ} (is_some o) 1 0) (length table.segments) None);
   reserved = room;
 }
 
-pub sound_first : (value_of : ℕ → ℕ → ℕ → ℕ) (table : Table) (capacity : ℕ) (history : List Event) (started : List Bool) (running values : List (Option ℕ)) (preds : List (List ℕ)) (counts costs : List ℕ)
+pub sound_first : (value_of : ℕ → ℕ → ℕ → ℕ) (table : Table) (capacity : ℕ) (history : List Event) (started : List Bool) (running values : List (Option ℕ)) (counters : Counters) (costs : List ℕ)
     → IsSoundTable table → 2 * length table.segments ≤ capacity → history ≡ [] → started ≡ replicate (length table.segments) false → running ≡ replicate 64 None
-    → values ≡ replicate (length table.segments) None → AreKept table preds → AreCounts (replicate (length table.segments) None) preds counts → costs ≡ costs_of table
-    → IsSound value_of table history capacity started running values preds counts costs
-sound_first value_of table capacity history started running values preds counts costs sound room h s r v kept n c =
-    subst (λ (x : List Event). IsSound value_of table x capacity started running values preds counts costs) (sym h)
-    (subst (λ (x : List Bool). IsSound value_of table [] capacity x running values preds counts costs) (sym s)
-    (subst (λ (x : List (Option ℕ)). IsSound value_of table [] capacity (replicate (length table.segments) false) x values preds counts costs) (sym r)
-    (subst (λ (x : List (Option ℕ)). IsSound value_of table [] capacity (replicate (length table.segments) false) (replicate 64 None) x preds counts costs) (sym v)
-    (subst (λ (x : List ℕ). IsSound value_of table [] capacity (replicate (length table.segments) false) (replicate 64 None) (replicate (length table.segments) None) preds counts x) (sym c)
-    (sound_at_start value_of table capacity preds counts sound room kept n)))))
+    → values ≡ replicate (length table.segments) None → IsUpToDate table (replicate (length table.segments) None) counters → costs ≡ costs_of table
+    → IsSound value_of table history capacity started running values counters costs
+sound_first value_of table capacity history started running values counters costs sound room h s r v state c =
+    subst (λ (x : List Event). IsSound value_of table x capacity started running values counters costs) (sym h)
+    (subst (λ (x : List Bool). IsSound value_of table [] capacity x running values counters costs) (sym s)
+    (subst (λ (x : List (Option ℕ)). IsSound value_of table [] capacity (replicate (length table.segments) false) x values counters costs) (sym r)
+    (subst (λ (x : List (Option ℕ)). IsSound value_of table [] capacity (replicate (length table.segments) false) (replicate 64 None) x counters costs) (sym v)
+    (subst (λ (x : List ℕ). IsSound value_of table [] capacity (replicate (length table.segments) false) (replicate 64 None) (replicate (length table.segments) None) counters x) (sym c)
+    (sound_at_start value_of table capacity counters sound room state)))))
 
 pub precedes_of : (table : Table) (p s : ℕ) → Continues table p s ⊎ Creation table p s → MustPrecede table p s
 precedes_of table p s (inl next) = inl next
@@ -92,11 +150,17 @@ pub open_known : (table : Table) (history : List Event) (s : ℕ) → IsSoundTab
 open_known table history s sound (inl first) = let some = sound.some_segment in omega arith
 open_known table history s sound (inr (p, edge, done)) = sound.goes_up.within p s (precedes_of table p s edge)
 
-pub graph_at_end : (table : Table) (preds : List (List ℕ)) (costs : List ℕ) → AreKept table preds → costs ≡ costs_of table → IsGraphOf table (record { costs = costs; predecessors = preds })
-graph_at_end table preds costs kept same = record {
+-- when every segment is finished, all are open
+pub graph_at_end : (table : Table) (history : List Event) (values : List (Option ℕ)) (counters : Counters) (costs : List ℕ) → GoesUp table → TellFinished (length table.segments) history values
+    → IsFinished table history → IsUpToDate table values counters → costs ≡ costs_of table → IsGraphOf table (record { costs = costs; predecessors = items_of counters.preds.items })
+graph_at_end table history values counters costs up tell finished state same = record {
   costs = same;
-  each = kept.each;
-  predecessors = λ t known. kept.lists t (get_or preds t []) (slice_get-get_or preds t [] (omega (arith, kept.each)));
+  each = state.kept.each;
+  predecessors = λ t known.
+      let preds : List (List ℕ) = items_of counters.preds.items in
+      let there = slice_get-get_or preds t [] (let each = state.kept.each in omega (arith, known, each)) in
+      let opened = open_after table history values t up tell known (λ p edge. finished p (let less = up.ascending p t edge in omega (arith, less, known))) in
+      kept_at table (IsOpenBy table values) t (get_or preds t []) opened (state.kept.lists t (get_or preds t []) there);
 }
 
 -- a segment past the last has no predecessors

@@ -6,17 +6,13 @@ use Rattle.std.proofs.lemmas.Bool.{cases_eq, both_ways}
 use Rattle.std.proofs.lemmas.Option.{same_Some}
 use Rattle.std.proofs.lemmas.List.Sums.{sum_by-cons}
 use Rattle.std.proofs.lemmas.List.Kept.{AllPairs-from_increasing}
-use Rattle.std.specs.List.Sorted.{IsStrictlyIncreasing}
 use Rattle.std.proofs.lemmas.List.{get_or_default, length-set, get_or-take, length-take, take_more}
 use Rattle.std.proofs.lemmas.List.Elements.{Contains-append_left, Contains-push, Contains-push_cases}
-use Rattle.task_segments.specs.Table.{Table}
-use Rattle.depend_table.specs.Kept.{IsKeptEdge}
 use Rattle.depend_table.specs.Lists.{Lists}
 use Rattle.dispatch_core.specs.Entry.{entry}
-use Rattle.dispatch_core.specs.Counters.{unfinished, AreKept, AreCounts, IsCounted, AreLowered}
+use Rattle.dispatch_core.specs.Counters.{unfinished, AreCounts, IsCounted, AreLowered}
 use Rattle.dispatch_core.specs.Listed.{IsListed}
 use Rattle.dispatch_core.proofs.PlaceLemmas.{get-set_same, get-set_other}
-use Rattle.dispatch_core.proofs.ListLemmas.{ascending_push}
 
 tail_has : (x n : ℕ) (xs : List ℕ) (k : ℕ) → k < length (x ∷ xs) → slice_index_or (x ∷ xs) k n ≡ n → ¬ (x ≡ n) → Contains xs n
 tail_has x n xs zero within is apart = absurd (apart is)
@@ -186,9 +182,6 @@ counted_above values preds counts s t within none once are_counts listed =
       is = are_counts.counted t listed.list listed.is_list ∙ ap (λ (n : ℕ). Some n) (sym falls);
     }
 
-pub once_kept : (table : Table) (preds : List (List ℕ)) → AreKept table preds → (t : ℕ) (list : List ℕ) → slice_get preds t ≡ Some list → IsOnce list
-once_kept table preds kept t list is = once_listed (λ p. IsKeptEdge table p t) list (kept.lists t list is)
-
 -- the count that is lowered next is still as it was
 pub next_here : (before list now : List ℕ) (k x : ℕ) (counted : IsCounted before x) → k < length list → x ≡ get_or list k x → AllPairs (λ a b. a ≢ b) list → AreLowered before (Contains (take k list)) now
     → slice_get now x ≡ Some (counted.fewer + 1)
@@ -214,27 +207,3 @@ ready_step counts list ready k x false within is passes so_far t = (
     | inr same ↦ absurd (both_ways false refl (passes.1 (subst (λ (n : ℕ). slice_get counts n ≡ Some 1) same h.1)))
   ],
 )
-
--- the next one is above those before it
-pub above_earlier : (list : List ℕ) (k x t : ℕ) → IsStrictlyIncreasing list → k < length list → x ≡ get_or list k x → Contains (take k list) t → t < x
-above_earlier list k x t up within is has =
-    let i : ℕ = has.0 in
-    let i_less : i < length (take k list) = has.1 in
-    let i_below : i < k = omega (arith, i_less, length-take k list) in
-    let there : get_or (take k list) i t ≡ t = has.2 in
-    let same : get_or list i t ≡ t = sym (get_or-take k list i t i_below) ∙ there in
-    let less : get_or list i t < get_or list k t = AllPairs-from_increasing list up i k t i_below within in
-    let last : get_or list k t ≡ get_or list k x = get_or_default list k t x within in
-    omega (arith, same, less, last, is)
-
-pub ready_listed : (counts list ready : List ℕ) (k x : ℕ) (keep : Bool) → IsStrictlyIncreasing list → k < length list → x ≡ get_or list k x → IsTrue keep ↔ (slice_get counts x ≡ Some 1)
-    → Lists (λ t. Contains (take k list) t × (slice_get counts t ≡ Some 1)) ready
-    → Lists (λ t. Contains (take (k + 1) list) t × (slice_get counts t ≡ Some 1)) (if keep then ready ++ x ∷ [] else ready)
-ready_listed counts list ready k x true up within is passes so_far = record {
-  ascending = ascending_push ready x so_far.ascending (λ n h. above_earlier list k x n up within is ((so_far.each n).0 h).0);
-  each = ready_step counts list ready k x true within is passes so_far.each;
-}
-ready_listed counts list ready k x false up within is passes so_far = record {
-  ascending = so_far.ascending;
-  each = ready_step counts list ready k x false within is passes so_far.each;
-}

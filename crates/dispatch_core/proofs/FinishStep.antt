@@ -1,6 +1,6 @@
 -- What a core keeps is kept when a segment finishes.
-use Rattle.std.proofs.Common.{ℕ, ◌<◌, ◌≤◌, ◌≡◌, ◌≢◌, Bool, List, [], ◌∷◌, ◌++◌, Option, Some, None, length, take, refl, sym, ap, ◌∙◌, subst, arith, inl, inr, get_or}
-use Rattle.std.specs.Prelude.{slice_get, slice_set, Contains, is_some}
+use Rattle.std.proofs.Common.{ℕ, ◌+◌, ◌<◌, ◌≤◌, ◌≡◌, ◌≢◌, Bool, List, [], ◌∷◌, ◌++◌, Option, Some, None, length, take, refl, sym, ap, ◌∙◌, subst, arith, inl, inr, get_or}
+use Rattle.std.specs.Prelude.{slice_get, slice_set, Contains, count_by, is_some}
 use Rattle.std.proofs.lemmas.Bool.{cases_eq}
 use Rattle.std.proofs.lemmas.Option.{slice_get-get_or, same_Some, none-some}
 use Rattle.std.proofs.lemmas.List.{length-set, length-append}
@@ -18,7 +18,9 @@ use Rattle.dispatch_core.specs.Values.IsValue.{Computes}
 use Rattle.dispatch_core.specs.Refusals.{MayFinish}
 use Rattle.dispatch_core.specs.Entry.{entry}
 use Rattle.dispatch_core.specs.Sound.{IsSound, AreStarted, AreRunning, AreValues}
-use Rattle.dispatch_core.specs.Counters.{AreCounts}
+use Rattle.dispatch_core.specs.declared.counters.Counters.{Counters}
+use Rattle.dispatch_core.specs.Counters.{TellFinished}
+use Rattle.dispatch_core.specs.UpToDate.{IsUpToDate}
 use Rattle.dispatch_core.proofs.PlaceLemmas.{entry-set_same, entry-set_none, entry-set_other, count_by-set, count_by_some_no}
 use Rattle.dispatch_core.proofs.Histories.{finished_kept, started_kept, finished_cases, started_was, legal_push, one_starter, get_at_place, Contains-from_take}
 
@@ -137,19 +139,19 @@ pub no_value : (table : Table) (history : List Event) (value_of : ℕ → ℕ �
 no_value table history value_of values s are unfinished = no_entry (entry values s) (λ v is. unfinished (are.tell.is_finished s v is))
 
 pub has_room_to_finish : (value_of : ℕ → ℕ → ℕ → ℕ) (table : Table) (history : List Event) (capacity : ℕ) (started : List Bool) (running : List (Option ℕ)) (values : List (Option ℕ))
-    (preds : List (List ℕ)) (counts costs : List ℕ) (worker s : ℕ) → IsSound value_of table history capacity started running values preds counts costs → Runs history worker s
+    (counters : Counters) (costs : List ℕ) (worker s : ℕ) → IsSound value_of table history capacity started running values counters costs → Runs history worker s
     → length history < capacity
-has_room_to_finish value_of table history capacity started running values preds counts costs worker s sound runs =
+has_room_to_finish value_of table history capacity started running values counters costs worker s sound runs =
     let known = started_known table history worker s sound.legal runs.started in
     let off : slice_get values s ≡ Some None = not_valued table history value_of values s sound.are_values known.1 runs.unfinished in
     omega (arith, sound.counted, sound.reserved, sound.are_started.each, sound.are_values.tell.each, count_by_some_no is_some values s None off refl, count_by-le-length (λ (b : Bool). b) started)
 
 pub sound_after_finish : (value_of : ℕ → ℕ → ℕ → ℕ) (table : Table) (history : List Event) (capacity later : ℕ) (started : List Bool) (running : List (Option ℕ)) (values : List (Option ℕ))
-    (preds : List (List ℕ)) (counts after costs : List ℕ) (worker : ℕ) (result : Computed) (value : ℕ) → IsSound value_of table history capacity started running values preds counts costs
+    (counters after : Counters) (costs : List ℕ) (worker : ℕ) (result : Computed) (value : ℕ) → IsSound value_of table history capacity started running values counters costs
     → MayFinish table history value_of worker result → value ≡ value_of result.segment result.cost result.input
-    → AreCounts (slice_set values result.segment (Some value)) preds after → capacity ≤ later
-    → IsSound value_of table (history ++ Finish worker result.segment ∷ []) later started (slice_set running worker None) (slice_set values result.segment (Some value)) preds after costs
-sound_after_finish value_of table history capacity later started running values preds counts after costs worker result value sound may is lowered more =
+    → IsUpToDate table (slice_set values result.segment (Some value)) after → capacity ≤ later
+    → IsSound value_of table (history ++ Finish worker result.segment ∷ []) later started (slice_set running worker None) (slice_set values result.segment (Some value)) after costs
+sound_after_finish value_of table history capacity later started running values counters after costs worker result value sound may is up_to_date more =
     let s : ℕ = result.segment in
     let known = started_known table history worker s sound.legal may.runs.started in
     let off : slice_get values s ≡ Some None = not_valued table history value_of values s sound.are_values known.1 may.runs.unfinished in
@@ -159,9 +161,31 @@ sound_after_finish value_of table history capacity later started running values 
       are_started = started_after_finish table history started worker s sound.are_started;
       are_running = running_after_finish table history running worker s sound.legal sound.are_running may.runs;
       are_values = values_after_finish table history value_of values worker s value known.1 (computed_value table value_of history worker result value may is) sound.are_values;
-      are_kept = sound.are_kept;
-      are_counts = lowered;
+      up_to_date = up_to_date;
       are_costs = sound.are_costs;
       counted = omega (arith, sound.counted, length-append history (Finish worker s ∷ []), count_by-set is_some values s (Some value) None off refl refl);
       reserved = omega (arith, sound.reserved);
     }
+
+-- where the finish is refused, the record agrees with the same values
+pub sound_when_refused : (value_of : ℕ → ℕ → ℕ → ℕ) (table : Table) (history : List Event) (capacity : ℕ) (started : List Bool) (running values later : List (Option ℕ)) (counters after : Counters) (costs : List ℕ)
+    → IsSound value_of table history capacity started running values counters costs → later ≡ values → IsUpToDate table later after → IsSound value_of table history capacity started running later after costs
+sound_when_refused value_of table history capacity started running values later counters after costs sound same up_to_date = record {
+  sound_table = sound.sound_table;
+  legal = sound.legal;
+  are_started = sound.are_started;
+  are_running = sound.are_running;
+  are_values = subst (λ (v : List (Option ℕ)). AreValues table history value_of v) (sym same) sound.are_values;
+  up_to_date = up_to_date;
+  are_costs = sound.are_costs;
+  counted = subst (λ (v : List (Option ℕ)). length history ≡ count_by (λ b. b) started + count_by is_some v) (sym same) sound.counted;
+  reserved = sound.reserved;
+}
+
+-- the values after a finish
+pub tell_after : (table : Table) (history : List Event) (value_of : ℕ → ℕ → ℕ → ℕ) (values : List (Option ℕ)) (worker : ℕ) (result : Computed) (value : ℕ) → IsLegal table history → AreValues table history value_of values
+    → MayFinish table history value_of worker result → value ≡ value_of result.segment result.cost result.input
+    → TellFinished (length table.segments) (history ++ Finish worker result.segment ∷ []) (slice_set values result.segment (Some value))
+tell_after table history value_of values worker result value legal are may is =
+    let known = started_known table history worker result.segment legal may.runs.started in
+    (values_after_finish table history value_of values worker result.segment value known.1 (computed_value table value_of history worker result value may is) are).tell

@@ -1,5 +1,5 @@
 -- What a core's lists say of its history.
-use Rattle.std.proofs.Common.{ℕ, ◌≡◌, ◌%◌, ◌^◌, ◌↔◌, List, Option, Some, None, refl, sym, ◌∙◌, subst, sum_by}
+use Rattle.std.proofs.Common.{ℕ, ◌<◌, ◌≡◌, ◌%◌, ◌^◌, ◌↔◌, List, Option, Some, None, refl, sym, ◌∙◌, subst, length, sum_by}
 use Rattle.std.specs.Prelude.{slice_get, MatchOption, unwrap_or, is_some, IsTrue}
 use Rattle.std.proofs.lemmas.Option.{none-some}
 use Rattle.task_segments.specs.Table.{Table}
@@ -10,7 +10,11 @@ use Rattle.dispatch_core.specs.Values.{IsValue, IsInput}
 use Rattle.dispatch_core.specs.Facts.{IsSoundTable}
 use Rattle.dispatch_core.specs.Entry.{entry}
 use Rattle.dispatch_core.specs.Sound.{AreRunning, AreValues}
-use Rattle.dispatch_core.specs.Counters.{AreKept}
+use Rattle.dispatch_core.specs.declared.counters.Counters.{Counters}
+use Rattle.dispatch_core.specs.Counters.{IsOpenBy}
+use Rattle.dispatch_core.specs.Listed.{items_of}
+use Rattle.dispatch_core.specs.UpToDate.{IsUpToDate}
+use Rattle.dispatch_core.proofs.KeptEnough.{kept_at, open_after}
 
 pub value_known : (table : Table) (history : List Event) (value_of : ℕ → ℕ → ℕ → ℕ) (values : List (Option ℕ)) (s : ℕ) (found : Option ℕ)
     → AreValues table history value_of values → found ≡ entry values s
@@ -34,15 +38,17 @@ value_at table history value_of values s are finished =
     let found : (value : ℕ) × (entry values s ≡ Some value) = are.tell.has_value s finished in
     subst (λ (o : Option ℕ). IsValue table value_of s (unwrap_or o 0)) (sym found.1) (are.is_value s found.0 found.1)
 
-pub input_known : (table : Table) (history : List Event) (value_of : ℕ → ℕ → ℕ → ℕ) (values : List (Option ℕ)) (preds : List (List ℕ)) (s : ℕ) (list : List ℕ)
-    → IsSoundTable table → AreValues table history value_of values → AreKept table preds
+pub input_known : (table : Table) (history : List Event) (value_of : ℕ → ℕ → ℕ → ℕ) (values : List (Option ℕ)) (counters : Counters) (s : ℕ) (list : List ℕ)
+    → IsSoundTable table → AreValues table history value_of values → IsUpToDate table values counters → s < length table.segments
     → ((pred : ℕ) → MustPrecede table pred s → HasFinished history pred)
-    → slice_get preds s ≡ Some list
+    → slice_get (items_of counters.preds.items) s ≡ Some list
     → (input : ℕ) → input ≡ sum_by (λ at. unwrap_or (entry values at) 0) list % 2 ^ 64 → IsInput table value_of s input
-input_known table history value_of values preds s list sound are_values are_kept after is input sums = record {
-  preds = list;
-  are_preds = are_kept.lists s list is;
-  values = λ at. unwrap_or (entry values at) 0;
-  are_values = λ pred kept. value_at table history value_of values pred are_values (after pred (sound.chains.within pred s kept));
-  is_sum = sums;
-}
+input_known table history value_of values counters s list sound are_values state known after is input sums =
+    let opened = open_after table history values s sound.goes_up are_values.tell known after in
+    record {
+      preds = list;
+      are_preds = kept_at table (IsOpenBy table values) s list opened (state.kept.lists s list is);
+      values = λ at. unwrap_or (entry values at) 0;
+      are_values = λ pred kept. value_at table history value_of values pred are_values (after pred (sound.chains.within pred s kept));
+      is_sum = sums;
+    }

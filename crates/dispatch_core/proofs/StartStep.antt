@@ -10,6 +10,7 @@ use Rattle.task_segments.specs.Table.{Table}
 use Rattle.dispatch_core.specs.declared.event.Event.{Event}
 use Rattle.dispatch_core.specs.declared.event.Event.TheVariants.{Start}
 use Rattle.dispatch_core.specs.Run.{HasStarted, HasFinished, Runs, MayStart, IsLegal}
+use Rattle.dispatch_core.specs.declared.counters.Counters.{Counters}
 use Rattle.dispatch_core.specs.Entry.{entry}
 use Rattle.dispatch_core.specs.Sound.{IsSound, AreStarted, AreRunning, AreValues}
 use Rattle.dispatch_core.proofs.PlaceLemmas.{get-set_same, get-set_other, entry-set_same, entry-set_other, count_by-set, count_by_some_no}
@@ -80,16 +81,16 @@ values_after table history value_of values worker s are = record {
 }
 
 pub has_room : (value_of : ℕ → ℕ → ℕ → ℕ) (table : Table) (history : List Event) (capacity : ℕ) (started : List Bool) (running : List (Option ℕ)) (values : List (Option ℕ))
-    (preds : List (List ℕ)) (counts costs : List ℕ) (s : ℕ) → IsSound value_of table history capacity started running values preds counts costs → s < length table.segments → ¬ HasStarted history s
+    (counters : Counters) (costs : List ℕ) (s : ℕ) → IsSound value_of table history capacity started running values counters costs → s < length table.segments → ¬ HasStarted history s
     → length history < capacity
-has_room value_of table history capacity started running values preds counts costs s sound known not_started =
+has_room value_of table history capacity started running values counters costs s sound known not_started =
     let off : slice_get started s ≡ Some false = not_flagged table history started s sound.are_started known not_started in
     omega (arith, sound.counted, sound.reserved, sound.are_started.each, sound.are_values.tell.each, count_by_some_no (λ b. b) started s false off refl, count_by-le-length is_some values)
 
 pub sound_after_start : (value_of : ℕ → ℕ → ℕ → ℕ) (table : Table) (history : List Event) (capacity later : ℕ) (started : List Bool) (running : List (Option ℕ)) (values : List (Option ℕ))
-    (preds : List (List ℕ)) (counts costs : List ℕ) (worker s : ℕ) → IsSound value_of table history capacity started running values preds counts costs → MayStart table history worker s → capacity ≤ later
-    → IsSound value_of table (history ++ Start worker s ∷ []) later (slice_set started s true) (slice_set running worker (Some s)) values preds counts costs
-sound_after_start value_of table history capacity later started running values preds counts costs worker s sound may more =
+    (counters : Counters) (costs : List ℕ) (worker s : ℕ) → IsSound value_of table history capacity started running values counters costs → MayStart table history worker s → capacity ≤ later
+    → IsSound value_of table (history ++ Start worker s ∷ []) later (slice_set started s true) (slice_set running worker (Some s)) values counters costs
+sound_after_start value_of table history capacity later started running values counters costs worker s sound may more =
     let off : slice_get started s ≡ Some false = not_flagged table history started s sound.are_started may.ready.known may.ready.not_started in
     record {
       sound_table = sound.sound_table;
@@ -97,8 +98,7 @@ sound_after_start value_of table history capacity later started running values p
       are_started = started_after table history started worker s sound.are_started may.ready.known may.ready.not_started;
       are_running = running_after table history running worker s sound.legal sound.are_running may;
       are_values = values_after table history value_of values worker s sound.are_values;
-      are_kept = sound.are_kept;
-      are_counts = sound.are_counts;
+      up_to_date = sound.up_to_date;
       are_costs = sound.are_costs;
       counted = omega (arith, sound.counted, length-append history (Start worker s ∷ []), count_by-set (λ b. b) started s true false off refl refl);
       reserved = omega (arith, sound.reserved);

@@ -1,13 +1,14 @@
--- Counts of unfinished predecessors.
-use Rattle.std.specs.Prelude.{ℕ, ◌+◌, ◌<◌, ◌≡◌, ◌⊎◌, List, Option, Some, length, slice_get, count_by, is_none}
-use Rattle.task_segments.specs.Table.{Table}
-use Rattle.task_segments.specs.Precedence.{Continues, Creation, IsSegment, MustPrecede}
+-- What is recorded of open segments: their kept predecessors and successors, counts of unfinished ones, and generated siblings.
+use Rattle.std.specs.Prelude.{ℕ, ◌+◌, ◌<◌, ◌≡◌, ◌≢◌, ◌⊎◌, ◌↔◌, List, [], Option, Some, None, length, slice_get, count_by, is_none, Contains, AllPairs}
+use Rattle.task_segments.specs.Table.{Table, task}
+use Rattle.task_segments.specs.Precedence.{Continues, Creation, IsSegment, IsTask, MustPrecede}
 use Rattle.task_segments.specs.Schedule.{IsJoined}
-use Rattle.depend_table.specs.Kept.{IsKeptEdge}
+use Rattle.depend_table.specs.Siblings.{Sibling}
+use Rattle.depend_table.specs.Kept.{IsKeptEdge, children_below}
 use Rattle.depend_table.specs.Lists.{Lists}
 use Rattle.dispatch_core.specs.declared.event.Event.{Event}
 use Rattle.dispatch_core.specs.Run.{HasFinished}
-use Rattle.dispatch_core.specs.Listed.{ArePlaces, AreTransposed}
+use Rattle.dispatch_core.specs.Listed.{IsListed}
 use Rattle.dispatch_core.specs.Entry.{entry}
 
 -- how many of these segments have no value yet
@@ -31,15 +32,48 @@ pub record KeepsChains (table : Table) : Type 0 where
   pub within : (s t : ℕ) → IsKeptEdge table s t → MustPrecede table s t
   pub joined : (s t : ℕ) → MustPrecede table s t → IsJoined (IsKeptEdge table) s t
 
--- for each segment its kept predecessors
-pub record AreKept (table : Table) (preds : List (List ℕ)) : Type 0 where
-  pub each : length preds ≡ length table.segments
-  pub lists : (t : ℕ) (list : List ℕ) → slice_get preds t ≡ Some list → Lists (λ p. IsKeptEdge table p t) list
+-- the segment has a value: it is finished
+pub record HasValue (values : List (Option ℕ)) (s : ℕ) : Type 0 where
+  pub value : ℕ
+  pub is : entry values s ≡ Some value
 
--- for each segment the number of its kept predecessors that are not finished
+-- it is the first segment, or the one that opens it has a value
+abbrev pub IsOpenBy : Table → List (Option ℕ) → ℕ → Type 0
+IsOpenBy table values t = (t ≡ 0) ⊎ ((s : ℕ) × (Continues table s t ⊎ Creation table s t) × HasValue values s)
+
+-- the kept predecessors of an open segment, and none of another
+abbrev pub AreKeptOf : Table → (ℕ → Type 0) → ℕ → List ℕ → Type 0
+AreKeptOf table is_open t list = (is_open t × Lists (λ p. IsKeptEdge table p t) list) ⊎ ((¬ is_open t) × (list ≡ []))
+
+pub record AreKept (table : Table) (is_open : ℕ → Type 0) (preds : List (List ℕ)) : Type 0 where
+  pub each : length preds ≡ length table.segments
+  pub lists : (t : ℕ) (list : List ℕ) → slice_get preds t ≡ Some list → AreKeptOf table is_open t list
+
+-- for each segment the number of its recorded predecessors that are not finished
 pub record AreCounts (values : List (Option ℕ)) (preds : List (List ℕ)) (counts : List ℕ) : Type 0 where
   pub each : length counts ≡ length preds
   pub counted : (t : ℕ) (list : List ℕ) → slice_get preds t ≡ Some list → slice_get counts t ≡ Some (unfinished values list)
+
+-- for each unfinished segment those that have it among their recorded predecessors, each once
+pub record AreSuccessors (values : List (Option ℕ)) (preds successors : List (List ℕ)) : Type 0 where
+  pub each : length successors ≡ length preds
+  pub listed : (s : ℕ) (list : List ℕ) → slice_get successors s ≡ Some list → entry values s ≡ None → (t : ℕ) → Contains list t ↔ IsListed preds t s
+  pub once : (s : ℕ) (list : List ℕ) → slice_get successors s ≡ Some list → entry values s ≡ None → AllPairs (λ x y. x ≢ y) list
+
+-- of the children of a task, those with a number below this one are generated: their creators are finished
+pub record AreGenerated (table : Table) (values : List (Option ℕ)) (parent below : ℕ) : Type 0 where
+  pub begun : (child s : ℕ) → (task table child).parent ≡ Some parent → (task table child).creator ≡ Some s → child < below → HasValue values s
+  pub finished : (child s : ℕ) → (task table child).parent ≡ Some parent → (task table child).creator ≡ Some s → HasValue values s → child < below
+
+pub record AreSiblingsOf (table : Table) (values : List (Option ℕ)) (parent : ℕ) (list : List Sibling) : Type 0 where
+  pub below : ℕ
+  pub are : list ≡ children_below table parent below
+  pub generated : AreGenerated table values parent below
+
+-- for each task the children that it has generated, with their items, the newest first
+pub record AreSiblings (table : Table) (values : List (Option ℕ)) (siblings : List (List Sibling)) : Type 0 where
+  pub each : length siblings ≡ length table.tasks
+  pub lists : (parent : ℕ) (list : List Sibling) → slice_get siblings parent ≡ Some list → AreSiblingsOf table values parent list
 
 -- the segment's count is above 0
 pub record IsCounted (counts : List ℕ) (t : ℕ) : Type 0 where
@@ -51,14 +85,3 @@ pub record AreLowered (before : List ℕ) (these : ℕ → Type 0) (after : List
   pub each : length after ≡ length before
   pub lowered : (t n : ℕ) → these t → slice_get before t ≡ Some (n + 1) → slice_get after t ≡ Some n
   pub others : (t : ℕ) → ¬ these t → slice_get after t ≡ slice_get before t
-
--- the kept predecessors of each segment, and how many of them are not finished
-pub record Counted : Type 0 where
-  pub preds : List (List ℕ)
-  pub counts : List ℕ
-
--- the successors of each are those that have it among their predecessors, and each has a count
-pub record AreTied (preds successors : List (List ℕ)) (counts : List ℕ) : Type 0 where
-  pub places : ArePlaces preds
-  pub turned : AreTransposed preds successors
-  pub each : length counts ≡ length preds

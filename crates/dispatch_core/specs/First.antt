@@ -2,7 +2,7 @@
 use Rattle.std.specs.Prelude.{◌*◌, ◌≤◌, ◌≡◌, false, None, [], length, replicate, vec_capacity}
 use Rattle.task_segments.specs.Table.{Table}
 use Rattle.dispatch_core.specs.declared.places.Places.{Places}
-use Rattle.dispatch_core.specs.Counters.{AreKept, AreCounts}
+use Rattle.dispatch_core.specs.UpToDate.{IsUpToDate}
 use Rattle.dispatch_core.specs.Facts.{costs_of}
 
 pub record AreFirst (table : Table) (places : Places) : Type 0 where
@@ -11,6 +11,5 @@ pub record AreFirst (table : Table) (places : Places) : Type 0 where
   pub started : places.started.items ≡ replicate (length table.segments) false
   pub running : places.running.items ≡ replicate 64 None
   pub values : places.values.items ≡ replicate (length table.segments) None
-  pub kept : AreKept table places.counters.preds
-  pub counts : AreCounts (replicate (length table.segments) None) places.counters.preds places.counters.counts
+  pub up_to_date : IsUpToDate table (replicate (length table.segments) None) places.counters
   pub costs : places.costs.items ≡ costs_of table

@@ -2,7 +2,9 @@
 use Rattle.std.specs.Prelude.{ℕ, ◌+◌, ◌*◌, ◌≤◌, ◌≡◌, Bool, true, List, Option, Some, length, slice_get, count_by, is_some}
 use Rattle.task_segments.specs.Table.{Table}
 use Rattle.dispatch_core.specs.declared.event.Event.{Event}
-use Rattle.dispatch_core.specs.Counters.{TellFinished, AreKept, AreCounts}
+use Rattle.dispatch_core.specs.declared.counters.Counters.{Counters}
+use Rattle.dispatch_core.specs.Counters.{TellFinished}
+use Rattle.dispatch_core.specs.UpToDate.{IsUpToDate}
 use Rattle.dispatch_core.specs.Entry.{entry}
 use Rattle.dispatch_core.specs.Facts.{costs_of, IsSoundTable}
 use Rattle.dispatch_core.specs.Run.{HasStarted, Runs, IsLegal}
@@ -26,14 +28,13 @@ pub record AreValues (table : Table) (history : List Event) (value_of : ℕ → 
   pub is_value : (s value : ℕ) → entry values s ≡ Some value → IsValue table value_of s value
 
 pub record IsSound (value_of : ℕ → ℕ → ℕ → ℕ) (table : Table) (history : List Event) (capacity : ℕ) (started : List Bool)
-    (running : List (Option ℕ)) (values : List (Option ℕ)) (preds : List (List ℕ)) (counts : List ℕ) (costs : List ℕ) : Type 0 where
+    (running : List (Option ℕ)) (values : List (Option ℕ)) (counters : Counters) (costs : List ℕ) : Type 0 where
   pub sound_table : IsSoundTable table
   pub legal : IsLegal table history
   pub are_started : AreStarted table history started
   pub are_running : AreRunning history running
   pub are_values : AreValues table history value_of values
-  pub are_kept : AreKept table preds
-  pub are_counts : AreCounts values preds counts
+  pub up_to_date : IsUpToDate table values counters
   pub are_costs : costs ≡ costs_of table
   pub counted : length history ≡ count_by (λ b. b) started + count_by is_some values
   pub reserved : 2 * length table.segments ≤ capacity

@@ -51,7 +51,7 @@ impl<K: Kernel> Model for Core<K> {
 
     ghost view = { λ a. record { table = a.table; history = a.history.items } };
 
-    ghost invariant = { λ a. IsSound K.value_of a.table a.history.items (vec_capacity a.history) a.started.items a.running.items a.values.items a.counters.preds a.counters.counts a.costs.items };
+    ghost invariant = { λ a. IsSound K.value_of a.table a.history.items (vec_capacity a.history) a.started.items a.running.items a.values.items a.counters a.costs.items };
 }
 
 impl<K: Kernel> Core<K> {
@@ -256,12 +256,15 @@ impl<K: Kernel> Core<K> {
         None
     }
 
-    /// Whether all that must precede the segment is finished: then none of its kept predecessors is counted.
+    /// Whether all that must precede the segment is finished: then it is open, and none of its kept predecessors is counted.
     fn is_free(&self, segment: u32) -> bool
         requires { segment < length self.now.table.segments }
         ensures { IsTrue result ↔ ((pred : ℕ) → MustPrecede self.now.table pred segment → HasFinished self.now.history pred) }
     {
-        self.counters.count(segment) == 0
+        if self.counters.count(segment) > 0 {
+            return false;
+        }
+        self.is_open(segment)
     }
 
     /// The sum of the values of the segment's kept predecessors.
@@ -324,11 +327,8 @@ impl<K: Kernel> Core<K> {
                 result: outcome,
             });
         }
-        match self.newly_ready(worker, outcome.segment()) {
-            Ok(ready) => {
-                self.enter_finish(worker, &outcome);
-                Ok(ready)
-            }
+        match self.enter_finish(worker, &outcome) {
+            Ok(ready) => Ok(ready),
             Err(_) => Err(FinishRefusal {
                 kind: FinishKind::OutOfMemory,
                 result: outcome,
@@ -353,25 +353,21 @@ impl<K: Kernel> Core<K> {
         Ok(())
     }
 
-    /// The segments that become ready once the segment is finished, ascending.
-    fn newly_ready(&self, worker: u32, finished: u32) -> Result<Vec<u32>, AllocFault>
-        requires { Runs self.now.history worker finished }
-        ensures { IfOk result (λ ready. Lists (BecomesReady self.now.table self.now.history (self.now.history ++ Event.Finish worker finished ∷ [])) ready.items) }
-    {
-        let _ = worker;
-        self.counters.newly_ready(self.alloc, finished)
-    }
-
-    fn enter_finish(&mut self, worker: u32, outcome: &SegResult<K>)
+    /// Enters a finish, and answers the segments that become ready by it. All growths come before the first change.
+    fn enter_finish(&mut self, worker: u32, outcome: &SegResult<K>) -> Result<Vec<u32>, AllocFault>
         requires { MayFinish self.old.table self.old.history K.value_of worker outcome.now }
-        ensures { self.new ≡ record { table = self.old.table; history = self.old.history ++ Event.Finish worker outcome.now.segment ∷ [] } }
+        ensures next { OnOk result (self.new ≡ record { table = self.old.table; history = self.old.history ++ Event.Finish worker outcome.now.segment ∷ [] }) }
+        ensures ready { IfOk result (λ ready. Lists (BecomesReady self.old.table self.old.history (self.old.history ++ Event.Finish worker outcome.now.segment ∷ [])) ready.items) }
+        ensures same { OnErr result (self.new ≡ self.old) }
     {
         let segment = outcome.segment();
         let value = outcome.value();
+        let ready = self
+            .counters
+            .finish(self.alloc, &self.table, &mut self.values, segment, value)?;
         self.running[worker as usize] = None;
-        self.values[segment as usize] = Some(value);
-        self.counters.finish(segment);
         push_event(&mut self.history, Event::Finish { worker, segment });
+        Ok(ready)
     }
 }
 

@@ -94,7 +94,7 @@ pub fn make_places(alloc: Global, table: &SegTable) -> Result<Places, AllocFault
 }
 
 /// A list of as many copies.
-fn repeated<T: Copy + Drop>(alloc: Global, one: T, count: u32) -> Result<Vec<T>, AllocFault>
+pub fn repeated<T: Copy + Drop>(alloc: Global, one: T, count: u32) -> Result<Vec<T>, AllocFault>
     ensures { IfOk result (λ list. list.items ≡ replicate count one) }
 {
     let mut list = Vec::new(alloc);

@@ -6,6 +6,7 @@ ghost use Rattle.depend_table.specs.Kept.{IsKeptEdge};
 ghost use Rattle.depend_table.specs.Lists.{Lists};
 ghost use Rattle.dispatch_core.specs.Places.{AreKeptSiblings, last_segment};
 
+use crate::listed::push_in_room;
 use task_segments::laws::reads_in_place;
 use task_segments::table::SegTable;
 
@@ -33,16 +34,5 @@ fn to_last_segments(table: &SegTable, tasks: &mut Vec<u32>)
 {
     for at in 0..tasks.len() {
         tasks[at] = table.last(tasks[at]);
-    }
-}
-
-/// Adds a number to a list that has room for it.
-fn push_in_room(list: &mut Vec<u32>, number: u32)
-    requires { vec_len list.old < vec_capacity list.old }
-    ensures { list.new.items ≡ list.old.items ++ number ∷ [] }
-{
-    match list.push(number) {
-        Ok(()) => {}
-        Err(_) => unreachable!(),
     }
 }

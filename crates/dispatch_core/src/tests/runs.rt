@@ -94,6 +94,24 @@ fn a_run_goes_on(rt: HostRuntime) -> Result<(), Fail> {
     Ok(())
 }
 
+/// Readers that open while their writer runs: its finish makes them ready, and they are recorded as they open.
+#[test]
+fn siblings_open_before_they_are_ready(rt: HostRuntime) -> Result<(), Fail> {
+    let alloc = rt.alloc();
+    let body = "task depend(out: x) { } task depend(in: x) { } task depend(in: x) { }";
+    let mut core = new_core(alloc, body)?;
+    assert_eq!(rt; step(&mut core, 0, 0)?.as_slice(), [1, 2].as_slice());
+    assert_eq!(rt; step(&mut core, 0, 2)?.as_slice(), [4].as_slice());
+    assert_eq!(rt; core.preds_of(3).ok_or("not open")?, [1, 2].as_slice());
+    assert_eq!(rt; core.preds_of(5).is_none(), true);
+    assert_eq!(rt; step(&mut core, 0, 4)?.as_slice(), [6].as_slice());
+    assert_eq!(rt; core.ready()?.as_slice(), [1, 6].as_slice());
+    assert_eq!(rt; step(&mut core, 0, 1)?.as_slice(), [3, 5].as_slice());
+    assert_eq!(rt; core.preds_of(5).ok_or("not open")?, [1, 4].as_slice());
+    assert_eq!(rt; core.preds_of(3).ok_or("not open")?, [1, 2].as_slice());
+    Ok(())
+}
+
 #[test]
 fn changed_costs(rt: HostRuntime) -> Result<(), Fail> {
     let alloc = rt.alloc();

@@ -1,10 +1,9 @@
-use Rattle.std.proofs.Common.{ℕ, ◌+◌, ◌<◌, ◌≡◌, List, [], Some, length, take, get_or, sym, subst, arith}
-use Rattle.std.specs.Prelude.{slice_get, slice_index_or, Contains}
+use Rattle.std.proofs.Common.{ℕ, ◌+◌, ◌<◌, ◌≡◌, ◌≢◌, ◌↔◌, List, [], Some, length, take, get_or, sym, subst, arith}
+use Rattle.std.specs.Prelude.{slice_get, slice_index_or, Contains, AllPairs}
 use Rattle.std.proofs.lemmas.List.{get_or_default, take_all}
 use Rattle.std.proofs.lemmas.List.Elements.{Contains-get_or}
-use Rattle.depend_table.specs.Lists.{Lists}
-use Rattle.dispatch_core.proofs.Falls.{ready_listed}
-use Rattle.dispatch_core.proofs.ListLemmas.{Lists-none}
+use Rattle.dispatch_core.proofs.Falls.{ready_step, fresh_next}
+use Rattle.dispatch_core.proofs.OpenSteps.{once_step}
 use Rattle.dispatch_core.proofs.counters.with_one.Goals as goal
 
 pub is_one-requires : goal.is_one-requires
@@ -12,8 +11,12 @@ is_one-requires c = c.requires.known (slice_index_or c.args.segments.now c.loop-
 
 pub loop-segment-init : goal.loop-segment-init
 loop-segment-init c =
-    let P : ℕ → Type 0 = λ t. Contains {X = ℕ} [] t × (slice_get c.args.counts.now t ≡ Some 1) in
-    subst (λ (l : List ℕ). Lists P l) (sym c.new-ready.ensures.items) (Lists-none P (λ n h. let w = h.0.1 in absurd (omega (arith, w))))
+    let P : List ℕ → Type 0 = λ l. (t : ℕ) → Contains l t ↔ (Contains (take 0 c.args.segments.now) t × (slice_get c.args.counts.now t ≡ Some 1)) in
+    let none : P [] = λ t. (λ h. let w = h.1 in absurd (omega (arith, w)), λ h. let w = h.0.1 in absurd (omega (arith, w))) in
+    record {
+      each = subst P (sym c.new-ready.ensures.items) none;
+      once = subst (λ (l : List ℕ). AllPairs (λ x y. x ≢ y) l) (sym c.new-ready.ensures.items) (λ i j d less within. let w = within in absurd (omega (arith, w)));
+    }
 
 pub loop-segment-preserved : goal.loop-segment-preserved
 loop-segment-preserved c =
@@ -22,11 +25,19 @@ loop-segment-preserved c =
     let x : ℕ = slice_index_or list k 0 in
     let within : k < length list = c.loop-segment-test.true in
     let is : x ≡ get_or list k x = sym (get_or_default list k x 0 within) in
-    let step = ready_listed c.args.counts.now list c.loop-segment.ready.items k x c.is_one.result c.requires.ascending within is c.is_one.ensures c.loop-segment.invariant in
-    subst (λ (l : List ℕ). Lists (λ t. Contains (take (k + 1) list) t × (slice_get c.args.counts.now t ≡ Some 1)) l) (sym c.in_ok-push_if.ensures) step
+    let so_far = c.loop-segment.invariant in
+    let each = ready_step c.args.counts.now list c.loop-segment.ready.items k x c.is_one.result within is c.is_one.ensures so_far.each in
+    let once = once_step list c.loop-segment.ready.items k x c.is_one.result (fresh_next list k x within is c.requires.once) (λ t h. ((so_far.each t).0 h).0) so_far.once in
+    record {
+      each = subst (λ (l : List ℕ). (t : ℕ) → Contains l t ↔ (Contains (take (k + 1) list) t × (slice_get c.args.counts.now t ≡ Some 1))) (sym c.in_ok-push_if.ensures) each;
+      once = subst (λ (l : List ℕ). AllPairs (λ x y. x ≢ y) l) (sym c.in_ok-push_if.ensures) once;
+    }
 
-pub returns : goal.returns
-returns c =
+pub returns-clause-each : goal.returns-clause-each
+returns-clause-each c =
     let list : List ℕ = c.args.segments.now in
     let whole : take c.loop-segment.segment-index list ≡ list = take_all c.loop-segment.segment-index list (omega (arith, c.loop-segment-test.false)) in
-    subst (λ (l : List ℕ). Lists (λ t. Contains l t × (slice_get c.args.counts.now t ≡ Some 1)) c.loop-segment.ready.items) whole c.loop-segment.invariant
+    subst (λ (l : List ℕ). (t : ℕ) → Contains c.loop-segment.ready.items t ↔ (Contains l t × (slice_get c.args.counts.now t ≡ Some 1))) whole c.loop-segment.invariant.each
+
+pub returns-clause-once : goal.returns-clause-once
+returns-clause-once c = c.loop-segment.invariant.once

@@ -1,6 +1,12 @@
-use Rattle.std.proofs.Common.{take}
+use Rattle.std.proofs.Common.{take, ◌≡◌, None}
+use Rattle.std.specs.Prelude.{Contains}
+use Rattle.dispatch_core.specs.Entry.{entry}
 use Rattle.dispatch_core.specs.Listed.{items_of, ArePushed}
+use Rattle.dispatch_core.specs.Rooms.{IsFuller}
 use Rattle.dispatch_core.proofs.listed.push_on.Given as goal
 
 abbrev pub invariant-loop-place : goal.invariant-loop-place
-invariant-loop-place l = ArePushed l.number (take l.place-index l.places) (items_of l.initial.lists.items) (items_of l.lists.items)
+invariant-loop-place l = record {
+  pushed : ArePushed l.number (λ place. Contains (take l.place-index l.places) place × (entry l.values place ≡ None)) (items_of l.initial.lists.items) (items_of l.lists.items);
+  fuller : IsFuller (Contains (take l.place-index l.places)) l.initial.lists.items l.lists.items;
+}

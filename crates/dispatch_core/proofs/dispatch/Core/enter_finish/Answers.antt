@@ -1,15 +1,52 @@
-use Rattle.std.proofs.Common.{ℕ, ◌++◌, ◌∷◌, [], List, Some, None, sym, subst, arith}
+use Rattle.std.proofs.Common.{ℕ, ◌<◌, ◌≡◌, ◌++◌, ◌∷◌, [], List, Option, Some, None, length, sym, ap, subst, arith, ◌∙◌}
 use Rattle.std.specs.Prelude.{vec_capacity, slice_set}
+use Rattle.task_segments.specs.Table.{segment}
+use Rattle.task_segments.specs.Precedence.{IsSegment}
+use Rattle.task_segments.specs.InPlace.{IsOf}
+use Rattle.depend_table.specs.Lists.{Lists}
 use Rattle.dispatch_core.specs.declared.event.Event.{Event}
 use Rattle.dispatch_core.specs.declared.event.Event.TheVariants.{Finish}
-use Rattle.dispatch_core.specs.Run.{Run, Runs}
+use Rattle.dispatch_core.specs.Counters.{HasValue}
+use Rattle.dispatch_core.specs.Entry.{entry}
+use Rattle.dispatch_core.specs.Run.{Run, Runs, BecomesReady}
 use Rattle.dispatch_core.specs.Refusals.{MayFinish}
 use Rattle.dispatch_core.specs.Sound.{IsSound}
-use Rattle.dispatch_core.specs.Listed.{IsListed}
-use Rattle.dispatch_core.specs.Counters.{IsCounted, AreCounts, AreLowered}
-use Rattle.dispatch_core.proofs.Falls.{counted_above, counts_after, once_kept}
-use Rattle.dispatch_core.proofs.FinishStep.{started_known, within_values, no_value, has_room_to_finish, sound_after_finish}
+use Rattle.dispatch_core.specs.UpToDate.{IsFreed, IsUpToDate}
+use Rattle.dispatch_core.proofs.FinishStep.{started_known, no_value, has_room_to_finish, sound_after_finish, sound_when_refused, tell_after}
+use Rattle.dispatch_core.proofs.KeptEnough.{earlier_finished, has_value, newly_listed}
 use Rattle.dispatch_core.proofs.dispatch.Core.enter_finish.Goals as goal
+
+pub finish-requires-clause-known : goal.finish-requires-clause-known
+finish-requires-clause-known g c =
+    let P : Run → Type 0 = λ run. Runs run.history c.args.worker c.args.outcome.now.segment in
+    let known = started_known c.self.inside.table c.self.inside.history.items c.args.worker c.args.outcome.now.segment c.self.invariant.legal (subst P (sym c.self.view_is) c.requires.runs).started in
+    subst (IsSegment c.self.inside.table) (sym c.segment-segment.ensures) known.1
+
+pub finish-requires-clause-each : goal.finish-requires-clause-each
+finish-requires-clause-each g c = c.self.invariant.are_values.tell.each
+
+pub finish-requires-clause-unfinished : goal.finish-requires-clause-unfinished
+finish-requires-clause-unfinished g c =
+    let P : Run → Type 0 = λ run. Runs run.history c.args.worker c.args.outcome.now.segment in
+    let runs = subst P (sym c.self.view_is) c.requires.runs in
+    let N : ℕ → Type 0 = λ n. entry c.self.inside.values.items n ≡ None in
+    subst N (sym c.segment-segment.ensures) (no_value c.self.inside.table c.self.inside.history.items _ c.self.inside.values.items c.args.outcome.now.segment c.self.invariant.are_values runs.unfinished)
+
+pub finish-requires-clause-earlier : goal.finish-requires-clause-earlier
+finish-requires-clause-earlier g c =
+    let s = c.args.outcome.now.segment in
+    let table = c.self.inside.table in
+    let history = c.self.inside.history.items in
+    let sound = c.self.invariant in
+    let P : Run → Type 0 = λ run. Runs run.history c.args.worker s in
+    let runs = subst P (sym c.self.view_is) c.requires.runs in
+    let known = started_known table history c.args.worker s sound.legal runs.started in
+    let E : ℕ → Type 0 = λ n. (t : ℕ) → IsOf table (segment table n).task t → t < n → HasValue c.self.inside.values.items t in
+    subst E (sym c.segment-segment.ensures) (λ t of_task less.
+    has_value (length table.segments) history c.self.inside.values.items t sound.are_values.tell (earlier_finished table history c.args.worker s t sound.sound_table.in_place sound.legal runs known.1 of_task less))
+
+pub finish-requires-clause-up_to_date : goal.finish-requires-clause-up_to_date
+finish-requires-clause-up_to_date g c = c.self.invariant.up_to_date
 
 pub index_mut-requires : goal.index_mut-requires
 index_mut-requires g c =
@@ -17,56 +54,52 @@ index_mut-requires g c =
     let known = started_known c.self.inside.table c.self.inside.history.items c.args.worker c.args.outcome.now.segment c.self.invariant.legal (subst P (sym c.self.view_is) c.requires.runs).started in
     omega (arith, c.self.invariant.are_running.each, known.0)
 
-pub index_mut-requires-2 : goal.index_mut-requires-2
-index_mut-requires-2 g c =
-    let P : Run → Type 0 = λ run. Runs run.history c.args.worker c.args.outcome.now.segment in
-    let known = started_known c.self.inside.table c.self.inside.history.items c.args.worker c.args.outcome.now.segment c.self.invariant.legal (subst P (sym c.self.view_is) c.requires.runs).started in
-    omega (arith, c.self.invariant.are_values.tell.each, known.1, c.segment-segment.ensures)
-
 pub push_event-requires : goal.push_event-requires
 push_event-requires g c =
     let P : Run → Type 0 = λ run. Runs run.history c.args.worker c.args.outcome.now.segment in
-    let room = has_room_to_finish _ _ _ _ _ _ _ _ _ _ c.args.worker c.args.outcome.now.segment c.self.invariant (subst P (sym c.self.view_is) c.requires.runs) in
+    let room = has_room_to_finish _ _ _ _ _ _ _ _ _ c.args.worker c.args.outcome.now.segment c.self.invariant (subst P (sym c.self.view_is) c.requires.runs) in
     omega (arith, room)
-
-pub finish-requires-clause-known : goal.finish-requires-clause-known
-finish-requires-clause-known g c =
-    let P : Run → Type 0 = λ run. Runs run.history c.args.worker c.args.outcome.now.segment in
-    let known = started_known c.self.inside.table c.self.inside.history.items c.args.worker c.args.outcome.now.segment c.self.invariant.legal (subst P (sym c.self.view_is) c.requires.runs).started in
-    omega (arith, c.self.invariant.are_kept.each, known.1, c.segment-segment.ensures)
-
-pub finish-requires-clause-counted : goal.finish-requires-clause-counted
-finish-requires-clause-counted g c =
-    let s = c.args.outcome.now.segment in
-    let P : Run → Type 0 = λ run. Runs run.history c.args.worker s in
-    let sound = c.self.invariant in
-    let runs = subst P (sym c.self.view_is) c.requires.runs in
-    let Q : ℕ → Type 0 = λ s. (t : ℕ) → IsListed c.self.inside.counters.preds t s → IsCounted c.self.inside.counters.counts t in
-    subst Q (sym c.segment-segment.ensures) (λ t listed.
-    counted_above c.self.inside.values.items c.self.inside.counters.preds c.self.inside.counters.counts s t
-    (within_values c.self.inside.table c.self.inside.history.items _ c.self.inside.values.items c.args.worker s sound.legal sound.are_values runs)
-    (no_value c.self.inside.table c.self.inside.history.items _ c.self.inside.values.items s sound.are_values runs.unfinished)
-    (once_kept c.self.inside.table c.self.inside.counters.preds sound.are_kept) sound.are_counts listed)
 
 pub invariant_of-self : goal.invariant_of-self
 invariant_of-self g c =
+    sound_when_refused g.K.Kernel.value_of c.self.inside.table c.self.inside.history.items (vec_capacity c.self.inside.history) c.self.inside.started.items c.self.inside.running.items c.self.inside.values.items
+    c.finish.new.values.items c.self.inside.counters c.finish.new.self c.self.inside.costs.items c.self.invariant c.in_err-ready.ensures.refused c.in_err-ready.ensures.up_to_date
+
+pub invariant_of-self-2 : goal.invariant_of-self-2
+invariant_of-self-2 g c =
     let s = c.args.outcome.now.segment in
     let MayHere : Run → Type 0 = λ run. MayFinish run.table run.history g.K.Kernel.value_of c.args.worker c.args.outcome.now in
-    let sound = c.self.invariant in
     let may = subst MayHere (sym c.self.view_is) c.requires in
     let value = c.value-value.result in
-    let counts = c.finish.new.self.counts in
-    let LoweredBy : ℕ → Type 0 = λ s. AreLowered c.self.inside.counters.counts (λ t. IsListed c.self.inside.counters.preds t s) counts in
-    let lowered : AreCounts (slice_set c.self.inside.values.items s (Some value)) c.self.inside.counters.preds counts =
-    counts_after c.self.inside.values.items c.self.inside.counters.preds c.self.inside.counters.counts counts s value
-    (within_values c.self.inside.table c.self.inside.history.items _ c.self.inside.values.items c.args.worker s sound.legal sound.are_values may.runs)
-    (no_value c.self.inside.table c.self.inside.history.items _ c.self.inside.values.items s sound.are_values may.runs.unfinished)
-    (once_kept c.self.inside.table c.self.inside.counters.preds sound.are_kept) sound.are_counts (subst LoweredBy c.segment-segment.ensures c.finish.ensures.counts) in
+    let values : List (Option ℕ) = c.finish.new.values.items in
+    let same : values ≡ slice_set c.self.inside.values.items s (Some value) =
+    c.in_ok-ready.ensures.valued ∙ ap (λ (n : ℕ). slice_set c.self.inside.values.items n (Some value)) c.segment-segment.ensures in
+    let state = subst (λ (v : List (Option ℕ)). IsUpToDate c.self.inside.table v c.finish.new.self) same c.in_ok-ready.ensures.up_to_date in
+    let after = sound_after_finish g.K.Kernel.value_of c.self.inside.table c.self.inside.history.items (vec_capacity c.self.inside.history) (vec_capacity c.push_event.new.history) c.self.inside.started.items
+    c.self.inside.running.items c.self.inside.values.items c.self.inside.counters c.finish.new.self c.self.inside.costs.items c.args.worker c.args.outcome.now value c.self.invariant may c.value-value.ensures.computed state
+    c.push_event.ensures.capacity in
+    let V : List (Option ℕ) → Type 0 = λ v. IsSound g.K.Kernel.value_of c.self.inside.table (c.self.inside.history.items ++ Finish c.args.worker s ∷ []) (vec_capacity c.push_event.new.history) c.self.inside.started.items
+    (slice_set c.self.inside.running.items c.args.worker None) v c.finish.new.self c.self.inside.costs.items in
+    let Q : ℕ → Type 0 = λ n. IsSound g.K.Kernel.value_of c.self.inside.table (c.self.inside.history.items ++ Finish c.args.worker n ∷ []) (vec_capacity c.push_event.new.history) c.self.inside.started.items
+    (slice_set c.self.inside.running.items c.args.worker None) values c.finish.new.self c.self.inside.costs.items in
     let P : List Event → Type 0 = λ history. IsSound g.K.Kernel.value_of c.self.inside.table history (vec_capacity c.push_event.new.history) c.self.inside.started.items
-    (slice_set c.self.inside.running.items c.args.worker None) (slice_set c.self.inside.values.items c.segment-segment.result (Some value)) c.finish.new.self.preds counts c.self.inside.costs.items in
-    let Q : ℕ → Type 0 = λ t. IsSound g.K.Kernel.value_of c.self.inside.table (c.self.inside.history.items ++ Finish c.args.worker t ∷ []) (vec_capacity c.push_event.new.history) c.self.inside.started.items
-    (slice_set c.self.inside.running.items c.args.worker None) (slice_set c.self.inside.values.items t (Some value)) c.finish.new.self.preds counts c.self.inside.costs.items in
-    let R : List (List ℕ) → Type 0 = λ preds. IsSound g.K.Kernel.value_of c.self.inside.table (c.self.inside.history.items ++ Finish c.args.worker s ∷ []) (vec_capacity c.push_event.new.history) c.self.inside.started.items
-    (slice_set c.self.inside.running.items c.args.worker None) (slice_set c.self.inside.values.items s (Some value)) preds counts c.self.inside.costs.items in
-    subst P (sym c.push_event.ensures.items) (subst Q (sym c.segment-segment.ensures) (subst R (sym c.finish.ensures.preds)
-    (sound_after_finish _ _ _ _ _ _ _ _ _ _ _ _ c.args.worker c.args.outcome.now value c.self.invariant may c.value-value.ensures.computed lowered c.push_event.ensures.capacity)))
+    (slice_set c.self.inside.running.items c.args.worker None) values c.finish.new.self c.self.inside.costs.items in
+    subst P (sym c.push_event.ensures.items) (subst Q (sym c.segment-segment.ensures) (subst V (sym same) after))
+
+pub returns-clause-ready : goal.returns-clause-ready
+returns-clause-ready g c =
+    let s = c.args.outcome.now.segment in
+    let sound = c.self.invariant in
+    let table = c.self.inside.table in
+    let history = c.self.inside.history.items in
+    let MayHere : Run → Type 0 = λ run. MayFinish run.table run.history g.K.Kernel.value_of c.args.worker c.args.outcome.now in
+    let may = subst MayHere (sym c.self.view_is) c.requires in
+    let value = c.value-value.result in
+    let same : c.finish.new.values.items ≡ slice_set c.self.inside.values.items s (Some value) =
+    c.in_ok-ready.ensures.valued ∙ ap (λ (n : ℕ). slice_set c.self.inside.values.items n (Some value)) c.segment-segment.ensures in
+    let state = subst (λ (v : List (Option ℕ)). IsUpToDate table v c.finish.new.self) same c.in_ok-ready.ensures.up_to_date in
+    let tell = tell_after table history g.K.Kernel.value_of c.self.inside.values.items c.args.worker c.args.outcome.now value sound.legal sound.are_values may c.value-value.ensures.computed in
+    let freed = subst (λ (n : ℕ). Lists (IsFreed n c.finish.new.self) c.in_ok-ready.ready.items) c.segment-segment.ensures c.in_ok-ready.ensures.ready in
+    let Q : Run → Type 0 = λ run. Lists (BecomesReady run.table run.history (run.history ++ Finish c.args.worker s ∷ [])) c.in_ok-ready.ready.items in
+    subst Q c.self.view_is (newly_listed table history (slice_set c.self.inside.values.items s (Some value)) c.finish.new.self c.args.worker s c.in_ok-ready.ready.items sound.sound_table.goes_up sound.sound_table.chains
+    sound.legal may.runs tell state freed)

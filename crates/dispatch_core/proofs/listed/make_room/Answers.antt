@@ -1,0 +1,41 @@
+use Rattle.std.proofs.Common.{ℕ, ◌+◌, ◌<◌, ◌≡◌, List, length, take, get_or, sym, subst, arith}
+use Rattle.std.specs.Prelude.{slice_index_or, Contains}
+use Rattle.std.proofs.lemmas.List.{get_or_default, take_all}
+use Rattle.std.proofs.lemmas.List.Elements.{Contains-get_or}
+use Rattle.dispatch_core.proofs.Rooms.{IsRoomMade, roomier_same, roomier_then, room_made_step, long_as}
+use Rattle.dispatch_core.proofs.listed.make_room.Goals as goal
+
+pub make_room_at-requires : goal.make_room_at-requires
+make_room_at-requires c =
+    let list : List ℕ = c.args.places.now in
+    let k : ℕ = c.loop-place.place-index in
+    let known = c.requires (slice_index_or list k 0) (Contains-get_or list k 0 c.loop-place-test.true) in
+    omega (arith, known, long_as c.args.lists.now.items c.loop-place.lists.items c.loop-place.invariant.roomier)
+
+pub loop-place-init : goal.loop-place-init
+loop-place-init c = record {
+  roomier = roomier_same c.args.lists.now.items;
+  room = λ place has none. let w = has.1 in absurd (omega (arith, w));
+}
+
+pub loop-place-preserved : goal.loop-place-preserved
+loop-place-preserved c =
+    let list : List ℕ = c.args.places.now in
+    let k : ℕ = c.loop-place.place-index in
+    let x : ℕ = slice_index_or list k 0 in
+    let within : k < length list = c.loop-place-test.true in
+    let is : x ≡ get_or list k x = sym (get_or_default list k x 0 within) in
+    room_made_step c.args.values.now c.args.lists.now.items c.loop-place.lists.items c.make_room_at.new.lists.items list k x within is c.loop-place.invariant
+    c.in_ok-make_room_at.ensures.roomier c.in_ok-make_room_at.ensures.room
+
+pub returns : goal.returns
+returns c =
+    let whole = take_all c.loop-place.place-index c.args.places.now (omega (arith, c.loop-place-test.false)) in
+    record {
+      roomier = c.loop-place.invariant.roomier;
+      room = λ place has none. c.loop-place.invariant.room place (subst (λ (l : List ℕ). Contains l place) (sym whole) has) none;
+    }
+
+pub returns-in_err-make_room_at-clause-roomier : goal.returns-in_err-make_room_at-clause-roomier
+returns-in_err-make_room_at-clause-roomier c =
+    roomier_then c.args.lists.now.items c.loop-place.lists.items c.make_room_at.new.lists.items c.loop-place.invariant.roomier c.make_room_at.ensures.roomier
