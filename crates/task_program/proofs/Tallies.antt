@@ -133,7 +133,7 @@ record NoSign (text : List ℕ) : Type 0 where
   colon : is_text text (codes ":") ≡ false
   comma : is_text text (codes ",") ≡ false
 
-other_text : (test : List ℕ → Bool) (text word : List ℕ) → test text ≡ true → test word ≡ false → is_text text word ≡ false
+pub other_text : (test : List ℕ → Bool) (text word : List ℕ) → test text ≡ true → test word ≡ false → is_text text word ≡ false
 other_text test text word h g =
     bool_cases (is_text text word)
     (λ same. absurd (let wrong : true ≡ false = sym h ∙ ap test (same_text text word same) ∙ g in cc))
@@ -393,7 +393,7 @@ type_limits state DependOut few = quiet DependType state (codes "out") refl few 
 type_limits state DependInOut few = quiet DependType state (codes "inout") refl few refl refl refl refl
 type_limits state DependInOutSet few = quiet DependType state (codes "inoutset") refl few refl refl refl refl
 
-no_digit : (run digit digits : Bool) → (run && not digit) ≡ true → (digit && digits) ≡ false
+pub no_digit : (run digit digits : Bool) → (run && not digit) ≡ true → (digit && digits) ≡ false
 no_digit run false digits h = refl
 no_digit true true digits h = absurd cc
 no_digit false true digits h = absurd cc
