@@ -35,7 +35,8 @@ and_both : (a b : Bool) → a ≡ true → b ≡ true → (a && b) ≡ true
 and_both true b h g = g
 and_both false b h g = absurd cc
 
-pub accepts_next : (s : LoopShape) (text : List ℕ) (texts : List (List ℕ)) → accepts s (text ∷ texts) ≡ true → (fits s text ≡ true) × (accepts (lead s text) texts ≡ true)
+pub accepts_next : (s : LoopShape) (text : List ℕ) (texts : List (List ℕ)) → accepts s (text ∷ texts) ≡ true
+    → (fits s text ≡ true) × (accepts (lead s text) texts ≡ true)
 unfolding accepts
 accepts_next s text texts h = (and_left (fits s text) (accepts (lead s text) texts) h, and_right (fits s text) (accepts (lead s text) texts) h)
 
@@ -46,7 +47,8 @@ accepts_none s h = h
 abbrev Accepted : LoopPlace → Bool → Bool → List ℕ → List (List ℕ) → List (List (List ℕ)) → List (List ℕ) → Type 0
 Accepted place hi hf x vs us ts = accepts (shape_at place hi hf x vs us) ts ≡ true
 
-one : (place : LoopPlace) (hi hf : Bool) (x : List ℕ) (vs : List (List ℕ)) (us : List (List (List ℕ))) (text : List ℕ) (ts : List (List ℕ)) → fits_at place hi hf vs us text ≡ true
+one : (place : LoopPlace) (hi hf : Bool) (x : List ℕ) (vs : List (List ℕ)) (us : List (List (List ℕ))) (text : List ℕ) (ts : List (List ℕ))
+    → fits_at place hi hf vs us text ≡ true
     → accepts (lead_at place hi hf x vs us text) ts ≡ true → Accepted place hi hf x vs us (text ∷ ts)
 unfolding accepts
 one place hi hf x vs us text ts h later = and_both (fits_at place hi hf vs us text) (accepts (lead_at place hi hf x vs us text) ts) h later
@@ -58,18 +60,24 @@ or_left true b h = refl
 or_left false b h = absurd cc
 
 -- the first token of an index: a number, or a variable
-start_number : (kind : DependKind) (hi hf : Bool) (x : List ℕ) (vs : List (List ℕ)) (us : List (List (List ℕ))) (text : List ℕ) (ts : List (List ℕ)) → IsNumber text → Accepted (IndexCloses kind) hi hf x vs us ts → Accepted (IndexStart kind) hi hf x vs us (text ∷ ts)
+start_number : (kind : DependKind) (hi hf : Bool) (x : List ℕ) (vs : List (List ℕ)) (us : List (List (List ℕ))) (text : List ℕ) (ts : List (List ℕ))
+    → IsNumber text → Accepted (IndexCloses kind) hi hf x vs us ts
+    → Accepted (IndexStart kind) hi hf x vs us (text ∷ ts)
 start_number kind hi hf x vs us text ts number later =
     one (IndexStart kind) hi hf x vs us text ts (rw number refl) (rw number later)
 
-start_variable : (kind : DependKind) (hi hf : Bool) (x : List ℕ) (vs : List (List ℕ)) (us : List (List (List ℕ))) (text : List ℕ) (ts : List (List ℕ)) → IsVariable vs text → Accepted (IndexSign kind) hi hf x vs us ts → Accepted (IndexStart kind) hi hf x vs us (text ∷ ts)
+start_variable : (kind : DependKind) (hi hf : Bool) (x : List ℕ) (vs : List (List ℕ)) (us : List (List (List ℕ))) (text : List ℕ) (ts : List (List ℕ))
+    → IsVariable vs text → Accepted (IndexSign kind) hi hf x vs us ts
+    → Accepted (IndexStart kind) hi hf x vs us (text ∷ ts)
 start_variable kind hi hf x vs us text ts known later =
     let no_number : is_number text ≡ false = no_digit (is_run text) (begins_with_digit text) _ known.0 in
     let no_minus : is_text text (codes "-") ≡ false = other_text is_word text (codes "-") known.0 refl in
     one (IndexStart kind) hi hf x vs us text ts (rw (no_number, no_minus, known.0, known.1) refl) (rw (no_number, no_minus) later)
 
-index_accepted : (index : IndexWritten) (kind : DependKind) (hi hf : Bool) (x : List ℕ) (vs : List (List ℕ)) (us : List (List (List ℕ))) (ts : List (List ℕ)) → HasIndexForm vs index
-    → Accepted (DependMore kind) hi hf x vs us ts → Accepted (IndexStart kind) hi hf x vs us (index_texts index ++ codes "]" ∷ ts)
+index_accepted : (index : IndexWritten) (kind : DependKind) (hi hf : Bool) (x : List ℕ) (vs : List (List ℕ)) (us : List (List (List ℕ))) (ts : List (List ℕ))
+    → HasIndexForm vs index
+    → Accepted (DependMore kind) hi hf x vs us ts
+    → Accepted (IndexStart kind) hi hf x vs us (index_texts index ++ codes "]" ∷ ts)
 index_accepted (NumberIndex number) kind hi hf x vs us ts form later =
     start_number kind hi hf x vs us number (codes "]" ∷ ts) form (one (IndexCloses kind) hi hf x vs us (codes "]") ts refl later)
 index_accepted (MinusIndex number) kind hi hf x vs us ts form later =
@@ -84,8 +92,10 @@ index_accepted (SignIndex variable sign number) kind hi hf x vs us ts form later
     (one (IndexNumber kind) hi hf x vs us number (codes "]" ∷ ts) form.2 (one (IndexCloses kind) hi hf x vs us (codes "]") ts refl later))))
 
 -- an item, and what ends it
-item_accepted : (item : ItemWritten) (ends : List ℕ) (kind : DependKind) (hi hf : Bool) (x : List ℕ) (vs : List (List ℕ)) (us : List (List (List ℕ))) (ts : List (List ℕ)) → HasItemForm vs item → ends_item ends ≡ true → is_text ends (codes "[") ≡ false
-    → accepts (lead_item kind hi hf x vs us ends) ts ≡ true → Accepted (DependName kind) hi hf x vs us (item_texts item ++ ends ∷ ts)
+item_accepted : (item : ItemWritten) (ends : List ℕ) (kind : DependKind) (hi hf : Bool) (x : List ℕ) (vs : List (List ℕ)) (us : List (List (List ℕ))) (ts : List (List ℕ))
+    → HasItemForm vs item → ends_item ends ≡ true → is_text ends (codes "[") ≡ false
+    → accepts (lead_item kind hi hf x vs us ends) ts ≡ true
+    → Accepted (DependName kind) hi hf x vs us (item_texts item ++ ends ∷ ts)
 item_accepted (PlainItem name) ends kind hi hf x vs us ts form is_end no_opens later =
     one (DependName kind) hi hf x vs us name (ends ∷ ts) form (one (Subscript kind) hi hf x vs us ends ts (rw no_opens is_end) (rw no_opens later))
 item_accepted (IndexedItem name index) ends kind hi hf x vs us ts form is_end no_opens later =
@@ -94,8 +104,10 @@ item_accepted (IndexedItem name index) ends kind hi hf x vs us ts form is_end no
     (subst (λ (texts : List (List ℕ)). Accepted (IndexStart kind) hi hf x vs us texts) (sym (append_assoc (index_texts index) (codes "]" ∷ []) (ends ∷ ts)))
     (index_accepted index kind hi hf x vs us (ends ∷ ts) form.1 more)))
 
-items_accepted : (items : List ItemWritten) (last : ItemWritten) (kind : DependKind) (hi hf : Bool) (x : List ℕ) (vs : List (List ℕ)) (us : List (List (List ℕ))) (ts : List (List ℕ)) → All (HasItemForm vs) items → HasItemForm vs last
-    → Accepted Clause hi hf x vs us ts → Accepted (DependName kind) hi hf x vs us (flat_map item_and_comma items ++ (item_texts last ++ codes ")" ∷ ts))
+items_accepted : (items : List ItemWritten) (last : ItemWritten) (kind : DependKind) (hi hf : Bool) (x : List ℕ) (vs : List (List ℕ)) (us : List (List (List ℕ))) (ts : List (List ℕ))
+    → All (HasItemForm vs) items → HasItemForm vs last
+    → Accepted Clause hi hf x vs us ts
+    → Accepted (DependName kind) hi hf x vs us (flat_map item_and_comma items ++ (item_texts last ++ codes ")" ∷ ts))
 items_accepted [] last kind hi hf x vs us ts forms last_form later = item_accepted last (codes ")") kind hi hf x vs us ts last_form refl refl later
 items_accepted (item ∷ items) last kind hi hf x vs us ts forms last_form later =
     let others = items_accepted items last kind hi hf x vs us ts (All-tail (HasItemForm vs) item items forms) last_form later in
@@ -106,7 +118,8 @@ items_accepted (item ∷ items) last kind hi hf x vs us ts forms last_form later
 
 -- ---- clauses
 
-depend_accepted : (kind : DependKind) (hi hf : Bool) (x : List ℕ) (vs : List (List ℕ)) (us : List (List (List ℕ))) (ts : List (List ℕ)) → Accepted (DependName kind) hi hf x vs us ts
+depend_accepted : (kind : DependKind) (hi hf : Bool) (x : List ℕ) (vs : List (List ℕ)) (us : List (List (List ℕ))) (ts : List (List ℕ))
+    → Accepted (DependName kind) hi hf x vs us ts
     → Accepted Clause hi hf x vs us (codes "depend" ∷ codes "(" ∷ type_word kind ∷ codes ":" ∷ ts)
 depend_accepted kind hi hf x vs us ts later =
     let colon : Accepted (DependColon kind) hi hf x vs us (codes ":" ∷ ts) = one (DependColon kind) hi hf x vs us (codes ":") ts refl later in
@@ -115,17 +128,22 @@ depend_accepted kind hi hf x vs us ts later =
     (one DependType hi hf x vs us (type_word kind) (codes ":" ∷ ts) (is_type_word kind)
     (subst (λ (k : DependKind). Accepted (DependColon k) hi hf x vs us (codes ":" ∷ ts)) (sym (type_of_word kind)) colon)))
 
-if_accepted : (hf : Bool) (x : List ℕ) (vs : List (List ℕ)) (us : List (List (List ℕ))) (number : List ℕ) (ts : List (List ℕ)) → IsNumber number → Accepted Clause true hf x vs us ts → Accepted Clause false hf x vs us (codes "if" ∷ codes "(" ∷ number ∷ codes ")" ∷ ts)
+if_accepted : (hf : Bool) (x : List ℕ) (vs : List (List ℕ)) (us : List (List (List ℕ))) (number : List ℕ) (ts : List (List ℕ))
+    → IsNumber number → Accepted Clause true hf x vs us ts
+    → Accepted Clause false hf x vs us (codes "if" ∷ codes "(" ∷ number ∷ codes ")" ∷ ts)
 if_accepted hf x vs us number ts h later =
     one Clause false hf x vs us (codes "if") (codes "(" ∷ number ∷ codes ")" ∷ ts) refl
     (one IfOpens false hf x vs us (codes "(") (number ∷ codes ")" ∷ ts) refl
     (one IfNumber false hf x vs us number (codes ")" ∷ ts) h (one IfCloses true hf x vs us (codes ")") ts refl later)))
 
-final_fits : (hi : Bool) (vs : List (List ℕ)) (us : List (List (List ℕ))) → fits_at Clause hi false vs us (codes "final") ≡ true
+final_fits : (hi : Bool) (vs : List (List ℕ)) (us : List (List (List ℕ)))
+    → fits_at Clause hi false vs us (codes "final") ≡ true
 final_fits true vs us = refl
 final_fits false vs us = refl
 
-final_accepted : (hi : Bool) (x : List ℕ) (vs : List (List ℕ)) (us : List (List (List ℕ))) (number : List ℕ) (ts : List (List ℕ)) → IsNumber number → Accepted Clause hi true x vs us ts → Accepted Clause hi false x vs us (codes "final" ∷ codes "(" ∷ number ∷ codes ")" ∷ ts)
+final_accepted : (hi : Bool) (x : List ℕ) (vs : List (List ℕ)) (us : List (List (List ℕ))) (number : List ℕ) (ts : List (List ℕ))
+    → IsNumber number → Accepted Clause hi true x vs us ts
+    → Accepted Clause hi false x vs us (codes "final" ∷ codes "(" ∷ number ∷ codes ")" ∷ ts)
 final_accepted hi x vs us number ts h later =
     one Clause hi false x vs us (codes "final") (codes "(" ∷ number ∷ codes ")" ∷ ts) (final_fits hi vs us)
     (one FinalOpens hi false x vs us (codes "(") (number ∷ codes ")" ∷ ts) refl
@@ -137,9 +155,11 @@ if_weight clause = cond (is_if clause) 1 0
 abbrev final_weight : LoopClause → ℕ
 final_weight clause = cond (is_final clause) 1 0
 
-clauses_accepted : (clauses : List LoopClause) (hi hf : Bool) (x : List ℕ) (vs : List (List ℕ)) (us : List (List (List ℕ))) (ts : List (List ℕ)) → All (HasLoopClauseForm vs) clauses
+clauses_accepted : (clauses : List LoopClause) (hi hf : Bool) (x : List ℕ) (vs : List (List ℕ)) (us : List (List (List ℕ))) (ts : List (List ℕ))
+    → All (HasLoopClauseForm vs) clauses
     → cond hi 1 0 + count_by is_if clauses ≤ 1 → cond hf 1 0 + count_by is_final clauses ≤ 1
-    → Accepted Statement false false x vs (vs ∷ us) ts → Accepted Clause hi hf x vs us (flat_map clause_texts clauses ++ codes "{" ∷ ts)
+    → Accepted Statement false false x vs (vs ∷ us) ts
+    → Accepted Clause hi hf x vs us (flat_map clause_texts clauses ++ codes "{" ∷ ts)
 clauses_accepted [] hi hf x vs us ts forms one_if one_final later = one Clause hi hf x vs us (codes "{") ts refl later
 clauses_accepted (IfClause number ∷ clauses) true hf x vs us ts forms one_if one_final later = absurd (omega (arith, one_if, sum_by-cons if_weight (IfClause number) clauses))
 clauses_accepted (IfClause number ∷ clauses) false hf x vs us ts forms one_if one_final later =
@@ -171,7 +191,8 @@ word_fits false false no_end is_word_so = absurd cc
 word_fits true word no_end is_word_so = absurd cc
 
 -- the first word of a statement
-first_fits : (vs : List (List ℕ)) (us : List (List (List ℕ))) (text : List ℕ) → is_text text (codes "}") ≡ false → (is_statement_word text || is_text text (codes "for")) ≡ true → fits_at Statement false false vs us text ≡ true
+first_fits : (vs : List (List ℕ)) (us : List (List (List ℕ))) (text : List ℕ) → is_text text (codes "}") ≡ false
+    → (is_statement_word text || is_text text (codes "for")) ≡ true → fits_at Statement false false vs us text ≡ true
 first_fits vs [] text no_end word = word_fits (is_text text (codes "}")) (is_statement_word text || is_text text (codes "for")) no_end word
 first_fits vs (outer ∷ us) text no_end word = or_left (is_statement_word text || is_text text (codes "for")) (is_text text (codes "}")) word
 
@@ -184,7 +205,8 @@ none_accepted : (x : List ℕ) (vs : List (List ℕ)) → Accepted Statement fal
 unfolding accepts
 none_accepted x vs = refl
 
-pieces_accepted : (pieces : List LoopPiece) (x : List ℕ) (vs : List (List ℕ)) (us : List (List (List ℕ))) → HaveLoopForms pieces vs us → Accepted Statement false false x vs us (flat_map piece_texts pieces)
+pieces_accepted : (pieces : List LoopPiece) (x : List ℕ) (vs : List (List ℕ)) (us : List (List (List ℕ)))
+    → HaveLoopForms pieces vs us → Accepted Statement false false x vs us (flat_map piece_texts pieces)
 pieces_accepted [] x vs [] forms = none_accepted x vs
 pieces_accepted [] x vs (outer ∷ us) forms = absurd forms
 pieces_accepted (WorkPiece number ∷ pieces) x vs us forms =

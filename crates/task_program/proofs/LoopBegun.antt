@@ -74,7 +74,8 @@ clause_leads state text line =
     (λ final_word. rw (no_brace, no_if, final_word) refl)
     (λ no_final. rw (no_brace, no_if, no_final) refl)))
 
-subscript_leads : (state : State) (kind : DependKind) (text : List ℕ) (line : ℕ) → LeadsSo state (Subscript kind) text line
+subscript_leads : (state : State) (kind : DependKind) (text : List ℕ) (line : ℕ)
+    → LeadsSo state (Subscript kind) text line
 subscript_leads state kind text line =
     bool_cases (is_text text (codes "["))
     (λ opens. rw opens refl)
@@ -114,12 +115,14 @@ place_leads _ state text line = refl
 
 -- ---- which tokens are allowed
 
-pub closes_same : (place : LoopPlace) (open_now : List LoopBlock) (text : List ℕ) → closes_nothing place open_now text ≡ closes_none place (arounds open_now) text
+pub closes_same : (place : LoopPlace) (open_now : List LoopBlock) (text : List ℕ)
+    → closes_nothing place open_now text ≡ closes_none place (arounds open_now) text
 closes_same Statement [] text = refl
 closes_same Statement (block ∷ others) text = refl
 closes_same _ open_now text = refl
 
-allowed_same : (place : LoopPlace) (state : State) (text : List ℕ) → is_allowed place state.head state.tree.blocks text ≡ allowed_at place state.head.has_if state.head.has_final (variables_of state.tree.blocks) text
+allowed_same : (place : LoopPlace) (state : State) (text : List ℕ)
+    → is_allowed place state.head state.tree.blocks text ≡ allowed_at place state.head.has_if state.head.has_final (variables_of state.tree.blocks) text
 allowed_same Statement state text = refl
 allowed_same WorkNumber state text = refl
 allowed_same GroupBrace state text = refl
@@ -145,7 +148,8 @@ allowed_same (IndexSign kind) state text = refl
 allowed_same (IndexCloses kind) state text = refl
 allowed_same (DependMore kind) state text = refl
 
-both_tests : (closes other allowed known : Bool) → closes ≡ false → closes ≡ other → allowed ≡ true → allowed ≡ known → (not other && known) ≡ true
+both_tests : (closes other allowed known : Bool) → closes ≡ false → closes ≡ other → allowed ≡ true → allowed ≡ known
+    → (not other && known) ≡ true
 both_tests false false true true h s a k = refl
 both_tests false false true false h s a k = absurd cc
 both_tests false false false known h s a k = absurd cc
@@ -163,16 +167,19 @@ none_allowed false false false h s = refl
 none_allowed false false true h s = absurd cc
 none_allowed other true known h s = absurd cc
 
-pub fits_of : (state : State) (text : List ℕ) → closes_nothing state.place state.tree.blocks text ≡ false → is_allowed state.place state.head state.tree.blocks text ≡ true → fits (shape_of state) text ≡ true
+pub fits_of : (state : State) (text : List ℕ) → closes_nothing state.place state.tree.blocks text ≡ false
+    → is_allowed state.place state.head state.tree.blocks text ≡ true → fits (shape_of state) text ≡ true
 fits_of state text unopened allowed =
     both_tests (closes_nothing state.place state.tree.blocks text) (closes_none state.place (arounds state.tree.blocks) text) (is_allowed state.place state.head state.tree.blocks text)
     (allowed_at state.place state.head.has_if state.head.has_final (variables_of state.tree.blocks) text)
     unopened (closes_same state.place state.tree.blocks text) allowed (allowed_same state.place state text)
 
-pub unfit_close : (state : State) (text : List ℕ) → closes_nothing state.place state.tree.blocks text ≡ true → fits (shape_of state) text ≡ false
+pub unfit_close : (state : State) (text : List ℕ) → closes_nothing state.place state.tree.blocks text ≡ true
+    → fits (shape_of state) text ≡ false
 unfit_close state text closes = no_close (closes_nothing state.place state.tree.blocks text) (closes_none state.place (arounds state.tree.blocks) text) _ closes (closes_same state.place state.tree.blocks text)
 
-pub unfit_word : (state : State) (text : List ℕ) → not (is_allowed state.place state.head state.tree.blocks text) ≡ true → fits (shape_of state) text ≡ false
+pub unfit_word : (state : State) (text : List ℕ)
+    → not (is_allowed state.place state.head state.tree.blocks text) ≡ true → fits (shape_of state) text ≡ false
 unfit_word state text bad = none_allowed (closes_none state.place (arounds state.tree.blocks) text) (is_allowed state.place state.head state.tree.blocks text) _ bad (allowed_same state.place state text)
 
 -- ---- what is known where these tokens were read
@@ -186,14 +193,16 @@ pub record LoopBegan (before : List Token) (state : State) : Type 0 where
   pub braces_are : open_braces before ≡ brace_lines state.tree.blocks
 
 -- a token that the grammar does not have
-pub unviable : (before : List Token) (state : State) (text : List ℕ) → LoopBegan before state → fits (shape_of state) text ≡ false → IsLoopViable (texts before ++ text ∷ []) → ⊥
+pub unviable : (before : List Token) (state : State) (text : List ℕ) → LoopBegan before state
+    → fits (shape_of state) text ≡ false → IsLoopViable (texts before ++ text ∷ []) → ⊥
 unviable before state text b wrong_here v =
     let sentence : IsLoopSentence (texts before ++ text ∷ v.0) = subst IsLoopSentence (append_assoc (texts before) (text ∷ []) v.0) v.1 in
     let fits_so : fits (shape_of state) text ≡ true = (accepts_next (shape_of state) text v.0 (b.accepted (text ∷ v.0) sentence)).0 in
     absurd (let wrong : true ≡ false = sym fits_so ∙ wrong_here in cc)
 
 -- and one that it has
-pub viable_next : (before : List Token) (state : State) (text : List ℕ) → LoopBegan before state → fits (shape_of state) text ≡ true → IsLoopViable (texts before ++ text ∷ [])
+pub viable_next : (before : List Token) (state : State) (text : List ℕ) → LoopBegan before state
+    → fits (shape_of state) text ≡ true → IsLoopViable (texts before ++ text ∷ [])
 viable_next before state text b fits_so =
     let s = shape_of state in
     let next = lead s text in
@@ -210,8 +219,10 @@ abbrev BracesGo : LoopPlace → State → List ℕ → ℕ → Type 0
 BracesGo place state text line = braces_after (brace_lines state.tree.blocks) (token_so text line) ≡ brace_lines (after_at place (at state place) text line).tree.blocks
 
 -- at a place that has no `{` and no `}`
-no_brace : (place : LoopPlace) (state : State) (text : List ℕ) (line : ℕ) → is_allowed place state.head state.tree.blocks text ≡ true
-    → is_allowed place state.head state.tree.blocks (codes "{") ≡ false → is_allowed place state.head state.tree.blocks (codes "}") ≡ false
+no_brace : (place : LoopPlace) (state : State) (text : List ℕ) (line : ℕ)
+    → is_allowed place state.head state.tree.blocks text ≡ true
+    → is_allowed place state.head state.tree.blocks (codes "{") ≡ false
+    → is_allowed place state.head state.tree.blocks (codes "}") ≡ false
     → (after_at place (at state place) text line).tree.blocks ≡ state.tree.blocks → BracesGo place state text line
 no_brace place state text line allowed no_open no_end same =
     let test : List ℕ → Bool = λ t. is_allowed place state.head state.tree.blocks t in
@@ -220,15 +231,18 @@ no_brace place state text line allowed no_open no_end same =
     let stay : braces_after (brace_lines state.tree.blocks) (token_so text line) ≡ brace_lines state.tree.blocks = rw (opens, ends) refl in
     stay ∙ sym (ap brace_lines same)
 
-either_blocks : (b : Bool) (one other : State) (open_now : List LoopBlock) → one.tree.blocks ≡ open_now → other.tree.blocks ≡ open_now → (cond b one other).tree.blocks ≡ open_now
+either_blocks : (b : Bool) (one other : State) (open_now : List LoopBlock) → one.tree.blocks ≡ open_now
+    → other.tree.blocks ≡ open_now → (cond b one other).tree.blocks ≡ open_now
 either_blocks true one other open_now h g = h
 either_blocks false one other open_now h g = g
 
-end_braces : (open_now : List LoopBlock) (statements : Tree) (line : ℕ) → braces_after (brace_lines open_now) (token_so (codes "}") line) ≡ brace_lines (blocks.closed_by open_now statements).blocks
+end_braces : (open_now : List LoopBlock) (statements : Tree) (line : ℕ)
+    → braces_after (brace_lines open_now) (token_so (codes "}") line) ≡ brace_lines (blocks.closed_by open_now statements).blocks
 end_braces [] statements line = refl
 end_braces (block ∷ others) statements line = refl
 
-statement_braces : (state : State) (text : List ℕ) (line : ℕ) → is_allowed Statement state.head state.tree.blocks text ≡ true → BracesGo Statement state text line
+statement_braces : (state : State) (text : List ℕ) (line : ℕ)
+    → is_allowed Statement state.head state.tree.blocks text ≡ true → BracesGo Statement state text line
 statement_braces state text line allowed =
     bool_cases (is_text text (codes "work"))
     (λ work. rw (same_text text (codes "work") work) refl)
@@ -242,7 +256,8 @@ statement_braces state text line allowed =
     (λ loop. rw (same_text text (codes "for") loop) refl)
     (λ no_for. rw (is_loop_end text allowed no_work no_task no_wait no_group no_for) (end_braces state.tree.blocks state.tree.statements line))))))
 
-clause_braces : (state : State) (text : List ℕ) (line : ℕ) → is_allowed Clause state.head state.tree.blocks text ≡ true → BracesGo Clause state text line
+clause_braces : (state : State) (text : List ℕ) (line : ℕ)
+    → is_allowed Clause state.head state.tree.blocks text ≡ true → BracesGo Clause state text line
 clause_braces state text line allowed =
     bool_cases (is_text text (codes "{"))
     (λ brace. rw (same_text text (codes "{") brace) refl)
@@ -252,7 +267,8 @@ clause_braces state text line allowed =
     (λ final_word. rw (same_text text (codes "final") final_word) refl)
     (λ no_final. rw (clause_depend text state.head.has_if state.head.has_final allowed no_brace_here no_if no_final) refl)))
 
-place_braces : (place : LoopPlace) (state : State) (text : List ℕ) (line : ℕ) → is_allowed place state.head state.tree.blocks text ≡ true → BracesGo place state text line
+place_braces : (place : LoopPlace) (state : State) (text : List ℕ) (line : ℕ)
+    → is_allowed place state.head state.tree.blocks text ≡ true → BracesGo place state text line
 place_braces Statement state text line h = statement_braces state text line h
 place_braces GroupBrace state text line h = rw (same_text text (codes "{") h) refl
 place_braces ForBrace state text line h = rw (same_text text (codes "{") h) refl
@@ -282,11 +298,13 @@ place_braces (IndexCloses kind) state text line h = no_brace (IndexCloses kind) 
 
 -- ---- one token more
 
-unless_cases : {P : Type 0} (found : Option ReadKind) (line : ℕ) (after : Result State ReadFault) (next : State) → unless_fault found line after ≡ Ok next → (found ≡ None → after ≡ Ok next → P) → P
+unless_cases : {P : Type 0} (found : Option ReadKind) (line : ℕ) (after : Result State ReadFault) (next : State)
+    → unless_fault found line after ≡ Ok next → (found ≡ None → after ≡ Ok next → P) → P
 unless_cases (Some kind) line after next h on = absurd cc
 unless_cases None line after next h on = on refl h
 
-row_passed : (b : Bool) (kind : ReadKind) (others : Option ReadKind) → cond b (Some kind) others ≡ None → (b ≡ false) × (others ≡ None)
+row_passed : (b : Bool) (kind : ReadKind) (others : Option ReadKind) → cond b (Some kind) others ≡ None
+    → (b ≡ false) × (others ≡ None)
 row_passed true kind others h = absurd cc
 row_passed false kind others h = (refl, h)
 
@@ -315,7 +333,8 @@ passed state next token h =
 pub texts_more : (before : List Token) (token : Token) → texts (before ++ token ∷ []) ≡ texts before ++ token.text ∷ []
 texts_more before token = map_push (λ (t : Token). t.text) before token
 
-pub step_begins : (before : List Token) (state next : State) (token : Token) → LoopBegan before state → step state token ≡ Ok next → LoopBegan (before ++ token ∷ []) next
+pub step_begins : (before : List Token) (state next : State) (token : Token) → LoopBegan before state
+    → step state token ≡ Ok next → LoopBegan (before ++ token ∷ []) next
 step_begins before state next token b h =
     let p = passed state next token h in
     let s = shape_of state in

@@ -41,7 +41,8 @@ record Counts (before : List Token) (state : State) : Type 0 where
   began : LoopBegan before state
   in_place : AreInPlace before
 
-counts_more : (before : List Token) (state next : State) (token : Token) → Counts before state → step state token ≡ Ok next → Counts (before ++ token ∷ []) next
+counts_more : (before : List Token) (state next : State) (token : Token) → Counts before state
+    → step state token ≡ Ok next → Counts (before ++ token ∷ []) next
 counts_more before state next token c h =
     let p = passed state next token h in
     record {
@@ -55,23 +56,27 @@ abbrev fault_so : ReadKind → ℕ → ReadFault
 fault_so kind line = record { kind = kind; line = line }
 
 -- a `}` that closes nothing comes after what is whole
-closes_at : (place : LoopPlace) (hi hf : Bool) (x : List ℕ) (vs : List (List ℕ)) (us : List (List (List ℕ))) (text : List ℕ) → closes_none place us text ≡ true → (text ≡ codes "}") × FollowsAt place hi hf x vs us []
+closes_at : (place : LoopPlace) (hi hf : Bool) (x : List ℕ) (vs : List (List ℕ)) (us : List (List (List ℕ))) (text : List ℕ)
+    → closes_none place us text ≡ true → (text ≡ codes "}") × FollowsAt place hi hf x vs us []
 closes_at Statement hi hf x vs [] text h = (same_text text (codes "}") h, nothing_follows hi hf x vs)
 closes_at Statement hi hf x vs (outer ∷ us) text h = absurd cc
 closes_at _ hi hf x vs us text h = absurd cc
 
-whole_closes : (place : LoopPlace) (us : List (List (List ℕ))) (text : List ℕ) → is_whole place us ≡ true → text ≡ codes "}" → closes_none place us text ≡ true
+whole_closes : (place : LoopPlace) (us : List (List (List ℕ))) (text : List ℕ) → is_whole place us ≡ true
+    → text ≡ codes "}" → closes_none place us text ≡ true
 whole_closes Statement [] text h text_is = rw text_is refl
 whole_closes Statement (outer ∷ us) text h text_is = absurd cc
 whole_closes _ us text h text_is = absurd cc
 
-whole_now : (before : List Token) (state : State) → LoopBegan before state → IsLoopSentence (texts before) → is_whole state.place (arounds state.tree.blocks) ≡ true
+whole_now : (before : List Token) (state : State) → LoopBegan before state → IsLoopSentence (texts before)
+    → is_whole state.place (arounds state.tree.blocks) ≡ true
 whole_now before state b s = accepts_none (shape_of state) (b.accepted [] (subst IsLoopSentence (sym (append-nil (texts before))) s))
 
 abbrev LargeHere : List ℕ → Type 0
 LargeHere text = (is_number text ≡ true) × (1 < value_of text)
 
-large_number : (place : LoopPlace) (head : LoopHead) (open_now : List LoopBlock) (text : List ℕ) → is_number_too_large place text ≡ true → is_allowed place head open_now text ≡ true → LargeHere text
+large_number : (place : LoopPlace) (head : LoopHead) (open_now : List LoopBlock) (text : List ℕ)
+    → is_number_too_large place text ≡ true → is_allowed place head open_now text ≡ true → LargeHere text
 large_number WorkNumber head open_now text large allowed = (allowed, omega (arith, ltb-true most_work (value_of text) large))
 large_number ForFrom head open_now text large allowed = (allowed, omega (arith, ltb-true most_bound (value_of text) large))
 large_number ForTo head open_now text large allowed = (allowed, omega (arith, ltb-true most_bound (value_of text) large))
@@ -82,7 +87,8 @@ large_number _ head open_now text large allowed = absurd cc
 abbrev DeepHere : List LoopBlock → List ℕ → Type 0
 DeepHere open_now text = (text ≡ codes "{") × (most_nesting ≤ length open_now)
 
-deep_block : (place : LoopPlace) (head : LoopHead) (open_now : List LoopBlock) (text : List ℕ) → nests_too_deep place open_now text ≡ true → is_allowed place head open_now text ≡ true → DeepHere open_now text
+deep_block : (place : LoopPlace) (head : LoopHead) (open_now : List LoopBlock) (text : List ℕ)
+    → nests_too_deep place open_now text ≡ true → is_allowed place head open_now text ≡ true → DeepHere open_now text
 deep_block GroupBrace head open_now text deep allowed = (same_text text (codes "{") allowed, leb-true most_nesting (length open_now) deep)
 deep_block ForBrace head open_now text deep allowed = (same_text text (codes "{") allowed, leb-true most_nesting (length open_now) deep)
 deep_block Clause head open_now text deep allowed =
@@ -90,7 +96,8 @@ deep_block Clause head open_now text deep allowed =
 deep_block _ head open_now text deep allowed = absurd cc
 
 -- the fault of a token that is one by itself
-at_place : (before : List Token) (state : State) (text : List ℕ) (kind : ReadKind) → Counts before state → form_fault text ≡ None → place_fault state text ≡ Some kind → IsLoopWrong before text kind
+at_place : (before : List Token) (state : State) (text : List ℕ) (kind : ReadKind) → Counts before state
+    → form_fault text ≡ None → place_fault state text ≡ Some kind → IsLoopWrong before text kind
 at_place before state text kind c formed h =
     let b = c.began in
     let s = shape_of state in
@@ -119,12 +126,15 @@ at_place before state text kind c formed h =
     subst (IsLoopWrong before text) same (PastLimit before text TooDeep formed viable (DeepBlock before text block.0 (omega (arith, block.1, braces)))))
     (λ shallow none. absurd cc))))
 
-unless_err : {P : Type 0} (found : Option ReadKind) (line : ℕ) (after : Result State ReadFault) (fault : ReadFault) → unless_fault found line after ≡ Err fault
-    → ((kind : ReadKind) → found ≡ Some kind → fault_so kind line ≡ fault → P) → (found ≡ None → after ≡ Err fault → P) → P
+unless_err : {P : Type 0} (found : Option ReadKind) (line : ℕ) (after : Result State ReadFault) (fault : ReadFault)
+    → unless_fault found line after ≡ Err fault
+    → ((kind : ReadKind) → found ≡ Some kind → fault_so kind line ≡ fault → P)
+    → (found ≡ None → after ≡ Err fault → P) → P
 unless_err (Some kind) line after fault h here later = here kind refl cc
 unless_err None line after fault h here later = later refl h
 
-token_fault : (before later : List Token) (state : State) (token : Token) (end_line : ℕ) (fault : ReadFault) → Counts before state → step state token ≡ Err fault → IsFirstLoopFault (before ++ token ∷ later) end_line fault
+token_fault : (before later : List Token) (state : State) (token : Token) (end_line : ℕ) (fault : ReadFault)
+    → Counts before state → step state token ≡ Err fault → IsFirstLoopFault (before ++ token ∷ later) end_line fault
 unfolding step
 token_fault before later state token end_line fault c h =
     let told : (kind : ReadKind) → IsLoopWrong before token.text kind → fault_so kind token.line ≡ fault → IsFirstLoopFault (before ++ token ∷ later) end_line fault =
@@ -137,7 +147,8 @@ token_fault before later state token end_line fault c h =
 
 -- ---- the end
 
-end_by : (all : List Token) (place : LoopPlace) (hi hf : Bool) (vs : List (List ℕ)) (open_now : List LoopBlock) (end_line : ℕ) (fault : ReadFault) → open_braces all ≡ brace_lines open_now
+end_by : (all : List Token) (place : LoopPlace) (hi hf : Bool) (vs : List (List ℕ)) (open_now : List LoopBlock) (end_line : ℕ) (fault : ReadFault)
+    → open_braces all ≡ brace_lines open_now
     → (fits_at place hi hf vs (arounds open_now) (codes "}") ≡ true → IsLoopViable (texts all ++ codes "}" ∷ []))
     → (fits_at place hi hf vs (arounds open_now) (codes "}") ≡ false → IsLoopViable (texts all ++ codes "}" ∷ []) → ⊥)
     → end_at place open_now end_line ≡ Some fault → EndsInLoops all end_line fault
@@ -146,21 +157,25 @@ end_by all Statement hi hf vs (block ∷ others) end_line fault braces can canno
     let same : fault_so Unclosed (brace_of block.opening) ≡ fault = cc in subst (EndsInLoops all end_line) same (BlockOpen all end_line (brace_of block.opening) (brace_lines others) (can refl) braces)
 end_by all _ hi hf vs open_now end_line fault braces can cannot h = let same : fault_so BadWord end_line ≡ fault = cc in subst (EndsInLoops all end_line) same (Inside all end_line (cannot refl))
 
-whole_ends : (place : LoopPlace) (open_now : List LoopBlock) (line : ℕ) (fault : ReadFault) → is_whole place (arounds open_now) ≡ true → end_at place open_now line ≡ Some fault → ⊥
+whole_ends : (place : LoopPlace) (open_now : List LoopBlock) (line : ℕ) (fault : ReadFault)
+    → is_whole place (arounds open_now) ≡ true → end_at place open_now line ≡ Some fault → ⊥
 whole_ends Statement [] line fault h g = absurd cc
 whole_ends Statement (block ∷ others) line fault h g = absurd cc
 whole_ends _ open_now line fault h g = absurd cc
 
-ended_err : (found : Option ReadFault) (state : State) (fault : ReadFault) → ended found state ≡ Err fault → found ≡ Some fault
+ended_err : (found : Option ReadFault) (state : State) (fault : ReadFault) → ended found state ≡ Err fault
+    → found ≡ Some fault
 ended_err (Some other) state fault h = cc
 ended_err None state fault h = absurd cc
 
-ended_ok : (place : LoopPlace) (hi hf : Bool) (x : List ℕ) (vs : List (List ℕ)) (open_now : List LoopBlock) (line : ℕ) (state : State) (tree : Tree) → ended (end_at place open_now line) state ≡ Ok tree → FollowsAt place hi hf x vs (arounds open_now) []
+ended_ok : (place : LoopPlace) (hi hf : Bool) (x : List ℕ) (vs : List (List ℕ)) (open_now : List LoopBlock) (line : ℕ) (state : State) (tree : Tree)
+    → ended (end_at place open_now line) state ≡ Ok tree → FollowsAt place hi hf x vs (arounds open_now) []
 ended_ok Statement hi hf x vs [] line state tree h = nothing_follows hi hf x vs
 ended_ok Statement hi hf x vs (block ∷ others) line state tree h = absurd cc
 ended_ok _ hi hf x vs open_now line state tree h = absurd cc
 
-end_fault : (all : List Token) (state : State) (end_line : ℕ) (fault : ReadFault) → Counts all state → end_at state.place state.tree.blocks end_line ≡ Some fault → IsFirstLoopFault all end_line fault
+end_fault : (all : List Token) (state : State) (end_line : ℕ) (fault : ReadFault) → Counts all state
+    → end_at state.place state.tree.blocks end_line ≡ Some fault → IsFirstLoopFault all end_line fault
 end_fault all state end_line fault c h =
     let b = c.began in
     let s = shape_of state in
@@ -169,16 +184,19 @@ end_fault all state end_line fault c h =
 
 -- ---- the whole
 
-stepped : {P : Type 0} (read : Result State ReadFault) (later : State → Result Tree ReadFault) (fault : ReadFault) → go_on read later ≡ Err fault
+stepped : {P : Type 0} (read : Result State ReadFault) (later : State → Result Tree ReadFault) (fault : ReadFault)
+    → go_on read later ≡ Err fault
     → ((next : State) → read ≡ Ok next → later next ≡ Err fault → P) → (read ≡ Err fault → P) → P
 stepped (Ok next) later fault h on stops = on next refl h
 stepped (Err other) later fault h on stops = stops cc
 
-step_on : (read : Result State ReadFault) (later : State → Result Tree ReadFault) (tree : Tree) → go_on read later ≡ Ok tree → (next : State) × (read ≡ Ok next) × (later next ≡ Ok tree)
+step_on : (read : Result State ReadFault) (later : State → Result Tree ReadFault) (tree : Tree)
+    → go_on read later ≡ Ok tree → (next : State) × (read ≡ Ok next) × (later next ≡ Ok tree)
 step_on (Ok next) later tree h = (next, refl, h)
 step_on (Err fault) later tree h = absurd cc
 
-fault_from : (tokens before : List Token) (state : State) (end_line : ℕ) (fault : ReadFault) → Counts before state → first_pass tokens end_line state ≡ Err fault → IsFirstLoopFault (before ++ tokens) end_line fault
+fault_from : (tokens before : List Token) (state : State) (end_line : ℕ) (fault : ReadFault) → Counts before state
+    → first_pass tokens end_line state ≡ Err fault → IsFirstLoopFault (before ++ tokens) end_line fault
 unfolding first_pass
 fault_from [] before state end_line fault c h =
     subst (λ (ts : List Token). IsFirstLoopFault ts end_line fault) (sym (append-nil before)) (end_fault before state end_line fault c (ended_err (end_at state.place state.tree.blocks end_line) state fault h))
@@ -188,7 +206,8 @@ fault_from (token ∷ tokens) before state end_line fault c h =
     (fault_from tokens (before ++ token ∷ []) next end_line fault (counts_more before state next token c one) later))
     (λ stops. token_fault before tokens state token end_line fault c stops)
 
-whole_from : (tokens before : List Token) (state : State) (end_line : ℕ) (tree : Tree) → Counts before state → first_pass tokens end_line state ≡ Ok tree → IsLoopSentence (texts (before ++ tokens))
+whole_from : (tokens before : List Token) (state : State) (end_line : ℕ) (tree : Tree) → Counts before state
+    → first_pass tokens end_line state ≡ Ok tree → IsLoopSentence (texts (before ++ tokens))
 unfolding first_pass
 whole_from [] before state end_line tree c h =
     let s = shape_of state in
@@ -212,17 +231,21 @@ at_start = record {
 too_long : (text : List ℕ) → nat_lt most_bytes (length text) ≡ true → program_of text ≡ Err (fault_so TooLong 1)
 too_long text long = rw long refl
 
-same_fault : (read : Result ProgramText ReadFault) (one other : ReadFault) → read ≡ Err one → read ≡ Err other → one ≡ other
+same_fault : (read : Result ProgramText ReadFault) (one other : ReadFault) → read ≡ Err one → read ≡ Err other
+    → one ≡ other
 same_fault read one other h g = cc
 
-either_pass : (text : List ℕ) (read : Result Tree ReadFault) (fault : ReadFault) → first_pass (body_of text) (line_at_end 1 text) after_header ≡ read → then_second read ≡ Err fault → HasLoopFault text fault
+either_pass : (text : List ℕ) (read : Result Tree ReadFault) (fault : ReadFault)
+    → first_pass (body_of text) (line_at_end 1 text) after_header ≡ read → then_second read ≡ Err fault
+    → HasLoopFault text fault
 either_pass text (Ok tree) fault first h =
     OfExpansion text fault tree (whole_from (body_of text) [] after_header (line_at_end 1 text) tree at_start first) first h
 either_pass text (Err other) fault first h =
     let same : other ≡ fault = cc in
     subst (HasLoopFault text) same (OfTokens text other (fault_from (body_of text) [] after_header (line_at_end 1 text) other at_start first))
 
-told_in_loops : (text : List ℕ) → begins_version_two (tokens_of text) ≡ true → nat_lt most_bytes (length text) ≡ false → IsToldInLoops text
+told_in_loops : (text : List ℕ) → begins_version_two (tokens_of text) ≡ true → nat_lt most_bytes (length text) ≡ false
+    → IsToldInLoops text
 told_in_loops text two short =
     let so : program_of text ≡ two_passes text = of_two text (ltb-false most_bytes (length text) short) two in
     record {

@@ -202,14 +202,17 @@ Follows s texts = FollowsAt s.place s.has_if s.has_final s.variable s.variables 
 
 -- ---- a token that is allowed goes in front
 
-allowed_of : (place : LoopPlace) (hi hf : Bool) (vs : List (List ℕ)) (us : List (List (List ℕ))) (text : List ℕ) → fits_at place hi hf vs us text ≡ true → allowed_at place hi hf vs text ≡ true
+allowed_of : (place : LoopPlace) (hi hf : Bool) (vs : List (List ℕ)) (us : List (List (List ℕ))) (text : List ℕ)
+    → fits_at place hi hf vs us text ≡ true → allowed_at place hi hf vs text ≡ true
 allowed_of place hi hf vs us text h = and_right (not (closes_none place us text)) _ h
 
-abbrev StepsBack : LoopPlace → Bool → Bool → List ℕ → List (List ℕ) → List (List (List ℕ)) → List ℕ → List (List ℕ) → Type 0
+abbrev StepsBack : LoopPlace → Bool → Bool → List ℕ → List (List ℕ) → List (List (List ℕ)) → List ℕ → List (List ℕ)
+    → Type 0
 StepsBack place hi hf x vs us text ts = fits_at place hi hf vs us text ≡ true → Follows (lead_at place hi hf x vs us text) ts → FollowsAt place hi hf x vs us (text ∷ ts)
 
 piece_rest : (vs : List (List ℕ)) (us : List (List (List ℕ))) (vs' : List (List ℕ)) (us' : List (List (List ℕ))) (piece : LoopPiece) (ts : List (List ℕ))
-    → ((pieces : List LoopPiece) → HaveLoopForms pieces vs' us' → HaveLoopForms (piece ∷ pieces) vs us) → Rest vs' us' ts → Rest vs us (piece_texts piece ++ ts)
+    → ((pieces : List LoopPiece) → HaveLoopForms pieces vs' us' → HaveLoopForms (piece ∷ pieces) vs us)
+    → Rest vs' us' ts → Rest vs us (piece_texts piece ++ ts)
 piece_rest vs us vs' us' piece ts forms r = record {
   pieces = piece ∷ r.pieces;
   texts_are = ap (λ (texts : List (List ℕ)). piece_texts piece ++ texts) r.texts_are;
@@ -220,7 +223,8 @@ some_one : (has : Bool) (count : ℕ) → cond has 1 0 + count ≤ 1 → count �
 some_one true count h = omega (arith, h)
 some_one false count h = omega (arith, h)
 
-task_rest : (hi hf : Bool) (vs : List (List ℕ)) (us : List (List (List ℕ))) (ts : List (List ℕ)) → ClausesRest hi hf vs us ts → Rest vs us (codes "task" ∷ ts)
+task_rest : (hi hf : Bool) (vs : List (List ℕ)) (us : List (List (List ℕ))) (ts : List (List ℕ))
+    → ClausesRest hi hf vs us ts → Rest vs us (codes "task" ∷ ts)
 task_rest hi hf vs us ts c = record {
   pieces = TaskPiece c.clauses ∷ c.rest.pieces;
   texts_are = ap (λ (texts : List (List ℕ)). codes "task" ∷ texts) (c.texts_are ∙ ap (λ (texts : List (List ℕ)). flat_map clause_texts c.clauses ++ codes "{" ∷ texts) c.rest.texts_are
@@ -228,15 +232,21 @@ task_rest hi hf vs us ts c = record {
   forms = ((c.forms, some_one hi _ c.one_if, some_one hf _ c.one_final), c.rest.forms);
 }
 
-end_rest : (hi hf : Bool) (x : List ℕ) (vs : List (List ℕ)) (us : List (List (List ℕ))) (ts : List (List ℕ)) → not (closes_none Statement us (codes "}")) ≡ true → Follows (lead_end hi hf x vs us) ts → Rest vs us (codes "}" ∷ ts)
+end_rest : (hi hf : Bool) (x : List ℕ) (vs : List (List ℕ)) (us : List (List (List ℕ))) (ts : List (List ℕ))
+    → not (closes_none Statement us (codes "}")) ≡ true → Follows (lead_end hi hf x vs us) ts
+    → Rest vs us (codes "}" ∷ ts)
 end_rest hi hf x vs [] ts h r = absurd cc
 end_rest hi hf x vs (outer ∷ us) ts h r = piece_rest vs (outer ∷ us) outer us EndPiece ts (λ pieces forms. forms) r
 
-pub is_loop_end : (text : List ℕ) → ((is_statement_word text || is_text text (codes "for")) || is_text text (codes "}")) ≡ true
-    → is_text text (codes "work") ≡ false → is_text text (codes "task") ≡ false → is_text text (codes "taskwait") ≡ false → is_text text (codes "taskgroup") ≡ false → is_text text (codes "for") ≡ false → text ≡ codes "}"
+pub is_loop_end : (text : List ℕ)
+    → ((is_statement_word text || is_text text (codes "for")) || is_text text (codes "}")) ≡ true
+    → is_text text (codes "work") ≡ false → is_text text (codes "task") ≡ false
+    → is_text text (codes "taskwait") ≡ false → is_text text (codes "taskgroup") ≡ false
+    → is_text text (codes "for") ≡ false → text ≡ codes "}"
 is_loop_end text h no_work no_task no_wait no_group no_for = same_text text (codes "}") (rw (no_work, no_task, no_wait, no_group, no_for) at h)
 
-statement_back : (hi hf : Bool) (x : List ℕ) (vs : List (List ℕ)) (us : List (List (List ℕ))) (text : List ℕ) (ts : List (List ℕ)) → StepsBack Statement hi hf x vs us text ts
+statement_back : (hi hf : Bool) (x : List ℕ) (vs : List (List ℕ)) (us : List (List (List ℕ))) (text : List ℕ) (ts : List (List ℕ))
+    → StepsBack Statement hi hf x vs us text ts
 statement_back hi hf x vs us text ts h =
     bool_cases (is_text text (codes "work"))
     (λ work. rw work (λ f. rw (same_text text (codes "work") work) f))
@@ -257,10 +267,13 @@ not_true : (b : Bool) → not b ≡ true → b ≡ false
 not_true true h = absurd cc
 not_true false h = refl
 
-new_variable : (vs : List (List ℕ)) (text : List ℕ) → (is_word text && not (list_any (bytes_eq text) vs)) ≡ true → IsNewVariable vs text
+new_variable : (vs : List (List ℕ)) (text : List ℕ) → (is_word text && not (list_any (bytes_eq text) vs)) ≡ true
+    → IsNewVariable vs text
 new_variable vs text h = (and_left (is_word text) _ h, not_true _ (and_right (is_word text) _ h))
 
-if_clause : (hf : Bool) (vs : List (List ℕ)) (us : List (List (List ℕ))) (number : List ℕ) (ts : List (List ℕ)) → IsNumber number → ClausesRest true hf vs us ts → ClausesRest false hf vs us (codes "if" ∷ codes "(" ∷ number ∷ codes ")" ∷ ts)
+if_clause : (hf : Bool) (vs : List (List ℕ)) (us : List (List (List ℕ))) (number : List ℕ) (ts : List (List ℕ))
+    → IsNumber number → ClausesRest true hf vs us ts
+    → ClausesRest false hf vs us (codes "if" ∷ codes "(" ∷ number ∷ codes ")" ∷ ts)
 if_clause hf vs us number ts h c = record {
   clauses = IfClause number ∷ c.clauses;
   later = c.later;
@@ -271,7 +284,9 @@ if_clause hf vs us number ts h c = record {
   rest = c.rest;
 }
 
-final_clause : (hi : Bool) (vs : List (List ℕ)) (us : List (List (List ℕ))) (number : List ℕ) (ts : List (List ℕ)) → IsNumber number → ClausesRest hi true vs us ts → ClausesRest hi false vs us (codes "final" ∷ codes "(" ∷ number ∷ codes ")" ∷ ts)
+final_clause : (hi : Bool) (vs : List (List ℕ)) (us : List (List (List ℕ))) (number : List ℕ) (ts : List (List ℕ))
+    → IsNumber number → ClausesRest hi true vs us ts
+    → ClausesRest hi false vs us (codes "final" ∷ codes "(" ∷ number ∷ codes ")" ∷ ts)
 final_clause hi vs us number ts h c = record {
   clauses = FinalClause number ∷ c.clauses;
   later = c.later;
@@ -282,11 +297,13 @@ final_clause hi vs us number ts h c = record {
   rest = c.rest;
 }
 
-if_back : (hi hf : Bool) (vs : List (List ℕ)) (us : List (List (List ℕ))) (ts : List (List ℕ)) → ClausesRest hi hf vs us ts → AfterIf hi hf vs us (codes ")" ∷ ts)
+if_back : (hi hf : Bool) (vs : List (List ℕ)) (us : List (List (List ℕ))) (ts : List (List ℕ))
+    → ClausesRest hi hf vs us ts → AfterIf hi hf vs us (codes ")" ∷ ts)
 if_back true hf vs us ts c = λ number h. if_clause hf vs us number ts h c
 if_back false hf vs us ts c = tt
 
-final_back : (hi hf : Bool) (vs : List (List ℕ)) (us : List (List (List ℕ))) (ts : List (List ℕ)) → ClausesRest hi hf vs us ts → AfterFinal hi hf vs us (codes ")" ∷ ts)
+final_back : (hi hf : Bool) (vs : List (List ℕ)) (us : List (List (List ℕ))) (ts : List (List ℕ))
+    → ClausesRest hi hf vs us ts → AfterFinal hi hf vs us (codes ")" ∷ ts)
 final_back hi true vs us ts c = λ number h. final_clause hi vs us number ts h c
 final_back hi false vs us ts c = tt
 
@@ -299,7 +316,8 @@ final_twice : (hi : Bool) → allowed_at Clause hi true [] (codes "final") ≡ t
 final_twice true h = absurd cc
 final_twice false h = absurd cc
 
-brace_back : (hi hf : Bool) (vs : List (List ℕ)) (us : List (List (List ℕ))) (ts : List (List ℕ)) → Rest vs (vs ∷ us) ts → ClausesRest hi hf vs us (codes "{" ∷ ts)
+brace_back : (hi hf : Bool) (vs : List (List ℕ)) (us : List (List (List ℕ))) (ts : List (List ℕ))
+    → Rest vs (vs ∷ us) ts → ClausesRest hi hf vs us (codes "{" ∷ ts)
 brace_back hi hf vs us ts r = record { clauses = []; later = ts; texts_are = refl; forms = All-nil (HasLoopClauseForm vs); one_if = one_at_most hi; one_final = one_at_most hf; rest = r }
 
 clause_if : (hi hf : Bool) → allowed_at Clause hi hf [] (codes "if") ≡ true → hi ≡ false
@@ -310,10 +328,13 @@ clause_final : (hi hf : Bool) → allowed_at Clause hi hf [] (codes "final") ≡
 clause_final hi true h = absurd (final_twice hi h)
 clause_final hi false h = refl
 
-pub clause_depend : (text : List ℕ) (hi hf : Bool) → (is_text text (codes "{") || clause_word hi hf text) ≡ true → is_text text (codes "{") ≡ false → is_text text (codes "if") ≡ false → is_text text (codes "final") ≡ false → text ≡ codes "depend"
+pub clause_depend : (text : List ℕ) (hi hf : Bool) → (is_text text (codes "{") || clause_word hi hf text) ≡ true
+    → is_text text (codes "{") ≡ false → is_text text (codes "if") ≡ false → is_text text (codes "final") ≡ false
+    → text ≡ codes "depend"
 clause_depend text hi hf h no_brace no_if no_final = same_text text (codes "depend") (sym (or_nil (is_text text (codes "depend"))) ∙ (rw (no_brace, no_if, no_final) at h))
 
-clause_back : (hi hf : Bool) (x : List ℕ) (vs : List (List ℕ)) (us : List (List (List ℕ))) (text : List ℕ) (ts : List (List ℕ)) → StepsBack Clause hi hf x vs us text ts
+clause_back : (hi hf : Bool) (x : List ℕ) (vs : List (List ℕ)) (us : List (List (List ℕ))) (text : List ℕ) (ts : List (List ℕ))
+    → StepsBack Clause hi hf x vs us text ts
 clause_back hi hf x vs us text ts h =
     let allowed = allowed_of Clause hi hf vs us text h in
     bool_cases (is_text text (codes "{"))
@@ -333,13 +354,16 @@ clause_back hi hf x vs us text ts h =
 -- ---- items
 
 -- a `depend` in front of further clauses
-pub depend_texts : (items : List ItemWritten) (last clauses tail : List (List ℕ)) → flat_map item_and_comma items ++ (last ++ codes ")" ∷ (clauses ++ tail)) ≡ ((flat_map item_and_comma items ++ (last ++ codes ")" ∷ [])) ++ clauses) ++ tail
+pub depend_texts : (items : List ItemWritten) (last clauses tail : List (List ℕ))
+    → flat_map item_and_comma items ++ (last ++ codes ")" ∷ (clauses ++ tail)) ≡ ((flat_map item_and_comma items ++ (last ++ codes ")" ∷ [])) ++ clauses) ++ tail
 depend_texts items last clauses tail =
     let inside = flat_map item_and_comma items in
     sym (append_assoc (inside ++ (last ++ codes ")" ∷ [])) clauses tail ∙ append_assoc inside (last ++ codes ")" ∷ []) (clauses ++ tail)
     ∙ ap (λ (texts : List (List ℕ)). inside ++ texts) (append_assoc last (codes ")" ∷ []) (clauses ++ tail)))
 
-depend_clause : (kind : DependKind) (hi hf : Bool) (vs : List (List ℕ)) (us : List (List (List ℕ))) (ts : List (List ℕ)) → ItemsRest hi hf vs us ts → ClausesRest hi hf vs us (codes "depend" ∷ codes "(" ∷ type_word kind ∷ codes ":" ∷ ts)
+depend_clause : (kind : DependKind) (hi hf : Bool) (vs : List (List ℕ)) (us : List (List (List ℕ))) (ts : List (List ℕ))
+    → ItemsRest hi hf vs us ts
+    → ClausesRest hi hf vs us (codes "depend" ∷ codes "(" ∷ type_word kind ∷ codes ":" ∷ ts)
 depend_clause kind hi hf vs us ts n =
     let clause = DependClause kind n.items n.last in
     let c = n.rest in
@@ -355,10 +379,12 @@ depend_clause kind hi hf vs us ts n =
       rest = c.rest;
     }
 
-last_item : (hi hf : Bool) (vs : List (List ℕ)) (us : List (List (List ℕ))) (item : ItemWritten) (ts : List (List ℕ)) → HasItemForm vs item → ClausesRest hi hf vs us ts → ItemsRest hi hf vs us (item_texts item ++ codes ")" ∷ ts)
+last_item : (hi hf : Bool) (vs : List (List ℕ)) (us : List (List (List ℕ))) (item : ItemWritten) (ts : List (List ℕ))
+    → HasItemForm vs item → ClausesRest hi hf vs us ts → ItemsRest hi hf vs us (item_texts item ++ codes ")" ∷ ts)
 last_item hi hf vs us item ts form c = record { items = []; last = item; later = ts; texts_are = refl; forms = All-nil (HasItemForm vs); last_form = form; rest = c }
 
-item_more : (hi hf : Bool) (vs : List (List ℕ)) (us : List (List (List ℕ))) (item : ItemWritten) (ts : List (List ℕ)) → HasItemForm vs item → ItemsRest hi hf vs us ts → ItemsRest hi hf vs us (item_texts item ++ codes "," ∷ ts)
+item_more : (hi hf : Bool) (vs : List (List ℕ)) (us : List (List (List ℕ))) (item : ItemWritten) (ts : List (List ℕ))
+    → HasItemForm vs item → ItemsRest hi hf vs us ts → ItemsRest hi hf vs us (item_texts item ++ codes "," ∷ ts)
 item_more hi hf vs us item ts form n =
     let after = flat_map item_and_comma n.items ++ (item_texts n.last ++ codes ")" ∷ n.later) in
     record {
@@ -373,26 +399,32 @@ item_more hi hf vs us item ts form n =
     }
 
 -- a `,` or `)` after an item
-item_back : (kind : DependKind) (hi hf : Bool) (x : List ℕ) (vs : List (List ℕ)) (us : List (List (List ℕ))) (text : List ℕ) (ts : List (List ℕ)) → ends_item text ≡ true
-    → Follows (lead_item kind hi hf x vs us text) ts → (item : ItemWritten) → HasItemForm vs item → ItemsRest hi hf vs us (item_texts item ++ text ∷ ts)
+item_back : (kind : DependKind) (hi hf : Bool) (x : List ℕ) (vs : List (List ℕ)) (us : List (List (List ℕ))) (text : List ℕ) (ts : List (List ℕ))
+    → ends_item text ≡ true
+    → Follows (lead_item kind hi hf x vs us text) ts → (item : ItemWritten) → HasItemForm vs item
+    → ItemsRest hi hf vs us (item_texts item ++ text ∷ ts)
 item_back kind hi hf x vs us text ts ends =
     bool_cases (is_text text (codes ","))
     (λ comma. rw comma (λ f. rw (same_text text (codes ",") comma) (λ item form. item_more hi hf vs us item ts form f)))
     (λ other. rw other (λ f. rw (same_text text (codes ")") (or_true_right (is_text text (codes ",")) (is_text text (codes ")")) ends other)) (λ item form. last_item hi hf vs us item ts form f)))
 
-subscript_back : (kind : DependKind) (hi hf : Bool) (x : List ℕ) (vs : List (List ℕ)) (us : List (List (List ℕ))) (text : List ℕ) (ts : List (List ℕ)) → StepsBack (Subscript kind) hi hf x vs us text ts
+subscript_back : (kind : DependKind) (hi hf : Bool) (x : List ℕ) (vs : List (List ℕ)) (us : List (List (List ℕ))) (text : List ℕ) (ts : List (List ℕ))
+    → StepsBack (Subscript kind) hi hf x vs us text ts
 subscript_back kind hi hf x vs us text ts h =
     let allowed = allowed_of (Subscript kind) hi hf vs us text h in
     bool_cases (is_text text (codes "["))
     (λ opens. rw opens (λ f. rw (same_text text (codes "[") opens) f))
     (λ other. rw other (λ f. λ name word. item_back kind hi hf x vs us text ts (or_true_right (is_text text (codes "[")) (ends_item text) allowed other) f (PlainItem name) word))
 
-start_variable : (vs : List (List ℕ)) (text : List ℕ) → (is_number text || (is_text text (codes "-") || (is_word text && list_any (bytes_eq text) vs))) ≡ true → is_number text ≡ false → is_text text (codes "-") ≡ false → IsVariable vs text
+start_variable : (vs : List (List ℕ)) (text : List ℕ)
+    → (is_number text || (is_text text (codes "-") || (is_word text && list_any (bytes_eq text) vs))) ≡ true
+    → is_number text ≡ false → is_text text (codes "-") ≡ false → IsVariable vs text
 start_variable vs text h no_number no_minus =
     let both : (is_word text && list_any (bytes_eq text) vs) ≡ true = or_true_right (is_text text (codes "-")) _ (or_true_right (is_number text) _ h no_number) no_minus in
     (and_left (is_word text) _ both, and_right (is_word text) _ both)
 
-start_back : (kind : DependKind) (hi hf : Bool) (x : List ℕ) (vs : List (List ℕ)) (us : List (List (List ℕ))) (text : List ℕ) (ts : List (List ℕ)) → StepsBack (IndexStart kind) hi hf x vs us text ts
+start_back : (kind : DependKind) (hi hf : Bool) (x : List ℕ) (vs : List (List ℕ)) (us : List (List (List ℕ))) (text : List ℕ) (ts : List (List ℕ))
+    → StepsBack (IndexStart kind) hi hf x vs us text ts
 start_back kind hi hf x vs us text ts h =
     let allowed = allowed_of (IndexStart kind) hi hf vs us text h in
     bool_cases (is_number text)
@@ -401,8 +433,10 @@ start_back kind hi hf x vs us text ts h =
     (λ minus. rw (no_number, minus) (λ f. rw (same_text text (codes "-") minus) (λ name word. f name word (codes "-" ∷ []) (OpenMinus vs))))
     (λ no_minus. rw (no_number, no_minus) (λ f. λ name word. f name word text (start_variable vs text allowed no_number no_minus))))
 
-number_back : (kind : DependKind) (hi hf : Bool) (x : List ℕ) (vs : List (List ℕ)) (us : List (List (List ℕ))) (text : List ℕ) (ts : List (List ℕ)) → IsNumber text
-    → FollowsAt (IndexCloses kind) hi hf x vs us ts → (name : List ℕ) → IsWord name → (before : List (List ℕ)) → OpenIndex vs before → ItemsRest hi hf vs us (name ∷ codes "[" ∷ (before ++ text ∷ ts))
+number_back : (kind : DependKind) (hi hf : Bool) (x : List ℕ) (vs : List (List ℕ)) (us : List (List (List ℕ))) (text : List ℕ) (ts : List (List ℕ))
+    → IsNumber text
+    → FollowsAt (IndexCloses kind) hi hf x vs us ts → (name : List ℕ) → IsWord name → (before : List (List ℕ))
+    → OpenIndex vs before → ItemsRest hi hf vs us (name ∷ codes "[" ∷ (before ++ text ∷ ts))
 number_back kind hi hf x vs us text ts number f name word before (OpenMinus _) = f name word (MinusIndex text) number
 number_back kind hi hf x vs us text ts number f name word before (OpenSign _ variable sign known sign_is) = f name word (SignIndex variable sign text) (known, sign_is, number)
 
@@ -410,18 +444,21 @@ or_true_left : (a b : Bool) → (a || b) ≡ true → b ≡ false → a ≡ true
 or_true_left true b h g = refl
 or_true_left false b h g = absurd (let wrong : true ≡ false = sym h ∙ g in cc)
 
-sign_back : (kind : DependKind) (hi hf : Bool) (x : List ℕ) (vs : List (List ℕ)) (us : List (List (List ℕ))) (text : List ℕ) (ts : List (List ℕ)) → StepsBack (IndexSign kind) hi hf x vs us text ts
+sign_back : (kind : DependKind) (hi hf : Bool) (x : List ℕ) (vs : List (List ℕ)) (us : List (List (List ℕ))) (text : List ℕ) (ts : List (List ℕ))
+    → StepsBack (IndexSign kind) hi hf x vs us text ts
 sign_back kind hi hf x vs us text ts h =
     let allowed = allowed_of (IndexSign kind) hi hf vs us text h in
     bool_cases (is_text text (codes "]"))
     (λ closes. rw closes (λ f. rw (same_text text (codes "]") closes) (λ name word variable known. f (IndexedItem name (VariableIndex variable)) (word, known))))
     (λ other. rw other (λ f. λ name word variable known. f name word (variable ∷ text ∷ []) (OpenSign vs variable text known (or_true_left (is_plus_or_minus text) (is_text text (codes "]")) allowed other))))
 
-closes_back : (kind : DependKind) (hi hf : Bool) (x : List ℕ) (vs : List (List ℕ)) (us : List (List (List ℕ))) (ts : List (List ℕ)) → FollowsAt (DependMore kind) hi hf x vs us ts → FollowsAt (IndexCloses kind) hi hf x vs us (codes "]" ∷ ts)
+closes_back : (kind : DependKind) (hi hf : Bool) (x : List ℕ) (vs : List (List ℕ)) (us : List (List (List ℕ))) (ts : List (List ℕ))
+    → FollowsAt (DependMore kind) hi hf x vs us ts → FollowsAt (IndexCloses kind) hi hf x vs us (codes "]" ∷ ts)
 closes_back kind hi hf x vs us ts f = λ name word index form.
     subst (λ (texts : List (List ℕ)). ItemsRest hi hf vs us (name ∷ codes "[" ∷ texts)) (append_assoc (index_texts index) (codes "]" ∷ []) ts) (f (IndexedItem name index) (word, form))
 
-pub steps_back : (place : LoopPlace) (hi hf : Bool) (x : List ℕ) (vs : List (List ℕ)) (us : List (List (List ℕ))) (text : List ℕ) (ts : List (List ℕ)) → StepsBack place hi hf x vs us text ts
+pub steps_back : (place : LoopPlace) (hi hf : Bool) (x : List ℕ) (vs : List (List ℕ)) (us : List (List (List ℕ))) (text : List ℕ) (ts : List (List ℕ))
+    → StepsBack place hi hf x vs us text ts
 steps_back Statement hi hf x vs us text ts h f = statement_back hi hf x vs us text ts h f
 steps_back WorkNumber hi hf x vs us text ts h f = piece_rest vs us vs us (WorkPiece text) ts (λ pieces forms. (h, forms)) f
 steps_back GroupBrace hi hf x vs us text ts h f = rw (same_text text (codes "{") h) (piece_rest vs us vs (vs ∷ us) GroupPiece ts (λ pieces forms. forms) f)
@@ -467,7 +504,8 @@ letters_run (suc n) = letters_run n
 letters_word : (n : ℕ) → is_word (120 ∷ letters n) ≡ true
 letters_word n = rw (not_none (length (letters n)), letters_run n) refl
 
-longer_apart : (text : List ℕ) (others : List (List ℕ)) → sum_by length others < length text → list_any (bytes_eq text) others ≡ false
+longer_apart : (text : List ℕ) (others : List (List ℕ)) → sum_by length others < length text
+    → list_any (bytes_eq text) others ≡ false
 longer_apart text [] h = refl
 longer_apart text (other ∷ others) h =
     let total : sum_by length (other ∷ others) ≡ length other + sum_by length others = sum_by-cons length other others in
@@ -493,55 +531,71 @@ statement_continued : (vs : List (List ℕ)) (us : List (List (List ℕ))) → (
 statement_continued vs [] = ([], nothing_follows false false [] vs)
 statement_continued vs (outer ∷ us) = let later = statement_continued outer us in (codes "}" ∷ later.0, piece_rest vs (outer ∷ us) outer us EndPiece later.0 (λ pieces forms. forms) later.1)
 
-clause_continued : (hi hf : Bool) (vs : List (List ℕ)) (us : List (List (List ℕ))) → (ts : List (List ℕ)) × ClausesRest hi hf vs us ts
+clause_continued : (hi hf : Bool) (vs : List (List ℕ)) (us : List (List (List ℕ)))
+    → (ts : List (List ℕ)) × ClausesRest hi hf vs us ts
 clause_continued hi hf vs us = let later = statement_continued vs (vs ∷ us) in (codes "{" ∷ later.0, brace_back hi hf vs us later.0 later.1)
 
-if_closes_continued : (hi hf : Bool) (x : List ℕ) (vs : List (List ℕ)) (us : List (List (List ℕ))) → Continued IfCloses hi hf x vs us
+if_closes_continued : (hi hf : Bool) (x : List ℕ) (vs : List (List ℕ)) (us : List (List (List ℕ)))
+    → Continued IfCloses hi hf x vs us
 if_closes_continued hi hf x vs us = let later = clause_continued hi hf vs us in (codes ")" ∷ later.0, if_back hi hf vs us later.0 later.1)
 
-if_number_continued : (hi hf : Bool) (x : List ℕ) (vs : List (List ℕ)) (us : List (List (List ℕ))) → Continued IfNumber hi hf x vs us
+if_number_continued : (hi hf : Bool) (x : List ℕ) (vs : List (List ℕ)) (us : List (List (List ℕ)))
+    → Continued IfNumber hi hf x vs us
 if_number_continued hi hf x vs us = let later = if_closes_continued true hf x vs us in (codes "0" ∷ later.0, later.1 (codes "0") refl)
 
-final_closes_continued : (hi hf : Bool) (x : List ℕ) (vs : List (List ℕ)) (us : List (List (List ℕ))) → Continued FinalCloses hi hf x vs us
+final_closes_continued : (hi hf : Bool) (x : List ℕ) (vs : List (List ℕ)) (us : List (List (List ℕ)))
+    → Continued FinalCloses hi hf x vs us
 final_closes_continued hi hf x vs us = let later = clause_continued hi hf vs us in (codes ")" ∷ later.0, final_back hi hf vs us later.0 later.1)
 
-final_number_continued : (hi hf : Bool) (x : List ℕ) (vs : List (List ℕ)) (us : List (List (List ℕ))) → Continued FinalNumber hi hf x vs us
+final_number_continued : (hi hf : Bool) (x : List ℕ) (vs : List (List ℕ)) (us : List (List (List ℕ)))
+    → Continued FinalNumber hi hf x vs us
 final_number_continued hi hf x vs us = let later = final_closes_continued hi true x vs us in (codes "0" ∷ later.0, later.1 (codes "0") refl)
 
-more_continued : (kind : DependKind) (hi hf : Bool) (x : List ℕ) (vs : List (List ℕ)) (us : List (List (List ℕ))) → Continued (DependMore kind) hi hf x vs us
+more_continued : (kind : DependKind) (hi hf : Bool) (x : List ℕ) (vs : List (List ℕ)) (us : List (List (List ℕ)))
+    → Continued (DependMore kind) hi hf x vs us
 more_continued kind hi hf x vs us = let later = clause_continued hi hf vs us in (codes ")" ∷ later.0, λ item form. last_item hi hf vs us item later.0 form later.1)
 
-closes_continued : (kind : DependKind) (hi hf : Bool) (x : List ℕ) (vs : List (List ℕ)) (us : List (List (List ℕ))) → Continued (IndexCloses kind) hi hf x vs us
+closes_continued : (kind : DependKind) (hi hf : Bool) (x : List ℕ) (vs : List (List ℕ)) (us : List (List (List ℕ)))
+    → Continued (IndexCloses kind) hi hf x vs us
 closes_continued kind hi hf x vs us = let later = more_continued kind hi hf x vs us in (codes "]" ∷ later.0, closes_back kind hi hf x vs us later.0 later.1)
 
-subscript_continued : (kind : DependKind) (hi hf : Bool) (x : List ℕ) (vs : List (List ℕ)) (us : List (List (List ℕ))) → Continued (Subscript kind) hi hf x vs us
+subscript_continued : (kind : DependKind) (hi hf : Bool) (x : List ℕ) (vs : List (List ℕ)) (us : List (List (List ℕ)))
+    → Continued (Subscript kind) hi hf x vs us
 subscript_continued kind hi hf x vs us = let later = clause_continued hi hf vs us in (codes ")" ∷ later.0, λ name word. last_item hi hf vs us (PlainItem name) later.0 word later.1)
 
-name_continued : (kind : DependKind) (hi hf : Bool) (x : List ℕ) (vs : List (List ℕ)) (us : List (List (List ℕ))) → Continued (DependName kind) hi hf x vs us
+name_continued : (kind : DependKind) (hi hf : Bool) (x : List ℕ) (vs : List (List ℕ)) (us : List (List (List ℕ)))
+    → Continued (DependName kind) hi hf x vs us
 name_continued kind hi hf x vs us = let later = subscript_continued kind hi hf x vs us in (codes "x" ∷ later.0, later.1 (codes "x") refl)
 
-colon_continued : (kind : DependKind) (hi hf : Bool) (x : List ℕ) (vs : List (List ℕ)) (us : List (List (List ℕ))) → Continued (DependColon kind) hi hf x vs us
+colon_continued : (kind : DependKind) (hi hf : Bool) (x : List ℕ) (vs : List (List ℕ)) (us : List (List (List ℕ)))
+    → Continued (DependColon kind) hi hf x vs us
 colon_continued kind hi hf x vs us = let later = name_continued kind hi hf x vs us in (codes ":" ∷ later.0, depend_clause kind hi hf vs us later.0 later.1)
 
-type_continued : (hi hf : Bool) (x : List ℕ) (vs : List (List ℕ)) (us : List (List (List ℕ))) → Continued DependType hi hf x vs us
+type_continued : (hi hf : Bool) (x : List ℕ) (vs : List (List ℕ)) (us : List (List (List ℕ)))
+    → Continued DependType hi hf x vs us
 type_continued hi hf x vs us = let later = colon_continued DependIn hi hf x vs us in (codes "in" ∷ later.0, later.1)
 
-for_brace_continued : (hi hf : Bool) (x : List ℕ) (vs : List (List ℕ)) (us : List (List (List ℕ))) → Continued ForBrace hi hf x vs us
+for_brace_continued : (hi hf : Bool) (x : List ℕ) (vs : List (List ℕ)) (us : List (List (List ℕ)))
+    → Continued ForBrace hi hf x vs us
 for_brace_continued hi hf x vs us =
     let later = statement_continued (x ∷ vs) (vs ∷ us) in
     (codes "{" ∷ later.0, λ new_one first last first_number last_number. piece_rest vs us (x ∷ vs) (vs ∷ us) (ForPiece x first last) later.0 (λ pieces forms. (new_one, first_number, last_number, forms)) later.1)
 
-for_to_continued : (hi hf : Bool) (x : List ℕ) (vs : List (List ℕ)) (us : List (List (List ℕ))) → Continued ForTo hi hf x vs us
+for_to_continued : (hi hf : Bool) (x : List ℕ) (vs : List (List ℕ)) (us : List (List (List ℕ)))
+    → Continued ForTo hi hf x vs us
 for_to_continued hi hf x vs us = let later = for_brace_continued hi hf x vs us in (codes "0" ∷ later.0, λ new_one first first_number. later.1 new_one first (codes "0") first_number refl)
 
-for_from_continued : (hi hf : Bool) (x : List ℕ) (vs : List (List ℕ)) (us : List (List (List ℕ))) → Continued ForFrom hi hf x vs us
+for_from_continued : (hi hf : Bool) (x : List ℕ) (vs : List (List ℕ)) (us : List (List (List ℕ)))
+    → Continued ForFrom hi hf x vs us
 for_from_continued hi hf x vs us = let later = for_to_continued hi hf x vs us in (codes "0" ∷ later.0, λ new_one. later.1 new_one (codes "0") refl)
 
-for_variable_continued : (hi hf : Bool) (x : List ℕ) (vs : List (List ℕ)) (us : List (List (List ℕ))) → Continued ForVariable hi hf x vs us
+for_variable_continued : (hi hf : Bool) (x : List ℕ) (vs : List (List ℕ)) (us : List (List (List ℕ)))
+    → Continued ForVariable hi hf x vs us
 for_variable_continued hi hf x vs us = let word = new_word vs in let later = for_from_continued hi hf word.0 vs us in (word.0 ∷ later.0, later.1 word.1)
 
 -- the words that may close a text from here on
-pub continued : (place : LoopPlace) (hi hf : Bool) (x : List ℕ) (vs : List (List ℕ)) (us : List (List (List ℕ))) → Continued place hi hf x vs us
+pub continued : (place : LoopPlace) (hi hf : Bool) (x : List ℕ) (vs : List (List ℕ)) (us : List (List (List ℕ)))
+    → Continued place hi hf x vs us
 continued Statement hi hf x vs us = statement_continued vs us
 continued WorkNumber hi hf x vs us = let later = statement_continued vs us in (codes "0" ∷ later.0, piece_rest vs us vs us (WorkPiece (codes "0")) later.0 (λ pieces forms. (refl, forms)) later.1)
 continued GroupBrace hi hf x vs us = let later = statement_continued vs (vs ∷ us) in (codes "{" ∷ later.0, piece_rest vs us vs (vs ∷ us) GroupPiece later.0 (λ pieces forms. forms) later.1)
