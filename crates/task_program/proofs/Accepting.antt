@@ -35,7 +35,8 @@ and_both : (a b : Bool) → a ≡ true → b ≡ true → (a && b) ≡ true
 and_both true b h g = g
 and_both false b h g = absurd cc
 
-pub accepts_next : (shape : Shape) (text : List ℕ) (texts : List (List ℕ)) → accepts shape (text ∷ texts) ≡ true → (fits shape text ≡ true) × (accepts (lead shape text) texts ≡ true)
+pub accepts_next : (shape : Shape) (text : List ℕ) (texts : List (List ℕ)) → accepts shape (text ∷ texts) ≡ true
+    → (fits shape text ≡ true) × (accepts (lead shape text) texts ≡ true)
 unfolding accepts
 accepts_next shape text texts h = and_parts (fits shape text) (accepts (lead shape text) texts) h
 
@@ -43,15 +44,18 @@ pub accepts_none : (shape : Shape) → accepts shape [] ≡ true → is_whole sh
 unfolding accepts
 accepts_none shape h = h
 
-one : (place : Place) (has_if : Bool) (depth : ℕ) (text : List ℕ) (texts : List (List ℕ)) → fits_at place has_if depth text ≡ true → accepts (lead_at place has_if depth text) texts ≡ true
+one : (place : Place) (has_if : Bool) (depth : ℕ) (text : List ℕ) (texts : List (List ℕ))
+    → fits_at place has_if depth text ≡ true → accepts (lead_at place has_if depth text) texts ≡ true
     → accepts (shape_at place has_if depth) (text ∷ texts) ≡ true
 unfolding accepts
 one place has_if depth text texts h later = and_both (fits_at place has_if depth text) (accepts (lead_at place has_if depth text) texts) h later
 
 -- ---- names and clauses
 
-names_accepted : (names : List (List ℕ)) (last : List ℕ) (kind : DependKind) (has_if : Bool) (depth : ℕ) (texts : List (List ℕ)) → All IsWord names → IsWord last
-    → accepts (shape_at Clause has_if depth) texts ≡ true → accepts (shape_at (DependName kind) has_if depth) (flat_map name_and_comma names ++ last ∷ codes ")" ∷ texts) ≡ true
+names_accepted : (names : List (List ℕ)) (last : List ℕ) (kind : DependKind) (has_if : Bool) (depth : ℕ) (texts : List (List ℕ))
+    → All IsWord names → IsWord last
+    → accepts (shape_at Clause has_if depth) texts ≡ true
+    → accepts (shape_at (DependName kind) has_if depth) (flat_map name_and_comma names ++ last ∷ codes ")" ∷ texts) ≡ true
 names_accepted [] last kind has_if depth texts words last_word later =
     one (DependName kind) has_if depth last (codes ")" ∷ texts) last_word (one (DependMore kind) has_if depth (codes ")") texts refl later)
 names_accepted (name ∷ names) last kind has_if depth texts words last_word later =
@@ -59,7 +63,8 @@ names_accepted (name ∷ names) last kind has_if depth texts words last_word lat
     let rest = flat_map name_and_comma names ++ last ∷ codes ")" ∷ texts in
     one (DependName kind) has_if depth name (codes "," ∷ rest) (All-head IsWord name names words) (one (DependMore kind) has_if depth (codes ",") rest refl others)
 
-depend_accepted : (kind : DependKind) (has_if : Bool) (depth : ℕ) (texts : List (List ℕ)) → accepts (shape_at (DependName kind) has_if depth) texts ≡ true
+depend_accepted : (kind : DependKind) (has_if : Bool) (depth : ℕ) (texts : List (List ℕ))
+    → accepts (shape_at (DependName kind) has_if depth) texts ≡ true
     → accepts (shape_at Clause has_if depth) (codes "depend" ∷ codes "(" ∷ type_word kind ∷ codes ":" ∷ texts) ≡ true
 depend_accepted kind has_if depth texts later =
     let colon : accepts (shape_at (DependColon kind) has_if depth) (codes ":" ∷ texts) ≡ true = one (DependColon kind) has_if depth (codes ":") texts refl later in
@@ -68,8 +73,10 @@ depend_accepted kind has_if depth texts later =
     (one DependType has_if depth (type_word kind) (codes ":" ∷ texts) (is_type_word kind)
     (subst (λ (k : DependKind). accepts (shape_at (DependColon k) has_if depth) (codes ":" ∷ texts) ≡ true) (sym (type_of_word kind)) colon)))
 
-clauses_accepted : (clauses : List grammar.Clause) (has_if : Bool) (depth : ℕ) (texts : List (List ℕ)) → All HasClauseForm clauses → cond has_if 1 0 + count_by is_if clauses ≤ 1
-    → accepts (shape_at Statement false (suc depth)) texts ≡ true → accepts (shape_at Clause has_if depth) (flat_map clause_texts clauses ++ codes "{" ∷ texts) ≡ true
+clauses_accepted : (clauses : List grammar.Clause) (has_if : Bool) (depth : ℕ) (texts : List (List ℕ))
+    → All HasClauseForm clauses → cond has_if 1 0 + count_by is_if clauses ≤ 1
+    → accepts (shape_at Statement false (suc depth)) texts ≡ true
+    → accepts (shape_at Clause has_if depth) (flat_map clause_texts clauses ++ codes "{" ∷ texts) ≡ true
 clauses_accepted [] has_if depth texts forms one_if later = one Clause has_if depth (codes "{") texts refl later
 clauses_accepted (IfClause number ∷ clauses) true depth texts forms one_if later =
     absurd (omega (arith, one_if, sum_by-cons (λ (c : grammar.Clause). cond (is_if c) 1 0) (IfClause number) clauses))
@@ -102,11 +109,13 @@ any_word end true h = refl
 any_word end false h = absurd cc
 
 -- the first word of a statement
-first_fits : (depth : ℕ) (text : List ℕ) → is_text text (codes "}") ≡ false → is_statement_word text ≡ true → fits_at Statement false depth text ≡ true
+first_fits : (depth : ℕ) (text : List ℕ) → is_text text (codes "}") ≡ false → is_statement_word text ≡ true
+    → fits_at Statement false depth text ≡ true
 first_fits zero text no_end word = word_fits (is_text text (codes "}")) (is_statement_word text) no_end word
 first_fits (suc depth) text no_end word = any_word (is_text text (codes "}")) (is_statement_word text) word
 
-task_accepted : (clauses : List grammar.Clause) (depth : ℕ) (texts : List (List ℕ)) → HasForm (TaskWritten clauses) → accepts (shape_at Statement false (suc depth)) texts ≡ true
+task_accepted : (clauses : List grammar.Clause) (depth : ℕ) (texts : List (List ℕ)) → HasForm (TaskWritten clauses)
+    → accepts (shape_at Statement false (suc depth)) texts ≡ true
     → accepts (shape_at Statement false depth) (texts_of (TaskWritten clauses) ++ texts) ≡ true
 task_accepted clauses depth texts form later =
     let inside = clauses_accepted clauses false depth texts form.0 (omega (arith, form.1)) later in
@@ -117,7 +126,8 @@ none_accepted : accepts (shape_at Statement false 0) [] ≡ true
 unfolding accepts
 none_accepted = refl
 
-pieces_accepted : (written : List Written) (depth : ℕ) → All HasForm written → EndBlocks written depth → accepts (shape_at Statement false depth) (flat_map texts_of written) ≡ true
+pieces_accepted : (written : List Written) (depth : ℕ) → All HasForm written → EndBlocks written depth
+    → accepts (shape_at Statement false depth) (flat_map texts_of written) ≡ true
 pieces_accepted [] zero forms nested = none_accepted
 pieces_accepted [] (suc depth) forms nested = absurd nested
 pieces_accepted (WorkWritten number ∷ written) depth forms nested =

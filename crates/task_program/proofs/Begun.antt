@@ -23,7 +23,8 @@ shape_of state = shape_at state.place state.head.has_if (length state.tree.block
 
 -- ---- where a token leads
 
-closed_depth : (blocks : List Block) (marks : List Mark) → length (closed_by blocks marks).blocks ≡ one_less (length blocks)
+closed_depth : (blocks : List Block) (marks : List Mark)
+    → length (closed_by blocks marks).blocks ≡ one_less (length blocks)
 closed_depth [] marks = refl
 closed_depth (block ∷ blocks) marks = refl
 
@@ -75,12 +76,14 @@ place_leads (DependName kind) state text line = refl
 
 -- ---- which tokens are allowed
 
-pub closes_same : (place : Place) (blocks : List Block) (text : List ℕ) → closes_nothing place blocks text ≡ closes_none place (length blocks) text
+pub closes_same : (place : Place) (blocks : List Block) (text : List ℕ)
+    → closes_nothing place blocks text ≡ closes_none place (length blocks) text
 closes_same Statement [] text = refl
 closes_same Statement (block ∷ blocks) text = refl
 closes_same _ blocks text = refl
 
-all_three : (header closes other allowed : Bool) → not header ≡ false → closes ≡ false → closes ≡ other → not allowed ≡ false → (header && (not other && allowed)) ≡ true
+all_three : (header closes other allowed : Bool) → not header ≡ false → closes ≡ false → closes ≡ other
+    → not allowed ≡ false → (header && (not other && allowed)) ≡ true
 all_three true false false true h c s a = refl
 all_three false closes other allowed h c s a = absurd cc
 all_three true true other allowed h c s a = absurd cc
@@ -91,7 +94,8 @@ pub no_header : (header closes allowed : Bool) → not header ≡ true → (head
 no_header true closes allowed h = absurd cc
 no_header false closes allowed h = refl
 
-pub no_close : (header closes other allowed : Bool) → closes ≡ true → closes ≡ other → (header && (not other && allowed)) ≡ false
+pub no_close : (header closes other allowed : Bool) → closes ≡ true → closes ≡ other
+    → (header && (not other && allowed)) ≡ false
 no_close true closes true allowed h s = refl
 no_close false closes other allowed h s = refl
 no_close true closes false allowed h s = absurd (let wrong : true ≡ false = sym h ∙ s in cc)
@@ -109,12 +113,14 @@ LengthAt Header n = n ≡ 0
 LengthAt Version n = n ≡ 1
 LengthAt _ n = 2 ≤ n
 
-either_length : (b : Bool) (one other : Shape) (n : ℕ) → LengthAt one.place n → LengthAt other.place n → LengthAt (cond b one other).place n
+either_length : (b : Bool) (one other : Shape) (n : ℕ) → LengthAt one.place n → LengthAt other.place n
+    → LengthAt (cond b one other).place n
 either_length true one other n h g = h
 either_length false one other n h g = g
 
 -- one token more
-length_goes : (place : Place) (has_if : Bool) (depth : ℕ) (text : List ℕ) (n : ℕ) → LengthAt place n → LengthAt (lead_at place has_if depth text).place (n + 1)
+length_goes : (place : Place) (has_if : Bool) (depth : ℕ) (text : List ℕ) (n : ℕ) → LengthAt place n
+    → LengthAt (lead_at place has_if depth text).place (n + 1)
 length_goes Header has_if depth text n h = omega (arith, h)
 length_goes Version has_if depth text n h = omega (arith, h)
 length_goes Statement has_if depth text n h =
@@ -136,26 +142,31 @@ pub record Began (before : List (List ℕ)) (state : State) : Type 0 where
   pub bytes_are : state.bytes ≡ sum_by length before
 
 -- a token that the grammar does not have
-pub unviable : (before : List (List ℕ)) (state : State) (text : List ℕ) → Began before state → fits (shape_of state) text ≡ false → IsViable (before ++ text ∷ []) → ⊥
+pub unviable : (before : List (List ℕ)) (state : State) (text : List ℕ) → Began before state
+    → fits (shape_of state) text ≡ false → IsViable (before ++ text ∷ []) → ⊥
 unviable before state text b wrong_here v =
     let sentence : IsSentence (before ++ text ∷ v.0) = subst IsSentence (append_assoc before (text ∷ []) v.0) v.1 in
     let fits_so : fits (shape_of state) text ≡ true = (accepts_next (shape_of state) text v.0 (b.accepted (text ∷ v.0) sentence)).0 in
     absurd (let wrong : true ≡ false = sym fits_so ∙ wrong_here in cc)
 
 -- and one that it has
-pub viable_next : (before : List (List ℕ)) (state : State) (text : List ℕ) → Began before state → fits (shape_of state) text ≡ true → IsViable (before ++ text ∷ [])
+pub viable_next : (before : List (List ℕ)) (state : State) (text : List ℕ) → Began before state
+    → fits (shape_of state) text ≡ true → IsViable (before ++ text ∷ [])
 viable_next before state text b yes_fits =
     let next = lead (shape_of state) text in
     let c = continued next.place next.has_if next.depth in
     let back = steps_back state.place state.head.has_if (length state.tree.blocks) text c.0 yes_fits c.1 in
     (c.0, subst IsSentence (sym (append_assoc before (text ∷ []) c.0)) (b.follows (text ∷ c.0) back))
 
-pub fits_of : (state : State) (text : List ℕ) → not (is_header state.place text) ≡ false → closes_nothing state.place state.tree.blocks text ≡ false → not (is_allowed state.place state.head.has_if text) ≡ false → fits (shape_of state) text ≡ true
+pub fits_of : (state : State) (text : List ℕ) → not (is_header state.place text) ≡ false
+    → closes_nothing state.place state.tree.blocks text ≡ false
+    → not (is_allowed state.place state.head.has_if text) ≡ false → fits (shape_of state) text ≡ true
 fits_of state text header unopened allowed =
     all_three (is_header state.place text) (closes_nothing state.place state.tree.blocks text) (closes_none state.place (length state.tree.blocks) text) (is_allowed state.place state.head.has_if text)
     header unopened (closes_same state.place state.tree.blocks text) allowed
 
-pub step_begins : (before : List (List ℕ)) (state next : State) (token : Token) → Began before state → step state token ≡ Ok next → Began (before ++ token.text ∷ []) next
+pub step_begins : (before : List (List ℕ)) (state next : State) (token : Token) → Began before state
+    → step state token ≡ Ok next → Began (before ++ token.text ∷ []) next
 unfolding step
 step_begins before state next token b h =
     let passed = unless_ok (form_fault state.bytes token.text) token.line _ next h in
@@ -182,7 +193,8 @@ step_begins before state next token b h =
 
 -- ---- the fault of a token
 
-pub row_cases : {P : Type 0} (b : Bool) (k kind : ReadKind) (rest : Option ReadKind) → cond b (Some k) rest ≡ Some kind → (b ≡ true → k ≡ kind → P) → (b ≡ false → rest ≡ Some kind → P) → P
+pub row_cases : {P : Type 0} (b : Bool) (k kind : ReadKind) (rest : Option ReadKind)
+    → cond b (Some k) rest ≡ Some kind → (b ≡ true → k ≡ kind → P) → (b ≡ false → rest ≡ Some kind → P) → P
 row_cases true k kind rest h here later = here refl cc
 row_cases false k kind rest h here later = later refl h
 
@@ -192,21 +204,25 @@ in_header Header text n h bad = omega (arith, h)
 in_header Version text n h bad = omega (arith, h)
 in_header _ text n h bad = absurd cc
 
-pub after_header : (place : Place) (has_if : Bool) (text : List ℕ) (n : ℕ) → LengthAt place n → not (is_allowed place has_if text) ≡ true → 2 ≤ n
+pub after_header : (place : Place) (has_if : Bool) (text : List ℕ) (n : ℕ) → LengthAt place n
+    → not (is_allowed place has_if text) ≡ true → 2 ≤ n
 after_header Header has_if text n h bad = absurd cc
 after_header Version has_if text n h bad = absurd cc
 after_header _ has_if text n h bad = h
 
 -- a `}` that closes nothing comes after what is whole
-pub closes_at : (place : Place) (has_if : Bool) (depth : ℕ) (text : List ℕ) → closes_none place depth text ≡ true → (text ≡ codes "}") × FollowsAt place has_if depth []
+pub closes_at : (place : Place) (has_if : Bool) (depth : ℕ) (text : List ℕ) → closes_none place depth text ≡ true
+    → (text ≡ codes "}") × FollowsAt place has_if depth []
 closes_at Statement has_if zero text h = (same_text text (codes "}") h, nothing_follows has_if)
 closes_at Statement has_if (suc depth) text h = absurd cc
 closes_at _ has_if depth text h = absurd cc
 
-pub whole_closes : (place : Place) (depth : ℕ) (text : List ℕ) → is_whole place depth ≡ true → text ≡ codes "}" → closes_none place depth text ≡ true
+pub whole_closes : (place : Place) (depth : ℕ) (text : List ℕ) → is_whole place depth ≡ true → text ≡ codes "}"
+    → closes_none place depth text ≡ true
 whole_closes Statement zero text h text_is = rw text_is refl
 whole_closes Statement (suc depth) text h text_is = absurd cc
 whole_closes _ depth text h text_is = absurd cc
 
-pub whole_now : (before : List (List ℕ)) (state : State) → Began before state → IsSentence before → is_whole state.place (length state.tree.blocks) ≡ true
+pub whole_now : (before : List (List ℕ)) (state : State) → Began before state → IsSentence before
+    → is_whole state.place (length state.tree.blocks) ≡ true
 whole_now before state b s = accepts_none (shape_of state) (b.accepted [] (subst IsSentence (sym (append-nil before)) s))

@@ -66,7 +66,8 @@ nothing_after_one [] token h = refl
 nothing_after_one (first ∷ []) token h = refl
 nothing_after_one (first ∷ second ∷ before) token h = absurd (omega (arith, h))
 
-items_go : (place : Place) (state : State) (text : List ℕ) (line : ℕ) → NoItems place state.head.items → NoItems (after_at place (at state place) text line).place (after_at place (at state place) text line).head.items
+items_go : (place : Place) (state : State) (text : List ℕ) (line : ℕ) → NoItems place state.head.items
+    → NoItems (after_at place (at state place) text line).place (after_at place (at state place) text line).head.items
 items_go Header state text line h = h
 items_go Version state text line h = h
 items_go Statement state text line h =
@@ -93,13 +94,15 @@ items_go (DependMore kind) state text line h =
     (λ other. rw other tt)
 items_go _ state text line h = tt
 
-header_limitless : (place : Place) (state : State) (text : List ℕ) → is_past_header place ≡ false → limits (at state place) text ≡ None
+header_limitless : (place : Place) (state : State) (text : List ℕ) → is_past_header place ≡ false
+    → limits (at state place) text ≡ None
 header_limitless Header state text here = refl
 header_limitless Version state text here = refl
 header_limitless _ state text here = absurd cc
 
 -- the limits counted on the tokens are those that the reading tests
-limits_so : (before : List Token) (state : State) (text : List ℕ) → Counts before state → is_header state.place text ≡ true → is_allowed state.place state.head.has_if text ≡ true
+limits_so : (before : List Token) (state : State) (text : List ℕ) → Counts before state
+    → is_header state.place text ≡ true → is_allowed state.place state.head.has_if text ≡ true
     → limit_fault_after (drop 2 before) text ≡ limits state text
 limits_so before state text c header allowed =
     bool_cases (is_past_header state.place)
@@ -108,7 +111,8 @@ limits_so before state text c header allowed =
     let short : length before ≤ 1 = omega (arith, texts_long before, header_short state.place (length (texts before)) c.began.length_is here) in
     ap (λ (ts : List Token). limit_fault_after ts text) (nothing_after before short) ∙ header_limits state.place text here header ∙ sym (header_limitless state.place state text here))
 
-tally_goes : (before : List Token) (state : State) (bytes : ℕ) (next : State) (token : Token) → Counts before state → is_allowed state.place state.head.has_if token.text ≡ true
+tally_goes : (before : List Token) (state : State) (bytes : ℕ) (next : State) (token : Token) → Counts before state
+    → is_allowed state.place state.head.has_if token.text ≡ true
     → after_at state.place (record state { bytes = bytes }) token.text token.line ≡ next → tally_of (drop 2 (before ++ token ∷ [])) ≡ tally_now next
 tally_goes before state bytes next token c allowed same =
     let inside : State = record state { bytes = bytes } in
@@ -126,7 +130,8 @@ texts_more : (before : List Token) (token : Token) → texts (before ++ token �
 texts_more before token = map_push (λ (t : Token). t.text) before token
 
 -- nothing is wrong with a token after which the reading goes on
-token_right : (before : List Token) (state next : State) (token : Token) → Counts before state → step state token ≡ Ok next → IsRight before token.text
+token_right : (before : List Token) (state next : State) (token : Token) → Counts before state
+    → step state token ≡ Ok next → IsRight before token.text
 unfolding step
 token_right before state next token c h =
     let passed = unless_ok (form_fault state.bytes token.text) token.line _ next h in
@@ -139,7 +144,8 @@ token_right before state next token c h =
       within = limits_so before state token.text c (is_true _ p.header) (is_true _ p.allowed) ∙ no_limit;
     }
 
-counts_more : (before : List Token) (state next : State) (token : Token) → Counts before state → step state token ≡ Ok next → Counts (before ++ token ∷ []) next
+counts_more : (before : List Token) (state next : State) (token : Token) → Counts before state
+    → step state token ≡ Ok next → Counts (before ++ token ∷ []) next
 unfolding step
 counts_more before state next token c h =
     let passed = unless_ok (form_fault state.bytes token.text) token.line _ next h in
@@ -161,7 +167,9 @@ abbrev fault_so : ReadKind → ℕ → ReadFault
 fault_so kind line = record { kind = kind; line = line }
 
 -- the fault of a token that is one by itself
-at_place : (before : List Token) (state : State) (text : List ℕ) (kind : ReadKind) → Counts before state → form_fault (sum_by length (texts before)) text ≡ None → place_fault state text ≡ Some kind → IsWrong before text kind
+at_place : (before : List Token) (state : State) (text : List ℕ) (kind : ReadKind) → Counts before state
+    → form_fault (sum_by length (texts before)) text ≡ None → place_fault state text ≡ Some kind
+    → IsWrong before text kind
 at_place before state text kind c formed h =
     let b = c.began in
     let place = state.place in
@@ -187,13 +195,17 @@ at_place before state text kind c formed h =
     (λ allowed h3. PastLimit before text kind formed (viable_next (texts before) state text b (fits_of state text header unopened allowed))
     (limits_so before state text c (is_true header_is header) (is_true allowed_is allowed) ∙ h3))))
 
-unless_err : {P : Type 0} (found : Option ReadKind) (line : ℕ) (after : Result State ReadFault) (fault : ReadFault) → unless_fault found line after ≡ Err fault
-    → ((kind : ReadKind) → found ≡ Some kind → fault_so kind line ≡ fault → P) → (found ≡ None → after ≡ Err fault → P) → P
+unless_err : {P : Type 0} (found : Option ReadKind) (line : ℕ) (after : Result State ReadFault) (fault : ReadFault)
+    → unless_fault found line after ≡ Err fault
+    → ((kind : ReadKind) → found ≡ Some kind → fault_so kind line ≡ fault → P)
+    → (found ≡ None → after ≡ Err fault → P) → P
 unless_err (Some kind) line after fault h here later = here kind refl cc
 unless_err None line after fault h here later = later refl h
 
 -- a token is wrong at which the reading stops
-token_wrong : (before : List Token) (state : State) (token : Token) (fault : ReadFault) → Counts before state → step state token ≡ Err fault → (kind : ReadKind) × IsWrong before token.text kind × (fault_so kind token.line ≡ fault)
+token_wrong : (before : List Token) (state : State) (token : Token) (fault : ReadFault) → Counts before state
+    → step state token ≡ Err fault
+    → (kind : ReadKind) × IsWrong before token.text kind × (fault_so kind token.line ≡ fault)
 unfolding step
 token_wrong before state token fault c h =
     let inside : State = record state { bytes = state.bytes + length token.text } in
@@ -203,7 +215,8 @@ token_wrong before state token fault c h =
     (λ kind place same. (kind, at_place before state token.text kind c (subst (λ (n : ℕ). form_fault n token.text ≡ None) c.began.bytes_are form) place, same))
     (λ none wrong. absurd cc))
 
-token_fault : (before later : List Token) (state : State) (token : Token) (end_line : ℕ) (fault : ReadFault) → Counts before state → step state token ≡ Err fault → IsFirstFault (before ++ token ∷ later) end_line fault
+token_fault : (before later : List Token) (state : State) (token : Token) (end_line : ℕ) (fault : ReadFault)
+    → Counts before state → step state token ≡ Err fault → IsFirstFault (before ++ token ∷ later) end_line fault
 token_fault before later state token end_line fault c h =
     let told = token_wrong before state token fault c h in
     subst (IsFirstFault (before ++ token ∷ later) end_line) told.2 (AtToken before later token end_line told.0 c.right told.1)
@@ -219,12 +232,14 @@ two_kinds one other found h g = cc
 some_none : (kind : ReadKind) (found : Option ReadKind) → found ≡ Some kind → found ≡ None → ⊥
 some_none kind found h g = absurd cc
 
-right_not_wrong : (before : List Token) (text : List ℕ) (kind : ReadKind) → IsRight before text → IsWrong before text kind → ⊥
+right_not_wrong : (before : List Token) (text : List ℕ) (kind : ReadKind) → IsRight before text
+    → IsWrong before text kind → ⊥
 right_not_wrong before text kind r (ByItself _ _ _ form) = some_none kind _ form r.formed
 right_not_wrong before text kind r (Misplaced _ _ _ form no_viable misplaced) = no_viable r.viable
 right_not_wrong before text kind r (PastLimit _ _ _ form viable_so limit) = some_none kind _ limit r.within
 
-misplaced_once : (before : List (List ℕ)) (text : List ℕ) (one other : ReadKind) → IsMisplaced before text one → IsMisplaced before text other → one ≡ other
+misplaced_once : (before : List (List ℕ)) (text : List ℕ) (one other : ReadKind) → IsMisplaced before text one
+    → IsMisplaced before text other → one ≡ other
 misplaced_once before text one other (OfHeader _ _ short) (OfHeader _ _ again) = refl
 misplaced_once before text one other (OfHeader _ _ short) (AfterWhole _ _ s text_is) = absurd (let long = sentence_long before s in omega (arith, short, long))
 misplaced_once before text one other (OfHeader _ _ short) (Elsewhere _ _ long no_whole) = absurd (omega (arith, short, long))
@@ -235,7 +250,8 @@ misplaced_once before text one other (Elsewhere _ _ long no_whole) (OfHeader _ _
 misplaced_once before text one other (Elsewhere _ _ long no_whole) (AfterWhole _ _ s text_is) = absurd (no_whole s text_is)
 misplaced_once before text one other (Elsewhere _ _ long no_whole) (Elsewhere _ _ again none) = refl
 
-wrong_once : (before : List Token) (text : List ℕ) (one other : ReadKind) → IsWrong before text one → IsWrong before text other → one ≡ other
+wrong_once : (before : List Token) (text : List ℕ) (one other : ReadKind) → IsWrong before text one
+    → IsWrong before text other → one ≡ other
 wrong_once before text one other (ByItself _ _ _ form) (ByItself _ _ _ again) = two_kinds one other _ form again
 wrong_once before text one other (ByItself _ _ _ form) (Misplaced _ _ _ none no_viable misplaced) = absurd (some_none one _ form none)
 wrong_once before text one other (ByItself _ _ _ form) (PastLimit _ _ _ none viable_so limit) = absurd (some_none one _ form none)
@@ -246,12 +262,14 @@ wrong_once before text one other (PastLimit _ _ _ none viable_so limit) (ByItsel
 wrong_once before text one other (PastLimit _ _ _ none viable_so limit) (Misplaced _ _ _ again no_viable misplaced) = absurd (no_viable viable_so)
 wrong_once before text one other (PastLimit _ _ _ none viable_so limit) (PastLimit _ _ _ again viable_too limit_too) = two_kinds one other _ limit limit_too
 
-no_braces : (all : List Token) (line : ℕ) (others : List ℕ) → length all < 2 → open_braces (drop 2 all) ≡ line ∷ others → ⊥
+no_braces : (all : List Token) (line : ℕ) (others : List ℕ) → length all < 2
+    → open_braces (drop 2 all) ≡ line ∷ others → ⊥
 no_braces all line others short braces =
     let none : open_braces (drop 2 all) ≡ [] = ap (λ (ts : List Token). open_braces ts) (nothing_after all (omega (arith, short))) in
     absurd (let wrong : line ∷ others ≡ [] = sym braces ∙ none in cc)
 
-ends_once : (all : List Token) (end_line : ℕ) (one other : ReadFault) → EndsEarly all end_line one → EndsEarly all end_line other → one ≡ other
+ends_once : (all : List Token) (end_line : ℕ) (one other : ReadFault) → EndsEarly all end_line one
+    → EndsEarly all end_line other → one ≡ other
 ends_once all end_line one other (InHeader _ _ short) (InHeader _ _ again) = refl
 ends_once all end_line one other (InHeader _ _ short) (BlockOpen _ _ line others viable_so braces) = absurd (no_braces all line others short braces)
 ends_once all end_line one other (InHeader _ _ short) (Inside _ _ long no_viable) = absurd (omega (arith, short, long))
@@ -267,8 +285,10 @@ ends_once all end_line one other (Inside _ _ long no_viable) (Inside _ _ again n
 
 -- ---- the end
 
-end_by : (all : List Token) (place : Place) (has_if : Bool) (blocks : List Block) (end_line : ℕ) (fault : ReadFault) → LengthAt place (length all) → open_braces (drop 2 all) ≡ map line_of blocks
-    → (fits_at place has_if (length blocks) (codes "}") ≡ true → IsViable (texts all ++ codes "}" ∷ [])) → (fits_at place has_if (length blocks) (codes "}") ≡ false → IsViable (texts all ++ codes "}" ∷ []) → ⊥)
+end_by : (all : List Token) (place : Place) (has_if : Bool) (blocks : List Block) (end_line : ℕ) (fault : ReadFault)
+    → LengthAt place (length all) → open_braces (drop 2 all) ≡ map line_of blocks
+    → (fits_at place has_if (length blocks) (codes "}") ≡ true → IsViable (texts all ++ codes "}" ∷ []))
+    → (fits_at place has_if (length blocks) (codes "}") ≡ false → IsViable (texts all ++ codes "}" ∷ []) → ⊥)
     → end_at place blocks end_line ≡ Some fault → EndsEarly all end_line fault
 end_by all Header has_if blocks end_line fault long braces can cannot h = let same : fault_so BadHeader end_line ≡ fault = cc in subst (EndsEarly all end_line) same (InHeader all end_line (omega (arith, long)))
 end_by all Version has_if blocks end_line fault long braces can cannot h = let same : fault_so BadHeader end_line ≡ fault = cc in subst (EndsEarly all end_line) same (InHeader all end_line (omega (arith, long)))
@@ -277,42 +297,50 @@ end_by all Statement has_if (block ∷ blocks) end_line fault long braces can ca
     let same : fault_so Unclosed (line_of block) ≡ fault = cc in subst (EndsEarly all end_line) same (BlockOpen all end_line (line_of block) (map line_of blocks) (can refl) braces)
 end_by all _ has_if blocks end_line fault long braces can cannot h = let same : fault_so BadWord end_line ≡ fault = cc in subst (EndsEarly all end_line) same (Inside all end_line long (cannot refl))
 
-whole_ends : (place : Place) (blocks : List Block) (line : ℕ) (fault : ReadFault) → is_whole place (length blocks) ≡ true → end_at place blocks line ≡ Some fault → ⊥
+whole_ends : (place : Place) (blocks : List Block) (line : ℕ) (fault : ReadFault)
+    → is_whole place (length blocks) ≡ true → end_at place blocks line ≡ Some fault → ⊥
 whole_ends Statement [] line fault h g = absurd cc
 whole_ends Statement (block ∷ blocks) line fault h g = absurd cc
 whole_ends _ blocks line fault h g = absurd cc
 
-ended_err : (found : Option ReadFault) (state : State) (fault : ReadFault) → ended found state ≡ Err fault → found ≡ Some fault
+ended_err : (found : Option ReadFault) (state : State) (fault : ReadFault) → ended found state ≡ Err fault
+    → found ≡ Some fault
 ended_err (Some other) state fault h = cc
 ended_err None state fault h = absurd cc
 
-ended_ok : (place : Place) (has_if : Bool) (blocks : List Block) (line : ℕ) (state : State) (program : ProgramText) → ended (end_at place blocks line) state ≡ Ok program → FollowsAt place has_if (length blocks) []
+ended_ok : (place : Place) (has_if : Bool) (blocks : List Block) (line : ℕ) (state : State) (program : ProgramText)
+    → ended (end_at place blocks line) state ≡ Ok program → FollowsAt place has_if (length blocks) []
 ended_ok Statement has_if [] line state program h = nothing_follows has_if
 ended_ok Statement has_if (block ∷ blocks) line state program h = absurd cc
 ended_ok _ has_if blocks line state program h = absurd cc
 
-early_at : (all : List Token) (state : State) (end_line : ℕ) (fault : ReadFault) → Counts all state → end_at state.place state.tree.blocks end_line ≡ Some fault → EndsEarly all end_line fault
+early_at : (all : List Token) (state : State) (end_line : ℕ) (fault : ReadFault) → Counts all state
+    → end_at state.place state.tree.blocks end_line ≡ Some fault → EndsEarly all end_line fault
 early_at all state end_line fault c h =
     let b = c.began in
     end_by all state.place state.head.has_if state.tree.blocks end_line fault (subst (λ (n : ℕ). LengthAt state.place n) (texts_long all) b.length_is)
     (ap (λ (t : Tally). t.braces) c.tally_is) (viable_next (texts all) state (codes "}") b) (unviable (texts all) state (codes "}") b) h
 
-end_is : (state : State) (line : ℕ) (fault : ReadFault) → reading [] line state ≡ Err fault → end_at state.place state.tree.blocks line ≡ Some fault
+end_is : (state : State) (line : ℕ) (fault : ReadFault) → reading [] line state ≡ Err fault
+    → end_at state.place state.tree.blocks line ≡ Some fault
 unfolding reading
 end_is state line fault h = ended_err (end_at state.place state.tree.blocks line) state fault h
 
-end_fault : (all : List Token) (state : State) (end_line : ℕ) (fault : ReadFault) → Counts all state → end_at state.place state.tree.blocks end_line ≡ Some fault → IsFirstFault all end_line fault
+end_fault : (all : List Token) (state : State) (end_line : ℕ) (fault : ReadFault) → Counts all state
+    → end_at state.place state.tree.blocks end_line ≡ Some fault → IsFirstFault all end_line fault
 end_fault all state end_line fault c h =
     AtEnd all end_line fault c.right (λ s. whole_ends state.place state.tree.blocks end_line fault (whole_now (texts all) state c.began s) h) (early_at all state end_line fault c h)
 
 -- ---- the whole
 
-stepped : {P : Type 0} (read : Result State ReadFault) (later : State → Result ProgramText ReadFault) (fault : ReadFault) → go_on read later ≡ Err fault
+stepped : {P : Type 0} (read : Result State ReadFault) (later : State → Result ProgramText ReadFault) (fault : ReadFault)
+    → go_on read later ≡ Err fault
     → ((next : State) → read ≡ Ok next → later next ≡ Err fault → P) → (read ≡ Err fault → P) → P
 stepped (Ok next) later fault h on stops = on next refl h
 stepped (Err other) later fault h on stops = stops cc
 
-fault_from : (tokens before : List Token) (state : State) (end_line : ℕ) (fault : ReadFault) → Counts before state → reading tokens end_line state ≡ Err fault → IsFirstFault (before ++ tokens) end_line fault
+fault_from : (tokens before : List Token) (state : State) (end_line : ℕ) (fault : ReadFault) → Counts before state
+    → reading tokens end_line state ≡ Err fault → IsFirstFault (before ++ tokens) end_line fault
 unfolding reading
 fault_from [] before state end_line fault c h =
     subst (λ (ts : List Token). IsFirstFault ts end_line fault) (sym (append-nil before)) (end_fault before state end_line fault c (ended_err (end_at state.place state.tree.blocks end_line) state fault h))
@@ -325,7 +353,8 @@ fault_from (token ∷ tokens) before state end_line fault c h =
 abbrev Whole : List Token → Type 0
 Whole all = IsSentence (texts all) × AreRight all
 
-whole_from : (tokens before : List Token) (state : State) (end_line : ℕ) (program : ProgramText) → Counts before state → reading tokens end_line state ≡ Ok program → Whole (before ++ tokens)
+whole_from : (tokens before : List Token) (state : State) (end_line : ℕ) (program : ProgramText) → Counts before state
+    → reading tokens end_line state ≡ Ok program → Whole (before ++ tokens)
 unfolding reading
 whole_from [] before state end_line program c h =
     let whole = c.began.follows [] (ended_ok state.place state.head.has_if state.tree.blocks end_line state program h) in
@@ -347,7 +376,8 @@ at_start = record {
 too_long : (text : List ℕ) → nat_lt most_bytes (length text) ≡ true → program_of text ≡ Err (fault_so TooLong 1)
 too_long text long = rw long refl
 
-same_fault : (read : Result ProgramText ReadFault) (one other : ReadFault) → read ≡ Err one → read ≡ Err other → one ≡ other
+same_fault : (read : Result ProgramText ReadFault) (one other : ReadFault) → read ≡ Err one → read ≡ Err other
+    → one ≡ other
 same_fault read one other h g = cc
 
 -- ---- and whatever has the fault is refused with it
@@ -358,15 +388,18 @@ record ReadSo (before : List Token) : Type 0 where
   counts : Counts before state
   goes_on : (later : List Token) (line : ℕ) → reading (before ++ later) line start ≡ reading later line state
 
-step_cases : {P : Type 0} (read : Result State ReadFault) → ((next : State) → read ≡ Ok next → P) → ((fault : ReadFault) → read ≡ Err fault → P) → P
+step_cases : {P : Type 0} (read : Result State ReadFault) → ((next : State) → read ≡ Ok next → P)
+    → ((fault : ReadFault) → read ≡ Err fault → P) → P
 step_cases (Ok next) on stops = on next refl
 step_cases (Err fault) on stops = stops fault refl
 
-one_on : (token : Token) (later : List Token) (line : ℕ) (state next : State) → step state token ≡ Ok next → reading (token ∷ later) line state ≡ reading later line next
+one_on : (token : Token) (later : List Token) (line : ℕ) (state next : State) → step state token ≡ Ok next
+    → reading (token ∷ later) line state ≡ reading later line next
 unfolding reading
 one_on token later line state next h = rw h refl
 
-one_stops : (token : Token) (later : List Token) (line : ℕ) (state : State) (fault : ReadFault) → step state token ≡ Err fault → reading (token ∷ later) line state ≡ Err fault
+one_stops : (token : Token) (later : List Token) (line : ℕ) (state : State) (fault : ReadFault)
+    → step state token ≡ Err fault → reading (token ∷ later) line state ≡ Err fault
 unfolding reading
 one_stops token later line state fault h = rw h refl
 
@@ -386,7 +419,8 @@ right_read before (More others token rights right) =
 abbrev failed : ReadFault → Result ProgramText ReadFault
 failed fault = Err fault
 
-refused_at : (before later : List Token) (token : Token) (line : ℕ) (kind : ReadKind) → AreRight before → IsWrong before token.text kind → reading (before ++ token ∷ later) line start ≡ Err (fault_so kind token.line)
+refused_at : (before later : List Token) (token : Token) (line : ℕ) (kind : ReadKind) → AreRight before
+    → IsWrong before token.text kind → reading (before ++ token ∷ later) line start ≡ Err (fault_so kind token.line)
 refused_at before later token line kind rights wrong =
     let r = right_read before rights in
     step_cases (step r.state token)
@@ -396,28 +430,33 @@ refused_at before later token line kind rights wrong =
     let same : fault ≡ fault_so kind token.line = sym told.2 ∙ ap (λ (k : ReadKind). fault_so k token.line) (wrong_once before token.text told.0 kind told.1 wrong) in
     r.goes_on (token ∷ later) line ∙ one_stops token later line r.state fault stops ∙ ap (λ (f : ReadFault). failed f) same)
 
-read_cases : {P : Type 0} (read : Result ProgramText ReadFault) → ((program : ProgramText) → read ≡ Ok program → P) → ((fault : ReadFault) → read ≡ Err fault → P) → P
+read_cases : {P : Type 0} (read : Result ProgramText ReadFault) → ((program : ProgramText) → read ≡ Ok program → P)
+    → ((fault : ReadFault) → read ≡ Err fault → P) → P
 read_cases (Ok program) on stops = on program refl
 read_cases (Err fault) on stops = stops fault refl
 
-early_once : (all : List Token) (line : ℕ) (one other : ReadFault) → AreRight all → EndsEarly all line one → reading all line start ≡ Err other → one ≡ other
+early_once : (all : List Token) (line : ℕ) (one other : ReadFault) → AreRight all → EndsEarly all line one
+    → reading all line start ≡ Err other → one ≡ other
 early_once all line one other rights early h =
     let r = right_read all rights in
     let ended_so : reading [] line r.state ≡ Err other = sym (r.goes_on [] line) ∙ ap (λ (ts : List Token). reading ts line start) (append-nil all) ∙ h in
     ends_once all line one other early (early_at all r.state line other r.counts (end_is r.state line other ended_so))
 
-refused_end : (all : List Token) (line : ℕ) (fault : ReadFault) → AreRight all → (IsSentence (texts all) → ⊥) → EndsEarly all line fault → reading all line start ≡ Err fault
+refused_end : (all : List Token) (line : ℕ) (fault : ReadFault) → AreRight all → (IsSentence (texts all) → ⊥)
+    → EndsEarly all line fault → reading all line start ≡ Err fault
 refused_end all line fault rights no_sentence early =
     read_cases (reading all line start)
     (λ program h. absurd (no_sentence (whole_from all [] start line program at_start h).0))
     (λ other h. h ∙ ap (λ (f : ReadFault). failed f) (sym (early_once all line fault other rights early h)))
 
-refused_first : (tokens : List Token) (line : ℕ) (fault : ReadFault) → IsFirstFault tokens line fault → reading tokens line start ≡ Err fault
+refused_first : (tokens : List Token) (line : ℕ) (fault : ReadFault) → IsFirstFault tokens line fault
+    → reading tokens line start ≡ Err fault
 refused_first tokens line fault (AtToken before later token _ kind rights wrong) = refused_at before later token line kind rights wrong
 refused_first tokens line fault (AtEnd _ _ _ rights no_sentence early) = refused_end tokens line fault rights no_sentence early
 
 -- a sentence of right tokens has no first fault
-whole_read : (all : List Token) (line : ℕ) → IsSentence (texts all) → AreRight all → (program : ProgramText) × (reading all line start ≡ Ok program)
+whole_read : (all : List Token) (line : ℕ) → IsSentence (texts all) → AreRight all
+    → (program : ProgramText) × (reading all line start ≡ Ok program)
 whole_read all line s rights =
     let r = right_read all rights in
     let to_end : reading all line start ≡ reading [] line r.state = ap (λ (ts : List Token). reading ts line start) (sym (append-nil all)) ∙ r.goes_on [] line in
@@ -425,11 +464,13 @@ whole_read all line s rights =
     (λ program h. (program, h))
     (λ fault h. absurd (whole_ends r.state.place r.state.tree.blocks line fault (whole_now (texts all) r.state r.counts.began s) (end_is r.state line fault (sym to_end ∙ h))))
 
-short_refused : (text : List ℕ) (fault : ReadFault) → length text ≤ most_bytes → program_of text ≡ one_pass text → HasFault text fault → program_of text ≡ Err fault
+short_refused : (text : List ℕ) (fault : ReadFault) → length text ≤ most_bytes → program_of text ≡ one_pass text
+    → HasFault text fault → program_of text ≡ Err fault
 short_refused text fault fits so (TextTooLong _ long) = absurd (omega (arith, fits, long))
 short_refused text fault fits so (OfTokens _ _ short first) = so ∙ refused_first (tokens_of text) (line_at_end 1 text) fault first
 
-told_apart : (text : List ℕ) → begins_version_two (tokens_of text) ≡ false → nat_lt most_bytes (length text) ≡ false → IsToldApart text
+told_apart : (text : List ℕ) → begins_version_two (tokens_of text) ≡ false → nat_lt most_bytes (length text) ≡ false
+    → IsToldApart text
 told_apart text one short =
     let fits = ltb-false most_bytes (length text) short in
     let so : program_of text ≡ one_pass text = of_one text fits one in
@@ -445,7 +486,8 @@ told_apart text one short =
       );
     }
 
-long_refused : (text : List ℕ) (fault : ReadFault) → most_bytes < length text → program_of text ≡ Err (fault_so TooLong 1) → HasFault text fault → program_of text ≡ Err fault
+long_refused : (text : List ℕ) (fault : ReadFault) → most_bytes < length text
+    → program_of text ≡ Err (fault_so TooLong 1) → HasFault text fault → program_of text ≡ Err fault
 long_refused text fault long so (TextTooLong _ again) = so
 long_refused text fault long so (OfTokens _ _ short first) = absurd (omega (arith, short, long))
 

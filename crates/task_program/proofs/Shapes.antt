@@ -148,16 +148,20 @@ and_right true b h = h
 and_right false b h = absurd cc
 
 -- the three tests of `fits_at`
-header_of : (place : Place) (has_if : Bool) (depth : ℕ) (text : List ℕ) → fits_at place has_if depth text ≡ true → is_header place text ≡ true
+header_of : (place : Place) (has_if : Bool) (depth : ℕ) (text : List ℕ) → fits_at place has_if depth text ≡ true
+    → is_header place text ≡ true
 header_of place has_if depth text h = and_left (is_header place text) _ h
 
-allowed_of : (place : Place) (has_if : Bool) (depth : ℕ) (text : List ℕ) → fits_at place has_if depth text ≡ true → is_allowed place has_if text ≡ true
+allowed_of : (place : Place) (has_if : Bool) (depth : ℕ) (text : List ℕ) → fits_at place has_if depth text ≡ true
+    → is_allowed place has_if text ≡ true
 allowed_of place has_if depth text h = and_right (not (closes_none place depth text)) _ (and_right (is_header place text) _ h)
 
-unclosed_of : (place : Place) (has_if : Bool) (depth : ℕ) (text : List ℕ) → fits_at place has_if depth text ≡ true → not (closes_none place depth text) ≡ true
+unclosed_of : (place : Place) (has_if : Bool) (depth : ℕ) (text : List ℕ) → fits_at place has_if depth text ≡ true
+    → not (closes_none place depth text) ≡ true
 unclosed_of place has_if depth text h = and_left (not (closes_none place depth text)) _ (and_right (is_header place text) _ h)
 
-piece_rest : (depth after : ℕ) (piece : Written) (texts : List (List ℕ)) → HasForm piece → ((pieces : List Written) → EndBlocks pieces after → EndBlocks (piece ∷ pieces) depth)
+piece_rest : (depth after : ℕ) (piece : Written) (texts : List (List ℕ)) → HasForm piece
+    → ((pieces : List Written) → EndBlocks pieces after → EndBlocks (piece ∷ pieces) depth)
     → Rest after texts → Rest depth (texts_of piece ++ texts)
 piece_rest depth after piece texts form nests r = record {
   written = piece ∷ r.written;
@@ -171,7 +175,8 @@ some_if : (has_if : Bool) (count : ℕ) → cond has_if 1 0 + count ≤ 1 → co
 some_if true count h = omega (arith, h)
 some_if false count h = omega (arith, h)
 
-task_rest : (has_if : Bool) (depth : ℕ) (texts : List (List ℕ)) → ClausesRest has_if depth texts → Rest depth (codes "task" ∷ texts)
+task_rest : (has_if : Bool) (depth : ℕ) (texts : List (List ℕ)) → ClausesRest has_if depth texts
+    → Rest depth (codes "task" ∷ texts)
 task_rest has_if depth texts c = record {
   written = TaskWritten c.clauses ∷ c.rest.written;
   texts_are = ap (λ (ts : List (List ℕ)). codes "task" ∷ ts) (c.texts_are ∙ ap (λ (ts : List (List ℕ)). flat_map clause_texts c.clauses ++ codes "{" ∷ ts) c.rest.texts_are
@@ -183,11 +188,13 @@ task_rest has_if depth texts c = record {
 abbrev StepsBack : Place → Bool → ℕ → List ℕ → List (List ℕ) → Type 0
 StepsBack place has_if depth text texts = fits_at place has_if depth text ≡ true → Follows (lead_at place has_if depth text) texts → FollowsAt place has_if depth (text ∷ texts)
 
-end_rest : (depth : ℕ) (texts : List (List ℕ)) → not (closes_none Statement depth (codes "}")) ≡ true → Rest (one_less depth) texts → Rest depth (codes "}" ∷ texts)
+end_rest : (depth : ℕ) (texts : List (List ℕ)) → not (closes_none Statement depth (codes "}")) ≡ true
+    → Rest (one_less depth) texts → Rest depth (codes "}" ∷ texts)
 end_rest zero texts h r = absurd cc
 end_rest (suc depth) texts h r = piece_rest (suc depth) depth EndWritten texts tt (λ pieces nested. nested) r
 
-statement_back : (has_if : Bool) (depth : ℕ) (text : List ℕ) (texts : List (List ℕ)) → StepsBack Statement has_if depth text texts
+statement_back : (has_if : Bool) (depth : ℕ) (text : List ℕ) (texts : List (List ℕ))
+    → StepsBack Statement has_if depth text texts
 statement_back has_if depth text texts h =
     let allowed = allowed_of Statement has_if depth text h in
     bool_cases (is_text text (codes "work"))
@@ -203,7 +210,8 @@ statement_back has_if depth text texts h =
     let some : not (closes_none Statement depth (codes "}")) ≡ true = subst (λ (t : List ℕ). not (closes_none Statement depth t) ≡ true) text_is (unclosed_of Statement has_if depth text h) in
     rw text_is (end_rest depth texts some f))))))
 
-if_clause : (depth : ℕ) (number : List ℕ) (texts : List (List ℕ)) → is_number number ≡ true → ClausesRest true depth texts → ClausesRest false depth (codes "if" ∷ codes "(" ∷ number ∷ codes ")" ∷ texts)
+if_clause : (depth : ℕ) (number : List ℕ) (texts : List (List ℕ)) → is_number number ≡ true
+    → ClausesRest true depth texts → ClausesRest false depth (codes "if" ∷ codes "(" ∷ number ∷ codes ")" ∷ texts)
 if_clause depth number texts h c = record {
   clauses = IfClause number ∷ c.clauses;
   later = c.later;
@@ -213,11 +221,13 @@ if_clause depth number texts h c = record {
   rest = c.rest;
 }
 
-brace_back : (has_if : Bool) (depth : ℕ) (texts : List (List ℕ)) → Rest (suc depth) texts → ClausesRest has_if depth (codes "{" ∷ texts)
+brace_back : (has_if : Bool) (depth : ℕ) (texts : List (List ℕ)) → Rest (suc depth) texts
+    → ClausesRest has_if depth (codes "{" ∷ texts)
 brace_back true depth texts r = record { clauses = []; later = texts; texts_are = refl; forms = All-nil HasClauseForm; one_if = omega arith; rest = r }
 brace_back false depth texts r = record { clauses = []; later = texts; texts_are = refl; forms = All-nil HasClauseForm; one_if = omega arith; rest = r }
 
-clause_back : (has_if : Bool) (depth : ℕ) (text : List ℕ) (texts : List (List ℕ)) → StepsBack Clause has_if depth text texts
+clause_back : (has_if : Bool) (depth : ℕ) (text : List ℕ) (texts : List (List ℕ))
+    → StepsBack Clause has_if depth text texts
 clause_back has_if depth text texts h =
     let allowed = allowed_of Clause has_if depth text h in
     bool_cases (is_text text (codes "{"))
@@ -229,11 +239,13 @@ clause_back has_if depth text texts h =
     (λ no_if. rw (no_brace, no_if) (λ f. rw (is_depend text has_if allowed no_brace no_if) f)))
 
 -- a `depend` in front of further clauses
-pub depend_texts : (names : List (List ℕ)) (last : List ℕ) (clauses tail : List (List ℕ)) → flat_map name_and_comma names ++ last ∷ codes ")" ∷ (clauses ++ tail) ≡ ((flat_map name_and_comma names ++ last ∷ codes ")" ∷ []) ++ clauses) ++ tail
+pub depend_texts : (names : List (List ℕ)) (last : List ℕ) (clauses tail : List (List ℕ))
+    → flat_map name_and_comma names ++ last ∷ codes ")" ∷ (clauses ++ tail) ≡ ((flat_map name_and_comma names ++ last ∷ codes ")" ∷ []) ++ clauses) ++ tail
 depend_texts names last clauses tail =
     sym (append_assoc (flat_map name_and_comma names ++ last ∷ codes ")" ∷ []) clauses tail ∙ append_assoc (flat_map name_and_comma names) (last ∷ codes ")" ∷ []) (clauses ++ tail))
 
-depend_clause : (kind : DependKind) (has_if : Bool) (depth : ℕ) (texts : List (List ℕ)) → NamesRest has_if depth texts → ClausesRest has_if depth (codes "depend" ∷ codes "(" ∷ type_word kind ∷ codes ":" ∷ texts)
+depend_clause : (kind : DependKind) (has_if : Bool) (depth : ℕ) (texts : List (List ℕ)) → NamesRest has_if depth texts
+    → ClausesRest has_if depth (codes "depend" ∷ codes "(" ∷ type_word kind ∷ codes ":" ∷ texts)
 depend_clause kind has_if depth texts n =
     let clause = DependClause kind n.names n.last in
     let c = n.rest in
@@ -248,10 +260,12 @@ depend_clause kind has_if depth texts n =
       rest = c.rest;
     }
 
-last_name : (has_if : Bool) (depth : ℕ) (name : List ℕ) (texts : List (List ℕ)) → IsWord name → ClausesRest has_if depth texts → NamesRest has_if depth (name ∷ codes ")" ∷ texts)
+last_name : (has_if : Bool) (depth : ℕ) (name : List ℕ) (texts : List (List ℕ)) → IsWord name
+    → ClausesRest has_if depth texts → NamesRest has_if depth (name ∷ codes ")" ∷ texts)
 last_name has_if depth name texts word c = record { names = []; last = name; later = texts; texts_are = refl; words = All-nil IsWord; last_word = word; rest = c }
 
-name_more : (has_if : Bool) (depth : ℕ) (name : List ℕ) (texts : List (List ℕ)) → IsWord name → NamesRest has_if depth texts → NamesRest has_if depth (name ∷ codes "," ∷ texts)
+name_more : (has_if : Bool) (depth : ℕ) (name : List ℕ) (texts : List (List ℕ)) → IsWord name
+    → NamesRest has_if depth texts → NamesRest has_if depth (name ∷ codes "," ∷ texts)
 name_more has_if depth name texts word n = record {
   names = name ∷ n.names;
   last = n.last;
@@ -262,21 +276,25 @@ name_more has_if depth name texts word n = record {
   rest = n.rest;
 }
 
-more_back : (kind : DependKind) (has_if : Bool) (depth : ℕ) (text : List ℕ) (texts : List (List ℕ)) → StepsBack (DependMore kind) has_if depth text texts
+more_back : (kind : DependKind) (has_if : Bool) (depth : ℕ) (text : List ℕ) (texts : List (List ℕ))
+    → StepsBack (DependMore kind) has_if depth text texts
 more_back kind has_if depth text texts h =
     let allowed = allowed_of (DependMore kind) has_if depth text h in
     bool_cases (is_text text (codes ","))
     (λ comma. rw comma (λ f. rw (same_text text (codes ",") comma) (λ name word. name_more has_if depth name texts word f)))
     (λ other. rw other (λ f. rw (same_text text (codes ")") (or_true_right (is_text text (codes ",")) (is_text text (codes ")")) allowed other)) (λ name word. last_name has_if depth name texts word f)))
 
-closes_back : (has_if : Bool) (depth : ℕ) (texts : List (List ℕ)) → ClausesRest has_if depth texts → AfterNumber has_if depth (codes ")" ∷ texts)
+closes_back : (has_if : Bool) (depth : ℕ) (texts : List (List ℕ)) → ClausesRest has_if depth texts
+    → AfterNumber has_if depth (codes ")" ∷ texts)
 closes_back true depth texts c = λ number h. if_clause depth number texts h c
 closes_back false depth texts c = tt
 
-header_back : (depth : ℕ) (text : List ℕ) (texts : List (List ℕ)) → text ≡ codes "omptasks" → SentenceAt depth (codes "omptasks" ∷ texts) → SentenceAt depth (text ∷ texts)
+header_back : (depth : ℕ) (text : List ℕ) (texts : List (List ℕ)) → text ≡ codes "omptasks"
+    → SentenceAt depth (codes "omptasks" ∷ texts) → SentenceAt depth (text ∷ texts)
 header_back depth text texts text_is s = rw text_is s
 
-version_back : (depth : ℕ) (text : List ℕ) (texts : List (List ℕ)) → (is_number text && eqb (value_of text) 1) ≡ true → Rest depth texts → SentenceAt depth (codes "omptasks" ∷ text ∷ texts)
+version_back : (depth : ℕ) (text : List ℕ) (texts : List (List ℕ)) → (is_number text && eqb (value_of text) 1) ≡ true
+    → Rest depth texts → SentenceAt depth (codes "omptasks" ∷ text ∷ texts)
 version_back zero text texts h r = record {
   version = text;
   written = r.written;
@@ -287,7 +305,8 @@ version_back zero text texts h r = record {
 }
 version_back (suc depth) text texts h r = tt
 
-pub steps_back : (place : Place) (has_if : Bool) (depth : ℕ) (text : List ℕ) (texts : List (List ℕ)) → StepsBack place has_if depth text texts
+pub steps_back : (place : Place) (has_if : Bool) (depth : ℕ) (text : List ℕ) (texts : List (List ℕ))
+    → StepsBack place has_if depth text texts
 steps_back Header has_if depth text texts h f = header_back depth text texts (same_text text (codes "omptasks") (header_of Header has_if depth text h)) f
 steps_back Version has_if depth text texts h f = version_back depth text texts (header_of Version has_if depth text h) f
 steps_back Statement has_if depth text texts h f = statement_back has_if depth text texts h f

@@ -27,19 +27,22 @@ use Rattle.task_program.proofs.Found.{same_text, type_is, is_depend, is_end, or_
 
 -- ---- one token more
 
-outside_more : (inside : Bool) (before : List (List ℕ)) (text : List ℕ) → outside_from inside (before ++ text ∷ []) ≡ outside_from inside before ++ cond (fold inside_after inside before) [] (text ∷ [])
+outside_more : (inside : Bool) (before : List (List ℕ)) (text : List ℕ)
+    → outside_from inside (before ++ text ∷ []) ≡ outside_from inside before ++ cond (fold inside_after inside before) [] (text ∷ [])
 unfolding outside_from
 outside_more true [] text = refl
 outside_more false [] text = refl
 outside_more true (first ∷ before) text = outside_more (inside_after true first) before text
 outside_more false (first ∷ before) text = ap (λ (ts : List (List ℕ)). first ∷ ts) (outside_more (inside_after false first) before text)
 
-weigh_either : (weight : List ℕ → ℕ) (inside : Bool) (text : List ℕ) → sum_by weight (cond inside [] (text ∷ [])) ≡ cond inside 0 (weight text)
+weigh_either : (weight : List ℕ → ℕ) (inside : Bool) (text : List ℕ)
+    → sum_by weight (cond inside [] (text ∷ [])) ≡ cond inside 0 (weight text)
 weigh_either weight true text = refl
 weigh_either weight false text = omega arith
 
 -- outside parentheses it counts
-sum_more : (weight : List ℕ → ℕ) (before : List (List ℕ)) (text : List ℕ) → sum_by weight (outside (before ++ text ∷ [])) ≡ sum_by weight (outside before) + cond (is_inside before) 0 (weight text)
+sum_more : (weight : List ℕ → ℕ) (before : List (List ℕ)) (text : List ℕ)
+    → sum_by weight (outside (before ++ text ∷ [])) ≡ sum_by weight (outside before) + cond (is_inside before) 0 (weight text)
 sum_more weight before text =
     ap (sum_by weight) (outside_more false before text) ∙ sum_by-append weight (outside before) (cond (is_inside before) [] (text ∷ []))
     ∙ ap (λ (n : ℕ). sum_by weight (outside before) + n) (weigh_either weight (is_inside before) text)
@@ -133,7 +136,8 @@ record NoSign (text : List ℕ) : Type 0 where
   colon : is_text text (codes ":") ≡ false
   comma : is_text text (codes ",") ≡ false
 
-other_text : (test : List ℕ → Bool) (text word : List ℕ) → test text ≡ true → test word ≡ false → is_text text word ≡ false
+pub other_text : (test : List ℕ → Bool) (text word : List ℕ) → test text ≡ true → test word ≡ false
+    → is_text text word ≡ false
 other_text test text word h g =
     bool_cases (is_text text word)
     (λ same. absurd (let wrong : true ≡ false = sym h ∙ ap test (same_text text word same) ∙ g in cc))
@@ -165,7 +169,8 @@ inside_stays inside text n = rw (n.opens, n.closes) refl
 items_stay : (items : ℕ) (text : List ℕ) → NoSign text → items_after items text ≡ items
 items_stay items text n = rw (n.brace, n.colon, n.comma) refl
 
-braces_stay : (braces : List ℕ) (text : List ℕ) (line : ℕ) → NoSign text → braces_after braces (token_so text line) ≡ braces
+braces_stay : (braces : List ℕ) (text : List ℕ) (line : ℕ) → NoSign text
+    → braces_after braces (token_so text line) ≡ braces
 braces_stay braces text line n = rw (n.brace, n.end) refl
 
 -- ---- the places
@@ -178,7 +183,8 @@ end_tallies state (TaskBlock brace ∷ blocks) marks line =
 end_tallies state (GroupBlock brace ∷ blocks) marks line =
     same_tally _ _ _ _ _ _ _ _ _ _ _ _ refl (omega (arith, with_one tasks_begun marks GroupEnds)) (omega (arith, with_one segments_opened marks GroupEnds)) (omega (arith, with_one work_done marks GroupEnds)) (omega arith) refl
 
-statement_tallies : (state : State) (text : List ℕ) (line : ℕ) → is_allowed Statement state.head.has_if text ≡ true → Tallies Statement state text line
+statement_tallies : (state : State) (text : List ℕ) (line : ℕ) → is_allowed Statement state.head.has_if text ≡ true
+    → Tallies Statement state text line
 statement_tallies state text line allowed =
     let marks = state.tree.marks in
     bool_cases (is_text text (codes "work"))
@@ -191,7 +197,8 @@ statement_tallies state text line allowed =
     (λ group. rw (same_text text (codes "taskgroup") group) (same_tally _ _ _ _ _ _ _ _ _ _ _ _ refl (omega arith) (omega arith) (omega arith) (omega arith) refl))
     (λ no_group. rw (is_end text allowed no_work no_task no_wait no_group) (end_tallies state state.tree.blocks marks line)))))
 
-number_weight : (text : List ℕ) → is_number text ≡ true → (tasks_by text ≡ 0) × (segments_by text ≡ 0) × (work_by text ≡ value_of text)
+number_weight : (text : List ℕ) → is_number text ≡ true
+    → (tasks_by text ≡ 0) × (segments_by text ≡ 0) × (work_by text ≡ value_of text)
 number_weight text h =
     let task = other_text is_number text (codes "task") h refl in
     let wait = other_text is_number text (codes "taskwait") h refl in
@@ -216,7 +223,8 @@ group_tallies state line none =
     same_tally _ _ _ _ _ _ _ _ _ _ _ _ refl (omega (arith, with_one tasks_begun marks GroupBegins)) (omega (arith, with_one segments_opened marks GroupBegins)) (omega (arith, with_one work_done marks GroupBegins))
     (omega (arith, no_items_long state.head.items none)) refl
 
-clause_tallies : (state : State) (text : List ℕ) (line : ℕ) → is_allowed Clause state.head.has_if text ≡ true → Tallies Clause state text line
+clause_tallies : (state : State) (text : List ℕ) (line : ℕ) → is_allowed Clause state.head.has_if text ≡ true
+    → Tallies Clause state text line
 clause_tallies state text line allowed =
     let marks = state.tree.marks in
     let mark = Begins state.head.undeferred state.head.items in
@@ -226,25 +234,29 @@ clause_tallies state text line allowed =
     (λ if_word. rw (same_text text (codes "if") if_word) (same_tally _ _ _ _ _ _ _ _ _ _ _ _ refl (omega arith) (omega arith) (omega arith) (omega arith) refl))
     (λ no_if. rw (is_depend text state.head.has_if allowed no_brace no_if) (same_tally _ _ _ _ _ _ _ _ _ _ _ _ refl (omega arith) (omega arith) (omega arith) (omega arith) refl)))
 
-if_number_tallies : (state : State) (text : List ℕ) (line : ℕ) → is_number text ≡ true → Tallies IfNumber state text line
+if_number_tallies : (state : State) (text : List ℕ) (line : ℕ) → is_number text ≡ true
+    → Tallies IfNumber state text line
 if_number_tallies state text line number =
     let n = no_sign_number text number in
     same_tally _ _ _ _ _ _ _ _ _ _ _ _ (inside_stays true text n) (omega arith) (omega arith) (omega arith) (items_stay _ text n) (braces_stay _ text line n)
 
-type_tallies : (state : State) (kind : DependKind) (line : ℕ) → tally_after (tally_at DependType state) (token_so (type_word kind) line) ≡ tally_at (DependColon kind) state
+type_tallies : (state : State) (kind : DependKind) (line : ℕ)
+    → tally_after (tally_at DependType state) (token_so (type_word kind) line) ≡ tally_at (DependColon kind) state
 type_tallies state DependIn line = same_tally _ _ _ _ _ _ _ _ _ _ _ _ refl (omega arith) (omega arith) (omega arith) (omega arith) refl
 type_tallies state DependOut line = same_tally _ _ _ _ _ _ _ _ _ _ _ _ refl (omega arith) (omega arith) (omega arith) (omega arith) refl
 type_tallies state DependInOut line = same_tally _ _ _ _ _ _ _ _ _ _ _ _ refl (omega arith) (omega arith) (omega arith) (omega arith) refl
 type_tallies state DependInOutSet line = same_tally _ _ _ _ _ _ _ _ _ _ _ _ refl (omega arith) (omega arith) (omega arith) (omega arith) refl
 
-name_tallies : (state : State) (kind : DependKind) (text : List ℕ) (line : ℕ) → is_word text ≡ true → Tallies (DependName kind) state text line
+name_tallies : (state : State) (kind : DependKind) (text : List ℕ) (line : ℕ) → is_word text ≡ true
+    → Tallies (DependName kind) state text line
 name_tallies state kind text line word =
     let n = no_sign_word text word in
     let item : Item = record { kind = kind; name = number_of state.names text } in
     let items_are : length (state.head.items ++ item ∷ []) ≡ length state.head.items + 1 = length-append state.head.items (item ∷ []) in
     same_tally _ _ _ _ _ _ _ _ _ _ _ _ (inside_stays true text n) (omega arith) (omega arith) (omega arith) (items_stay _ text n ∙ omega (arith, items_are)) (braces_stay _ text line n)
 
-more_tallies : (state : State) (kind : DependKind) (text : List ℕ) (line : ℕ) → is_allowed (DependMore kind) state.head.has_if text ≡ true → Tallies (DependMore kind) state text line
+more_tallies : (state : State) (kind : DependKind) (text : List ℕ) (line : ℕ)
+    → is_allowed (DependMore kind) state.head.has_if text ≡ true → Tallies (DependMore kind) state text line
 more_tallies state kind text line allowed =
     bool_cases (is_text text (codes ","))
     (λ comma. rw (same_text text (codes ",") comma) (same_tally _ _ _ _ _ _ _ _ _ _ _ _ refl (omega arith) (omega arith) (omega arith) (omega arith) refl))
@@ -256,7 +268,8 @@ is_past_header Header = false
 is_past_header Version = false
 is_past_header _ = true
 
-pub place_tallies : (place : Place) (state : State) (text : List ℕ) (line : ℕ) → is_past_header place ≡ true → NoItems place state.head.items → is_allowed place state.head.has_if text ≡ true → Tallies place state text line
+pub place_tallies : (place : Place) (state : State) (text : List ℕ) (line : ℕ) → is_past_header place ≡ true
+    → NoItems place state.head.items → is_allowed place state.head.has_if text ≡ true → Tallies place state text line
 place_tallies Header state text line past none allowed = absurd cc
 place_tallies Version state text line past none allowed = absurd cc
 place_tallies Statement state text line past none allowed = statement_tallies state text line allowed
@@ -280,7 +293,8 @@ abbrev table : (number deep task segment item work : Bool) → Option ReadKind
 table number deep task segment item work =
     cond number (Some BadNumber) (cond deep (Some TooDeep) (cond task (Some TooManyTasks) (cond segment (Some TooManySegments) (cond item (Some TooManyItems) (cond work (Some WorkTooLarge) None)))))
 
-same_table : (a b c d e f a' b' c' d' e' f' : Bool) → a ≡ a' → b ≡ b' → c ≡ c' → d ≡ d' → e ≡ e' → f ≡ f' → table a b c d e f ≡ table a' b' c' d' e' f'
+same_table : (a b c d e f a' b' c' d' e' f' : Bool) → a ≡ a' → b ≡ b' → c ≡ c' → d ≡ d' → e ≡ e' → f ≡ f'
+    → table a b c d e f ≡ table a' b' c' d' e' f'
 same_table a b c d e f a' b' c' d' e' f' h1 h2 h3 h4 h5 h6 = rw (h1, h2, h3, h4, h5, h6) refl
 
 -- what the reading tests at its place
@@ -297,7 +311,8 @@ limit_at : (place : Place) (state : State) (text : List ℕ) (a b c d e f : Bool
     → is_value_too_large (is_inside_at place) text ≡ a → is_too_deep (length (map line_of state.tree.blocks)) text ≡ b
     → is_task_past (is_inside_at place) (tasks_of state.tree.marks + pending_tasks place) text ≡ c
     → is_segment_past (is_inside_at place) (segments_of state.tree.marks + pending_segments place) text ≡ d
-    → nat_lt most_items (length state.head.items + item_coming place) ≡ e → is_work_past (is_inside_at place) (work_of state.tree.marks) text ≡ f
+    → nat_lt most_items (length state.head.items + item_coming place) ≡ e
+    → is_work_past (is_inside_at place) (work_of state.tree.marks) text ≡ f
     → limit_of (tally_at place state) text ≡ table a b c d e f
 limit_at place state text a b c d e f h1 h2 h3 h4 h5 h6 =
     same_table (is_value_too_large (is_inside_at place) text) (is_too_deep (length (map line_of state.tree.blocks)) text)
@@ -319,13 +334,16 @@ and_off false b = refl
 work_off : (inside : Bool) (work : ℕ) (text : List ℕ) → is_number text ≡ false → is_work_past inside work text ≡ false
 work_off inside work text number = rw number (and_off (not inside) (nat_lt most_total_work (work + value_of text)))
 
-few_items : (place : Place) (state : State) → item_coming place ≡ 0 → length state.head.items ≤ most_items → nat_lt most_items (length state.head.items + item_coming place) ≡ false
+few_items : (place : Place) (state : State) → item_coming place ≡ 0 → length state.head.items ≤ most_items
+    → nat_lt most_items (length state.head.items + item_coming place) ≡ false
 few_items place state none few = le-ltb most_items (length state.head.items + item_coming place) (omega (arith, none, few))
 
 -- a token that passes no limit
-quiet : (place : Place) (state : State) (text : List ℕ) → item_coming place ≡ 0 → length state.head.items ≤ most_items → is_number text ≡ false → is_text text (codes "{") ≡ false
+quiet : (place : Place) (state : State) (text : List ℕ) → item_coming place ≡ 0 → length state.head.items ≤ most_items
+    → is_number text ≡ false → is_text text (codes "{") ≡ false
     → is_task_past (is_inside_at place) (tasks_of state.tree.marks + pending_tasks place) text ≡ false
-    → is_segment_past (is_inside_at place) (segments_of state.tree.marks + pending_segments place) text ≡ false → limit_of (tally_at place state) text ≡ None
+    → is_segment_past (is_inside_at place) (segments_of state.tree.marks + pending_segments place) text ≡ false
+    → limit_of (tally_at place state) text ≡ None
 quiet place state text none few number brace task segment =
     limit_at place state text false false false false false false (value_off (is_inside_at place) text number) (deep_off (length (map line_of state.tree.blocks)) text brace) task segment
     (few_items place state none few) (work_off (is_inside_at place) (work_of state.tree.marks) text number)
@@ -333,7 +351,9 @@ quiet place state text none few number brace task segment =
 abbrev LimitsSame : Place → State → List ℕ → Type 0
 LimitsSame place state text = limit_of (tally_at place state) text ≡ limits (at state place) text
 
-statement_text : (P : List ℕ → Type 0) → P (codes "work") → P (codes "task") → P (codes "taskwait") → P (codes "taskgroup") → P (codes "}") → (text : List ℕ) (has_if : Bool) → is_allowed Statement has_if text ≡ true → P text
+statement_text : (P : List ℕ → Type 0) → P (codes "work") → P (codes "task") → P (codes "taskwait")
+    → P (codes "taskgroup") → P (codes "}") → (text : List ℕ) (has_if : Bool)
+    → is_allowed Statement has_if text ≡ true → P text
 statement_text P work_so task_so wait_so group_so end_so text has_if allowed =
     bool_cases (is_text text (codes "work"))
     (λ work. subst P (sym (same_text text (codes "work") work)) work_so)
@@ -345,7 +365,8 @@ statement_text P work_so task_so wait_so group_so end_so text has_if allowed =
     (λ group. subst P (sym (same_text text (codes "taskgroup") group)) group_so)
     (λ no_group. subst P (sym (is_end text allowed no_work no_task no_wait no_group)) end_so))))
 
-statement_limits : (state : State) (text : List ℕ) → length state.head.items ≤ most_items → is_allowed Statement state.head.has_if text ≡ true → LimitsSame Statement state text
+statement_limits : (state : State) (text : List ℕ) → length state.head.items ≤ most_items
+    → is_allowed Statement state.head.has_if text ≡ true → LimitsSame Statement state text
 statement_limits state text few allowed =
     let number : is_number text ≡ false = statement_text (λ (t : List ℕ). is_number t ≡ false) refl refl refl refl refl text state.head.has_if allowed in
     let brace : is_text text (codes "{") ≡ false = statement_text (λ (t : List ℕ). is_text t (codes "{") ≡ false) refl refl refl refl refl text state.head.has_if allowed in
@@ -357,7 +378,8 @@ statement_limits state text few allowed =
     (ap (λ (n : ℕ). (is_text text (codes "task") && nat_lt most_segments (n + 2)) || (is_waiting text && nat_lt most_segments (n + 1))) segments)
     (few_items Statement state refl few) (work_off false _ text number)
 
-work_limits : (state : State) (text : List ℕ) → length state.head.items ≤ most_items → is_number text ≡ true → LimitsSame WorkNumber state text
+work_limits : (state : State) (text : List ℕ) → length state.head.items ≤ most_items → is_number text ≡ true
+    → LimitsSame WorkNumber state text
 work_limits state text few number =
     let brace = other_text is_number text (codes "{") number refl in
     let task = other_text is_number text (codes "task") number refl in
@@ -366,15 +388,18 @@ work_limits state text few number =
     limit_at WorkNumber state text (is_number_too_large WorkNumber text) false false false false (is_work_too_large WorkNumber state.tree.marks text)
     (rw number refl) (deep_off _ text brace) (rw task refl) (rw (task, wait, group) refl) (few_items WorkNumber state refl few) (rw number refl)
 
-brace_limits : (place : Place) (state : State) → length state.head.items ≤ most_items → item_coming place ≡ 0 → is_inside_at place ≡ false
-    → limits (at state place) (codes "{") ≡ table false (nat_le most_nesting (length state.tree.blocks)) false false false false → LimitsSame place state (codes "{")
+brace_limits : (place : Place) (state : State) → length state.head.items ≤ most_items → item_coming place ≡ 0
+    → is_inside_at place ≡ false
+    → limits (at state place) (codes "{") ≡ table false (nat_le most_nesting (length state.tree.blocks)) false false false false
+    → LimitsSame place state (codes "{")
 brace_limits place state few none outside_so same =
     let deep : nat_le most_nesting (length (map line_of state.tree.blocks)) ≡ nat_le most_nesting (length state.tree.blocks) = ap (λ (n : ℕ). nat_le most_nesting n) (length-map state.tree.blocks line_of) in
     limit_at place state (codes "{") false (nat_le most_nesting (length state.tree.blocks)) false false false false (value_off (is_inside_at place) (codes "{") refl) deep (rw outside_so refl) (rw outside_so refl)
     (few_items place state none few) (work_off (is_inside_at place) (work_of state.tree.marks) (codes "{") refl)
     ∙ sym same
 
-clause_limits : (state : State) (text : List ℕ) → length state.head.items ≤ most_items → is_allowed Clause state.head.has_if text ≡ true → LimitsSame Clause state text
+clause_limits : (state : State) (text : List ℕ) → length state.head.items ≤ most_items
+    → is_allowed Clause state.head.has_if text ≡ true → LimitsSame Clause state text
 clause_limits state text few allowed =
     bool_cases (is_text text (codes "{"))
     (λ brace. rw (same_text text (codes "{") brace) (brace_limits Clause state few refl refl refl))
@@ -382,18 +407,20 @@ clause_limits state text few allowed =
     (λ if_word. rw (same_text text (codes "if") if_word) (quiet Clause state (codes "if") refl few refl refl refl refl))
     (λ no_if. rw (is_depend text state.head.has_if allowed no_brace no_if) (quiet Clause state (codes "depend") refl few refl refl refl refl)))
 
-if_number_limits : (state : State) (text : List ℕ) → length state.head.items ≤ most_items → is_number text ≡ true → LimitsSame IfNumber state text
+if_number_limits : (state : State) (text : List ℕ) → length state.head.items ≤ most_items → is_number text ≡ true
+    → LimitsSame IfNumber state text
 if_number_limits state text few number =
     let brace = other_text is_number text (codes "{") number refl in
     limit_at IfNumber state text (is_number_too_large IfNumber text) false false false false false (rw number refl) (deep_off _ text brace) refl refl (few_items IfNumber state refl few) refl
 
-type_limits : (state : State) (kind : DependKind) → length state.head.items ≤ most_items → LimitsSame DependType state (type_word kind)
+type_limits : (state : State) (kind : DependKind) → length state.head.items ≤ most_items
+    → LimitsSame DependType state (type_word kind)
 type_limits state DependIn few = quiet DependType state (codes "in") refl few refl refl refl refl
 type_limits state DependOut few = quiet DependType state (codes "out") refl few refl refl refl refl
 type_limits state DependInOut few = quiet DependType state (codes "inout") refl few refl refl refl refl
 type_limits state DependInOutSet few = quiet DependType state (codes "inoutset") refl few refl refl refl refl
 
-no_digit : (run digit digits : Bool) → (run && not digit) ≡ true → (digit && digits) ≡ false
+pub no_digit : (run digit digits : Bool) → (run && not digit) ≡ true → (digit && digits) ≡ false
 no_digit run false digits h = refl
 no_digit true true digits h = absurd cc
 no_digit false true digits h = absurd cc
@@ -404,19 +431,23 @@ one_more_item n =
     (λ many. rw many (lt-ltb most_items (n + 1) (omega (arith, leb-true most_items n many))))
     (λ few. rw few (le-ltb most_items (n + 1) (omega (arith, leb-false most_items n few))))
 
-name_limits : (state : State) (kind : DependKind) (text : List ℕ) → is_word text ≡ true → LimitsSame (DependName kind) state text
+name_limits : (state : State) (kind : DependKind) (text : List ℕ) → is_word text ≡ true
+    → LimitsSame (DependName kind) state text
 name_limits state kind text word =
     let number : is_number text ≡ false = no_digit (is_run text) (begins_with_digit text) _ word in
     limit_at (DependName kind) state text false false false false (is_item_too_many (DependName kind) state.head.items) false
     (value_off true text number) (deep_off _ text ((no_sign_word text word).brace)) refl refl (one_more_item (length state.head.items)) refl
 
-more_limits : (state : State) (kind : DependKind) (text : List ℕ) → length state.head.items ≤ most_items → is_allowed (DependMore kind) state.head.has_if text ≡ true → LimitsSame (DependMore kind) state text
+more_limits : (state : State) (kind : DependKind) (text : List ℕ) → length state.head.items ≤ most_items
+    → is_allowed (DependMore kind) state.head.has_if text ≡ true → LimitsSame (DependMore kind) state text
 more_limits state kind text few allowed =
     bool_cases (is_text text (codes ","))
     (λ comma. rw (same_text text (codes ",") comma) (quiet (DependMore kind) state (codes ",") refl few refl refl refl refl))
     (λ other. rw (same_text text (codes ")") (or_true_right (is_text text (codes ",")) (is_text text (codes ")")) allowed other)) (quiet (DependMore kind) state (codes ")") refl few refl refl refl refl))
 
-pub place_limits : (place : Place) (state : State) (text : List ℕ) → is_past_header place ≡ true → length state.head.items ≤ most_items → is_allowed place state.head.has_if text ≡ true → LimitsSame place state text
+pub place_limits : (place : Place) (state : State) (text : List ℕ) → is_past_header place ≡ true
+    → length state.head.items ≤ most_items → is_allowed place state.head.has_if text ≡ true
+    → LimitsSame place state text
 place_limits Header state text past few allowed = absurd cc
 place_limits Version state text past few allowed = absurd cc
 place_limits Statement state text past few allowed = statement_limits state text few allowed
@@ -434,7 +465,8 @@ place_limits (DependMore kind) state text past few allowed = more_limits state k
 
 -- ---- the header
 
-pub header_tallies : (place : Place) (state : State) (text : List ℕ) (line : ℕ) → is_past_header place ≡ false → tally_at place state ≡ tally_now (after_at place (at state place) text line)
+pub header_tallies : (place : Place) (state : State) (text : List ℕ) (line : ℕ) → is_past_header place ≡ false
+    → tally_at place state ≡ tally_now (after_at place (at state place) text line)
 header_tallies Header state text line h = refl
 header_tallies Version state text line h = refl
 header_tallies _ state text line h = absurd cc
@@ -443,7 +475,8 @@ pub nothing_counted : tally_of [] ≡ tally_so false 0 1 0 0 []
 unfolding outside_from
 nothing_counted = refl
 
-version_limits : (text : List ℕ) → is_number text ≡ true → value_of text ≡ 1 → limit_of (tally_so false 0 1 0 0 []) text ≡ None
+version_limits : (text : List ℕ) → is_number text ≡ true → value_of text ≡ 1
+    → limit_of (tally_so false 0 1 0 0 []) text ≡ None
 version_limits text number value =
     let task = other_text is_number text (codes "task") number refl in
     let wait = other_text is_number text (codes "taskwait") number refl in
@@ -453,7 +486,8 @@ version_limits text number value =
     (rw (number, value) refl) (deep_off 0 text (other_text is_number text (codes "{") number refl)) (rw task refl) (rw (task, wait, group) refl) refl (rw (number, value) refl)
 
 -- the header passes no limit
-pub header_limits : (place : Place) (text : List ℕ) → is_past_header place ≡ false → is_header place text ≡ true → limit_fault_after [] text ≡ None
+pub header_limits : (place : Place) (text : List ℕ) → is_past_header place ≡ false → is_header place text ≡ true
+    → limit_fault_after [] text ≡ None
 header_limits Header text past header = ap (λ (t : Tally). limit_of t text) nothing_counted ∙ rw (same_text text (codes "omptasks") header) refl
 header_limits Version text past header =
     ap (λ (t : Tally). limit_of t text) nothing_counted ∙ version_limits text (and_left (is_number text) _ header) (eqb-true _ _ (and_right (is_number text) _ header))

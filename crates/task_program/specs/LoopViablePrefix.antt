@@ -1,0 +1,129 @@
+-- The grammar of version 2 without its limits, and the tokens with which what follows the header can begin.
+use Rattle.std.specs.Prelude.{◌≡◌, ℕ, ◌≤◌, Bool, true, false, List, [], ◌∷◌, ◌++◌, All, count_by, codes}
+use Rattle.std.specs.List.{flat_map, list_any}
+use Rattle.std.specs.Str.{bytes_eq}
+use Rattle.task_program.specs.declared.statement.DependKind.{DependKind}
+use Rattle.task_program.specs.FirstPass.{is_plus_or_minus}
+use Rattle.task_program.specs.Words.{is_word, is_number, type_word}
+
+-- ---- how a text is written
+
+-- a number, `-` and a number, a variable, or a variable, `+` or `-`, and a number
+pub data IndexWritten : Type 0 where
+  NumberIndex : (number : List ℕ) → IndexWritten
+  MinusIndex : (number : List ℕ) → IndexWritten
+  VariableIndex : (variable : List ℕ) → IndexWritten
+  SignIndex : (variable sign number : List ℕ) → IndexWritten
+
+pub data ItemWritten : Type 0 where
+  PlainItem : (name : List ℕ) → ItemWritten
+  IndexedItem : (name : List ℕ) (index : IndexWritten) → ItemWritten
+
+-- a clause: the number of an `if` or `final`; the type of a `depend`, its items up to the last, and the last
+pub data LoopClause : Type 0 where
+  IfClause : (number : List ℕ) → LoopClause
+  FinalClause : (number : List ℕ) → LoopClause
+  DependClause : (kind : DependKind) (items : List ItemWritten) (last : ItemWritten) → LoopClause
+
+-- a statement up to its body, or the end of a body
+pub data LoopPiece : Type 0 where
+  WorkPiece : (number : List ℕ) → LoopPiece
+  TaskPiece : (clauses : List LoopClause) → LoopPiece
+  WaitPiece : LoopPiece
+  GroupPiece : LoopPiece
+  ForPiece : (variable first last : List ℕ) → LoopPiece
+  EndPiece : LoopPiece
+
+abbrev pub index_texts : IndexWritten → List (List ℕ)
+index_texts (NumberIndex number) = number ∷ []
+index_texts (MinusIndex number) = codes "-" ∷ number ∷ []
+index_texts (VariableIndex variable) = variable ∷ []
+index_texts (SignIndex variable sign number) = variable ∷ sign ∷ number ∷ []
+
+abbrev pub item_texts : ItemWritten → List (List ℕ)
+item_texts (PlainItem name) = name ∷ []
+item_texts (IndexedItem name index) = name ∷ codes "[" ∷ (index_texts index ++ codes "]" ∷ [])
+
+abbrev pub item_and_comma : ItemWritten → List (List ℕ)
+item_and_comma item = item_texts item ++ codes "," ∷ []
+
+abbrev pub clause_texts : LoopClause → List (List ℕ)
+clause_texts (IfClause number) = codes "if" ∷ codes "(" ∷ number ∷ codes ")" ∷ []
+clause_texts (FinalClause number) = codes "final" ∷ codes "(" ∷ number ∷ codes ")" ∷ []
+clause_texts (DependClause kind items last) =
+    codes "depend" ∷ codes "(" ∷ type_word kind ∷ codes ":" ∷ (flat_map item_and_comma items ++ (item_texts last ++ codes ")" ∷ []))
+
+abbrev pub piece_texts : LoopPiece → List (List ℕ)
+piece_texts (WorkPiece number) = codes "work" ∷ number ∷ []
+piece_texts (TaskPiece clauses) = codes "task" ∷ (flat_map clause_texts clauses ++ codes "{" ∷ [])
+piece_texts WaitPiece = codes "taskwait" ∷ []
+piece_texts GroupPiece = codes "taskgroup" ∷ codes "{" ∷ []
+piece_texts (ForPiece variable first last) = codes "for" ∷ variable ∷ first ∷ last ∷ codes "{" ∷ []
+piece_texts EndPiece = codes "}" ∷ []
+
+-- ---- what the grammar has, inside loops with these variables
+
+abbrev pub IsNumber : List ℕ → Type 0
+IsNumber text = is_number text ≡ true
+
+abbrev pub IsWord : List ℕ → Type 0
+IsWord text = is_word text ≡ true
+
+-- a variable of a loop around
+abbrev pub IsVariable : List (List ℕ) → List ℕ → Type 0
+IsVariable variables text = (is_word text ≡ true) × (list_any (bytes_eq text) variables ≡ true)
+
+-- a variable that no loop around has
+abbrev pub IsNewVariable : List (List ℕ) → List ℕ → Type 0
+IsNewVariable variables text = (is_word text ≡ true) × (list_any (bytes_eq text) variables ≡ false)
+
+abbrev pub HasIndexForm : List (List ℕ) → IndexWritten → Type 0
+HasIndexForm variables (NumberIndex number) = IsNumber number
+HasIndexForm variables (MinusIndex number) = IsNumber number
+HasIndexForm variables (VariableIndex variable) = IsVariable variables variable
+HasIndexForm variables (SignIndex variable sign number) = IsVariable variables variable × (is_plus_or_minus sign ≡ true) × IsNumber number
+
+abbrev pub HasItemForm : List (List ℕ) → ItemWritten → Type 0
+HasItemForm variables (PlainItem name) = IsWord name
+HasItemForm variables (IndexedItem name index) = IsWord name × HasIndexForm variables index
+
+abbrev pub HasLoopClauseForm : List (List ℕ) → LoopClause → Type 0
+HasLoopClauseForm variables (IfClause number) = IsNumber number
+HasLoopClauseForm variables (FinalClause number) = IsNumber number
+HasLoopClauseForm variables (DependClause kind items last) = All (HasItemForm variables) items × HasItemForm variables last
+
+abbrev pub is_if : LoopClause → Bool
+is_if (IfClause number) = true
+is_if _ = false
+
+abbrev pub is_final : LoopClause → Bool
+is_final (FinalClause number) = true
+is_final _ = false
+
+-- one `if` and one `final` at most
+abbrev pub HaveClauseForms : List (List ℕ) → List LoopClause → Type 0
+HaveClauseForms variables clauses = All (HasLoopClauseForm variables) clauses × (count_by is_if clauses ≤ 1) × (count_by is_final clauses ≤ 1)
+
+-- Pieces inside loops with these variables, which end each block that they begin and those that were open before: for each of
+-- these, the innermost first, the variables of the loops around it.
+abbrev pub HaveLoopForms : List LoopPiece → (variables : List (List ℕ)) → (around : List (List (List ℕ))) → Type 0
+HaveLoopForms [] variables [] = Unit {0}
+HaveLoopForms [] variables (outer ∷ around) = ⊥
+HaveLoopForms (WorkPiece number ∷ pieces) variables around = IsNumber number × HaveLoopForms pieces variables around
+HaveLoopForms (TaskPiece clauses ∷ pieces) variables around = HaveClauseForms variables clauses × HaveLoopForms pieces variables (variables ∷ around)
+HaveLoopForms (WaitPiece ∷ pieces) variables around = HaveLoopForms pieces variables around
+HaveLoopForms (GroupPiece ∷ pieces) variables around = HaveLoopForms pieces variables (variables ∷ around)
+HaveLoopForms (ForPiece variable first last ∷ pieces) variables around =
+    IsNewVariable variables variable × IsNumber first × IsNumber last × HaveLoopForms pieces (variable ∷ variables) (variables ∷ around)
+HaveLoopForms (EndPiece ∷ pieces) variables [] = ⊥
+HaveLoopForms (EndPiece ∷ pieces) variables (outer ∷ around) = HaveLoopForms pieces outer around
+
+-- the texts of the tokens after the header are derived by the grammar
+pub record IsLoopSentence (texts : List (List ℕ)) : Type 0 where
+  pub pieces : List LoopPiece
+  pub spelled : texts ≡ flat_map piece_texts pieces
+  pub forms : HaveLoopForms pieces [] []
+
+-- some sentence begins with these
+abbrev pub IsLoopViable : List (List ℕ) → Type 0
+IsLoopViable texts = (later : List (List ℕ)) × IsLoopSentence (texts ++ later)
