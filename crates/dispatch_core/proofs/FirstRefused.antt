@@ -204,6 +204,6 @@ pub legal_or_refused : (table : Table) (events : List Event) → IsSoundTable ta
 legal_or_refused table events sound =
     legal_from table events (length events) 0 sound (omega arith) (λ k event is. absurd (none-some event is))
 
-pub refused_of : (program : ProgramText) → IsProgram program → (events : List Event)
+pub legal_or_refused_of : (program : ProgramText) → IsProgram program → (events : List Event)
     → LegalOrRefused (table_of program.marks) events
-refused_of program is events = legal_or_refused (table_of program.marks) events (whole_table program is).sound
+legal_or_refused_of program is events = legal_or_refused (table_of program.marks) events (whole_table program is).sound

@@ -49,7 +49,7 @@ use Rattle.spanprof_command.proofs.OneReport.{measured}
 use Rattle.spanprof_command.proofs.SomeAnalysis.{IsAnalysed, some_analysed}
 use Rattle.dispatch_core.proofs.SomeGraph.{AreFirstValues, IsWhole, first_values, some_graph, tree_fits, whole_table}
 use Rattle.spanprof_command.proofs.SomeReplay.{some_said}
-use Rattle.spanprof_command.proofs.TriedSpans.{tells_trial}
+use Rattle.spanprof_command.proofs.TriedSpans.{same_as, tells_trial}
 use Rattle.spanprof_command.specs.Certificates.{AnswersCheck, Certifies, accepted, check_refused}
 use Rattle.spanprof_command.specs.GreedyRuns.{Curves, GreedyRuns, IsThreadCount, curve_header, curve_row, greedy_header, greedy_row, thread_count}
 use Rattle.spanprof_command.specs.OnProgram.{OnProgram}
@@ -320,23 +320,17 @@ changed_graph graph s cost is allowed =
       reached = λ t later known. is.reached t later (omega (arith, known, each));
     }
 
-passed : (refusal : Option WhatFault) (next : Result Recorded WhatFault) (tried : Recorded)
+none_refused : (refusal : Option WhatFault) (next : Result Recorded WhatFault) (tried : Recorded)
     → unless_refused refusal next ≡ Ok tried → (refusal ≡ None) × (next ≡ Ok tried)
-passed None next tried is = (refl, is)
-passed (Some why) next tried is = absurd cc
-
-abbrev accepted_as : Recorded → Result Recorded WhatFault
-accepted_as graph = Ok graph
-
-same_as : (graph tried : Recorded) → accepted_as graph ≡ accepted_as tried → graph ≡ tried
-same_as graph tried e = cc
+none_refused None next tried is = (refl, is)
+none_refused (Some why) next tried is = absurd cc
 
 tried_graph : (graph tried : Recorded) (changes : List Change) → IsGraph graph
     → after_changes graph changes ≡ Ok tried → IsGraph tried
 tried_graph graph tried [] is all = subst IsGraph (same_as graph tried all) is
 tried_graph graph tried (change ∷ changes) is all =
     let next : Recorded = changed graph change.segment change.cost in
-    let step = passed (refusal_of graph change.segment change.cost) (after_changes next changes) tried all in
+    let step = none_refused (refusal_of graph change.segment change.cost) (after_changes next changes) tried all in
     tried_graph next tried changes (changed_graph graph change.segment change.cost is step.0) step.1
 
 some_span : (graph : Recorded) → IsGraph graph → (span : ℕ) × IsSpan graph.costs (Precedes graph) span
