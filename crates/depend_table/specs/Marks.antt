@@ -1,5 +1,5 @@
 -- Marks on places from some first one on: the mark at place first + k stands at k.
-use Rattle.std.specs.Prelude.{ℕ, ◌+◌, ◌-◌, ◌≡◌, ◌<◌, ◌≤◌, ◌⊎◌, ◌↔◌, Bool, true, false, List, length, All, Contains, slice_index_or}
+use Rattle.std.specs.Prelude.{ℕ, ◌-◌, ◌≡◌, ◌<◌, ◌≤◌, ◌⊎◌, ◌↔◌, Bool, true, false, List, length, All, Contains, slice_index_or}
 
 -- these places stand from the first on and before the end
 abbrev pub AreWithin : ℕ → ℕ → List ℕ → Type 0

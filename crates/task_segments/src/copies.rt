@@ -1,5 +1,5 @@
 //! Copies of a table, and whether two tables are the same.
-ghost use Rattle.std.specs.Prelude.{◌<◌, ◌↔◌, ◌≡◌, IfOk, IsTrue};
+ghost use Rattle.std.specs.Prelude.{◌↔◌, ◌≡◌, IfOk, IsTrue};
 ghost use Rattle.task_segments.specs.Copies.{facts_of};
 ghost use Rattle.task_segments.specs.Precedence.{IsTask};
 ghost use Rattle.task_segments.specs.Table.{task};

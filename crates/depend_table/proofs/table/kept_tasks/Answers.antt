@@ -1,9 +1,8 @@
-use Rattle.std.proofs.Common.{ℕ, ◌+◌, ◌<◌, ◌≤◌, ◌≡◌, ◌↔◌, ◌++◌, ◌∷◌, [], Bool, List, length, get_or, take, Contains, sym, ◌∙◌, ap, subst, take_all, arith}
+use Rattle.std.proofs.Common.{ℕ, ◌+◌, ◌≡◌, ◌↔◌, ◌++◌, ◌∷◌, [], Bool, List, length, get_or, take, Contains, sym, ◌∙◌, ap, subst, take_all, arith}
 use Rattle.std.specs.List.{flat_map}
 use Rattle.std.proofs.lemmas.Result.{IfOk-weaker}
 use Rattle.std.proofs.lemmas.List.{take_more, append-nil}
 use Rattle.std.proofs.lemmas.Grind.{flat_map-append}
-use Rattle.std.proofs.lemmas.List.Elements.{Contains-get_or}
 use Rattle.task_program.specs.declared.statement.DependKind.TheVariants.{DependIn}
 use Rattle.task_program.specs.declared.statement.Item.{Item}
 use Rattle.depend_table.specs.Lists.{Lists}

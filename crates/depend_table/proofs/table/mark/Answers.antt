@@ -1,4 +1,4 @@
-use Rattle.std.proofs.Common.{ℕ, ◌+◌, ◌-◌, ◌<◌, ◌≤◌, ◌∷◌, [], List, true, length, get_or, set, take, sym, subst, arith}
+use Rattle.std.proofs.Common.{ℕ, ◌-◌, List, true, get_or, set, take, sym, subst, arith}
 use Rattle.std.proofs.lemmas.List.{take_more}
 use Rattle.depend_table.specs.Marks.{AreMarkedToo}
 use Rattle.depend_table.proofs.Marks.{mark_one}

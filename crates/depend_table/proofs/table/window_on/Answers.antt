@@ -1,10 +1,10 @@
-use Rattle.std.proofs.Common.{ℕ, ◌+◌, ◌∷◌, [], ◌<◌, ◌≤◌, ◌≡◌, ◌^◌, List, length, get_or, take, All, subst, sym, take_all, arith, rules}
+use Rattle.std.proofs.Common.{ℕ, ◌<◌, ◌≤◌, ◌^◌, List, length, get_or, take, All, subst, sym, take_all, arith, rules}
 use Rattle.std.specs.List.Sorted.{IsStrictlyIncreasing}
 use Rattle.std.proofs.lemmas.List.{take_more}
-use Rattle.std.proofs.lemmas.List.Elements.{All-contains, All-push, All-weaker, Contains-get_or}
+use Rattle.std.proofs.lemmas.List.Elements.{All-push, All-weaker}
 use Rattle.task_program.specs.declared.statement.DependKind.TheVariants.{DependIn}
 use Rattle.task_program.specs.declared.statement.Item.{Item}
-use Rattle.depend_table.specs.Entries.{predecessors_for, newest_first}
+use Rattle.depend_table.specs.Entries.{predecessors_for}
 use Rattle.depend_table.specs.Generations.{sharing_at}
 use Rattle.depend_table.specs.Marks.{AreWithin}
 use Rattle.depend_table.proofs.Marks.{within_wider}

@@ -1,4 +1,4 @@
-use Rattle.std.proofs.Common.{ℕ, ◌+◌, ◌-◌, ◌<◌, ◌≤◌, length, get_or, arith, rules}
+use Rattle.std.proofs.Common.{◌+◌, ◌-◌, ◌<◌, ◌≤◌, length, get_or, arith, rules}
 use Rattle.depend_table.proofs.Marks.{between_ends, within_wider}
 use Rattle.depend_table.proofs.table.Window.with.Goals as goal
 
