@@ -12,12 +12,13 @@ pub(super) struct Supply {
     was_refused: bool,
 }
 
-/// There are no more blocks than these.
+/// The list has room for more blocks than are held, so that it takes no memory later.
 const MOST_BLOCKS: usize = 1 << 18;
 
-/// The largest blocks are tried first; there is as much as one of the second size where memory is given back.
-const ALL: usize = 1 << 46;
+/// The size of the first block that is tried, and then half of it, and so on.
+const LARGEST: usize = 1 << 46;
 
+/// So many bytes are left where memory is ample again.
 const AMPLE: usize = 1 << 30;
 
 /// Below this size every multiple of 16 is tried.
@@ -44,7 +45,7 @@ impl Supply {
         };
         let ample = Vec::<u8>::with_capacity(alloc, AMPLE)?;
         for halvings in 0..17u32 {
-            supply.hold_all(ALL >> halvings);
+            supply.hold_all(LARGEST >> halvings);
         }
         supply.kept = supply.blocks.len();
         drop(ample);
