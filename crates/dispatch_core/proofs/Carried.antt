@@ -1,17 +1,17 @@
 -- What a program's graph has in common with the relation that it records.
-use Rattle.std.proofs.Common.{ℕ, ◌+◌, ◌<◌, ◌≤◌, ◌≡◌, ◌↔◌, ◌⊎◌, List, Some, length, ap, inl, inr, arith}
-use Rattle.std.specs.Prelude.{slice_get, Contains, take}
+use Rattle.std.proofs.Common.{ℕ, ◌↔◌, ◌⊎◌, List, length, inl, inr, arith}
+use Rattle.std.specs.Prelude.{Contains}
 use Rattle.std.proofs.lemmas.Bool.{cases_lt, cases_eq}
 use Rattle.task_segments.specs.Table.{Table}
 use Rattle.task_segments.specs.Precedence.{Continues, Creation, MustPrecede}
 use Rattle.task_segments.proofs.Reaches.{Reaches, one, reach_map, reaches}
 use Rattle.depend_table.specs.Kept.{IsKeptEdge}
 use Rattle.dispatch_core.specs.declared.event.Event.{Event}
-use Rattle.dispatch_core.specs.declared.event.Event.TheVariants.{Start, Finish}
+use Rattle.dispatch_core.specs.declared.event.Event.TheVariants.{Start}
 use Rattle.dispatch_core.specs.Facts.{IsSoundTable}
 use Rattle.dispatch_core.specs.Graph.{IsGraphOf}
 use Rattle.dispatch_core.specs.Recorded.{Recorded, Precedes}
-use Rattle.dispatch_core.specs.Run.{HasStarted, HasFinished, Runs, IsLegal, IsOpen, IsRunning, MayStart}
+use Rattle.dispatch_core.specs.Run.{Runs, IsLegal, IsOpen, IsRunning}
 use Rattle.dispatch_core.proofs.Ends.{no_more, precedes_of}
 use Rattle.dispatch_core.proofs.FinishStep.{started_known, started_after_preds}
 

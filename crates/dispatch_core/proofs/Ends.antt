@@ -21,7 +21,6 @@ use Rattle.dispatch_core.specs.declared.counters.Counters.{Counters}
 use Rattle.dispatch_core.specs.Counters.{unfinished, AreCounts, AreKept, AreKeptOf, AreSiblings, AreSuccessors, GoesUp, HasValue, IsOpenBy, TellFinished}
 use Rattle.depend_table.specs.Siblings.{Sibling}
 use Rattle.depend_table.specs.Kept.{IsKeptEdge}
-use Rattle.depend_table.specs.Lists.{Lists}
 use Rattle.dispatch_core.proofs.ListLemmas.{Lists-none}
 use Rattle.dispatch_core.proofs.SiblingSteps.{siblings_first}
 use Rattle.dispatch_core.specs.Listed.{items_of}

@@ -1,6 +1,6 @@
 -- What the counts tell: when a segment becomes ready.
-use Rattle.std.proofs.Common.{ℕ, ◌+◌, ◌-◌, ◌<◌, ◌≡◌, ◌⊎◌, ◌↔◌, suc, false, List, [], ◌∷◌, ◌++◌, Option, Some, None, length, get_or, refl, sym, ap, ◌∙◌, subst, arith, inl, inr}
-use Rattle.std.specs.Prelude.{slice_get, slice_set, Contains, is_none}
+use Rattle.std.proofs.Common.{ℕ, ◌-◌, ◌<◌, ◌≡◌, ◌⊎◌, ◌↔◌, suc, false, List, [], ◌∷◌, ◌++◌, Option, Some, None, length, get_or, refl, sym, ap, ◌∙◌, subst, arith, inl, inr}
+use Rattle.std.specs.Prelude.{slice_get, Contains, is_none}
 use Rattle.std.proofs.lemmas.Bool.{cases_eq, both_ways}
 use Rattle.std.proofs.lemmas.Option.{same_Some, slice_get-get_or}
 use Rattle.task_segments.specs.Table.{Table, segment}
@@ -17,9 +17,8 @@ use Rattle.dispatch_core.specs.Counters.{AreKeptOf, GoesUp, HasValue, IsOpenBy, 
 use Rattle.dispatch_core.specs.Listed.{items_of}
 use Rattle.dispatch_core.specs.UpToDate.{IsUpToDate, IsFreed}
 use Rattle.dispatch_core.proofs.ListLemmas.{Lists-like}
-use Rattle.dispatch_core.proofs.Histories.{finished_kept, started_kept, finished_cases, started_was, started_before_finish, legal_push}
+use Rattle.dispatch_core.proofs.Histories.{started_kept, finished_cases, started_was, started_before_finish, legal_push}
 use Rattle.dispatch_core.specs.Entry.{entry}
-use Rattle.std.proofs.lemmas.List.Elements.{Contains-push}
 use Rattle.dispatch_core.proofs.FinishStep.{started_after_preds}
 use Rattle.dispatch_core.proofs.Falls.{none_left, all_counted, has_or_not}
 

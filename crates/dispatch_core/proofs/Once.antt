@@ -1,12 +1,12 @@
 -- In a legal history no segment is started twice, and none is finished twice.
-use Rattle.std.proofs.Common.{ℕ, ◌<◌, ◌≡◌, List, Some, take, arith, inl, inr}
+use Rattle.std.proofs.Common.{ℕ, ◌<◌, ◌≡◌, List, Some, arith, inl, inr}
 use Rattle.std.specs.Prelude.{slice_get, Contains}
 use Rattle.std.proofs.lemmas.Bool.{cases_lt}
 use Rattle.std.proofs.lemmas.Option.{get_or_from_slice_get, slice_get_within}
 use Rattle.task_segments.specs.Table.{Table}
 use Rattle.dispatch_core.specs.declared.event.Event.{Event}
 use Rattle.dispatch_core.specs.declared.event.Event.TheVariants.{Start, Finish}
-use Rattle.dispatch_core.specs.Run.{HasStarted, HasFinished, IsLegal}
+use Rattle.dispatch_core.specs.Run.{IsLegal}
 use Rattle.dispatch_core.proofs.Histories.{Contains-into_take}
 
 abbrev at_place : (history : List Event) (i : ℕ) (event : Event) → slice_get history i ≡ Some event → Contains history event

@@ -1,16 +1,16 @@
 -- The stages of a finish: counted as finished, what it opens in its task, and what it opens by creating a task.
-use Rattle.std.proofs.Common.{ℕ, ◌+◌, ◌<◌, ◌≤◌, ◌≡◌, ◌≢◌, ◌⊎◌, ◌↔◌, Bool, true, false, List, [], ◌∷◌, ◌++◌, Option, Some, None, length, get_or, refl, sym, ap, ◌∙◌, subst, arith, inl, inr, eqb, nat_cmp}
+use Rattle.std.proofs.Common.{ℕ, ◌+◌, ◌<◌, ◌≤◌, ◌≡◌, ◌≢◌, ◌⊎◌, ◌↔◌, Bool, true, false, List, [], Option, Some, None, length, get_or, refl, sym, ap, ◌∙◌, subst, arith, inl, inr, eqb, nat_cmp}
 use Rattle.std.specs.Prelude.{slice_get, slice_set, Contains, AllPairs, Vec, vec_len, vec_capacity}
 use Rattle.std.specs.declared.alloc.Global.{Global}
-use Rattle.std.specs.List.Sorted.{IsPermutation, IsSorted, IsStrictlyIncreasing}
+use Rattle.std.specs.List.Sorted.{IsPermutation, IsSorted}
 use Rattle.std.specs.List.{IsDistinct}
-use Rattle.std.proofs.lemmas.Bool.{cases_eq, both_ways, eqb-true}
+use Rattle.std.proofs.lemmas.Bool.{cases_eq, eqb-true}
 use Rattle.std.proofs.lemmas.Option.{same_Some, none-some, slice_get-get_or, slice_get_within}
 use Rattle.std.proofs.lemmas.List.{length-set}
 use Rattle.std.proofs.lemmas.List.Kept.{AllPairs-from_increasing}
 use Rattle.std.proofs.lemmas.List.Sorted.{Contains-permutation, IsPermutation-sym, IsNonDecreasingBy-from_sort}
 use Rattle.std.proofs.lemmas.Map.Keys.{IsStrictlyIncreasing-from_distinct, IsDistinct-IsPermutation, IsDistinct-from_apart}
-use Rattle.task_segments.specs.Table.{Table, segment, task}
+use Rattle.task_segments.specs.Table.{Table}
 use Rattle.task_segments.specs.Precedence.{IsSegment, Continues, Creation}
 use Rattle.task_segments.specs.InPlace.{IsReadInPlace}
 use Rattle.depend_table.specs.Kept.{IsKeptEdge}
@@ -21,11 +21,11 @@ use Rattle.dispatch_core.specs.declared.counters.Counters.{Counters}
 use Rattle.dispatch_core.specs.declared.counters.Growths.{Growths}
 use Rattle.dispatch_core.specs.Entry.{entry}
 use Rattle.dispatch_core.specs.Facts.{IsSoundTable}
-use Rattle.dispatch_core.specs.Counters.{unfinished, AreLowered, IsCounted, HasValue, IsOpenBy, AreKept, AreCounts, AreSuccessors, AreSiblings}
-use Rattle.dispatch_core.specs.UpToDate.{IsUpToDate, IsFreed}
+use Rattle.dispatch_core.specs.Counters.{unfinished, AreLowered, IsCounted, IsOpenBy, AreKept, AreCounts, AreSuccessors, AreSiblings}
+use Rattle.dispatch_core.specs.UpToDate.{IsUpToDate}
 use Rattle.dispatch_core.specs.Listed.{items_of, IsListed}
 use Rattle.dispatch_core.specs.Rooms.{HasRoom, IsRoomier}
-use Rattle.dispatch_core.specs.Openings.{Opens, IsGrown, IsOpening, IsRoomFor, CanOpen, IsRoomToOpen, AddsOpen, IsOpened, AddsReady, AreReady}
+use Rattle.dispatch_core.specs.Openings.{IsGrown, IsOpening, IsRoomFor, IsRoomToOpen, IsOpened, AreReady}
 use Rattle.dispatch_core.proofs.Falls.{counted_above, differ_from_once}
 use Rattle.dispatch_core.proofs.Openers.{created_apart}
 use Rattle.dispatch_core.proofs.OpenSteps.{IsStage, once_in, stage_lowered, stage_opened, stage_like, has_more, has_new, had_value, unvalued}

@@ -1,15 +1,14 @@
 -- Lists of lists, turned: each number put in the lists of the places that it is listed with.
-use Rattle.std.proofs.Common.{ℕ, ◌+◌, ◌<◌, ◌≤◌, ◌≡◌, ◌≢◌, List, [], ◌∷◌, ◌++◌, Option, Some, None, length, take, get_or, refl, sym, ap, ◌∙◌, subst, arith, inl, inr}
+use Rattle.std.proofs.Common.{ℕ, ◌+◌, ◌<◌, ◌≡◌, ◌≢◌, List, [], ◌∷◌, ◌++◌, Option, Some, None, length, take, get_or, refl, sym, ap, ◌∙◌, subst, arith, inl, inr}
 use Rattle.std.specs.Prelude.{slice_get, slice_set, Contains, AllPairs, replicate}
-use Rattle.std.proofs.lemmas.Bool.{cases_eq, cases_lt}
 use Rattle.std.proofs.lemmas.Option.{same_Some, slice_get_within, slice_get-get_or, slice_get-map, get_or_from_slice_get}
-use Rattle.std.proofs.lemmas.List.{length-set, length-replicate, length-map, length_push, map-set, map-append, get_or-replicate}
+use Rattle.std.proofs.lemmas.List.{length-set, length-replicate, length-map, map-set, get_or-replicate}
 use Rattle.std.specs.Option.{option_map}
 use Rattle.std.specs.Prelude.{Vec}
 use Rattle.std.specs.declared.alloc.Global.{Global}
 use Rattle.dispatch_core.specs.Entry.{entry}
 use Rattle.dispatch_core.specs.Listed.{items_of, ArePushed}
-use Rattle.dispatch_core.proofs.PlaceLemmas.{get-set_same, get-set_other, get-append_left, get-push_last}
+use Rattle.dispatch_core.proofs.PlaceLemmas.{get-set_same, get-set_other}
 use Rattle.dispatch_core.proofs.Falls.{next_cases, next_has, still_has, fresh_next}
 
 -- the numbers of the list at a place

@@ -1,7 +1,7 @@
 -- What is recorded of open segments: their kept predecessors and successors, counts of unfinished ones, and generated siblings.
 use Rattle.std.specs.Prelude.{ℕ, ◌+◌, ◌<◌, ◌≡◌, ◌≢◌, ◌⊎◌, ◌↔◌, List, [], Option, Some, None, length, slice_get, count_by, is_none, Contains, AllPairs}
 use Rattle.task_segments.specs.Table.{Table, task}
-use Rattle.task_segments.specs.Precedence.{Continues, Creation, IsSegment, IsTask, MustPrecede}
+use Rattle.task_segments.specs.Precedence.{Continues, Creation, IsSegment, MustPrecede}
 use Rattle.task_segments.specs.Schedule.{IsJoined}
 use Rattle.depend_table.specs.Siblings.{Sibling}
 use Rattle.depend_table.specs.Kept.{IsKeptEdge, children_below}

@@ -1,8 +1,8 @@
-use Rattle.std.proofs.Common.{ℕ, ◌+◌, ◌<◌, ◌≡◌, List, length, take, get_or, sym, subst, arith}
+use Rattle.std.proofs.Common.{ℕ, ◌<◌, ◌≡◌, List, length, get_or, sym, subst, arith}
 use Rattle.std.specs.Prelude.{slice_index_or, Contains}
 use Rattle.std.proofs.lemmas.List.{get_or_default, take_all}
 use Rattle.std.proofs.lemmas.List.Elements.{Contains-get_or}
-use Rattle.dispatch_core.proofs.Rooms.{IsRoomMade, roomier_same, roomier_then, room_made_step, long_as}
+use Rattle.dispatch_core.proofs.Rooms.{roomier_same, roomier_then, room_made_step, long_as}
 use Rattle.dispatch_core.proofs.listed.make_room.Goals as goal
 
 pub make_room_at-requires : goal.make_room_at-requires

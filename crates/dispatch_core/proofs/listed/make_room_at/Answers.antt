@@ -1,4 +1,4 @@
-use Rattle.std.proofs.Common.{◌<◌, length, arith}
+use Rattle.std.proofs.Common.{arith}
 use Rattle.dispatch_core.proofs.Rooms.{roomier_at, room_at}
 use Rattle.dispatch_core.proofs.listed.make_room_at.Goals as goal
 

@@ -1,8 +1,7 @@
-use Rattle.std.proofs.Common.{ℕ, ◌+◌, ◌<◌, ◌≡◌, ◌++◌, ◌∷◌, [], List, Some, None, length, get_or, sym, ap, arith, ◌∙◌}
-use Rattle.std.specs.Prelude.{slice_get, slice_set}
+use Rattle.std.proofs.Common.{ℕ, ◌≡◌, List, None, sym, ap, arith, ◌∙◌}
+use Rattle.std.specs.Prelude.{slice_set}
 use Rattle.std.proofs.lemmas.Option.{slice_get_within}
 use Rattle.dispatch_core.specs.Entry.{entry}
-use Rattle.dispatch_core.specs.Rooms.{HasRoom}
 use Rattle.dispatch_core.proofs.Turning.{items_at, push_item, pushed_none, pushed_at}
 use Rattle.dispatch_core.proofs.Rooms.{is_valued, is_valueless, room_of, fuller_same, fuller_at}
 use Rattle.dispatch_core.specs.Listed.{items_of}

@@ -1,18 +1,14 @@
-use Rattle.std.proofs.Common.{ℕ, ◌<◌, ◌≡◌, ◌∷◌, List, Some, None, length, sym, ap, subst, arith, ◌∙◌, inl, inr}
-use Rattle.std.specs.Prelude.{slice_set, Contains}
-use Rattle.std.proofs.lemmas.Option.{same_Some}
-use Rattle.task_segments.specs.Table.{Table, segment, task}
-use Rattle.task_segments.specs.InPlace.{IsOf}
-use Rattle.task_segments.specs.declared.table.Closing.TheVariants.{Creates}
-use Rattle.depend_table.specs.Kept.{children_below}
+use Rattle.std.proofs.Common.{ℕ, ◌≡◌, List, Some, sym, ap, subst, arith, ◌∙◌}
+use Rattle.std.specs.Prelude.{slice_set}
+use Rattle.task_segments.specs.Table.{Table, task}
 use Rattle.depend_table.specs.Siblings.{Sibling}
 use Rattle.depend_table.specs.Kept.{IsKeptEdge}
 use Rattle.depend_table.specs.Lists.{Lists}
 use Rattle.dispatch_core.specs.Entry.{entry}
 use Rattle.dispatch_core.specs.Rooms.{HasRoom}
-use Rattle.dispatch_core.specs.Counters.{HasValue, AreSiblings}
+use Rattle.dispatch_core.specs.Counters.{AreSiblings}
 use Rattle.dispatch_core.proofs.Rooms.{roomier_same}
-use Rattle.dispatch_core.proofs.SiblingSteps.{IsNextChild, next_child, above_root, created_one, siblings_still, siblings_so_far, siblings_more, first_after}
+use Rattle.dispatch_core.proofs.SiblingSteps.{next_child, above_root, created_one, siblings_still, siblings_so_far, siblings_more, first_after}
 use Rattle.dispatch_core.proofs.opening.first_opening.Goals as goal
 
 pub returns-in_default : goal.returns-in_default

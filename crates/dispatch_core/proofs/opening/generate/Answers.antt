@@ -1,13 +1,12 @@
-use Rattle.std.proofs.Common.{ℕ, ◌<◌, ◌≡◌, ◌∷◌, List, Some, length, sym, ap, subst, arith, ◌∙◌}
-use Rattle.std.specs.Prelude.{slice_get, slice_set, All}
-use Rattle.std.proofs.lemmas.Option.{none-some, same_Some, slice_get-get_or, slice_get_within}
+use Rattle.std.proofs.Common.{ℕ, ◌<◌, ◌≡◌, ◌∷◌, List, Some, sym, ap, subst, arith, ◌∙◌}
+use Rattle.std.specs.Prelude.{slice_set, All}
+use Rattle.std.proofs.lemmas.Option.{none-some, same_Some, slice_get_within}
 use Rattle.task_segments.specs.Table.{Table, task}
 use Rattle.depend_table.specs.Kept.{children_below}
 use Rattle.depend_table.specs.Siblings.{Sibling, IsKept}
 use Rattle.depend_table.specs.Lists.{Lists}
 use Rattle.task_program.specs.declared.statement.Item.{Item}
 use Rattle.dispatch_core.proofs.Children.{children_small}
-use Rattle.dispatch_core.proofs.Rooms.{put_back}
 use Rattle.dispatch_core.proofs.SiblingSteps.{stands_at}
 use Rattle.dispatch_core.proofs.opening.generate.Goals as goal
 

@@ -1,4 +1,4 @@
-use Rattle.std.proofs.Common.{ℕ, ◌<◌, ◌≡◌, List, length, sym, subst, arith, ◌∙◌}
+use Rattle.std.proofs.Common.{ℕ, List, sym, subst, arith, ◌∙◌}
 use Rattle.std.specs.Prelude.{Contains}
 use Rattle.std.proofs.lemmas.Option.{same_Some}
 use Rattle.task_segments.specs.Precedence.{Continues}

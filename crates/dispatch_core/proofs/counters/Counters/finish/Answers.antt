@@ -1,5 +1,4 @@
-use Rattle.std.proofs.Common.{ℕ, ◌<◌, ◌≡◌, List, Option, Some, None, length, sym, subst, arith}
-use Rattle.std.specs.Prelude.{slice_set}
+use Rattle.std.proofs.Common.{ℕ, List, Option, sym, subst, arith}
 use Rattle.dispatch_core.specs.Openings.{IsGrown, IsOpened, IsRoomToOpen, AreReady}
 use Rattle.dispatch_core.specs.UpToDate.{IsFreed}
 use Rattle.dispatch_core.proofs.Stages.{IsFinishing, recorded_still, has_successors, can_open_next, can_open_first, stage_first, siblings_end, sorted_lists}

@@ -1,6 +1,5 @@
-use Rattle.std.proofs.Common.{ℕ, ◌≡◌, ◌≢◌, ◌<◌, List, Some, length, sym, subst, ◌∙◌}
+use Rattle.std.proofs.Common.{ℕ, ◌≡◌, ◌≢◌, ◌<◌, List, Some, length, sym, subst}
 use Rattle.std.specs.Prelude.{slice_get, Contains, AllPairs}
-use Rattle.dispatch_core.specs.Listed.{items_of}
 use Rattle.dispatch_core.proofs.Stages.{successors_at, successor_counted, room_for_still}
 use Rattle.dispatch_core.proofs.counters.Counters.grow.Goals as goal
 

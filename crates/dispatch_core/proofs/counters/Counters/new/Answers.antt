@@ -1,4 +1,4 @@
-use Rattle.std.proofs.Common.{ℕ, List, [], ap, ◌∙◌, length}
+use Rattle.std.proofs.Common.{ℕ, List, [], ap, ◌∙◌}
 use Rattle.std.specs.Prelude.{replicate}
 use Rattle.depend_table.specs.Siblings.{Sibling}
 use Rattle.dispatch_core.proofs.Ends.{up_to_date_first}

@@ -1,4 +1,4 @@
-use Rattle.std.proofs.Common.{◌+◌, ◌*◌, ◌≤◌, length, subst, arith}
+use Rattle.std.proofs.Common.{◌*◌, ◌≤◌, length, subst, arith}
 use Rattle.std.specs.Prelude.{is_some}
 use Rattle.std.proofs.lemmas.List.Sums.{count_by-le-length}
 use Rattle.dispatch_core.specs.Run.{Run, IsLegal}
