@@ -124,13 +124,7 @@ not_valued table history value_of values s are known unfinished =
     let at : slice_get values s ≡ Some (get_or values s None) = slice_get-get_or values s None (omega (arith, are.tell.each)) in
     not_valued_at table history value_of values s (get_or values s None) are unfinished at
 
--- a segment that runs has a place for its value, and no value there
-pub within_values : (table : Table) (history : List Event) (value_of : ℕ → ℕ → ℕ → ℕ) (values : List (Option ℕ)) (worker s : ℕ) → IsLegal table history → AreValues table history value_of values
-    → Runs history worker s → s < length values
-within_values table history value_of values worker s legal are runs =
-    let known = started_known table history worker s legal runs.started in
-    omega (arith, known.1, are.tell.each)
-
+-- a segment that is not finished has no value
 no_entry : (found : Option ℕ) → ((v : ℕ) → ¬ (found ≡ Some v)) → found ≡ None
 no_entry None none = refl
 no_entry (Some v) none = absurd (none v refl)

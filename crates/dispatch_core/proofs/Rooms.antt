@@ -25,11 +25,6 @@ set_there [] k x is = refl
 set_there {A = A} (y ∷ ys) zero x is = ap (λ (z : A). z ∷ ys) (sym (same_Some y x is))
 set_there {A = A} (y ∷ ys) (suc k) x is = ap (λ (l : List A). y ∷ l) (set_there ys k x is)
 
--- a list that is put back as it was
-pub put_back : {A : Type 0} (xs : List A) (k : ℕ) (x y : A) → k < length xs → x ≡ get_or xs k x → y ≡ x → slice_set xs k y ≡ xs
-put_back {A = A} xs k x y within is same =
-    ap (λ (z : A). slice_set xs k z) same ∙ set_there xs k x (slice_get-get_or xs k x within ∙ ap (λ (z : A). Some z) (sym is))
-
 pub room_of : (lists : List (Vec ℕ Global)) (count place : ℕ) (row : Vec ℕ Global) → place < length lists → row ≡ get_or lists place row → HasRoom lists count place → vec_len row + count ≤ vec_capacity row
 room_of lists count place row within is room =
     let there : slice_get lists place ≡ Some row = slice_get-get_or lists place row within ∙ ap (λ (v : Vec ℕ Global). Some v) (sym is) in

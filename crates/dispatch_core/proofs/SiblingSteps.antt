@@ -71,9 +71,6 @@ children_same table p n (suc c) less none = elim (cases_lt c n) [
   | inr further ↦ not_more table p c (none c (omega (arith, further)) (omega arith)) ∙ children_same table p n c (omega (arith, further)) (λ u from below. none u from (omega (arith, below)))
 ]
 
-no_children_below : (table : Table) (p : ℕ) → children_below table p 0 ≡ []
-no_children_below table p = refl
-
 pub siblings_first : (table : Table) (count : ℕ) (values : List (Option ℕ)) → count ≡ length table.tasks → ((s : ℕ) → ¬ HasValue values s) → AreSiblings table values (replicate count [])
 siblings_first table count values is none = record {
   each = length-replicate {A = List Sibling} count [] ∙ is;
