@@ -29,6 +29,12 @@ above_root table child creator facts is_creator = elim (cases_eq child 0) [
   | inr apart ↦ omega (arith, apart)
 ]
 
+below_parent : (table : Table) (child parent : ℕ) → IsReadInPlace table → (task table child).parent ≡ Some parent → 0 < child
+below_parent table child parent facts is_parent = elim (cases_eq child 0) [
+  | inl same ↦ absurd (none-some parent (sym facts.root_parent ∙ ap (λ (n : ℕ). (task table n).parent) (sym same) ∙ is_parent))
+  | inr apart ↦ omega (arith, apart)
+]
+
 -- a segment creates one task
 pub created_one : (table : Table) (s c d : ℕ) → IsReadInPlace table → IsTask table c → (task table c).creator ≡ Some s → IsTask table d → (task table d).creator ≡ Some s → d ≡ c
 created_one table s c d facts known_c by_c known_d by_d =
@@ -220,6 +226,7 @@ siblings_more table values s v c p siblings next so_far = record {
 -- a kept predecessor of a child's first segment, other than its creator: the last segment of an earlier sibling
 pub record EndsSibling (table : Table) (child p : ℕ) : Type 0 where
   pub earlier : ℕ
+  pub above : 0 < earlier
   pub below : earlier < child
   pub siblings : (task table earlier).parent ≡ (task table child).parent
   pub last : (task table earlier).last ≡ p
@@ -235,6 +242,7 @@ first_after table child s p facts known by edge apart = elim (first_cases table 
       let below = sibling.below in
       record {
         earlier = depends.earlier;
+        above = below_parent table depends.earlier depends.parent facts sibling.of_parent;
         below = omega (arith, below, one);
         siblings = sibling.of_parent ∙ sym depends.of_parent ∙ ap (λ (u : ℕ). (task table u).parent) one;
         last = depends.last;

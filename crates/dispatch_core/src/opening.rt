@@ -7,12 +7,13 @@ ghost use Rattle.depend_table.specs.Siblings.{Sibling};
 ghost use Rattle.depend_table.specs.Kept.{children_below};
 ghost use Rattle.dispatch_core.specs.Entry.{entry};
 ghost use Rattle.dispatch_core.specs.Places.{AreKeptSiblings};
-ghost use Rattle.dispatch_core.specs.Counters.{HasValue, AreSiblings};
+ghost use Rattle.dispatch_core.specs.Counters.{HasValue, AreComplete, AreSiblings};
 ghost use Rattle.dispatch_core.specs.Openings.{IsOpening, IsRoomFor};
 ghost use Rattle.dispatch_core.specs.Rooms.{HasRoom, IsRoomier};
 
 use crate::continuing::next_predecessors;
 use crate::listed::{make_room, make_room_at};
+use crate::places::value_entry;
 use crate::record::first_predecessors;
 use depend_table::laws::same_chains;
 use depend_table::table::SiblingTable;
@@ -68,15 +69,18 @@ pub fn next_opening(
 }
 
 /// What the finish of a segment opens by creating a task, with room in the successors of what it is kept after. The task
-/// is entered among its siblings, last of all, since that cannot be undone.
+/// is entered among its siblings, last of all, since that cannot be undone. All tasks before `complete` are complete, but
+/// for the root.
 pub fn first_opening(
     table: &SegTable,
     siblings: &mut Vec<SiblingTable>,
     successors: &mut Vec<Vec<u32>>,
     values: &[Option<u64>],
     finished: u32,
+    complete: u32,
 ) -> Result<Option<Opening>, AllocFault>
     requires known { IsSegment table.now finished }
+    requires complete { AreComplete table.now values.now complete }
     requires each { length successors.old.items ≡ length table.now.segments }
     requires values { length values.now ≡ length table.now.segments }
     requires unfinished { entry values.now finished ≡ None }
@@ -93,7 +97,7 @@ pub fn first_opening(
         Closing::Creates(child) => child,
         _ => return Ok(None),
     };
-    make_sibling_room(table, successors, values, child)?;
+    make_sibling_room(table, successors, values, complete, child)?;
     let kept = generate(table, siblings, child)?;
     Ok(Some(Opening {
         segment: table.first(child),
@@ -101,19 +105,33 @@ pub fn first_opening(
     }))
 }
 
-/// Makes room in the successors of the last segments of a task's earlier siblings.
+/// The first task after the root, from this one on, that is not complete: its last segment has no value.
+pub fn complete_tasks(table: &SegTable, values: &[Option<u64>], complete: u32) -> u32
+    requires { AreComplete table.now values.now complete }
+    ensures { AreComplete table.now values.now result }
+{
+    let mut next = complete;
+    while next < table.tasks() && value_entry(values, table.last(next)).is_some() {
+        next += 1;
+    }
+    next
+}
+
+/// Makes room in the successors of the last segments of a task's earlier siblings, as far as they are not complete.
 fn make_sibling_room(
     table: &SegTable,
     successors: &mut Vec<Vec<u32>>,
     values: &[Option<u64>],
+    complete: u32,
     child: u32,
 ) -> Result<(), AllocFault>
     requires known { IsTask table.now child }
+    requires complete { AreComplete table.now values.now complete }
     requires each { length successors.old.items ≡ length table.now.segments }
     ensures roomier { IsRoomier successors.old.items successors.new.items }
-    ensures room { OnOk result ((earlier : ℕ) → earlier < child → (task table.now earlier).parent ≡ (task table.now child).parent → entry values.now (task table.now earlier).last ≡ None → HasRoom successors.new.items 2 (task table.now earlier).last) }
+    ensures room { OnOk result ((earlier : ℕ) → 0 < earlier → earlier < child → (task table.now earlier).parent ≡ (task table.now child).parent → entry values.now (task table.now earlier).last ≡ None → HasRoom successors.new.items 2 (task table.now earlier).last) }
 {
-    for earlier in 0..child {
+    for earlier in complete..child {
         make_room_after(table, successors, values, earlier, child)?;
     }
     Ok(())

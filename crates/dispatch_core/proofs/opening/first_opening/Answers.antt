@@ -73,4 +73,4 @@ returns-clause-room c p has apart none =
     let made = c.reads_in_place.ensures.creates c.args.finished child c.requires.known (sym c.closing.ensures ∙ c.in-Creates.is) in
     let sibling = first_after table child c.args.finished p c.reads_in_place.ensures made.0 made.1 ((c.first_predecessors.ensures.each p).0 has) apart in
     subst (λ (n : ℕ). HasRoom c.make_sibling_room.new.successors.items 2 n) sibling.last
-    (c.in_ok-make_sibling_room.ensures.room sibling.earlier sibling.below sibling.siblings (ap (λ (n : ℕ). entry c.args.values.now n) sibling.last ∙ none))
+    (c.in_ok-make_sibling_room.ensures.room sibling.earlier sibling.above sibling.below sibling.siblings (ap (λ (n : ℕ). entry c.args.values.now n) sibling.last ∙ none))

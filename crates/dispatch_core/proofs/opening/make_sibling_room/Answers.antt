@@ -1,5 +1,6 @@
 use Rattle.std.proofs.Common.{ℕ, ◌≡◌, None, sym, arith, ◌∙◌, subst, inl, inr}
 use Rattle.std.proofs.lemmas.Bool.{cases_eq}
+use Rattle.std.proofs.lemmas.Option.{none-some}
 use Rattle.task_segments.specs.Table.{task}
 use Rattle.dispatch_core.specs.Entry.{entry}
 use Rattle.dispatch_core.specs.Rooms.{HasRoom}
@@ -12,7 +13,9 @@ make_room_after-requires-clause-each c = long_as c.args.successors.now.items c.l
 pub loop-earlier-init : goal.loop-earlier-init
 loop-earlier-init c = record {
   roomier = roomier_same c.args.successors.now.items;
-  room = λ u below sibling none. absurd (omega (arith, below));
+  room = λ u above below sibling none.
+      let ended = c.requires.complete u above below in
+      absurd (none-some ended.value (sym none ∙ ended.is));
 }
 
 pub loop-earlier-preserved : goal.loop-earlier-preserved
@@ -20,11 +23,11 @@ loop-earlier-preserved c =
     let more = c.in_ok-make_room_after.ensures.roomier in
     record {
       roomier = roomier_then c.args.successors.now.items c.loop-earlier.successors.items c.make_room_after.new.successors.items c.loop-earlier.invariant.roomier more;
-      room = λ u below sibling none. elim (cases_eq u c.loop-earlier.earlier) [
+      room = λ u above below sibling none. elim (cases_eq u c.loop-earlier.earlier) [
         | inl same ↦
             subst (λ (n : ℕ). (task c.args.table.now n).parent ≡ (task c.args.table.now c.args.child).parent → entry c.args.values.now (task c.args.table.now n).last ≡ None
             → HasRoom c.make_room_after.new.successors.items 2 (task c.args.table.now n).last) (sym same) c.in_ok-make_room_after.ensures.room sibling none
-        | inr apart ↦ more.still 2 (task c.args.table.now u).last (c.loop-earlier.invariant.room u (omega (arith, below, apart)) sibling none)
+        | inr apart ↦ more.still 2 (task c.args.table.now u).last (c.loop-earlier.invariant.room u above (omega (arith, below, apart)) sibling none)
       ];
     }
 
@@ -33,5 +36,5 @@ returns-in_err-make_room_after-clause-roomier c =
     roomier_then c.args.successors.now.items c.loop-earlier.successors.items c.make_room_after.new.successors.items c.loop-earlier.invariant.roomier c.make_room_after.ensures.roomier
 
 pub returns-clause-room : goal.returns-clause-room
-returns-clause-room c earlier below sibling none =
-    c.loop-earlier.invariant.room earlier (omega (arith, below, c.loop-earlier-test.false, c.loop-earlier.auto.earlier-end)) sibling none
+returns-clause-room c earlier above below sibling none =
+    c.loop-earlier.invariant.room earlier above (omega (arith, below, c.loop-earlier-test.false, c.loop-earlier.auto.earlier-end)) sibling none
