@@ -1,0 +1,43 @@
+//! As many segments as a program can have, and all events of a run of it.
+use super::{line_count, report};
+use std::alloc::Global;
+use std::test::Fail;
+
+/// One task that waits 16,383 times, with a work of 1 before each.
+fn waits(alloc: Global) -> Result<String, Fail> {
+    let mut text = String::from_str(alloc, "omptasks 1\n")?;
+    for _ in 0..16383u32 {
+        text.push_str("work 1\ntaskwait\n")?;
+    }
+    Ok(text)
+}
+
+#[test]
+fn segments(rt: HostRuntime) -> Result<(), Fail> {
+    let text = waits(rt.alloc())?;
+    let analysed = report(&rt, &["span"], text.as_bytes())?;
+    assert!(rt; analysed.as_slice() == b"segments 16384\nwork 16383\nspan 16383\n".as_slice());
+    let certificate = report(&rt, &["certify"], text.as_bytes())?;
+    let verdict = report(&rt, &["check"], certificate.as_slice())?;
+    assert!(rt; verdict.as_slice() == b"accepted\nsegments 16384\nend 16383\n".as_slice());
+    Ok(())
+}
+
+#[test]
+fn events(rt: HostRuntime) -> Result<(), Fail> {
+    let alloc = rt.alloc();
+    let mut log = waits(alloc)?;
+    log.push_str("---\n")?;
+    for segment in 0..16384u32 {
+        log.push_str(&format!(in alloc; "start 0 {segment}\nfinish 0 {segment}\n")?)?;
+    }
+    let replayed = report(&rt, &["replay"], log.as_bytes())?;
+    assert_eq!(rt; line_count(&replayed), 16386);
+    assert!(rt;
+        replayed
+            .as_slice()
+            .starts_with(b"events 32768\nfinished 16384\npreds 0\npreds 1 0\n")
+    );
+    assert!(rt; replayed.as_slice().ends_with(b"\npreds 16383 16382\n"));
+    Ok(())
+}
