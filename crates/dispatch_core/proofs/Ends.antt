@@ -12,6 +12,7 @@ use Rattle.std.proofs.lemmas.List.Folds.{sum_by-replicate}
 use Rattle.task_segments.specs.Table.{Table}
 use Rattle.task_segments.specs.declared.table.Segment.{Segment}
 use Rattle.task_segments.specs.Precedence.{MustPrecede, Continues, Creation}
+use Rattle.dispatch_core.specs.declared.event.TheConstants.{MOST_WORKERS}
 use Rattle.dispatch_core.specs.declared.event.Event.{Event}
 use Rattle.dispatch_core.specs.Run.{HasStarted, HasFinished, Runs, IsFinished, IsOpen}
 use Rattle.dispatch_core.specs.Facts.{costs_of, IsSoundTable}
@@ -102,7 +103,7 @@ up_to_date_first table counters sound preds successors counts siblings complete 
 
 pub sound_at_start : (value_of : ℕ → ℕ → ℕ → ℕ) (table : Table) (capacity : ℕ) (counters : Counters) → IsSoundTable table → 2 * length table.segments ≤ capacity
     → IsUpToDate table (replicate (length table.segments) None) counters
-    → IsSound value_of table [] capacity (replicate (length table.segments) false) (replicate 64 None) (replicate (length table.segments) None) counters (costs_of table)
+    → IsSound value_of table [] capacity (replicate (length table.segments) false) (replicate MOST_WORKERS None) (replicate (length table.segments) None) counters (costs_of table)
 sound_at_start value_of table capacity counters sound room state = record {
   sound_table = sound;
   legal = λ k event h. absurd (none-some event h);
@@ -112,8 +113,8 @@ sound_at_start value_of table capacity counters sound room state = record {
     has_started = λ s h. absurd (nothing_started s h);
   };
   are_running = record {
-    each = length-replicate {A = Option ℕ} 64 None;
-    is_run = λ worker s h. absurd (entry-replicate 64 s worker h);
+    each = length-replicate {A = Option ℕ} MOST_WORKERS None;
+    is_run = λ worker s h. absurd (entry-replicate MOST_WORKERS s worker h);
     runs = λ worker s h. absurd (nothing_runs worker s h);
   };
   are_values = record {
@@ -131,15 +132,15 @@ sound_at_start value_of table capacity counters sound room state = record {
 }
 
 pub sound_first : (value_of : ℕ → ℕ → ℕ → ℕ) (table : Table) (capacity : ℕ) (history : List Event) (started : List Bool) (running values : List (Option ℕ)) (counters : Counters) (costs : List ℕ)
-    → IsSoundTable table → 2 * length table.segments ≤ capacity → history ≡ [] → started ≡ replicate (length table.segments) false → running ≡ replicate 64 None
+    → IsSoundTable table → 2 * length table.segments ≤ capacity → history ≡ [] → started ≡ replicate (length table.segments) false → running ≡ replicate MOST_WORKERS None
     → values ≡ replicate (length table.segments) None → IsUpToDate table (replicate (length table.segments) None) counters → costs ≡ costs_of table
     → IsSound value_of table history capacity started running values counters costs
 sound_first value_of table capacity history started running values counters costs sound room h s r v state c =
     subst (λ (x : List Event). IsSound value_of table x capacity started running values counters costs) (sym h)
     (subst (λ (x : List Bool). IsSound value_of table [] capacity x running values counters costs) (sym s)
     (subst (λ (x : List (Option ℕ)). IsSound value_of table [] capacity (replicate (length table.segments) false) x values counters costs) (sym r)
-    (subst (λ (x : List (Option ℕ)). IsSound value_of table [] capacity (replicate (length table.segments) false) (replicate 64 None) x counters costs) (sym v)
-    (subst (λ (x : List ℕ). IsSound value_of table [] capacity (replicate (length table.segments) false) (replicate 64 None) (replicate (length table.segments) None) counters x) (sym c)
+    (subst (λ (x : List (Option ℕ)). IsSound value_of table [] capacity (replicate (length table.segments) false) (replicate MOST_WORKERS None) x counters costs) (sym v)
+    (subst (λ (x : List ℕ). IsSound value_of table [] capacity (replicate (length table.segments) false) (replicate MOST_WORKERS None) (replicate (length table.segments) None) counters x) (sym c)
     (sound_at_start value_of table capacity counters sound room state)))))
 
 pub precedes_of : (table : Table) (p s : ℕ) → Continues table p s ⊎ Creation table p s → MustPrecede table p s

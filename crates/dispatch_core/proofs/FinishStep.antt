@@ -9,6 +9,7 @@ use Rattle.std.proofs.lemmas.List.Elements.{Contains-append_left, Contains-push,
 use Rattle.std.specs.Option.{option_flatten}
 use Rattle.task_segments.specs.Table.{Table, segment}
 use Rattle.task_segments.specs.Precedence.{MustPrecede}
+use Rattle.dispatch_core.specs.declared.event.TheConstants.{MOST_WORKERS}
 use Rattle.dispatch_core.specs.declared.event.Event.{Event}
 use Rattle.dispatch_core.specs.declared.event.Event.TheVariants.{Start, Finish}
 use Rattle.dispatch_core.specs.Result.{Computed}
@@ -25,7 +26,7 @@ use Rattle.dispatch_core.proofs.PlaceLemmas.{entry-set_same, entry-set_none, ent
 use Rattle.dispatch_core.proofs.Histories.{finished_kept, started_kept, finished_cases, started_was, legal_push, one_starter, get_at_place, Contains-from_take}
 
 -- a segment that was started is known, by a known worker, after all that must precede it
-pub started_known : (table : Table) (history : List Event) (worker s : ℕ) → IsLegal table history → Contains history (Start worker s) → (worker < 64) × (s < length table.segments)
+pub started_known : (table : Table) (history : List Event) (worker s : ℕ) → IsLegal table history → Contains history (Start worker s) → (worker < MOST_WORKERS) × (s < length table.segments)
 started_known table history worker s legal h =
     let may : MayStart table (take h.0 history) worker s = legal h.0 (Start worker s) (get_at_place history (Start worker s) h) in
     (may.known, may.ready.known)

@@ -12,6 +12,7 @@ use Rattle.dispatch_core.specs.Facts.{IsSoundTable}
 use Rattle.dispatch_core.specs.Replays.{IsFirstRefused, RefusesEvent}
 use Rattle.dispatch_core.specs.Refusals.{AreKnown, IsFirstUnfinished, IsIdle, RefusesStart}
 use Rattle.dispatch_core.specs.Run.{HasFinished, HasStarted, IsLegal, MayFollow, MayStart, Runs}
+use Rattle.dispatch_core.specs.declared.event.TheConstants.{MOST_WORKERS}
 use Rattle.dispatch_core.specs.declared.event.Event.{Event}
 use Rattle.dispatch_core.specs.declared.event.Event.TheVariants.{Finish, Start}
 use Rattle.dispatch_core.specs.declared.event.StartRefusal.{StartRefusal}
@@ -134,7 +135,7 @@ ready_or_waits table history s sound =
 
 start_or_refusal : (table : Table) (history : List Event) (worker s : ℕ) → IsSoundTable table
     → MayStart table history worker s ⊎ ((why : StartRefusal) × RefusesStart table history worker s why)
-start_or_refusal table history worker s sound = elim (cases_lt worker 64) [
+start_or_refusal table history worker s sound = elim (cases_lt worker MOST_WORKERS) [
   | inr unknown ↦ inr (UnknownWorker, unknown)
   | inl known ↦ elim (cases_lt s (length table.segments)) [
     | inr past ↦ inr (UnknownSegment, (known, past))

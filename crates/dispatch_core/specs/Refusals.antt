@@ -2,6 +2,7 @@
 use Rattle.std.specs.Prelude.{ℕ, ◌<◌, ◌≤◌, ◌≡◌, List, length}
 use Rattle.task_segments.specs.Table.{Table, segment}
 use Rattle.task_segments.specs.Precedence.{IsSegment, MustPrecede}
+use Rattle.dispatch_core.specs.declared.event.TheConstants.{MOST_WORKERS}
 use Rattle.dispatch_core.specs.declared.event.Event.{Event}
 use Rattle.dispatch_core.specs.declared.event.StartRefusal.{StartRefusal}
 use Rattle.dispatch_core.specs.declared.event.StartRefusal.TheVariants.{UnknownWorker, UnknownSegment, WorkerBusy, AlreadyStarted, NotReady}
@@ -19,7 +20,7 @@ pub record IsFirstUnfinished (table : Table) (history : List Event) (s pred : �
 
 -- both are known
 pub record AreKnown (table : Table) (worker s : ℕ) : Type 0 where
-  pub worker_known : worker < 64
+  pub worker_known : worker < MOST_WORKERS
   pub segment_known : IsSegment table s
 
 -- the worker runs nothing
@@ -28,8 +29,8 @@ IsIdle history worker = (other : ℕ) → ¬ Runs history worker other
 
 -- why the worker may not start the segment
 abbrev pub RefusesStart : Table → List Event → ℕ → ℕ → StartRefusal → Type 0
-RefusesStart table history worker s UnknownWorker = 64 ≤ worker
-RefusesStart table history worker s UnknownSegment = (worker < 64) × (length table.segments ≤ s)
+RefusesStart table history worker s UnknownWorker = MOST_WORKERS ≤ worker
+RefusesStart table history worker s UnknownSegment = (worker < MOST_WORKERS) × (length table.segments ≤ s)
 RefusesStart table history worker s WorkerBusy = AreKnown table worker s × ((other : ℕ) × Runs history worker other)
 RefusesStart table history worker s AlreadyStarted =
     AreKnown table worker s × IsIdle history worker × HasStarted history s

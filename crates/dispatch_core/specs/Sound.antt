@@ -1,6 +1,7 @@
 -- What a core keeps beside its history.
 use Rattle.std.specs.Prelude.{ℕ, ◌+◌, ◌*◌, ◌≤◌, ◌≡◌, Bool, true, List, Option, Some, length, slice_get, count_by, is_some}
 use Rattle.task_segments.specs.Table.{Table}
+use Rattle.dispatch_core.specs.declared.event.TheConstants.{MOST_WORKERS}
 use Rattle.dispatch_core.specs.declared.event.Event.{Event}
 use Rattle.dispatch_core.specs.declared.counters.Counters.{Counters}
 use Rattle.dispatch_core.specs.Counters.{TellFinished}
@@ -16,9 +17,9 @@ pub record AreStarted (table : Table) (history : List Event) (started : List Boo
   pub is_started : (s : ℕ) → slice_get started s ≡ Some true → HasStarted history s
   pub has_started : (s : ℕ) → HasStarted history s → slice_get started s ≡ Some true
 
--- for each of 64 workers the segment that it runs, if any
+-- for each worker the segment that it runs, if any
 pub record AreRunning (history : List Event) (running : List (Option ℕ)) : Type 0 where
-  pub each : length running ≡ 64
+  pub each : length running ≡ MOST_WORKERS
   pub is_run : (worker s : ℕ) → entry running worker ≡ Some s → Runs history worker s
   pub runs : (worker s : ℕ) → Runs history worker s → entry running worker ≡ Some s
 

@@ -1,4 +1,18 @@
 //! The kept predecessors of a segment that goes on after another one of its task.
+//!
+//! A finish opens at most two segments (`opening`): the next one of its task, and the first one of
+//! the task that it creates. The kept predecessors of a segment are gathered when it opens,
+//! ascending:
+//! - of the next one here, by how the finished segment closes. Where it creates a task: the
+//!   finished segment, and then the task's last one if the task is undeferred. At a wait: the last
+//!   segments of the children since the previous wait, and then the finished segment. At the end of
+//!   a group: the last segments of the tasks whose innermost group it is, and then the finished
+//!   segment. From where on these stand `wait_begin` and `group_begin` tell, and one pass from
+//!   there finds them.
+//! - of the first one in `record`: the last segments of the kept siblings, as the table of its
+//!   parent's children tells them (`depend_table`), and then the finished segment.
+//!
+//! `counters` keeps each list, and counts how many in it are not finished.
 ghost use Rattle.std.specs.Prelude.{ℕ, Some, ◌≡◌, ◌<◌, ◌≤◌, ◌↔◌, IfOk, IsTrue};
 ghost use Rattle.task_segments.specs.Table.{segment, task};
 ghost use Rattle.task_segments.specs.declared.table.Closing.TheVariants as closings;

@@ -12,7 +12,7 @@ ghost use Rattle.dispatch_core.specs.Refusals.{RefusesStart, RefusesFinish, MayF
 ghost use Rattle.dispatch_core.specs.Graph.{IsGraphOf};
 
 use crate::counters::Counters;
-use crate::event::{Event, FinishKind, FinishRefusal, StartRefusal};
+use crate::event::{Event, FinishKind, FinishRefusal, MOST_WORKERS, StartRefusal};
 use crate::facts::sound;
 use crate::graph::{Graph, make_graph};
 use crate::kernel::{Kernel, SegResult};
@@ -22,9 +22,6 @@ use std::alloc::Global;
 use std::marker::{Model, PhantomData};
 use task_program::AllocFault;
 use task_segments::table::SegTable;
-
-/// Workers are numbered from 0 to one less than this.
-const WORKERS: u32 = 64;
 
 /// A run of a program's segments by workers, with kernel K: which segments have started and finished, what each
 /// computed, and the record of it. Contracts see the program's table and the history, the accepted events in order.
@@ -222,7 +219,7 @@ impl<K: Kernel> Core<K> {
     fn may_start(&self, worker: u32, segment: u32) -> Result<(), StartRefusal>
         ensures { MatchResult result (λ _. MayStart self.now.table self.now.history worker segment) (RefusesStart self.now.table self.now.history worker segment) }
     {
-        if worker >= WORKERS {
+        if worker >= MOST_WORKERS {
             return Err(StartRefusal::UnknownWorker);
         }
         if segment >= self.table.len() {

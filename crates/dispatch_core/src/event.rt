@@ -1,6 +1,9 @@
 //! Events of a run, and why one is refused.
 use crate::kernel::{Kernel, SegResult};
 
+/// A run has at most so many workers, numbered from 0.
+pub const MOST_WORKERS: u32 = 64;
+
 /// A worker, by its number, starts a segment, by its number, or finishes it.
 #[derive(Clone, Copy, Debug, PartialEq, Eq)]
 pub enum Event {
@@ -13,7 +16,7 @@ pub enum Event {
 /// Why a start is refused: the first of these that holds.
 #[derive(Clone, Copy, Debug, PartialEq, Eq)]
 pub enum StartRefusal {
-    /// The worker is none of 64.
+    /// The worker's number is not below [`MOST_WORKERS`].
     UnknownWorker,
     /// The segment is past the program's last.
     UnknownSegment,

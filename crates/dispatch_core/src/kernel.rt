@@ -25,11 +25,11 @@ pub trait Kernel: Send + Sync {
         ensures err { OnErr result (IsTrue (may_fault segment cost input)) };
 }
 
-/// The most turns that the mixing kernel makes.
-const MOST_TURNS: u64 = 4096;
+/// The mixing kernel makes at most so many turns, however great the cost.
+pub const MOST_MIX_TURNS: u64 = 4096;
 
-/// A kernel that begins with segment + input and makes min(cost, 4096) turns of x = 5 * x + 1, all modulo 2^64. It
-/// never faults.
+/// A kernel that begins with segment + input and makes a turn of x = 5 * x + 1 for each unit of the cost, up to
+/// [`MOST_MIX_TURNS`], all modulo 2^64. It never faults.
 #[derive(Clone, Copy, Debug, PartialEq, Eq)]
 pub struct MixKernel;
 
@@ -43,7 +43,7 @@ impl Kernel for MixKernel {
         ensures never { IsOk result }
     {
         let mut x = input.wrapping_add(segment as u64);
-        for _ in 0..cost.min(MOST_TURNS) {
+        for _ in 0..cost.min(MOST_MIX_TURNS) {
             x = x.wrapping_mul(5).wrapping_add(1);
         }
         Ok(x)

@@ -46,7 +46,7 @@ pub fn some_value()
         → IsSegment (table_of program.marks) s → (value : ℕ) × IsValue (table_of program.marks) value_of s value }
 {}
 
-/// What runs in a legal history runs on one of 64 workers, is a segment, is open, and all that must precede it is
+/// What runs in a legal history runs on one of [`MOST_WORKERS`](crate::event::MOST_WORKERS) workers, is a segment, is open, and all that must precede it is
 /// finished.
 pub fn what_runs(table: &SegTable)
     ensures { (history : List Event) (worker s : ℕ) → IsLegal table.now history → Runs history worker s → IsRunning table.now history worker s }

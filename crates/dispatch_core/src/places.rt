@@ -7,7 +7,7 @@ ghost use Rattle.std.specs.Prelude.{List, IfOk, map, replicate};
 ghost use Rattle.dispatch_core.specs.First.{AreFirst};
 
 use crate::counters::Counters;
-use crate::event::Event;
+use crate::event::{Event, MOST_WORKERS};
 use std::alloc::Global;
 use task_program::AllocFault;
 use task_segments::table::SegTable;
@@ -86,7 +86,7 @@ pub fn make_places(alloc: Global, table: &SegTable) -> Result<Places, AllocFault
     Ok(Places {
         history: Vec::with_capacity(alloc, 2 * segments as usize)?,
         started: repeated(alloc, false, segments)?,
-        running: repeated(alloc, None, 64)?,
+        running: repeated(alloc, None, MOST_WORKERS)?,
         values: repeated(alloc, None, segments)?,
         counters: Counters::new(alloc, table)?,
         costs: costs(alloc, table)?,

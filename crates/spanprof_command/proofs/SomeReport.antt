@@ -31,6 +31,7 @@ use Rattle.dispatch_core.specs.Recorded.{IsGraph, Precedes, Recorded}
 use Rattle.dispatch_core.specs.Values.{IsValue}
 use Rattle.greedy_sim.proofs.Existence.{some_run}
 use Rattle.greedy_sim.specs.Greedy.{IsCurve, IsGreedyEnd, IsGreedyRun}
+use Rattle.greedy_sim.specs.declared.greedy.TheConstants.{MOST_THREADS}
 use Rattle.span_analysis.proofs.Existence.{earliest_exists}
 use Rattle.span_analysis.proofs.PassSteps.{IsAscending-graph}
 use Rattle.span_cert.proofs.SomeVerdict.{some_verdict}
@@ -48,6 +49,7 @@ use Rattle.dispatch_core.proofs.Decisions.{IsDecided, alike, decide_both, decide
 use Rattle.spanprof_command.proofs.OneReport.{measured}
 use Rattle.spanprof_command.proofs.SomeAnalysis.{IsAnalysed, some_analysed}
 use Rattle.dispatch_core.proofs.SomeGraph.{AreFirstValues, IsWhole, first_values, some_graph, tree_fits, whole_table}
+use Rattle.dispatch_core.specs.declared.event.TheConstants.{MOST_WORKERS}
 use Rattle.spanprof_command.proofs.SomeReplay.{some_said}
 use Rattle.spanprof_command.proofs.TriedSpans.{same_as, tells_trial}
 use Rattle.spanprof_command.specs.Certificates.{AnswersCheck, Certifies, accepted, check_refused}
@@ -61,6 +63,7 @@ use Rattle.spanprof_command.specs.Tables.{numbered_table}
 use Rattle.spanprof_command.specs.Trials.{Trials, TriesChanges, after_changes, change_refused, spans_told, unless_refused}
 use Rattle.spanprof_command.specs.WorkerRuns.{WorkerRuns, run_told, worker_count}
 use Rattle.spanprof_command.specs.declared.report.Status.TheVariants.{Done}
+use Rattle.command_io.specs.declared.input.TheConstants.{LARGEST_INPUT}
 
 -- of each program a command says something
 abbrev SaysSome : (ProgramText → Output → Type 0) → Type 0
@@ -155,8 +158,8 @@ all_values table value_of sound =
 
 decide_workers : (workers : ℕ) → IsDecided (IsWorkerCount workers)
 decide_workers workers =
-    alike ((1 ≤ workers) × (workers ≤ 64)) (IsWorkerCount workers) (λ h. h) (λ h. h)
-    (decide_both (1 ≤ workers) (workers ≤ 64) (decide_most 1 workers) (decide_most workers 64))
+    alike ((1 ≤ workers) × (workers ≤ MOST_WORKERS)) (IsWorkerCount workers) (λ h. h) (λ h. h)
+    (decide_both (1 ≤ workers) (workers ≤ MOST_WORKERS) (decide_most 1 workers) (decide_most workers MOST_WORKERS))
 
 some_worker_run : (workers : ℕ) → SaysSome (WorkerRuns workers)
 some_worker_run workers program whole =
@@ -182,11 +185,11 @@ some_worker_run workers program whole =
 
 -- ---- greedy and curve
 
--- a number of threads is 1 to 1,024, or is refused
-thread_count_or_not : (threads : ℕ) → ((threads < 1) ⊎ (1024 < threads)) ⊎ IsThreadCount threads
+-- a number of threads is in range, or is refused
+thread_count_or_not : (threads : ℕ) → ((threads < 1) ⊎ (MOST_THREADS < threads)) ⊎ IsThreadCount threads
 thread_count_or_not threads = elim (cases_lt threads 1) [
   | inl none ↦ inl (inl none)
-  | inr some ↦ elim (cases_lt 1024 threads) [
+  | inr some ↦ elim (cases_lt MOST_THREADS threads) [
     | inl many ↦ inl (inr many)
     | inr few ↦ inr (record { some = some; few = few })
   ]
@@ -387,7 +390,7 @@ some_answer (Curve upto) input = on_program (Curves upto) (some_curve upto) inpu
 some_answer (WhatIf changes) input = on_program (Trials changes) (some_trial changes) input
 
 some_within : (asked : Request) (input : List ℕ) → (output : Output) × AnswersWithin asked input output
-some_within asked input = elim (cases_lt 8388608 (length input)) [
+some_within asked input = elim (cases_lt LARGEST_INPUT (length input)) [
   | inl longer ↦ (input_too_long, inl (record { longer = longer; says = refl }))
   | inr fits ↦
       let answer : (output : Output) × Answers asked input output = some_answer asked input in

@@ -15,7 +15,8 @@ use Rattle.task_program.specs.Marks.Mark.{Begins, Ends, Works, Waits, GroupBegin
 use Rattle.task_program.specs.Canonical.{same_kind, name_of, joint, items_after, depend_clauses, line_of, header_line, solid}
 use Rattle.task_program.specs.Programs.{IsLocation}
 use Rattle.task_program.specs.Programs.IsLocation.{Plain, Indexed}
-use Rattle.task_program.specs.Subscripts.{most_index, subscript}
+use Rattle.task_program.specs.Subscripts.{subscript}
+use Rattle.task_program.specs.declared.limits.TheConstants.{LARGEST_INDEX}
 use Rattle.task_program.specs.Tokens.{is_blank, is_run_byte}
 use Rattle.task_program.specs.Words.{is_run, is_word, begins_with_digit, type_word, is_number}
 use Rattle.task_program.proofs.Keeping.{bool_cases}
@@ -75,7 +76,7 @@ opens_weighs = record { solid_is = omega arith; half = omega arith }
 closes_weighs : Weighs (codes "]") (codes "]" ∷ [])
 closes_weighs = record { solid_is = omega arith; half = omega arith }
 
-subscript_weighs : (is_negative : Bool) (size : ℕ) → size ≤ most_index → Weighs (subscript is_negative size) (subscript_texts is_negative size)
+subscript_weighs : (is_negative : Bool) (size : ℕ) → size ≤ LARGEST_INDEX → Weighs (subscript is_negative size) (subscript_texts is_negative size)
 subscript_weighs is_negative size fits =
     let number : Weighs (decimal size) (decimal size ∷ []) = run_weighs (decimal size) (number_run (decimal size) (decimal_number size (omega (arith, fits)))) in
     both (codes "[") _ (codes "[" ∷ []) _ opens_weighs

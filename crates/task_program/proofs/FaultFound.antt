@@ -8,7 +8,7 @@ use Rattle.task_program.specs.declared.fault.ReadKind.TheVariants.{TooLong, BadH
 use Rattle.task_program.specs.declared.fault.ReadFault.{ReadFault}
 use Rattle.task_program.specs.declared.place.Place.{Place}
 use Rattle.task_program.specs.declared.place.Place.TheVariants.{Header, Version, Statement, WorkNumber, GroupBrace, Clause, DependMore}
-use Rattle.task_program.specs.Limits.{most_bytes}
+use Rattle.task_program.specs.declared.limits.TheConstants.{MOST_TEXT_BYTES}
 use Rattle.task_program.specs.Tokens.{Token, texts, tokens_of, line_at_end}
 use Rattle.task_program.specs.TokenCounts.{open_braces, limit_fault_after}
 use Rattle.task_program.specs.Words.{is_text}
@@ -373,7 +373,7 @@ at_start = record {
   right = Nothing;
 }
 
-too_long : (text : List ℕ) → nat_lt most_bytes (length text) ≡ true → program_of text ≡ Err (fault_so TooLong 1)
+too_long : (text : List ℕ) → nat_lt MOST_TEXT_BYTES (length text) ≡ true → program_of text ≡ Err (fault_so TooLong 1)
 too_long text long = rw long refl
 
 same_fault : (read : Result ProgramText ReadFault) (one other : ReadFault) → read ≡ Err one → read ≡ Err other
@@ -464,15 +464,15 @@ whole_read all line s rights =
     (λ program h. (program, h))
     (λ fault h. absurd (whole_ends r.state.place r.state.tree.blocks line fault (whole_now (texts all) r.state r.counts.began s) (end_is r.state line fault (sym to_end ∙ h))))
 
-short_refused : (text : List ℕ) (fault : ReadFault) → length text ≤ most_bytes → program_of text ≡ one_pass text
+short_refused : (text : List ℕ) (fault : ReadFault) → length text ≤ MOST_TEXT_BYTES → program_of text ≡ one_pass text
     → HasFault text fault → program_of text ≡ Err fault
 short_refused text fault fits so (TextTooLong _ long) = absurd (omega (arith, fits, long))
 short_refused text fault fits so (OfTokens _ _ short first) = so ∙ refused_first (tokens_of text) (line_at_end 1 text) fault first
 
-told_apart : (text : List ℕ) → begins_version_two (tokens_of text) ≡ false → nat_lt most_bytes (length text) ≡ false
+told_apart : (text : List ℕ) → begins_version_two (tokens_of text) ≡ false → nat_lt MOST_TEXT_BYTES (length text) ≡ false
     → IsToldApart text
 told_apart text one short =
-    let fits = ltb-false most_bytes (length text) short in
+    let fits = ltb-false MOST_TEXT_BYTES (length text) short in
     let so : program_of text ≡ one_pass text = of_one text fits one in
     let line = line_at_end 1 text in
     record {
@@ -486,14 +486,14 @@ told_apart text one short =
       );
     }
 
-long_refused : (text : List ℕ) (fault : ReadFault) → most_bytes < length text
+long_refused : (text : List ℕ) (fault : ReadFault) → MOST_TEXT_BYTES < length text
     → program_of text ≡ Err (fault_so TooLong 1) → HasFault text fault → program_of text ≡ Err fault
 long_refused text fault long so (TextTooLong _ again) = so
 long_refused text fault long so (OfTokens _ _ short first) = absurd (omega (arith, short, long))
 
-long_apart : (text : List ℕ) → nat_lt most_bytes (length text) ≡ true → IsToldApart text
+long_apart : (text : List ℕ) → nat_lt MOST_TEXT_BYTES (length text) ≡ true → IsToldApart text
 long_apart text long =
-    let longer = ltb-true most_bytes (length text) long in
+    let longer = ltb-true MOST_TEXT_BYTES (length text) long in
     record {
       read = (
         λ r. absurd (let wrong = sym (too_long text long) ∙ r.1 in cc),
@@ -506,4 +506,4 @@ long_apart text long =
     }
 
 pub fault_is_first : (text : List ℕ) → FaultIsFirst text
-fault_is_first text one = bool_cases (nat_lt most_bytes (length text)) (λ long. long_apart text long) (λ short. told_apart text one short)
+fault_is_first text one = bool_cases (nat_lt MOST_TEXT_BYTES (length text)) (λ long. long_apart text long) (λ short. told_apart text one short)

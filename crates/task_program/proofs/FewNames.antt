@@ -6,7 +6,8 @@ use Rattle.std.specs.Str.{bytes_eq}
 use Rattle.std.proofs.lemmas.Bool.{leb-false}
 use Rattle.task_program.specs.declared.statement.Item.{Item}
 use Rattle.task_program.specs.Marks.Mark.{Begins}
-use Rattle.task_program.specs.Limits.{tasks_begun, most_items}
+use Rattle.task_program.specs.Limits.{tasks_begun}
+use Rattle.task_program.specs.declared.limits.TheConstants.{MOST_ITEMS}
 use Rattle.task_program.specs.Names.{number_of, with_name}
 use Rattle.task_program.specs.Expansion.{Piece}
 use Rattle.task_program.specs.Expansion.Piece.{TurnBegins, TaskComes, ItemComes, TaskOpens, GroupComes, GroupOpens, BlockEnds, WorkIs, WaitIs}
@@ -26,7 +27,7 @@ few_piece : (state : Expanded) (piece : Piece) → fault_of state piece ≡ None
 few_piece state (TurnBegins line) none h = record { items = h.items; names = h.names }
 few_piece state (TaskComes line) none h = h
 few_piece state (ItemComes place) none h =
-    let room : length state.items < most_items = leb-false most_items (length state.items) (not_first (nat_le most_items (length state.items)) _ _ none (is_fault _ place.line)).0 in
+    let room : length state.items < MOST_ITEMS = leb-false MOST_ITEMS (length state.items) (not_first (nat_le MOST_ITEMS (length state.items)) _ _ none (is_fault _ place.line)).0 in
     let item : Item = record { kind = place.kind; name = number_of state.names place.location } in
     let one : length (state.items ++ item ∷ []) ≡ length state.items + 1 = length-append state.items (item ∷ []) in
     let names_are = h.names in

@@ -13,7 +13,7 @@ use Rattle.task_program.specs.declared.loops.LoopItem.{LoopItem}
 use Rattle.task_program.specs.declared.loops.LoopTask.{LoopTask}
 use Rattle.task_program.specs.declared.loop_reader.LoopHead.{LoopHead}
 use Rattle.task_program.specs.declared.open_loops.LoopOpening.TheVariants.{TaskOpening, GroupOpening}
-use Rattle.task_program.specs.Limits.{most_work}
+use Rattle.task_program.specs.declared.limits.TheConstants.{LARGEST_COST}
 use Rattle.task_program.specs.Marks.{Mark}
 use Rattle.task_program.specs.Marks.Mark.{Begins, Ends, Works, Waits, GroupBegins, GroupEnds}
 use Rattle.task_program.specs.Canonical.{same_kind, name_of}
@@ -235,7 +235,7 @@ pub record HasMarks (names : List (List ℕ)) (room : ℕ) (tokens : List Token)
   pub stands : Stands names marks tree
 
 abbrev pub HasLocations : List (List ℕ) → Mark → Type 0
-HasLocations names (Works cost) = cost ≤ most_work
+HasLocations names (Works cost) = cost ≤ LARGEST_COST
 HasLocations names (Begins undeferred items) = All (IsLocated names) items
 HasLocations names _ = Unit {0}
 
@@ -249,13 +249,13 @@ moved names room tokens other marks more same equal h = record {
   stands = subst (λ (ms : List Mark). Stands names ms h.tree) equal h.stands;
 }
 
-work_added : (names : List (List ℕ)) (room cost a b : ℕ) (before : List Token) (done : List Mark) → cost ≤ most_work → HasMarks names room before done
+work_added : (names : List (List ℕ)) (room cost a b : ℕ) (before : List Token) (done : List Mark) → cost ≤ LARGEST_COST → HasMarks names room before done
     → HasMarks names room (before ++ record { text = codes "work"; line = a } ∷ record { text = decimal cost; line = b } ∷ []) (done ++ Works cost ∷ [])
 work_added names room cost a b before done fits h =
     let word : Token = record { text = codes "work"; line = a } in
     let number : Token = record { text = decimal cost; line = b } in
     let is : value_of (decimal cost) ≡ cost = decimal_value cost fits in
-    let within : grammar.IsNumber (decimal cost) most_work = record { is_number = decimal_number cost fits; fits = omega (arith, is, fits) } in
+    let within : grammar.IsNumber (decimal cost) LARGEST_COST = record { is_number = decimal_number cost fits; fits = omega (arith, is, fits) } in
     record {
       tree = ThenWork h.tree cost b;
       spelled = subst (λ (n : ℕ). Spelled [] room (before ++ word ∷ number ∷ []) (ThenWork h.tree n b)) is (grammar.Spelled.Work [] room before word number h.tree h.spelled refl within);

@@ -8,7 +8,8 @@ use Rattle.task_program.specs.declared.statement.DependKind.{DependKind}
 use Rattle.task_program.specs.declared.loops.LoopItem.{LoopItem}
 use Rattle.task_program.specs.Programs.{IsLocation}
 use Rattle.task_program.specs.Programs.IsLocation.{Plain, Indexed}
-use Rattle.task_program.specs.Subscripts.{most_index, subscript}
+use Rattle.task_program.specs.Subscripts.{subscript}
+use Rattle.task_program.specs.declared.limits.TheConstants.{LARGEST_INDEX, LARGEST_STEP}
 use Rattle.task_program.specs.Tokens.{Token, texts, starts_with_run_byte}
 use Rattle.task_program.specs.Words.{is_word}
 use Rattle.task_program.specs.Expansion.{subscript_of, index_fits}
@@ -55,7 +56,7 @@ closes_spelled : (rest : List ℕ) → spell false (codes "]" ++ rest) ≡ codes
 unfolding spell
 closes_spelled rest = refl
 
-size_spelled : (size : ℕ) (rest : List ℕ) → size ≤ most_index → spell false ((decimal size ++ codes "]") ++ rest) ≡ decimal size ∷ codes "]" ∷ spell false rest
+size_spelled : (size : ℕ) (rest : List ℕ) → size ≤ LARGEST_INDEX → spell false ((decimal size ++ codes "]") ++ rest) ≡ decimal size ∷ codes "]" ∷ spell false rest
 size_spelled size rest fits =
     ap (spell false) (append_assoc (decimal size) (codes "]") rest)
     ∙ number_then (decimal size) (codes "]" ++ rest) (decimal_number size (omega (arith, fits))) refl
@@ -69,7 +70,7 @@ minus_spelled : (size : ℕ) (rest : List ℕ) → spell false (subscript true s
 unfolding spell
 minus_spelled size rest = refl
 
-subscript_spelled : (is_negative : Bool) (size : ℕ) (rest : List ℕ) → size ≤ most_index → spell false (subscript is_negative size ++ rest) ≡ subscript_texts is_negative size ++ spell false rest
+subscript_spelled : (is_negative : Bool) (size : ℕ) (rest : List ℕ) → size ≤ LARGEST_INDEX → spell false (subscript is_negative size ++ rest) ≡ subscript_texts is_negative size ++ spell false rest
 subscript_spelled false size rest fits = plus_spelled size rest ∙ ap (λ (ts : List (List ℕ)). codes "[" ∷ ts) (size_spelled size rest fits)
 subscript_spelled true size rest fits = minus_spelled size rest ∙ ap (λ (ts : List (List ℕ)). codes "[" ∷ codes "-" ∷ ts) (size_spelled size rest fits)
 
@@ -80,7 +81,7 @@ nothing_spelled = refl
 stops : (is_negative : Bool) (size : ℕ) (rest : List ℕ) → starts_with_run_byte (subscript is_negative size ++ rest) ≡ false
 stops is_negative size rest = refl
 
-indexed_spelled : (word : List ℕ) (is_negative : Bool) (size : ℕ) (rest : List ℕ) → is_word word ≡ true → size ≤ most_index
+indexed_spelled : (word : List ℕ) (is_negative : Bool) (size : ℕ) (rest : List ℕ) → is_word word ≡ true → size ≤ LARGEST_INDEX
     → spell false ((word ++ subscript is_negative size) ++ rest) ≡ (word ∷ subscript_texts is_negative size) ++ spell false rest
 indexed_spelled word is_negative size rest h fits =
     ap (spell false) (append_assoc word (subscript is_negative size) rest)
@@ -91,7 +92,7 @@ indexed_spelled word is_negative size rest h fits =
 pub word_alone : (word : List ℕ) → is_word word ≡ true → spell false word ≡ word ∷ []
 word_alone word h = ap (spell false) (sym (append-nil word)) ∙ word_then word [] h refl ∙ ap (λ (ts : List (List ℕ)). word ∷ ts) nothing_spelled
 
-pub indexed_alone : (word : List ℕ) (is_negative : Bool) (size : ℕ) → is_word word ≡ true → size ≤ most_index → spell false (word ++ subscript is_negative size) ≡ word ∷ subscript_texts is_negative size
+pub indexed_alone : (word : List ℕ) (is_negative : Bool) (size : ℕ) → is_word word ≡ true → size ≤ LARGEST_INDEX → spell false (word ++ subscript is_negative size) ≡ word ∷ subscript_texts is_negative size
 indexed_alone word is_negative size h fits =
     ap (spell false) (sym (append-nil (word ++ subscript is_negative size)))
     ∙ indexed_spelled word is_negative size [] h fits
@@ -104,7 +105,7 @@ location_written _ (Indexed word is_negative size is fits some) = record {
   so = λ rest h. indexed_spelled word is_negative size rest is.0 fits ∙ ap (λ (ts : List (List ℕ)). ts ++ spell false rest) (sym (indexed_alone word is_negative size is.0 fits));
 }
 
-subscript_short : (is_negative : Bool) (size : ℕ) → size ≤ most_index → AllShort (subscript_texts is_negative size)
+subscript_short : (is_negative : Bool) (size : ℕ) → size ≤ LARGEST_INDEX → AllShort (subscript_texts is_negative size)
 subscript_short false size fits =
     cons_short (codes "[") _ (short (codes "[") (omega arith)) (cons_short (decimal size) _ (number_short (decimal size) (decimal_number size (omega (arith, fits)))) (cons_short (codes "]") [] (short (codes "]") (omega arith)) none_short))
 subscript_short true size fits =
@@ -129,8 +130,8 @@ pub record ItemIs (kind : DependKind) (name : List ℕ) (tokens : List Token) : 
   pub spelled : ItemSpelled [] kind tokens item
   pub stands : StandsFor kind name item
 
-step_is : (size : ℕ) → size ≤ most_index → step_of (decimal size) ≡ size
-step_is size fits = ap (λ (n : ℕ). min n 2000001) (decimal_value size (omega (arith, fits))) ∙ omega (arith, fits)
+step_is : (size : ℕ) → size ≤ LARGEST_INDEX → step_of (decimal size) ≡ size
+step_is size fits = ap (λ (n : ℕ). min n LARGEST_STEP) (decimal_value size (omega (arith, fits))) ∙ omega (arith, fits)
 
 plain_item : (kind : DependKind) (word : List ℕ) (line : ℕ) → is_word word ≡ true → ItemIs kind word (record { text = word; line = line } ∷ [])
 plain_item kind word line h =
@@ -141,7 +142,7 @@ plain_item kind word line h =
       stands = record { kind_is = refl; location_is = append-nil word; in_range = refl };
     }
 
-positive_item : (kind : DependKind) (word : List ℕ) (size a b c d : ℕ) → is_word word ≡ true → size ≤ most_index
+positive_item : (kind : DependKind) (word : List ℕ) (size a b c d : ℕ) → is_word word ≡ true → size ≤ LARGEST_INDEX
     → ItemIs kind (word ++ subscript false size) (record { text = word; line = a } ∷ record { text = codes "["; line = b } ∷ record { text = decimal size; line = c } ∷ record { text = codes "]"; line = d } ∷ [])
 positive_item kind word size a b c d h fits =
     let token : Token = record { text = word; line = a } in
@@ -154,11 +155,11 @@ positive_item kind word size a b c d h fits =
       stands = record {
         kind_is = refl;
         location_is = ap (λ (n : ℕ). word ++ subscript false n) (omega (arith, is));
-        in_range = le-leb (0 + step_of (decimal size)) most_index (omega (arith, is, fits));
+        in_range = le-leb (0 + step_of (decimal size)) LARGEST_INDEX (omega (arith, is, fits));
       };
     }
 
-negative_item : (kind : DependKind) (word : List ℕ) (size a b c d e : ℕ) → is_word word ≡ true → size ≤ most_index → 1 ≤ size
+negative_item : (kind : DependKind) (word : List ℕ) (size a b c d e : ℕ) → is_word word ≡ true → size ≤ LARGEST_INDEX → 1 ≤ size
     → ItemIs kind (word ++ subscript true size) (record { text = word; line = a } ∷ record { text = codes "["; line = b } ∷ record { text = codes "-"; line = c } ∷ record { text = decimal size; line = d } ∷ record { text = codes "]"; line = e } ∷ [])
 negative_item kind word size a b c d e h fits some =
     let token : Token = record { text = word; line = a } in
@@ -174,7 +175,7 @@ negative_item kind word size a b c d e h fits some =
       stands = record {
         kind_is = refl;
         location_is = rw below (ap (λ (n : ℕ). word ++ subscript true n) (omega (arith, is)));
-        in_range = rw below (le-leb _ most_index (omega (arith, is, fits)));
+        in_range = rw below (le-leb _ LARGEST_INDEX (omega (arith, is, fits)));
       };
     }
 

@@ -10,14 +10,14 @@ use Rattle.task_program.specs.declared.loop_place.LoopPlace.{LoopPlace}
 use Rattle.task_program.specs.declared.loop_place.LoopPlace.TheVariants.{Statement, WorkNumber, GroupBrace, ForFrom, ForTo, ForBrace, Clause, IfNumber, FinalNumber}
 use Rattle.task_program.specs.declared.loop_reader.LoopHead.{LoopHead}
 use Rattle.task_program.specs.declared.open_loops.LoopBlock.{LoopBlock}
-use Rattle.task_program.specs.Limits.{most_bytes, most_nesting, most_work}
+use Rattle.task_program.specs.declared.limits.TheConstants.{MOST_TEXT_BYTES, MOST_NESTING, LARGEST_COST, LARGEST_BOUND}
 use Rattle.task_program.specs.Tokens.{Token, texts, tokens_of, line_at_end}
 use Rattle.task_program.specs.TokenCounts.{open_braces}
 use Rattle.task_program.specs.Words.{is_text, is_number, value_of}
 use Rattle.task_program.specs.Loops.{Tree}
 use Rattle.task_program.specs.OpenBlocks.{variables_of, brace_of}
 use Rattle.task_program.specs.ProgramText.{ProgramText}
-use Rattle.task_program.specs.FirstPass.{State, most_bound, is_allowed, closes_nothing, is_number_too_large, nests_too_deep, form_fault, place_fault, unless_fault, step, end_at, ended, go_on, first_pass, after_header}
+use Rattle.task_program.specs.FirstPass.{State, is_allowed, closes_nothing, is_number_too_large, nests_too_deep, form_fault, place_fault, unless_fault, step, end_at, ended, go_on, first_pass, after_header}
 use Rattle.task_program.specs.ReadInVersion.{begins_version_two, then_second, two_passes, program_of}
 use Rattle.task_program.specs.LoopViablePrefix.{IsLoopSentence, IsLoopViable}
 use Rattle.task_program.specs.FirstLoopFault.{IsLoopWrong, AreInPlace, EndsInLoops, IsFirstLoopFault, body_of, HasLoopFault, IsToldInLoops, LoopFaultIsFirst}
@@ -77,22 +77,22 @@ LargeHere text = (is_number text ≡ true) × (1 < value_of text)
 
 large_number : (place : LoopPlace) (head : LoopHead) (open_now : List LoopBlock) (text : List ℕ)
     → is_number_too_large place text ≡ true → is_allowed place head open_now text ≡ true → LargeHere text
-large_number WorkNumber head open_now text large allowed = (allowed, omega (arith, ltb-true most_work (value_of text) large))
-large_number ForFrom head open_now text large allowed = (allowed, omega (arith, ltb-true most_bound (value_of text) large))
-large_number ForTo head open_now text large allowed = (allowed, omega (arith, ltb-true most_bound (value_of text) large))
+large_number WorkNumber head open_now text large allowed = (allowed, omega (arith, ltb-true LARGEST_COST (value_of text) large))
+large_number ForFrom head open_now text large allowed = (allowed, omega (arith, ltb-true LARGEST_BOUND (value_of text) large))
+large_number ForTo head open_now text large allowed = (allowed, omega (arith, ltb-true LARGEST_BOUND (value_of text) large))
 large_number IfNumber head open_now text large allowed = (allowed, ltb-true 1 (value_of text) large)
 large_number FinalNumber head open_now text large allowed = (allowed, ltb-true 1 (value_of text) large)
 large_number _ head open_now text large allowed = absurd cc
 
 abbrev DeepHere : List LoopBlock → List ℕ → Type 0
-DeepHere open_now text = (text ≡ codes "{") × (most_nesting ≤ length open_now)
+DeepHere open_now text = (text ≡ codes "{") × (MOST_NESTING ≤ length open_now)
 
 deep_block : (place : LoopPlace) (head : LoopHead) (open_now : List LoopBlock) (text : List ℕ)
     → nests_too_deep place open_now text ≡ true → is_allowed place head open_now text ≡ true → DeepHere open_now text
-deep_block GroupBrace head open_now text deep allowed = (same_text text (codes "{") allowed, leb-true most_nesting (length open_now) deep)
-deep_block ForBrace head open_now text deep allowed = (same_text text (codes "{") allowed, leb-true most_nesting (length open_now) deep)
+deep_block GroupBrace head open_now text deep allowed = (same_text text (codes "{") allowed, leb-true MOST_NESTING (length open_now) deep)
+deep_block ForBrace head open_now text deep allowed = (same_text text (codes "{") allowed, leb-true MOST_NESTING (length open_now) deep)
 deep_block Clause head open_now text deep allowed =
-    (same_text text (codes "{") (and_left (is_text text (codes "{")) _ deep), leb-true most_nesting (length open_now) (and_right (is_text text (codes "{")) _ deep))
+    (same_text text (codes "{") (and_left (is_text text (codes "{")) _ deep), leb-true MOST_NESTING (length open_now) (and_right (is_text text (codes "{")) _ deep))
 deep_block _ head open_now text deep allowed = absurd cc
 
 -- the fault of a token that is one by itself
@@ -228,7 +228,7 @@ at_start = record {
   in_place = Nothing;
 }
 
-too_long : (text : List ℕ) → nat_lt most_bytes (length text) ≡ true → program_of text ≡ Err (fault_so TooLong 1)
+too_long : (text : List ℕ) → nat_lt MOST_TEXT_BYTES (length text) ≡ true → program_of text ≡ Err (fault_so TooLong 1)
 too_long text long = rw long refl
 
 same_fault : (read : Result ProgramText ReadFault) (one other : ReadFault) → read ≡ Err one → read ≡ Err other
@@ -244,10 +244,10 @@ either_pass text (Err other) fault first h =
     let same : other ≡ fault = cc in
     subst (HasLoopFault text) same (OfTokens text other (fault_from (body_of text) [] after_header (line_at_end 1 text) other at_start first))
 
-told_in_loops : (text : List ℕ) → begins_version_two (tokens_of text) ≡ true → nat_lt most_bytes (length text) ≡ false
+told_in_loops : (text : List ℕ) → begins_version_two (tokens_of text) ≡ true → nat_lt MOST_TEXT_BYTES (length text) ≡ false
     → IsToldInLoops text
 told_in_loops text two short =
-    let so : program_of text ≡ two_passes text = of_two text (ltb-false most_bytes (length text) short) two in
+    let so : program_of text ≡ two_passes text = of_two text (ltb-false MOST_TEXT_BYTES (length text) short) two in
     record {
       read = λ program h.
           let went = went_through (first_pass (body_of text) (line_at_end 1 text) after_header) program (sym so ∙ h) in
@@ -255,11 +255,11 @@ told_in_loops text two short =
       refused = λ fault h. either_pass text (first_pass (body_of text) (line_at_end 1 text) after_header) fault refl (sym so ∙ h);
     }
 
-long_in_loops : (text : List ℕ) → nat_lt most_bytes (length text) ≡ true → IsToldInLoops text
+long_in_loops : (text : List ℕ) → nat_lt MOST_TEXT_BYTES (length text) ≡ true → IsToldInLoops text
 long_in_loops text long = record {
   read = λ program h. absurd (let wrong = sym (too_long text long) ∙ h in cc);
-  refused = λ fault h. subst (HasLoopFault text) (same_fault (program_of text) (fault_so TooLong 1) fault (too_long text long) h) (TextTooLong text (ltb-true most_bytes (length text) long));
+  refused = λ fault h. subst (HasLoopFault text) (same_fault (program_of text) (fault_so TooLong 1) fault (too_long text long) h) (TextTooLong text (ltb-true MOST_TEXT_BYTES (length text) long));
 }
 
 pub loop_fault_is_first : (text : List ℕ) → LoopFaultIsFirst text
-loop_fault_is_first text two = bool_cases (nat_lt most_bytes (length text)) (λ long. long_in_loops text long) (λ short. told_in_loops text two short)
+loop_fault_is_first text two = bool_cases (nat_lt MOST_TEXT_BYTES (length text)) (λ long. long_in_loops text long) (λ short. told_in_loops text two short)

@@ -8,7 +8,7 @@ use Rattle.std.proofs.lemmas.List.Elements.{All-head, All-tail, All-nil, All-con
 use Rattle.task_program.specs.declared.statement.Item.{Item}
 use Rattle.task_program.specs.declared.version.Version.{Version}
 use Rattle.task_program.specs.declared.version.Version.TheVariants.{Two}
-use Rattle.task_program.specs.Limits.{most_token_bytes, most_nesting}
+use Rattle.task_program.specs.declared.limits.TheConstants.{MOST_TOKEN_BYTES, MOST_NESTING, MOST_CANONICAL_BYTES, MOST_TURNS}
 use Rattle.task_program.specs.Marks.{Mark}
 use Rattle.task_program.specs.Marks.Mark.{Begins, Ends, Works, Waits, GroupBegins, GroupEnds}
 use Rattle.task_program.specs.Names.{with_name}
@@ -18,7 +18,7 @@ use Rattle.task_program.specs.ProgramText.{ProgramText}
 use Rattle.task_program.specs.Tokens.{Token, texts, tokens_of}
 use Rattle.task_program.specs.Faults.{Block}
 use Rattle.task_program.specs.Grammar.{IsShort}
-use Rattle.task_program.specs.SecondPass.{Expanded, nothing_expanded, most_turns}
+use Rattle.task_program.specs.SecondPass.{Expanded, nothing_expanded}
 use Rattle.task_program.specs.ExpandsTo.{expanded, program_expanded}
 use Rattle.task_program.specs.LoopGrammar.{HasLoopTree}
 use Rattle.task_program.proofs.Nested.{nests}
@@ -110,7 +110,7 @@ unfolding with_lines
 front_apart words lines tokens h = sym h
 
 expands_to : (program : ProgramText) (state : Expanded) → program.version ≡ Two → IsProgram program → All (HasLocations program.names) program.marks → Goes program.names program.marks [] state
-    → (program ≡ program_expanded state) × (state.turns ≤ most_turns) × (state.bytes ≤ most_token_bytes) × (length (canonical program) ≤ 2097152)
+    → (program ≡ program_expanded state) × (state.turns ≤ MOST_TURNS) × (state.bytes ≤ MOST_TOKEN_BYTES) × (length (canonical program) ≤ MOST_CANONICAL_BYTES)
 expands_to program state two fits located goes =
     let names : List (List ℕ) = program.names in
     let marks : List Mark = program.marks in
@@ -122,7 +122,7 @@ expands_to program state two fits located goes =
     let half : length (header_line Two ++ lines) ≤ 2 * solid (header_line Two ++ lines) = weighs.half in
     let solid_is : solid (header_line Two ++ lines) ≡ sum_by length words = weighs.solid_is in
     let tokens : sum_by length (texts (tokens_of (canonical program))) ≡ sum_by length words = ap (λ (ts : List (List ℕ)). sum_by length ts) (loops_spelled program two (marks_written names marks located)) in
-    let size : sum_by length (texts (tokens_of (canonical program))) ≤ most_token_bytes = fits.size in
+    let size : sum_by length (texts (tokens_of (canonical program))) ≤ MOST_TOKEN_BYTES = fits.size in
     let apart : solid (header_line Two ++ lines) ≡ solid (header_line Two) + solid lines = sum_by-append _ (header_line Two) lines in
     let none : length state.tree.blocks ≡ 0 = ap (λ (bs : List Block). length bs) goes.blocks_are in
     let bytes_are : state.bytes ≡ (solid (header_line Two) + solid lines) + length state.tree.blocks = p.bytes_are in
@@ -134,7 +134,7 @@ expands_to program state two fits located goes =
       omega (arith, lengths, half, solid_is, tokens, size),
     )
 
-pub canonical_loops : (program : ProgramText) → program.version ≡ Two → IsProgram program → HasLoopTree (canonical program) program × (length (canonical program) ≤ 2097152)
+pub canonical_loops : (program : ProgramText) → program.version ≡ Two → IsProgram program → HasLoopTree (canonical program) program × (length (canonical program) ≤ MOST_CANONICAL_BYTES)
 canonical_loops program two fits =
     let names : List (List ℕ) = program.names in
     let marks : List Mark = program.marks in
@@ -145,13 +145,13 @@ canonical_loops program two fits =
     let lines = have_lines (tokens_of (canonical program)) in
     let tokens_are : with_lines (codes "omptasks" ∷ codes "2" ∷ words) lines.0 ≡ tokens_of (canonical program) = ap (λ (ts : List (List ℕ)). with_lines ts lines.0) (sym tokens_so) ∙ lines.1 in
     let body : List Token = with_lines words (λ i. lines.0 (suc (suc i))) in
-    let h : HasMarks names most_nesting body marks = lines_spelled names most_nesting marks (nests program fits) located [] [] (λ i. lines.0 (suc (suc i))) (no_marks names most_nesting) in
+    let h : HasMarks names MOST_NESTING body marks = lines_spelled names MOST_NESTING marks (nests program fits) located [] [] (λ i. lines.0 (suc (suc i))) (no_marks names MOST_NESTING) in
     let once : AreOnce names = subst AreOnce (sym fits.ordered) (once_mentioned (flat_map (mentioned names) marks)) in
     let all_names : names ≡ fold with_name [] (flat_map (mentioned names) ([] ++ (marks ++ []))) = fits.ordered ∙ ap (λ (ms : List Mark). fold with_name [] (flat_map (mentioned names) ms)) (sym (append-nil marks)) in
     let goes : Goes names marks [] (expanded h.tree) = expands names once marks h.tree h.stands fits.marks_fit [] [] nothing_expanded all_names (at_first names) in
     let e = expands_to program (expanded h.tree) two fits located goes in
     let short_words : AllShort words = lines_short (spell false) names marks (marks_short names marks located) in
-    let long : length (canonical program) ≤ 2097152 = e.3 in (
+    let long : length (canonical program) ≤ MOST_CANONICAL_BYTES = e.3 in (
       record {
         in_version = two;
         word = record { text = codes "omptasks"; line = lines.0 0 };

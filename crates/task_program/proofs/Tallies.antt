@@ -13,7 +13,8 @@ use Rattle.task_program.specs.declared.statement.DependKind.TheVariants.{DependI
 use Rattle.task_program.specs.declared.statement.Item.{Item}
 use Rattle.task_program.specs.Marks.{Mark}
 use Rattle.task_program.specs.Marks.Mark.{Begins, Ends, Works, Waits, GroupBegins, GroupEnds}
-use Rattle.task_program.specs.Limits.{tasks_begun, segments_opened, work_done, tasks_of, segments_of, work_of, most_tasks, most_segments, most_nesting, most_items, most_total_work}
+use Rattle.task_program.specs.Limits.{tasks_begun, segments_opened, work_done, tasks_of, segments_of, work_of}
+use Rattle.task_program.specs.declared.limits.TheConstants.{MOST_TASKS, MOST_SEGMENTS, MOST_NESTING, MOST_ITEMS, MOST_WORK}
 use Rattle.task_program.specs.Names.{number_of}
 use Rattle.task_program.specs.Tokens.{Token, texts}
 use Rattle.task_program.specs.Words.{is_text, is_run, begins_with_digit, is_word, is_number, value_of, type_word}
@@ -311,14 +312,14 @@ limit_at : (place : Place) (state : State) (text : List ℕ) (a b c d e f : Bool
     → is_value_too_large (is_inside_at place) text ≡ a → is_too_deep (length (map line_of state.tree.blocks)) text ≡ b
     → is_task_past (is_inside_at place) (tasks_of state.tree.marks + pending_tasks place) text ≡ c
     → is_segment_past (is_inside_at place) (segments_of state.tree.marks + pending_segments place) text ≡ d
-    → nat_lt most_items (length state.head.items + item_coming place) ≡ e
+    → nat_lt MOST_ITEMS (length state.head.items + item_coming place) ≡ e
     → is_work_past (is_inside_at place) (work_of state.tree.marks) text ≡ f
     → limit_of (tally_at place state) text ≡ table a b c d e f
 limit_at place state text a b c d e f h1 h2 h3 h4 h5 h6 =
     same_table (is_value_too_large (is_inside_at place) text) (is_too_deep (length (map line_of state.tree.blocks)) text)
     (is_task_past (is_inside_at place) (tasks_of state.tree.marks + pending_tasks place) text)
     (is_segment_past (is_inside_at place) (segments_of state.tree.marks + pending_segments place) text)
-    (nat_lt most_items (length state.head.items + item_coming place)) (is_work_past (is_inside_at place) (work_of state.tree.marks) text)
+    (nat_lt MOST_ITEMS (length state.head.items + item_coming place)) (is_work_past (is_inside_at place) (work_of state.tree.marks) text)
     a b c d e f h1 h2 h3 h4 h5 h6
 
 value_off : (inside : Bool) (text : List ℕ) → is_number text ≡ false → is_value_too_large inside text ≡ false
@@ -332,14 +333,14 @@ and_off true b = refl
 and_off false b = refl
 
 work_off : (inside : Bool) (work : ℕ) (text : List ℕ) → is_number text ≡ false → is_work_past inside work text ≡ false
-work_off inside work text number = rw number (and_off (not inside) (nat_lt most_total_work (work + value_of text)))
+work_off inside work text number = rw number (and_off (not inside) (nat_lt MOST_WORK (work + value_of text)))
 
-few_items : (place : Place) (state : State) → item_coming place ≡ 0 → length state.head.items ≤ most_items
-    → nat_lt most_items (length state.head.items + item_coming place) ≡ false
-few_items place state none few = le-ltb most_items (length state.head.items + item_coming place) (omega (arith, none, few))
+few_items : (place : Place) (state : State) → item_coming place ≡ 0 → length state.head.items ≤ MOST_ITEMS
+    → nat_lt MOST_ITEMS (length state.head.items + item_coming place) ≡ false
+few_items place state none few = le-ltb MOST_ITEMS (length state.head.items + item_coming place) (omega (arith, none, few))
 
 -- a token that passes no limit
-quiet : (place : Place) (state : State) (text : List ℕ) → item_coming place ≡ 0 → length state.head.items ≤ most_items
+quiet : (place : Place) (state : State) (text : List ℕ) → item_coming place ≡ 0 → length state.head.items ≤ MOST_ITEMS
     → is_number text ≡ false → is_text text (codes "{") ≡ false
     → is_task_past (is_inside_at place) (tasks_of state.tree.marks + pending_tasks place) text ≡ false
     → is_segment_past (is_inside_at place) (segments_of state.tree.marks + pending_segments place) text ≡ false
@@ -365,7 +366,7 @@ statement_text P work_so task_so wait_so group_so end_so text has_if allowed =
     (λ group. subst P (sym (same_text text (codes "taskgroup") group)) group_so)
     (λ no_group. subst P (sym (is_end text allowed no_work no_task no_wait no_group)) end_so))))
 
-statement_limits : (state : State) (text : List ℕ) → length state.head.items ≤ most_items
+statement_limits : (state : State) (text : List ℕ) → length state.head.items ≤ MOST_ITEMS
     → is_allowed Statement state.head.has_if text ≡ true → LimitsSame Statement state text
 statement_limits state text few allowed =
     let number : is_number text ≡ false = statement_text (λ (t : List ℕ). is_number t ≡ false) refl refl refl refl refl text state.head.has_if allowed in
@@ -374,11 +375,11 @@ statement_limits state text few allowed =
     let segments : segments_of state.tree.marks + 0 ≡ segments_of state.tree.marks = omega arith in
     limit_at Statement state text false false (is_task_too_many Statement state.tree.marks text) (are_segments_too_many Statement state.tree.marks text) false false
     (value_off false text number) (deep_off _ text brace)
-    (ap (λ (n : ℕ). is_text text (codes "task") && nat_le most_tasks n) tasks)
-    (ap (λ (n : ℕ). (is_text text (codes "task") && nat_lt most_segments (n + 2)) || (is_waiting text && nat_lt most_segments (n + 1))) segments)
+    (ap (λ (n : ℕ). is_text text (codes "task") && nat_le MOST_TASKS n) tasks)
+    (ap (λ (n : ℕ). (is_text text (codes "task") && nat_lt MOST_SEGMENTS (n + 2)) || (is_waiting text && nat_lt MOST_SEGMENTS (n + 1))) segments)
     (few_items Statement state refl few) (work_off false _ text number)
 
-work_limits : (state : State) (text : List ℕ) → length state.head.items ≤ most_items → is_number text ≡ true
+work_limits : (state : State) (text : List ℕ) → length state.head.items ≤ MOST_ITEMS → is_number text ≡ true
     → LimitsSame WorkNumber state text
 work_limits state text few number =
     let brace = other_text is_number text (codes "{") number refl in
@@ -388,17 +389,17 @@ work_limits state text few number =
     limit_at WorkNumber state text (is_number_too_large WorkNumber text) false false false false (is_work_too_large WorkNumber state.tree.marks text)
     (rw number refl) (deep_off _ text brace) (rw task refl) (rw (task, wait, group) refl) (few_items WorkNumber state refl few) (rw number refl)
 
-brace_limits : (place : Place) (state : State) → length state.head.items ≤ most_items → item_coming place ≡ 0
+brace_limits : (place : Place) (state : State) → length state.head.items ≤ MOST_ITEMS → item_coming place ≡ 0
     → is_inside_at place ≡ false
-    → limits (at state place) (codes "{") ≡ table false (nat_le most_nesting (length state.tree.blocks)) false false false false
+    → limits (at state place) (codes "{") ≡ table false (nat_le MOST_NESTING (length state.tree.blocks)) false false false false
     → LimitsSame place state (codes "{")
 brace_limits place state few none outside_so same =
-    let deep : nat_le most_nesting (length (map line_of state.tree.blocks)) ≡ nat_le most_nesting (length state.tree.blocks) = ap (λ (n : ℕ). nat_le most_nesting n) (length-map state.tree.blocks line_of) in
-    limit_at place state (codes "{") false (nat_le most_nesting (length state.tree.blocks)) false false false false (value_off (is_inside_at place) (codes "{") refl) deep (rw outside_so refl) (rw outside_so refl)
+    let deep : nat_le MOST_NESTING (length (map line_of state.tree.blocks)) ≡ nat_le MOST_NESTING (length state.tree.blocks) = ap (λ (n : ℕ). nat_le MOST_NESTING n) (length-map state.tree.blocks line_of) in
+    limit_at place state (codes "{") false (nat_le MOST_NESTING (length state.tree.blocks)) false false false false (value_off (is_inside_at place) (codes "{") refl) deep (rw outside_so refl) (rw outside_so refl)
     (few_items place state none few) (work_off (is_inside_at place) (work_of state.tree.marks) (codes "{") refl)
     ∙ sym same
 
-clause_limits : (state : State) (text : List ℕ) → length state.head.items ≤ most_items
+clause_limits : (state : State) (text : List ℕ) → length state.head.items ≤ MOST_ITEMS
     → is_allowed Clause state.head.has_if text ≡ true → LimitsSame Clause state text
 clause_limits state text few allowed =
     bool_cases (is_text text (codes "{"))
@@ -407,13 +408,13 @@ clause_limits state text few allowed =
     (λ if_word. rw (same_text text (codes "if") if_word) (quiet Clause state (codes "if") refl few refl refl refl refl))
     (λ no_if. rw (is_depend text state.head.has_if allowed no_brace no_if) (quiet Clause state (codes "depend") refl few refl refl refl refl)))
 
-if_number_limits : (state : State) (text : List ℕ) → length state.head.items ≤ most_items → is_number text ≡ true
+if_number_limits : (state : State) (text : List ℕ) → length state.head.items ≤ MOST_ITEMS → is_number text ≡ true
     → LimitsSame IfNumber state text
 if_number_limits state text few number =
     let brace = other_text is_number text (codes "{") number refl in
     limit_at IfNumber state text (is_number_too_large IfNumber text) false false false false false (rw number refl) (deep_off _ text brace) refl refl (few_items IfNumber state refl few) refl
 
-type_limits : (state : State) (kind : DependKind) → length state.head.items ≤ most_items
+type_limits : (state : State) (kind : DependKind) → length state.head.items ≤ MOST_ITEMS
     → LimitsSame DependType state (type_word kind)
 type_limits state DependIn few = quiet DependType state (codes "in") refl few refl refl refl refl
 type_limits state DependOut few = quiet DependType state (codes "out") refl few refl refl refl refl
@@ -425,11 +426,11 @@ no_digit run false digits h = refl
 no_digit true true digits h = absurd cc
 no_digit false true digits h = absurd cc
 
-one_more_item : (n : ℕ) → nat_lt most_items (n + 1) ≡ nat_le most_items n
+one_more_item : (n : ℕ) → nat_lt MOST_ITEMS (n + 1) ≡ nat_le MOST_ITEMS n
 one_more_item n =
-    bool_cases (nat_le most_items n)
-    (λ many. rw many (lt-ltb most_items (n + 1) (omega (arith, leb-true most_items n many))))
-    (λ few. rw few (le-ltb most_items (n + 1) (omega (arith, leb-false most_items n few))))
+    bool_cases (nat_le MOST_ITEMS n)
+    (λ many. rw many (lt-ltb MOST_ITEMS (n + 1) (omega (arith, leb-true MOST_ITEMS n many))))
+    (λ few. rw few (le-ltb MOST_ITEMS (n + 1) (omega (arith, leb-false MOST_ITEMS n few))))
 
 name_limits : (state : State) (kind : DependKind) (text : List ℕ) → is_word text ≡ true
     → LimitsSame (DependName kind) state text
@@ -438,7 +439,7 @@ name_limits state kind text word =
     limit_at (DependName kind) state text false false false false (is_item_too_many (DependName kind) state.head.items) false
     (value_off true text number) (deep_off _ text ((no_sign_word text word).brace)) refl refl (one_more_item (length state.head.items)) refl
 
-more_limits : (state : State) (kind : DependKind) (text : List ℕ) → length state.head.items ≤ most_items
+more_limits : (state : State) (kind : DependKind) (text : List ℕ) → length state.head.items ≤ MOST_ITEMS
     → is_allowed (DependMore kind) state.head.has_if text ≡ true → LimitsSame (DependMore kind) state text
 more_limits state kind text few allowed =
     bool_cases (is_text text (codes ","))
@@ -446,7 +447,7 @@ more_limits state kind text few allowed =
     (λ other. rw (same_text text (codes ")") (or_true_right (is_text text (codes ",")) (is_text text (codes ")")) allowed other)) (quiet (DependMore kind) state (codes ")") refl few refl refl refl refl))
 
 pub place_limits : (place : Place) (state : State) (text : List ℕ) → is_past_header place ≡ true
-    → length state.head.items ≤ most_items → is_allowed place state.head.has_if text ≡ true
+    → length state.head.items ≤ MOST_ITEMS → is_allowed place state.head.has_if text ≡ true
     → LimitsSame place state text
 place_limits Header state text past few allowed = absurd cc
 place_limits Version state text past few allowed = absurd cc
@@ -481,7 +482,7 @@ version_limits text number value =
     let task = other_text is_number text (codes "task") number refl in
     let wait = other_text is_number text (codes "taskwait") number refl in
     let group = other_text is_number text (codes "taskgroup") number refl in
-    same_table (is_value_too_large false text) (is_too_deep 0 text) (is_task_past false 0 text) (is_segment_past false 1 text) (nat_lt most_items 0) (is_work_past false 0 text)
+    same_table (is_value_too_large false text) (is_too_deep 0 text) (is_task_past false 0 text) (is_segment_past false 1 text) (nat_lt MOST_ITEMS 0) (is_work_past false 0 text)
     false false false false false false
     (rw (number, value) refl) (deep_off 0 text (other_text is_number text (codes "{") number refl)) (rw task refl) (rw (task, wait, group) refl) refl (rw (number, value) refl)
 

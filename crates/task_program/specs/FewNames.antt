@@ -1,8 +1,9 @@
 -- How many names an expansion has: a task mentions so many at most.
 use Rattle.std.specs.Prelude.{◌+◌, ◌*◌, ◌≤◌, length}
-use Rattle.task_program.specs.Limits.{most_items, tasks_of}
+use Rattle.task_program.specs.Limits.{tasks_of}
+use Rattle.task_program.specs.declared.limits.TheConstants.{MOST_ITEMS}
 use Rattle.task_program.specs.SecondPass.{Expanded}
 
 pub record HasFewNames (state : Expanded) : Type 0 where
-  pub items : length state.items ≤ most_items
-  pub names : length state.names ≤ (most_items * tasks_of state.tree.marks) + length state.items
+  pub items : length state.items ≤ MOST_ITEMS
+  pub names : length state.names ≤ (MOST_ITEMS * tasks_of state.tree.marks) + length state.items

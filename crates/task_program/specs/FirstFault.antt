@@ -3,7 +3,7 @@ use Rattle.std.specs.Prelude.{◌≡◌, ℕ, ◌<◌, ◌≤◌, ◌↔◌, fal
 use Rattle.task_program.specs.declared.fault.ReadKind.{ReadKind}
 use Rattle.task_program.specs.declared.fault.ReadKind.TheVariants.{TooLong, BadHeader, BadWord, Unclosed, Unopened}
 use Rattle.task_program.specs.declared.fault.ReadFault.{ReadFault}
-use Rattle.task_program.specs.Limits.{most_bytes}
+use Rattle.task_program.specs.declared.limits.TheConstants.{MOST_TEXT_BYTES}
 use Rattle.task_program.specs.Tokens.{Token, texts, tokens_of, line_at_end}
 use Rattle.task_program.specs.TokenCounts.{open_braces, limit_fault_after}
 use Rattle.task_program.specs.Faults.{form_fault}
@@ -62,12 +62,12 @@ pub data IsFirstFault : (tokens : List Token) (end_line : ℕ) → ReadFault →
 
 -- the fault of a text of version 1: it is too long, or else the first fault of its tokens
 pub data HasFault : List ℕ → ReadFault → Type 0 where
-  TextTooLong : (text : List ℕ) → most_bytes < length text → HasFault text (record { kind = TooLong; line = 1 })
-  OfTokens : (text : List ℕ) (fault : ReadFault) → length text ≤ most_bytes → IsFirstFault (tokens_of text) (line_at_end 1 text) fault → HasFault text fault
+  TextTooLong : (text : List ℕ) → MOST_TEXT_BYTES < length text → HasFault text (record { kind = TooLong; line = 1 })
+  OfTokens : (text : List ℕ) (fault : ReadFault) → length text ≤ MOST_TEXT_BYTES → IsFirstFault (tokens_of text) (line_at_end 1 text) fault → HasFault text fault
 
 -- a text without a fault
 pub record IsRightWhole (text : List ℕ) : Type 0 where
-  pub text_fits : length text ≤ most_bytes
+  pub text_fits : length text ≤ MOST_TEXT_BYTES
   pub sentence : IsSentence (texts (tokens_of text))
   pub right : AreRight (tokens_of text)
 

@@ -3,7 +3,7 @@ use Rattle.std.specs.Prelude.{◌≡◌, ℕ, ◌<◌, ◌≤◌, true, List, []
 use Rattle.task_program.specs.declared.fault.ReadKind.{ReadKind}
 use Rattle.task_program.specs.declared.fault.ReadKind.TheVariants.{TooLong, BadWord, BadNumber, Unclosed, Unopened, TooDeep}
 use Rattle.task_program.specs.declared.fault.ReadFault.{ReadFault}
-use Rattle.task_program.specs.Limits.{most_bytes, most_nesting}
+use Rattle.task_program.specs.declared.limits.TheConstants.{MOST_TEXT_BYTES, MOST_NESTING}
 use Rattle.task_program.specs.Tokens.{Token, texts, tokens_of, line_at_end}
 use Rattle.task_program.specs.Words.{is_number, value_of}
 use Rattle.task_program.specs.TokenCounts.{open_braces}
@@ -22,7 +22,7 @@ pub data IsLoopMisplaced : (before : List (List ℕ)) (text : List ℕ) → Read
 -- a limit that a token passes: its number is above 1, and more than may stand there; or one block more than may be open
 pub data IsPastLoopLimit : (before : List Token) (text : List ℕ) → ReadKind → Type 0 where
   LargeNumber : (before : List Token) (text : List ℕ) → is_number text ≡ true → 1 < value_of text → IsPastLoopLimit before text BadNumber
-  DeepBlock : (before : List Token) (text : List ℕ) → text ≡ codes "{" → most_nesting ≤ length (open_braces before) → IsPastLoopLimit before text TooDeep
+  DeepBlock : (before : List Token) (text : List ℕ) → text ≡ codes "{" → MOST_NESTING ≤ length (open_braces before) → IsPastLoopLimit before text TooDeep
 
 -- what is wrong with this token after these: what it is by itself; or else that the grammar does not have it there; or else
 -- that it passes a limit
@@ -59,7 +59,7 @@ body_of text = drop 2 (tokens_of text)
 
 -- the fault of a text of version 2: it is too long, or the first fault of the tokens after its header, or else that of its expansion
 pub data HasLoopFault : List ℕ → ReadFault → Type 0 where
-  TextTooLong : (text : List ℕ) → most_bytes < length text → HasLoopFault text (record { kind = TooLong; line = 1 })
+  TextTooLong : (text : List ℕ) → MOST_TEXT_BYTES < length text → HasLoopFault text (record { kind = TooLong; line = 1 })
   OfTokens : (text : List ℕ) (fault : ReadFault) → IsFirstLoopFault (body_of text) (line_at_end 1 text) fault → HasLoopFault text fault
   OfExpansion : (text : List ℕ) (fault : ReadFault) (tree : Tree) → IsLoopSentence (texts (body_of text)) → first_pass (body_of text) (line_at_end 1 text) after_header ≡ Ok tree
       → second_pass tree ≡ Err fault → HasLoopFault text fault

@@ -3,7 +3,7 @@
 use Rattle.std.specs.Prelude.{ℕ, ◌+◌, Bool, true, false, not, ◌&&◌, ◌||◌, nat_lt, nat_le, if◌then◌else◌, List, [], ◌∷◌, length, drop, fold, sum_by, Option, Some, None, codes}
 use Rattle.task_program.specs.declared.fault.ReadKind.{ReadKind}
 use Rattle.task_program.specs.declared.fault.ReadKind.TheVariants.{BadNumber, TooDeep, TooManyTasks, TooManySegments, TooManyItems, WorkTooLarge}
-use Rattle.task_program.specs.Limits.{most_tasks, most_segments, most_nesting, most_items, most_work, most_total_work}
+use Rattle.task_program.specs.declared.limits.TheConstants.{MOST_TASKS, MOST_SEGMENTS, MOST_NESTING, MOST_ITEMS, LARGEST_COST, MOST_WORK}
 use Rattle.task_program.specs.Tokens.{Token, texts}
 use Rattle.task_program.specs.Words.{is_text, is_number, value_of}
 
@@ -75,20 +75,20 @@ open_braces tokens = fold braces_after [] tokens
 
 -- the number of an `if` stands in parentheses, that of a `work` outside
 abbrev pub is_value_too_large : (inside : Bool) → List ℕ → Bool
-is_value_too_large inside text = is_number text && (if inside then nat_lt 1 (value_of text) else nat_lt most_work (value_of text))
+is_value_too_large inside text = is_number text && (if inside then nat_lt 1 (value_of text) else nat_lt LARGEST_COST (value_of text))
 
 abbrev pub is_too_deep : (open_blocks : ℕ) → List ℕ → Bool
-is_too_deep open_blocks text = is_text text (codes "{") && nat_le most_nesting open_blocks
+is_too_deep open_blocks text = is_text text (codes "{") && nat_le MOST_NESTING open_blocks
 
 abbrev pub is_task_past : (inside : Bool) → (tasks : ℕ) → List ℕ → Bool
-is_task_past inside tasks text = not inside && (is_text text (codes "task") && nat_le most_tasks tasks)
+is_task_past inside tasks text = not inside && (is_text text (codes "task") && nat_le MOST_TASKS tasks)
 
 abbrev pub is_segment_past : (inside : Bool) → (segments : ℕ) → List ℕ → Bool
 is_segment_past inside segments text =
-    not inside && ((is_text text (codes "task") && nat_lt most_segments (segments + 2)) || (is_waiting text && nat_lt most_segments (segments + 1)))
+    not inside && ((is_text text (codes "task") && nat_lt MOST_SEGMENTS (segments + 2)) || (is_waiting text && nat_lt MOST_SEGMENTS (segments + 1)))
 
 abbrev pub is_work_past : (inside : Bool) → (work : ℕ) → List ℕ → Bool
-is_work_past inside work text = not inside && (is_number text && nat_lt most_total_work (work + value_of text))
+is_work_past inside work text = not inside && (is_number text && nat_lt MOST_WORK (work + value_of text))
 
 -- the first limit that is passed with this token
 abbrev pub limit_by : (inside : Bool) → (tasks segments work items open_blocks : ℕ) → List ℕ → Option ReadKind
@@ -97,7 +97,7 @@ limit_by inside tasks segments work items open_blocks text =
     else (if is_too_deep open_blocks text then Some TooDeep
     else (if is_task_past inside tasks text then Some TooManyTasks
     else (if is_segment_past inside segments text then Some TooManySegments
-    else (if nat_lt most_items items then Some TooManyItems
+    else (if nat_lt MOST_ITEMS items then Some TooManyItems
     else (if is_work_past inside work text then Some WorkTooLarge
     else None)))))
 

@@ -2,7 +2,8 @@
 use Rattle.std.proofs.Common.{◌≡◌, ℕ, ◌+◌, ◌≤◌, cond, refl, List, [], ◌∷◌, ◌++◌, arith}
 use Rattle.std.specs.List.{sum_by, count_by}
 use Rattle.std.proofs.lemmas.List.Sums.{sum_by-cons, sum_by-append}
-use Rattle.task_program.specs.Limits.{tasks_begun, segments_opened, tasks_of, segments_of, work_of, most_tasks, most_segments, most_total_work}
+use Rattle.task_program.specs.Limits.{tasks_begun, segments_opened, tasks_of, segments_of, work_of}
+use Rattle.task_program.specs.declared.limits.TheConstants.{MOST_TASKS, MOST_SEGMENTS, MOST_WORK}
 use Rattle.task_program.specs.Marks.{Mark}
 use Rattle.task_program.specs.Marks.Mark.{Begins, Ends, Works, Waits, GroupBegins, GroupEnds}
 use Rattle.task_program.specs.Nested.{IsNested}
@@ -16,9 +17,9 @@ use Rattle.task_segments.proofs.Steps.{count-cons}
 -- the root's beginning opens one more segment
 pub record IsReading (marks : List Mark) : Type 0 where
   pub nested : IsNested marks
-  pub tasks : count_by begins_task marks ≤ most_tasks
-  pub segments : count_by opens marks + 1 ≤ most_segments
-  pub work : work_of marks ≤ most_total_work
+  pub tasks : count_by begins_task marks ≤ MOST_TASKS
+  pub segments : count_by opens marks + 1 ≤ MOST_SEGMENTS
+  pub work : work_of marks ≤ MOST_WORK
 
 task_counted : (mark : Mark) → tasks_begun mark ≡ cond (begins_task mark) 1 0
 task_counted (Begins d i) = refl

@@ -1,5 +1,5 @@
 -- The costs of all segments together are the work of the program.
-use Rattle.std.proofs.Common.{◌≡◌, ℕ, zero, suc, ◌+◌, ◌-◌, ◌<◌, ◌≤◌, ◌^◌, inl, inr, true, false, List, [], ◌∷◌, map, refl, ap, ◌∙◌, arith}
+use Rattle.std.proofs.Common.{◌≡◌, ℕ, zero, suc, ◌+◌, ◌-◌, ◌<◌, ◌≤◌, inl, inr, true, false, List, [], ◌∷◌, map, refl, ap, ◌∙◌, arith}
 use Rattle.std.specs.List.{range_with_len, sum, sum_by}
 use Rattle.std.proofs.lemmas.Bool.{cases_eq}
 use Rattle.std.proofs.lemmas.Bool.Decides.{nat_tests}
@@ -19,6 +19,7 @@ use Rattle.task_segments.proofs.Facts.{begun_some_segment}
 use Rattle.task_segments.proofs.Programs.{last_of_nested}
 use Rattle.task_segments.proofs.Rows.{cost_none}
 use Rattle.task_segments.proofs.Steps.{open_below, segments_opens}
+use Rattle.task_program.specs.declared.limits.TheConstants.{MOST_WORK}
 
 -- the costs of the first segments together
 total : List Mark → ℕ → ℕ
@@ -132,7 +133,7 @@ work_read e (m ∷ marks) =
 
 -- the limit of the work of a table
 pub little_work : (table : Table) → IsProgramTable table
-    → sum (map (λ (row : Segment). row.cost) table.segments) ≤ 10 ^ 15
+    → sum (map (λ (row : Segment). row.cost) table.segments) ≤ MOST_WORK
 little_work table h =
     let e = last_moment h.program.marks in
     let k = ap (λ (t : Table). sum (map (λ (row : Segment). row.cost) t.segments)) h.is in

@@ -1,9 +1,9 @@
 //! Each command over devices that are slow, are interrupted, or fail.
 
 use super::examples::{Example, examples};
+use super::fake_devices::{Endless, Faults};
 use super::{run_on, sink, slow_sink, slow_source, source};
 use crate::Status;
-use crate::devices::{Endless, Faults};
 use std::io::ErrorKind;
 use std::test::Fail;
 
