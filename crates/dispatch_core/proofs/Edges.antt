@@ -1,13 +1,13 @@
 -- Which kept edges lead to a segment that opens.
 use Rattle.std.proofs.Common.{ℕ, ◌<◌, ◌≡◌, ◌⊎◌, zero, suc, Bool, true, false, List, [], ◌∷◌, ◌++◌, Option, Some, None, length, map, refl, sym, ap, ◌∙◌, subst, arith, inl, inr}
-use Rattle.std.specs.Prelude.{if◌then◌else◌}
+use Rattle.std.specs.Prelude.{Contains, if◌then◌else◌}
 use Rattle.std.proofs.lemmas.Bool.{eqb-true}
 use Rattle.std.proofs.lemmas.Option.{same_Some}
 use Rattle.task_segments.specs.Table.{Table, segment, task}
 use Rattle.task_segments.specs.InPlace.{IsReadInPlace}
 use Rattle.task_segments.specs.declared.table.Closing.{Closing}
 use Rattle.task_segments.specs.declared.table.Closing.TheVariants.{Creates, Waits, EndsGroup, EndsTask}
-use Rattle.task_segments.specs.Precedence.{IsTask, Continues, Creation, Resumption}
+use Rattle.task_segments.specs.Precedence.{IsSegment, IsTask, Continues, Creation, Resumption}
 use Rattle.depend_table.specs.Siblings.{Sibling, IsAmong, IsKept}
 use Rattle.depend_table.specs.Siblings.IsAmong.{Newest, Below}
 use Rattle.depend_table.specs.Kept.{children_below, is_some_of, KeptDependence, IsKeptEdge}
@@ -44,6 +44,14 @@ first_cases table p u facts is edge = elim edge [
       let ends = (facts.group group.inside (task table u).first group.is_inside group.innermost).0 in
       absurd (facts.first_follows u ends.before is ends.after)
 ]
+
+-- what creates a child at its first segment is its creator
+pub created_by : (table : Table) (child p s : ℕ) → IsReadInPlace table → IsTask table child
+    → (task table child).creator ≡ Some s → Creation table p (task table child).first → p ≡ s
+created_by table child p s facts is_task is_creator creation =
+    let same = facts.first_of_one creation.child child creation.is_child is_task creation.first in
+    let creators = ap (λ (u : ℕ). (task table u).creator) same in
+    same_Some p s (sym creation.creator ∙ creators ∙ is_creator)
 
 abbrev created_of : Closing → ℕ → ℕ
 created_of (Creates child) other = child
@@ -186,41 +194,93 @@ kept_sibling table parent child earlier kept =
     let one = child_among table parent child kept.earlier kept.older kept.among in
     record { of_parent = subst (λ (n : ℕ). (task table n).parent ≡ Some parent) kept.number one.of_parent; below = let b = one.below in omega (arith, b, kept.number) }
 
--- the last segments of the kept siblings, and then the creator
-pub first_edges : (table : Table) (child s : ℕ) (kept : List ℕ) (given : AreKeptSiblings table child kept) → IsReadInPlace table → (task table child).creator ≡ Some s
+-- a child's kept sibling is a task
+pub kept_task : (table : Table) (child u : ℕ) (kept : List ℕ) → AreKeptSiblings table child kept
+    → IsReadInPlace table → Contains kept u → IsTask table u
+kept_task table child u kept given facts has =
+    let sibling = kept_sibling table given.parent child u ((given.lists.each u).0 has) in
+    facts.with_parent u given.parent sibling.of_parent
+
+-- a kept dependence begins at a segment
+pub dependence_from : (table : Table) (p t : ℕ) → IsReadInPlace table → KeptDependence table p t
+    → IsSegment table p
+dependence_from table p t facts depends =
+    let sibling = kept_sibling table depends.parent depends.later depends.earlier depends.kept in
+    let is_task = facts.with_parent depends.earlier depends.parent sibling.of_parent in
+    subst (IsSegment table) depends.last (facts.last_of depends.earlier is_task).is_segment
+
+-- the sibling of a kept dependence is kept
+kept_of : (table : Table) (child p : ℕ) (kept : List ℕ) (given : AreKeptSiblings table child kept)
+    → IsReadInPlace table → (depends : KeptDependence table p (task table child).first)
+    → IsKept (children_below table given.parent child) (task table child).items depends.earlier
+kept_of table child p kept given facts depends =
+    let later : ℕ = depends.later in
+    let earlier : ℕ = depends.earlier in
+    let same = facts.first_of_one later child depends.is_later given.is_task depends.first in
+    let parents : depends.parent ≡ given.parent =
+    same_Some depends.parent given.parent
+    (sym depends.of_parent ∙ ap (λ (u : ℕ). (task table u).parent) same ∙ given.is_parent) in
+    subst (λ (u : ℕ). IsKept (children_below table given.parent u) (task table u).items earlier) same
+    (subst (λ (n : ℕ). IsKept (children_below table n later) (task table later).items earlier) parents
+    depends.kept)
+
+-- of two siblings the earlier one ends first
+lasts_ascend : (table : Table) (parent child a b : ℕ) → IsReadInPlace table
+    → IsEarlierSibling table parent child a → IsEarlierSibling table parent child b → a < b
+    → last_segment table a < last_segment table b
+lasts_ascend table parent child a b facts one other order =
+    let is_task = facts.with_parent b parent other.of_parent in
+    let creator = facts.has_creator b parent is_task other.of_parent in
+    let ended =
+    facts.siblings a b parent creator.0 order is_task one.of_parent other.of_parent creator.1 in
+    let begun = facts.created_before b creator.0 is_task creator.1 in
+    omega (arith, ended, begun)
+
+-- the last segments of a child's kept siblings
+pub sibling_edges : (table : Table) (child : ℕ) (kept : List ℕ) → AreKeptSiblings table child kept
+    → IsReadInPlace table
+    → Lists (λ p. KeptDependence table p (task table child).first) (map (last_segment table) kept)
+sibling_edges table child kept given facts =
+    let Kept : ℕ → Type 0 = IsKept (children_below table given.parent child) (task table child).items in
+    Lists-map (last_segment table) Kept (λ p. KeptDependence table p (task table child).first) kept
+    given.lists
+    (λ a b in_a in_b order. lasts_ascend table given.parent child a b facts
+    (kept_sibling table given.parent child a in_a) (kept_sibling table given.parent child b in_b) order)
+    (λ a is_kept. record {
+      earlier = a;
+      later = child;
+      is_later = given.is_task;
+      parent = given.parent;
+      of_parent = given.is_parent;
+      kept = is_kept;
+      last = refl;
+      first = refl;
+    })
+    (λ p depends. (depends.earlier, kept_of table child p kept given facts depends, depends.last))
+
+-- and then the creator
+pub first_edges : (table : Table) (child s : ℕ) (kept : List ℕ) → AreKeptSiblings table child kept
+    → IsReadInPlace table → (task table child).creator ≡ Some s
     → Lists (λ p. IsKeptEdge table p (task table child).first) (map (last_segment table) kept ++ s ∷ [])
 first_edges table child s kept given facts is_creator =
     let first : ℕ = (task table child).first in
-    let K : ℕ → Type 0 = IsKept (children_below table given.parent child) (task table child).items in
-    let Q : ℕ → Type 0 = λ p. KeptDependence table p first in
-    let same_later : (p : ℕ) (d : KeptDependence table p first) → d.later ≡ child = λ p d. facts.first_of_one d.later child d.is_later given.is_task d.first in
-    let less : (a : ℕ) → K a → last_segment table a < s = λ a h.
-    let sibling = kept_sibling table given.parent child a h in
-    facts.siblings a child given.parent s sibling.below given.is_task sibling.of_parent given.is_parent is_creator in
-    let of_child : (p : ℕ) (d : KeptDependence table p first) → K d.earlier = λ p d.
-    let later_is : d.later ≡ child = same_later p d in
-    let parents : d.parent ≡ given.parent = same_Some d.parent given.parent (sym d.of_parent ∙ ap (λ (u : ℕ). (task table u).parent) later_is ∙ given.is_parent) in
-    subst (λ (u : ℕ). IsKept (children_below table given.parent u) (task table u).items d.earlier) later_is
-    (subst (λ (n : ℕ). IsKept (children_below table n d.later) (task table d.later).items d.earlier) parents d.kept) in
-    let lists : Lists Q (map (last_segment table) kept) =
-    Lists-map (last_segment table) K Q kept given.lists
-    (λ a b in_a in_b order.
-    let one = kept_sibling table given.parent child a in_a in
-    let second = kept_sibling table given.parent child b in_b in
-    let is_task = facts.with_parent b given.parent second.of_parent in
-    let creator = facts.has_creator b given.parent is_task second.of_parent in
-    let ended = facts.siblings a b given.parent creator.0 order is_task one.of_parent second.of_parent creator.1 in
-    let begun = facts.created_before b creator.0 is_task creator.1 in
-    omega (arith, ended, begun))
-    (λ a h. record { earlier = a; later = child; is_later = given.is_task; parent = given.parent; of_parent = given.is_parent; kept = h; last = refl; first = refl })
-    (λ p d. (d.earlier, of_child p d, d.last)) in
-    Lists-end Q (λ p. IsKeptEdge table p first) s (map (last_segment table) kept) lists
-    (λ p d. let before = less d.earlier (of_child p d) in omega (arith, before, d.last))
-    (λ p d. inr (inr (inr (inl d))))
-    (inr (inl (record { child = child; is_child = given.is_task; creator = is_creator; first = refl })))
+    Lists-end (λ p. KeptDependence table p first) (λ p. IsKeptEdge table p first) s
+    (map (last_segment table) kept) (sibling_edges table child kept given facts)
+    (λ p depends.
+    let earlier : ℕ = depends.earlier in
+    let is_kept = kept_of table child p kept given facts depends in
+    let sibling = kept_sibling table given.parent child earlier is_kept in
+    let ended = facts.siblings earlier child given.parent s sibling.below given.is_task
+    sibling.of_parent given.is_parent is_creator in
+    omega (arith, ended, depends.last))
+    (λ p depends. inr (inr (inr (inl depends))))
+    (inr (inl (record {
+      child = child;
+      is_child = given.is_task;
+      creator = is_creator;
+      first = refl;
+    })))
     (λ p edge. elim (first_cases table p child facts given.is_task edge) [
-      | inl creation ↦
-          let child_is : creation.child ≡ child = facts.first_of_one creation.child child creation.is_child given.is_task creation.first in
-          inr (same_Some p s (sym creation.creator ∙ ap (λ (u : ℕ). (task table u).creator) child_is ∙ is_creator))
+      | inl creation ↦ inr (created_by table child p s facts given.is_task is_creator creation)
       | inr depends ↦ inl depends
     ])

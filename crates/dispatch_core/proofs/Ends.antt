@@ -88,8 +88,8 @@ successors_first values n = record {
 
 pub up_to_date_first : (table : Table) (counters : Counters) → IsSoundTable table → items_of counters.preds.items ≡ replicate (length table.segments) []
     → items_of counters.successors.items ≡ replicate (length table.segments) [] → counters.counts.items ≡ replicate (length table.segments) 0
-    → counters.siblings.items ≡ replicate (length table.tasks) [] → counters.complete ≡ 1 → IsUpToDate table (replicate (length table.segments) None) counters
-up_to_date_first table counters sound preds successors counts siblings complete =
+    → counters.siblings.items ≡ replicate (length table.tasks) [] → IsUpToDate table (replicate (length table.segments) None) counters
+up_to_date_first table counters sound preds successors counts siblings =
     let n : ℕ = length table.segments in
     let values : List (Option ℕ) = replicate n None in
     record {
@@ -98,7 +98,6 @@ up_to_date_first table counters sound preds successors counts siblings complete 
       successors = subst (λ (p : List (List ℕ)). AreSuccessors values p (items_of counters.successors.items)) (sym preds)
           (subst (λ (l : List (List ℕ)). AreSuccessors values (replicate n []) l) (sym successors) (successors_first values n));
       siblings = subst (λ (l : List (List Sibling)). AreSiblings table values l) (sym siblings) (siblings_first table (length table.tasks) values refl (λ s. nothing_valued n s));
-      complete = λ u above below. absurd (omega (arith, complete, above, below));
     }
 
 pub sound_at_start : (value_of : ℕ → ℕ → ℕ → ℕ) (table : Table) (capacity : ℕ) (counters : Counters) → IsSoundTable table → 2 * length table.segments ≤ capacity

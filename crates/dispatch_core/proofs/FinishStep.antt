@@ -13,10 +13,10 @@ use Rattle.dispatch_core.specs.declared.event.TheConstants.{MOST_WORKERS}
 use Rattle.dispatch_core.specs.declared.event.Event.{Event}
 use Rattle.dispatch_core.specs.declared.event.Event.TheVariants.{Start, Finish}
 use Rattle.dispatch_core.specs.Result.{Computed}
-use Rattle.dispatch_core.specs.Run.{HasFinished, Runs, MayStart, IsLegal}
+use Rattle.dispatch_core.specs.Run.{Run, HasFinished, Runs, MayStart, IsLegal}
 use Rattle.dispatch_core.specs.Values.{IsValue}
 use Rattle.dispatch_core.specs.Values.IsValue.{Computes}
-use Rattle.dispatch_core.specs.Refusals.{MayFinish}
+use Rattle.dispatch_core.specs.Refusals.{IsCost, MayFinish}
 use Rattle.dispatch_core.specs.Entry.{entry}
 use Rattle.dispatch_core.specs.Sound.{IsSound, AreStarted, AreRunning, AreValues}
 use Rattle.dispatch_core.specs.declared.counters.Counters.{Counters}
@@ -37,6 +37,36 @@ started_after_preds table history worker s legal h pred edge =
     let may : MayStart table (take h.0 history) worker s = legal h.0 (Start worker s) (get_at_place history (Start worker s) h) in
     let done : HasFinished (take h.0 history) pred = may.ready.after pred edge in
     record { worker = done.worker; finished = Contains-from_take h.0 history (Finish done.worker pred) done.finished }
+
+-- what a worker runs is one of the program's segments, as a core stores them
+pub runs_stored : (stored seen : Run) (worker s : ℕ) → stored ≡ seen → IsLegal stored.table stored.history
+    → Runs seen.history worker s → s < length stored.table.segments
+runs_stored stored seen worker s same legal runs =
+    let Here : Run → Type 0 = λ run. Runs run.history worker s in
+    (started_known stored.table stored.history worker s legal (subst Here (sym same) runs).started).1
+
+-- and as contracts see them
+pub runs_known : (stored seen : Run) (worker s : ℕ) → stored ≡ seen → IsLegal stored.table stored.history
+    → Runs seen.history worker s → s < length seen.table.segments
+runs_known stored seen worker s same legal runs =
+    let Here : Run → Type 0 = λ run. s < length run.table.segments in
+    subst Here same (runs_stored stored seen worker s same legal runs)
+
+-- and all that must precede it is finished
+pub runs_after : (stored seen : Run) (worker s : ℕ) → stored ≡ seen → IsLegal stored.table stored.history
+    → Runs seen.history worker s → (pred : ℕ) → MustPrecede seen.table pred s → HasFinished seen.history pred
+runs_after stored seen worker s same legal runs =
+    let Here : Run → Type 0 = λ run. Runs run.history worker s in
+    let After : Run → Type 0 = λ run. (pred : ℕ) → MustPrecede run.table pred s → HasFinished run.history pred in
+    subst After same
+    (started_after_preds stored.table stored.history worker s legal (subst Here (sym same) runs).started)
+
+-- its cost is the one that is stored
+pub runs_cost : (stored seen : Run) (worker s cost : ℕ) → stored ≡ seen → IsLegal stored.table stored.history
+    → Runs seen.history worker s → cost ≡ (segment stored.table s).cost → IsCost seen.table s cost
+runs_cost stored seen worker s cost same legal runs costs =
+    let Here : Run → Type 0 = λ run. IsCost run.table s cost in
+    subst Here same (record { known = runs_stored stored seen worker s same legal runs; costs = costs })
 
 finishes : (history : List Event) (worker s : ℕ) → HasFinished (history ++ Finish worker s ∷ []) s
 finishes history worker s = record { worker = worker; finished = Contains-push history (Finish worker s) }

@@ -56,10 +56,6 @@ pub OnOk_then : {A B : Type 0} (r : Result A B) {P Q : Type 0} → (P → Q) →
 OnOk_then (Ok x) step h = step h
 OnOk_then (Err e) step h = tt
 
-pub IfOk_then : {A B : Type 0} (r : Result A B) {P Q : A → Type 0} → ((x : A) → P x → Q x) → IfOk r P → IfOk r Q
-IfOk_then (Ok x) step h = step x h
-IfOk_then (Err e) step h = tt
-
 -- the event after those that were made, if it is not made, is the fault of the whole list
 pub refused_there : (table now : Table) (events history : List Event) (index : ℕ) (event : Event) (fault : StepFault) → history ≡ take index events → now ≡ table
     → slice_get events index ≡ Some event → IsLegal now history → RefusesStep now history event fault → RefusesReplay table events (fault_at index fault)

@@ -5,6 +5,7 @@ pub mod Children
 pub mod Edges
 pub mod Openers
 pub mod Since
+pub mod Joining
 pub mod Falls
 pub mod Turning
 pub mod Rooms

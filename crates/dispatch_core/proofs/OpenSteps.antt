@@ -1,16 +1,16 @@
 -- What is recorded of open segments, when one finishes and when another opens.
 use Rattle.std.proofs.Common.{ℕ, Bool, true, false, ◌+◌, ◌<◌, ◌≡◌, ◌≢◌, ◌⊎◌, ◌↔◌, List, [], ◌∷◌, ◌++◌, Option, Some, None, length, take, get_or, sym, ap, ◌∙◌, subst, arith, inl, inr}
-use Rattle.std.specs.Prelude.{slice_get, slice_set, is_some, Contains, AllPairs, if◌then◌else◌}
+use Rattle.std.specs.Prelude.{slice_get, slice_set, Contains, AllPairs, if◌then◌else◌}
 use Rattle.std.proofs.lemmas.Bool.{cases_eq, cases_lt}
 use Rattle.std.proofs.lemmas.Option.{same_Some, none-some, slice_get-get_or, slice_get_within}
 use Rattle.std.proofs.lemmas.List.{length-set, length_push, get_or_append_left, get_or_default}
 use Rattle.std.proofs.lemmas.List.Elements.{Contains-append_left, Contains-push, Contains-push_cases}
 use Rattle.std.proofs.Math.Seq.{get_or-append_seam}
-use Rattle.task_segments.specs.Table.{Table, task}
+use Rattle.task_segments.specs.Table.{Table}
 use Rattle.depend_table.specs.Kept.{IsKeptEdge}
 use Rattle.depend_table.specs.Lists.{Lists}
 use Rattle.dispatch_core.specs.Entry.{entry}
-use Rattle.dispatch_core.specs.Counters.{unfinished, HasValue, AreComplete, AreKeptOf, AreKept, AreCounts, AreSuccessors, AreLowered, IsCounted}
+use Rattle.dispatch_core.specs.Counters.{unfinished, HasValue, AreKeptOf, AreKept, AreCounts, AreSuccessors, AreLowered, IsCounted}
 use Rattle.dispatch_core.specs.Listed.{IsListed, ArePushed}
 use Rattle.dispatch_core.proofs.PlaceLemmas.{get-set_same, get-set_other}
 use Rattle.dispatch_core.proofs.Falls.{IsOnce, has_or_not, once_listed, same_entry, new_entry, counts_after, counted_above}
@@ -72,17 +72,6 @@ has_more values s v p within has = elim (cases_eq p s) [
 
 pub has_new : (values : List (Option ℕ)) (s v : ℕ) → s < length values → HasValue (slice_set values s (Some v)) s
 has_new values s v within = record { value = v; is = new_entry values s v within }
-
-pub some_value : (values : List (Option ℕ)) (s : ℕ) (found : Option ℕ) → entry values s ≡ found → is_some found ≡ true → HasValue values s
-some_value values s (Some value) is some = record { value = value; is = is }
-some_value values s None is some = absurd (cc)
-
-pub complete_more : (table : Table) (values : List (Option ℕ)) (n : ℕ) → AreComplete table values n → HasValue values (task table n).last
-    → AreComplete table values (n + 1)
-complete_more table values n complete has u above below = elim (cases_eq u n) [
-  | inl same ↦ subst (λ (k : ℕ). HasValue values (task table k).last) (sym same) has
-  | inr apart ↦ complete u above (omega (arith, below, apart))
-]
 
 pub had_value : (values : List (Option ℕ)) (s v p : ℕ) → HasValue (slice_set values s (Some v)) p → HasValue values p ⊎ (p ≡ s)
 had_value values s v p has = elim (cases_eq p s) [

@@ -1,5 +1,5 @@
 -- The children that a task has generated, as its segments finish.
-use Rattle.std.proofs.Common.{ℕ, zero, suc, ◌+◌, ◌<◌, ◌≤◌, ◌≡◌, ◌≢◌, Bool, true, false, List, [], ◌∷◌, Option, Some, None, length, get_or, refl, sym, ap, ◌∙◌, subst, arith, inl, inr}
+use Rattle.std.proofs.Common.{ℕ, zero, suc, ◌+◌, ◌<◌, ◌≤◌, ◌≡◌, Bool, true, false, List, [], ◌∷◌, Option, Some, None, length, get_or, refl, sym, ap, ◌∙◌, subst, arith, inl, inr}
 use Rattle.std.specs.Prelude.{slice_get, slice_set, replicate, if◌then◌else◌}
 use Rattle.std.proofs.lemmas.Bool.{cases_eq, cases_lt, eq-eqb, eqb-true, both_ways}
 use Rattle.std.proofs.lemmas.Option.{same_Some, none-some, slice_get-get_or, slice_get_within, get_or_from_slice_get}
@@ -8,13 +8,16 @@ use Rattle.task_segments.specs.Table.{Table, segment, task}
 use Rattle.task_segments.specs.declared.table.Closing.TheVariants.{Creates}
 use Rattle.task_segments.specs.Precedence.{IsSegment, IsTask}
 use Rattle.task_segments.specs.InPlace.{IsReadInPlace, IsOf}
-use Rattle.depend_table.specs.Siblings.{Sibling}
-use Rattle.depend_table.specs.Kept.{children_below, is_some_of, IsKeptEdge}
+use Rattle.task_program.specs.declared.statement.Item.{Item}
+use Rattle.depend_table.specs.Siblings.{Sibling, IsKept}
+use Rattle.depend_table.specs.Lists.{Lists}
+use Rattle.depend_table.specs.Kept.{children_below, is_some_of}
 use Rattle.dispatch_core.specs.Entry.{entry}
+use Rattle.dispatch_core.specs.Places.{AreKeptSiblings}
 use Rattle.dispatch_core.specs.Counters.{HasValue, AreGenerated, AreSiblingsOf, AreSiblings}
 use Rattle.dispatch_core.proofs.PlaceLemmas.{get-set_same, get-set_other}
 use Rattle.dispatch_core.proofs.Children.{children_more}
-use Rattle.dispatch_core.proofs.Edges.{creates_one, first_cases, kept_sibling}
+use Rattle.dispatch_core.proofs.Edges.{creates_one}
 use Rattle.dispatch_core.proofs.OpenSteps.{has_more, has_new, had_value}
 use Rattle.dispatch_core.proofs.Turning.{get-replicate}
 
@@ -22,16 +25,24 @@ use Rattle.dispatch_core.proofs.Turning.{get-replicate}
 pub stands_at : (siblings : List (List Sibling)) (p : ℕ) (row list : List Sibling) → row ≡ get_or siblings p row → slice_get siblings p ≡ Some list → row ≡ list
 stands_at siblings p row list is there = is ∙ get_or_from_slice_get siblings p list row there
 
+-- what the table of a child's parent keeps are its kept siblings
+pub are_kept : (table : Table) (child parent : ℕ) (siblings : List Sibling) (items : List Item)
+    (kept : List ℕ) → IsTask table child → (task table child).parent ≡ Some parent
+    → siblings ≡ children_below table parent child → items ≡ (task table child).items
+    → Lists (IsKept siblings items) kept → AreKeptSiblings table child kept
+are_kept table child parent siblings items kept is_task is_parent same_siblings same_items lists =
+    record {
+      is_task = is_task;
+      parent = parent;
+      is_parent = is_parent;
+      lists = subst (λ (l : List Sibling). Lists (IsKept l (task table child).items) kept) same_siblings
+          (subst (λ (l : List Item). Lists (IsKept siblings l) kept) same_items lists);
+    }
+
 -- a task with a creator is not the root
 pub above_root : (table : Table) (child creator : ℕ) → IsReadInPlace table → (task table child).creator ≡ Some creator → 0 < child
 above_root table child creator facts is_creator = elim (cases_eq child 0) [
   | inl same ↦ absurd (none-some creator (sym facts.root_creator ∙ ap (λ (n : ℕ). (task table n).creator) (sym same) ∙ is_creator))
-  | inr apart ↦ omega (arith, apart)
-]
-
-below_parent : (table : Table) (child parent : ℕ) → IsReadInPlace table → (task table child).parent ≡ Some parent → 0 < child
-below_parent table child parent facts is_parent = elim (cases_eq child 0) [
-  | inl same ↦ absurd (none-some parent (sym facts.root_parent ∙ ap (λ (n : ℕ). (task table n).parent) (sym same) ∙ is_parent))
   | inr apart ↦ omega (arith, apart)
 ]
 
@@ -222,29 +233,3 @@ siblings_more table values s v c p siblings next so_far = record {
   where
     one : List Sibling
     one = record { task = c; items = (task table c).items } ∷ children_below table p c
-
--- a kept predecessor of a child's first segment, other than its creator: the last segment of an earlier sibling
-pub record EndsSibling (table : Table) (child p : ℕ) : Type 0 where
-  pub earlier : ℕ
-  pub above : 0 < earlier
-  pub below : earlier < child
-  pub siblings : (task table earlier).parent ≡ (task table child).parent
-  pub last : (task table earlier).last ≡ p
-
-pub first_after : (table : Table) (child s p : ℕ) → IsReadInPlace table → IsTask table child → (task table child).creator ≡ Some s → IsKeptEdge table p (task table child).first → p ≢ s → EndsSibling table child p
-first_after table child s p facts known by edge apart = elim (first_cases table p child facts known edge) [
-  | inl creation ↦
-      let one : creation.child ≡ child = facts.first_of_one creation.child child creation.is_child known creation.first in
-      absurd (apart (same_Some p s (sym creation.creator ∙ ap (λ (u : ℕ). (task table u).creator) one ∙ by)))
-  | inr depends ↦
-      let one : depends.later ≡ child = facts.first_of_one depends.later child depends.is_later known depends.first in
-      let sibling = kept_sibling table depends.parent depends.later depends.earlier depends.kept in
-      let below = sibling.below in
-      record {
-        earlier = depends.earlier;
-        above = below_parent table depends.earlier depends.parent facts sibling.of_parent;
-        below = omega (arith, below, one);
-        siblings = sibling.of_parent ∙ sym depends.of_parent ∙ ap (λ (u : ℕ). (task table u).parent) one;
-        last = depends.last;
-      }
-]

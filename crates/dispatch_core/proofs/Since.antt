@@ -22,9 +22,6 @@ pub record Unwaited (table : Table) (from before : ℕ) : Type 0 where
   pub none : (w : ℕ) → IsOf table (segment table before).task w → (segment table w).closing ≡ Waits → from ≤ w
       → before ≤ w
 
-pub unwaited_here : (table : Table) (before : ℕ) → IsSegment table before → Unwaited table before before
-unwaited_here table before known = record { of_task = record { is_segment = known; of_task = refl }; up_to = omega arith; none = λ w is_of waits above. above }
-
 task_before : (table : Table) (u earlier from : ℕ) → Continues table earlier from → IsOf table u from
     → (segment table earlier).task ≡ u
 task_before table u earlier from follows of_task = sym follows.same_task ∙ of_task.of_task
@@ -321,13 +318,13 @@ pub record IsPassed (table : Table) (before next v from : ℕ) : Type 0 where
       (task table w).first
 
 -- what must precede a segment is not the root's last
-pub above_root : (table : Table) (v next : ℕ) → IsReadInPlace table → IsNestedTable table → IsSegment table next
-    → MustPrecede table (task table v).last next → 0 < v
-above_root table v next facts nested known must = elim (cases_eq v 0) [
+pub above_root : (table : Table) (v last next : ℕ) → IsReadInPlace table → IsNestedTable table → IsSegment table next
+    → last ≡ (task table v).last → MustPrecede table last next → 0 < v
+above_root table v last next facts nested known is_last must = elim (cases_eq v 0) [
   | inl same ↦
-      let less = goes_up table nested (task table v).last next must in
-      let last = facts.root_last next known in
-      absurd (omega (arith, less, last, ap (λ (n : ℕ). (task table n).last) same))
+      let less = goes_up table nested last next must in
+      let root_last = facts.root_last next known in
+      absurd (omega (arith, less, root_last, is_last, ap (λ (n : ℕ). (task table n).last) same))
   | inr apart ↦ omega (arith, apart)
 ]
 

@@ -10,7 +10,7 @@ use Rattle.std.proofs.lemmas.List.{length-set}
 use Rattle.std.proofs.lemmas.List.Kept.{AllPairs-from_increasing}
 use Rattle.std.proofs.lemmas.List.Sorted.{Contains-permutation, IsPermutation-sym, IsNonDecreasingBy-from_sort}
 use Rattle.std.proofs.lemmas.Map.Keys.{IsStrictlyIncreasing-from_distinct, IsDistinct-IsPermutation, IsDistinct-from_apart}
-use Rattle.task_segments.specs.Table.{Table, task}
+use Rattle.task_segments.specs.Table.{Table}
 use Rattle.task_segments.specs.Precedence.{IsSegment, Continues, Creation}
 use Rattle.task_segments.specs.InPlace.{IsReadInPlace}
 use Rattle.depend_table.specs.Kept.{IsKeptEdge}
@@ -21,7 +21,7 @@ use Rattle.dispatch_core.specs.declared.counters.Counters.{Counters}
 use Rattle.dispatch_core.specs.declared.counters.Growths.{Growths}
 use Rattle.dispatch_core.specs.Entry.{entry}
 use Rattle.dispatch_core.specs.Facts.{IsSoundTable}
-use Rattle.dispatch_core.specs.Counters.{unfinished, AreLowered, IsCounted, IsOpenBy, AreKept, AreCounts, AreSuccessors, AreSiblings, AreComplete}
+use Rattle.dispatch_core.specs.Counters.{unfinished, AreLowered, IsCounted, IsOpenBy, AreKept, AreCounts, AreSuccessors, AreSiblings}
 use Rattle.dispatch_core.specs.UpToDate.{IsUpToDate}
 use Rattle.dispatch_core.specs.Listed.{items_of, IsListed}
 use Rattle.dispatch_core.specs.Rooms.{HasRoom, IsRoomier}
@@ -312,17 +312,3 @@ siblings_end table values s v before lowered next first growths here opened open
     let values_now : List (Option ℕ) = slice_set values s (Some v) in
     let same = siblings_kept values_now growths.first next first opened_first ∙ siblings_kept values_now growths.next lowered next opened ∙ ap (λ (c : Counters). c.siblings) here.same in
     subst (λ (t : Vec (List Sibling) Global). AreSiblings table values_now t.items) (sym same) (here.grown.siblings v)
-
-complete_kept : (values : List (Option ℕ)) (opening : Option Opening) (before after : Counters) → IsOpened values opening before after → after.complete ≡ before.complete
-complete_kept values None before after same = ap (λ (c : Counters). c.complete) same
-complete_kept values (Some opening) before after adds = adds.complete
-
--- what is complete stays so when one more segment has a value
-pub complete_end : (table : Table) (values : List (Option ℕ)) (s v : ℕ) (before lowered next first : Counters) (growths : Growths)
-    → IsFinishing table values s v before lowered growths → IsOpened (slice_set values s (Some v)) growths.next lowered next
-    → IsOpened (slice_set values s (Some v)) growths.first next first → AreComplete table values before.complete
-    → AreComplete table (slice_set values s (Some v)) first.complete
-complete_end table values s v before lowered next first growths here opened opened_first complete =
-    let values_now : List (Option ℕ) = slice_set values s (Some v) in
-    let same = complete_kept values_now growths.first next first opened_first ∙ complete_kept values_now growths.next lowered next opened ∙ ap (λ (c : Counters). c.complete) here.same in
-    λ u above below. has_more values s v (task table u).last here.within (complete u above (omega (arith, same, below)))

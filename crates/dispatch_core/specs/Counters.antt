@@ -75,10 +75,6 @@ pub record AreSiblings (table : Table) (values : List (Option ℕ)) (siblings : 
   pub each : length siblings ≡ length table.tasks
   pub lists : (parent : ℕ) (list : List Sibling) → slice_get siblings parent ≡ Some list → AreSiblingsOf table values parent list
 
--- all tasks before this one are complete, but for the root: their last segments have values
-abbrev pub AreComplete : Table → List (Option ℕ) → ℕ → Type 0
-AreComplete table values n = (u : ℕ) → 0 < u → u < n → HasValue values (task table u).last
-
 -- the segment's count is above 0
 pub record IsCounted (counts : List ℕ) (t : ℕ) : Type 0 where
   pub fewer : ℕ

@@ -59,7 +59,6 @@ pub record AddsOpen (values : List (Option ℕ)) (opening : Opening) (before aft
   pub successors : ArePushed opening.segment (λ p. Contains opening.preds.items p × (entry values p ≡ None)) (items_of before.successors.items) (items_of after.successors.items)
   pub room : (count place : ℕ) → HasRoom before.successors.items (count + 1) place → HasRoom after.successors.items count place
   pub siblings : after.siblings ≡ before.siblings
-  pub complete : after.complete ≡ before.complete
 
 abbrev pub IsOpened : List (Option ℕ) → Option Opening → Counters → Counters → Type 0
 IsOpened values None before after = after ≡ before

@@ -2,7 +2,7 @@
 use Rattle.std.specs.Prelude.{ℕ, ◌≡◌, List, Option, Some, slice_get}
 use Rattle.task_segments.specs.Table.{Table}
 use Rattle.dispatch_core.specs.declared.counters.Counters.{Counters}
-use Rattle.dispatch_core.specs.Counters.{IsOpenBy, AreKept, AreCounts, AreSuccessors, AreSiblings, AreComplete}
+use Rattle.dispatch_core.specs.Counters.{IsOpenBy, AreKept, AreCounts, AreSuccessors, AreSiblings}
 use Rattle.dispatch_core.specs.Listed.{IsListed, items_of}
 
 pub record IsUpToDate (table : Table) (values : List (Option ℕ)) (counters : Counters) : Type 0 where
@@ -10,7 +10,6 @@ pub record IsUpToDate (table : Table) (values : List (Option ℕ)) (counters : C
   pub counts : AreCounts values (items_of counters.preds.items) counters.counts.items
   pub successors : AreSuccessors values (items_of counters.preds.items) (items_of counters.successors.items)
   pub siblings : AreSiblings table values counters.siblings.items
-  pub complete : AreComplete table values counters.complete
 
 -- t is kept after s, and none of its kept predecessors is counted
 abbrev pub IsFreed : ℕ → Counters → ℕ → Type 0

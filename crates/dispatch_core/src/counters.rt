@@ -4,7 +4,7 @@ ghost use Rattle.task_segments.specs.Precedence.{IsSegment};
 ghost use Rattle.task_segments.specs.Table.{Table, segment};
 ghost use Rattle.task_segments.specs.InPlace.{IsOf};
 ghost use Rattle.depend_table.specs.Lists.{Lists};
-ghost use Rattle.dispatch_core.specs.Counters.{AreComplete, AreLowered, HasValue, IsCounted, unfinished};
+ghost use Rattle.dispatch_core.specs.Counters.{AreLowered, HasValue, IsCounted, unfinished};
 ghost use Rattle.dispatch_core.specs.Entry.{entry};
 ghost use Rattle.dispatch_core.specs.UpToDate.{IsUpToDate, IsFreed};
 ghost use Rattle.dispatch_core.specs.Listed.{items_of};
@@ -12,7 +12,7 @@ ghost use Rattle.dispatch_core.specs.Openings.{IsGrown, IsOpened, IsRoomToOpen, 
 
 use crate::facts::sound;
 use crate::listed::{no_lists, push_in_room, push_on};
-use crate::opening::{Opening, complete_tasks, first_opening, next_opening, no_siblings};
+use crate::opening::{Opening, first_opening, next_opening, no_siblings};
 use crate::places::{push_if, repeated, value_entry};
 use depend_table::table::SiblingTable;
 use std::alloc::Global;
@@ -30,8 +30,6 @@ pub struct Counters {
     counts: Vec<u32>,
     // For each task its children whose creators are finished.
     siblings: Vec<SiblingTable>,
-    // All tasks before this one are complete, but for the root.
-    complete: u32,
 }
 
 /// All that a finish takes memory for: what it opens, and the list of what becomes ready, with room for that.
@@ -53,7 +51,6 @@ impl Counters {
             successors: no_lists(alloc, table.len())?,
             counts: repeated(alloc, 0, table.len())?,
             siblings: no_siblings(alloc, table.tasks())?,
-            complete: 1,
         })
     }
 
@@ -130,7 +127,6 @@ impl Counters {
         ensures counts { self.new.counts ≡ self.old.counts }
         ensures successors { items_of self.new.successors.items ≡ items_of self.old.successors.items }
         ensures refused { OnErr result (self.new.siblings.items ≡ self.old.siblings.items) }
-        ensures complete { AreComplete table.now values.now self.new.complete }
         ensures grown { IfOk result (IsGrown table.now values.now finished self.new) }
     {
         let mut ready = with_one(
@@ -140,14 +136,12 @@ impl Counters {
         )?;
         ready.reserve(2)?;
         let next = next_opening(alloc, table, &mut self.successors, values, finished)?;
-        self.complete = complete_tasks(table, values, self.complete);
         let first = first_opening(
             table,
             &mut self.siblings,
             &mut self.successors,
             values,
             finished,
-            self.complete,
         )?;
         Ok(Growths { ready, next, first })
     }

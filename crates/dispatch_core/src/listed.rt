@@ -36,7 +36,7 @@ pub fn make_room(
 }
 
 /// Makes room for two more numbers in the list at the place, if it has no value.
-pub fn make_room_at(
+fn make_room_at(
     lists: &mut Vec<Vec<u32>>,
     values: &[Option<u64>],
     place: u32,

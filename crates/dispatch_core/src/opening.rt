@@ -4,17 +4,16 @@ ghost use Rattle.task_segments.specs.Table.{Table, segment, task};
 ghost use Rattle.task_segments.specs.Precedence.{IsSegment, IsTask, Continues, Creation};
 ghost use Rattle.task_segments.specs.InPlace.{IsOf};
 ghost use Rattle.depend_table.specs.Siblings.{Sibling};
-ghost use Rattle.depend_table.specs.Kept.{children_below};
+ghost use Rattle.depend_table.specs.Kept.{KeptDependence, children_below};
 ghost use Rattle.dispatch_core.specs.Entry.{entry};
 ghost use Rattle.dispatch_core.specs.Places.{AreKeptSiblings};
-ghost use Rattle.dispatch_core.specs.Counters.{HasValue, AreComplete, AreSiblings};
+ghost use Rattle.dispatch_core.specs.Counters.{HasValue, AreSiblings};
 ghost use Rattle.dispatch_core.specs.Openings.{IsOpening, IsRoomFor};
 ghost use Rattle.dispatch_core.specs.Rooms.{HasRoom, IsRoomier};
 
 use crate::continuing::next_predecessors;
-use crate::listed::{make_room, make_room_at};
-use crate::places::value_entry;
-use crate::record::first_predecessors;
+use crate::listed::make_room;
+use crate::record::{first_predecessors, to_last_segments};
 use depend_table::laws::same_chains;
 use depend_table::table::SiblingTable;
 use std::alloc::Global;
@@ -68,19 +67,16 @@ pub fn next_opening(
     }))
 }
 
-/// What the finish of a segment opens by creating a task, with room in the successors of what it is kept after. The task
-/// is entered among its siblings, last of all, since that cannot be undone. All tasks before `complete` are complete, but
-/// for the root.
+/// What the finish of a segment opens by creating a task, with room in the successors of what it is
+/// kept after. The task is entered among its siblings last of all, since that cannot be undone.
 pub fn first_opening(
     table: &SegTable,
     siblings: &mut Vec<SiblingTable>,
     successors: &mut Vec<Vec<u32>>,
     values: &[Option<u64>],
     finished: u32,
-    complete: u32,
 ) -> Result<Option<Opening>, AllocFault>
     requires known { IsSegment table.now finished }
-    requires complete { AreComplete table.now values.now complete }
     requires each { length successors.old.items ≡ length table.now.segments }
     requires values { length values.now ≡ length table.now.segments }
     requires unfinished { entry values.now finished ≡ None }
@@ -97,7 +93,7 @@ pub fn first_opening(
         Closing::Creates(child) => child,
         _ => return Ok(None),
     };
-    make_sibling_room(table, successors, values, complete, child)?;
+    make_sibling_room(table, siblings.as_slice(), successors, values, child)?;
     let kept = generate(table, siblings, child)?;
     Ok(Some(Opening {
         segment: table.first(child),
@@ -105,56 +101,48 @@ pub fn first_opening(
     }))
 }
 
-/// The first task after the root, from this one on, that is not complete: its last segment has no value.
-pub fn complete_tasks(table: &SegTable, values: &[Option<u64>], complete: u32) -> u32
-    requires { AreComplete table.now values.now complete }
-    ensures { AreComplete table.now values.now result }
-{
-    let mut next = complete;
-    while next < table.tasks() && value_entry(values, table.last(next)).is_some() {
-        next += 1;
-    }
-    next
-}
-
-/// Makes room in the successors of the last segments of a task's earlier siblings, as far as they are not complete.
+/// Makes room in the successors of the last segments of a child's kept siblings, as far as these
+/// are not finished.
 fn make_sibling_room(
     table: &SegTable,
+    siblings: &[SiblingTable],
     successors: &mut Vec<Vec<u32>>,
     values: &[Option<u64>],
-    complete: u32,
     child: u32,
 ) -> Result<(), AllocFault>
     requires known { IsTask table.now child }
-    requires complete { AreComplete table.now values.now complete }
+    requires later { 0 < child }
+    requires so_far { (parent : ℕ) → (task table.now child).parent ≡ Some parent
+        → slice_get siblings.now parent ≡ Some (children_below table.now parent child) }
     requires each { length successors.old.items ≡ length table.now.segments }
     ensures roomier { IsRoomier successors.old.items successors.new.items }
-    ensures room { OnOk result ((earlier : ℕ) → 0 < earlier → earlier < child → (task table.now earlier).parent ≡ (task table.now child).parent → entry values.now (task table.now earlier).last ≡ None → HasRoom successors.new.items 2 (task table.now earlier).last) }
-{
-    for earlier in complete..child {
-        make_room_after(table, successors, values, earlier, child)?;
-    }
-    Ok(())
-}
-
-fn make_room_after(
-    table: &SegTable,
-    successors: &mut Vec<Vec<u32>>,
-    values: &[Option<u64>],
-    earlier: u32,
-    child: u32,
-) -> Result<(), AllocFault>
-    requires known { IsTask table.now child }
-    requires in_order { earlier < child }
-    requires each { length successors.old.items ≡ length table.now.segments }
-    ensures roomier { IsRoomier successors.old.items successors.new.items }
-    ensures room { OnOk result ((task table.now earlier).parent ≡ (task table.now child).parent → entry values.now (task table.now earlier).last ≡ None → HasRoom successors.new.items 2 (task table.now earlier).last) }
+    ensures room { OnOk result ((place : ℕ)
+        → KeptDependence table.now place (task table.now child).first
+        → entry values.now place ≡ None → HasRoom successors.new.items 2 place) }
 {
     reads_in_place(table);
-    if table.parent(earlier) != table.parent(child) {
-        return Ok(());
+    let mut last = kept_siblings(table, siblings, child)?;
+    to_last_segments(table, &mut last);
+    make_room(successors, values, last.as_slice())
+}
+
+/// The kept siblings of a child.
+fn kept_siblings(
+    table: &SegTable,
+    siblings: &[SiblingTable],
+    child: u32,
+) -> Result<Vec<u32>, AllocFault>
+    requires known { IsTask table.now child }
+    requires later { 0 < child }
+    requires so_far { (parent : ℕ) → (task table.now child).parent ≡ Some parent
+        → slice_get siblings.now parent ≡ Some (children_below table.now parent child) }
+    ensures { IfOk result (λ kept. AreKeptSiblings table.now child kept.items) }
+{
+    reads_in_place(table);
+    match table.parent(child) {
+        Some(parent) => siblings[parent as usize].kept_siblings(table.items(child)),
+        None => unreachable!(),
     }
-    make_room_at(successors, values, table.last(earlier))
 }
 
 /// The kept siblings of a child, which is added to its parent's children.

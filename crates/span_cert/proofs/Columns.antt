@@ -62,30 +62,6 @@ of_two pairs n one two false lesser greater first is = (
   ],
 )
 
--- one pair more, by what stood before and what stands there
-pub earliest_more : (pairs : List (Option (ℕ × ℕ))) (n : ℕ) (so_far found : Option (ℕ × ℕ)) → IsEarliest pairs n so_far → slice_get pairs n ≡ Some found
-    → IsEarliest pairs (n + 1) (earlier so_far found)
-earliest_more pairs n None None none is = λ k pair less at. elim (cases_eq k n) [
-  | inl same ↦ absurd (cc)
-  | inr other ↦ none k pair (omega (arith, other)) at
-]
-earliest_more pairs n None (Some two) none is = (
-  (n, is),
-  λ k pair less at. elim (cases_eq k n) [
-    | inl same ↦ let e : two ≡ pair = cc in let P : ℕ × ℕ → Type 0 = λ p. two.1 ≤ p.1 in subst P e (omega arith)
-    | inr other ↦ absurd (none k pair (omega (arith, other)) at)
-  ],
-)
-earliest_more pairs n (Some one) None first is = (
-  first.0,
-  λ k pair less at. elim (cases_eq k n) [
-    | inl same ↦ absurd (cc)
-    | inr other ↦ first.1 k pair (omega (arith, other)) at
-  ],
-)
-earliest_more pairs n (Some one) (Some two) first is =
-    of_two pairs n one two (ltb two.1 one.1) (ltb-true two.1 one.1) (ltb-false two.1 one.1) first is
-
 -- ---- all columns
 
 get_column : (columns : List (Option (ℕ × ℕ))) (c : ℕ) → c < length columns → slice_get columns c ≡ Some (get_or columns c None)

@@ -48,6 +48,3 @@ few_pieces [] state next taken h = subst HasFewNames (at_end state next taken) h
 few_pieces (piece ∷ pieces) state next taken h =
     let one = went state next piece pieces taken in
     few_pieces pieces (after_piece state piece) next one.1 (few_piece state piece one.0 h)
-
-pub few_at_first : HasFewNames nothing_expanded
-few_at_first = record { items = omega arith; names = omega arith }

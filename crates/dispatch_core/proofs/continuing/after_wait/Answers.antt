@@ -1,27 +1,22 @@
-use Rattle.std.proofs.Common.{ℕ, ◌+◌, ◌↔◌, List, sym, subst, arith, inl, inr}
+use Rattle.std.proofs.Common.{ℕ, ◌+◌, ◌↔◌, List, sym, subst, arith}
 use Rattle.std.specs.Prelude.{IsTrue}
 use Rattle.task_segments.specs.Table.{Table, segment}
-use Rattle.depend_table.specs.Kept.{IsKeptEdge}
 use Rattle.depend_table.specs.Lists.{Lists}
 use Rattle.dispatch_core.specs.Places.{EndsChild, Joins}
-use Rattle.dispatch_core.proofs.ListLemmas.{Below, Lists-all, Lists-none, Lists-step}
-use Rattle.dispatch_core.proofs.Edges.{after_join, join_before, waits_not_creates}
+use Rattle.dispatch_core.proofs.ListLemmas.{Below, Lists-step}
+use Rattle.dispatch_core.proofs.Edges.{waits_not_creates}
 use Rattle.dispatch_core.proofs.Since.{wait_no_group, wait_joins}
+use Rattle.dispatch_core.proofs.Joining.{joins_then_before, none_joins}
 use Rattle.dispatch_core.proofs.continuing.after_wait.Goals as goal
 
 pub loop-segment-init : goal.loop-segment-init
 loop-segment-init c =
     let table : Table = c.args.table.now in
     let from : ℕ = c.wait_begin-from.result in
-    let P : ℕ → Type 0 = Below (λ p. Joins table p c.args.next) from in
-    subst (λ (l : List ℕ). Lists P l) (sym c.new-preds.ensures.items)
-    (Lists-none P
-    (λ p joins.
-    let below = joins.0 in
-    elim joins.1 [
-      | inl kept ↦ (let low = c.wait_begin-from.ensures.reached p kept in absurd (omega (arith, low, below)))
-      | inr group ↦ absurd (wait_no_group table c.args.before c.args.next p c.reads_in_place.ensures c.requires.follows c.requires.waits group)
-    ]))
+    subst (λ (l : List ℕ). Lists (Below (λ p. Joins table p c.args.next) from) l) (sym c.new-preds.ensures.items)
+    (none_joins table from c.args.next c.wait_begin-from.ensures.reached
+    (λ p group. absurd (wait_no_group table c.args.before c.args.next p c.reads_in_place.ensures
+    c.requires.follows c.requires.waits group)))
 
 pub loop-segment-preserved : goal.loop-segment-preserved
 loop-segment-preserved c =
@@ -38,11 +33,7 @@ loop-segment-preserved c =
 pub returns : goal.returns
 returns c =
     let table : Table = c.args.table.now in
-    let before : ℕ = c.args.before in
-    let next : ℕ = c.args.next in
-    let facts = c.reads_in_place.ensures in
-    let P : ℕ → Type 0 = λ p. Joins table p next in
-    let all = Lists-all P c.loop-segment.segment c.loop-segment.preds.items
-    (λ p joins. let less = join_before table p before next facts c.requires.follows joins in omega (arith, less, c.loop-segment-test.false)) c.loop-segment.invariant in
-    subst (λ (l : List ℕ). Lists (λ p. IsKeptEdge table p next) l) (sym c.in_ok-push.ensures.items)
-    (after_join table before next c.loop-segment.preds.items facts c.requires.follows (λ child creates. waits_not_creates (segment table before).closing child c.requires.waits creates) all)
+    joins_then_before table c.args.before c.args.next c.loop-segment.segment c.loop-segment.preds.items
+    c.push.new.self.items c.reads_in_place.ensures c.requires.follows
+    (λ child creates. waits_not_creates (segment table c.args.before).closing child c.requires.waits creates)
+    (omega (arith, c.loop-segment-test.false)) c.loop-segment.invariant c.in_ok-push.ensures.items

@@ -7,16 +7,14 @@ use Rattle.dispatch_core.proofs.continuing.group_begin.Goals as goal
 
 pub overflow_sub-task : goal.overflow_sub-task
 overflow_sub-task c =
-    let table : Table = c.args.table.now in
-    let must = subst (λ (s : ℕ). MustPrecede table s c.args.next) c.last.ensures (c.must_precede.ensures.0 c.loop-from-test.true) in
-    let some = above_root table c.loop-from.task c.args.next c.reads_in_place.ensures c.nests.ensures c.requires.follows.is_to must in
+    let some = above_root c.args.table.now c.loop-from.task c.last.result c.args.next c.reads_in_place.ensures
+    c.nests.ensures c.requires.follows.is_to c.last.ensures (c.must_precede.ensures.0 c.loop-from-test.true) in
     omega (arith, some)
 
 pub loop-from-smaller : goal.loop-from-smaller
 loop-from-smaller c =
-    let table : Table = c.args.table.now in
-    let must = subst (λ (s : ℕ). MustPrecede table s c.args.next) c.last.ensures (c.must_precede.ensures.0 c.loop-from-test.true) in
-    let some = above_root table c.loop-from.task c.args.next c.reads_in_place.ensures c.nests.ensures c.requires.follows.is_to must in
+    let some = above_root c.args.table.now c.loop-from.task c.last.result c.args.next c.reads_in_place.ensures
+    c.nests.ensures c.requires.follows.is_to c.last.ensures (c.must_precede.ensures.0 c.loop-from-test.true) in
     omega (arith, some)
 
 pub returns-clause-reached : goal.returns-clause-reached

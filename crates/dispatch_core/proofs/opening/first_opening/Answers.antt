@@ -1,76 +1,124 @@
-use Rattle.std.proofs.Common.{ℕ, ◌≡◌, List, Some, sym, ap, subst, arith, ◌∙◌}
-use Rattle.std.specs.Prelude.{slice_set}
+use Rattle.std.proofs.Common.{ℕ, ◌≡◌, List, Some, sym, ap, subst, arith, ◌∙◌, inl, inr}
+use Rattle.std.specs.Prelude.{slice_set, slice_get}
 use Rattle.task_segments.specs.Table.{Table, task}
 use Rattle.depend_table.specs.Siblings.{Sibling}
-use Rattle.depend_table.specs.Kept.{IsKeptEdge}
+use Rattle.depend_table.specs.Kept.{IsKeptEdge, children_below}
 use Rattle.depend_table.specs.Lists.{Lists}
-use Rattle.dispatch_core.specs.Entry.{entry}
-use Rattle.dispatch_core.specs.Rooms.{HasRoom}
 use Rattle.dispatch_core.specs.Counters.{AreSiblings}
+use Rattle.dispatch_core.proofs.Edges.{first_cases, created_by}
 use Rattle.dispatch_core.proofs.Rooms.{roomier_same}
-use Rattle.dispatch_core.proofs.SiblingSteps.{next_child, above_root, created_one, siblings_still, siblings_so_far, siblings_more, first_after}
+use Rattle.dispatch_core.proofs.SiblingSteps.{next_child, above_root, created_one, siblings_still, siblings_so_far, siblings_more}
 use Rattle.dispatch_core.proofs.opening.first_opening.Goals as goal
 
 pub returns-in_default : goal.returns-in_default
 returns-in_default c =
     let table : Table = c.args.table.now in
-    let none : (child : ℕ) → ¬ ((task table child).creator ≡ Some c.args.finished) = λ child by.
-    c.in_default.not-Creates child (c.closing.ensures ∙ (c.reads_in_place.ensures.created c.args.finished child (c.reads_in_place.ensures.with_creator child c.args.finished by) by).1) in
+    let facts = c.reads_in_place.ensures in
+    let finished : ℕ = c.args.finished in
+    let none : (child : ℕ) → ¬ ((task table child).creator ≡ Some finished) = λ child by.
+    c.in_default.not-Creates child
+    (c.closing.ensures ∙ (facts.created finished child (facts.with_creator child finished by) by).1) in
     let known = c.requires.known in
     let values = c.requires.values in
     record {
       roomier = roomier_same c.args.successors.now.items;
       refused = tt;
-      entered = λ value. siblings_still table c.args.values.now c.args.finished value c.args.siblings.now.items (omega (arith, known, values)) none c.requires.so_far;
+      entered = λ value. siblings_still table c.args.values.now finished value c.args.siblings.now.items
+          (omega (arith, known, values)) none c.requires.so_far;
       first = λ t creation. none creation.child creation.creator;
       room = tt;
     }
 
 pub make_sibling_room-requires-clause-known : goal.make_sibling_room-requires-clause-known
-make_sibling_room-requires-clause-known c = (c.reads_in_place.ensures.creates c.args.finished c.in-Creates.child c.requires.known (sym c.closing.ensures ∙ c.in-Creates.is)).0
+make_sibling_room-requires-clause-known c =
+    let closing = sym c.closing.ensures ∙ c.in-Creates.is in
+    (c.reads_in_place.ensures.creates c.args.finished c.in-Creates.child c.requires.known closing).0
+
+pub make_sibling_room-requires-clause-later : goal.make_sibling_room-requires-clause-later
+make_sibling_room-requires-clause-later c =
+    let child : ℕ = c.in-Creates.child in
+    let facts = c.reads_in_place.ensures in
+    let closing = sym c.closing.ensures ∙ c.in-Creates.is in
+    let made = facts.creates c.args.finished child c.requires.known closing in
+    above_root c.args.table.now child c.args.finished facts made.1
+
+pub make_sibling_room-requires-clause-so_far : goal.make_sibling_room-requires-clause-so_far
+make_sibling_room-requires-clause-so_far c parent of_parent =
+    let table : Table = c.args.table.now in
+    let child : ℕ = c.in-Creates.child in
+    let values = c.requires.values in
+    let closing = sym c.closing.ensures ∙ c.in-Creates.is in
+    let next = next_child table c.args.values.now c.args.finished child parent c.reads_in_place.ensures
+    c.requires.known closing of_parent values c.requires.unfinished c.requires.earlier in
+    subst (λ (l : List (List Sibling)). slice_get l parent ≡ Some (children_below table parent child))
+    (sym c.as_slice.ensures.value)
+    (siblings_so_far table c.args.values.now c.args.finished child parent c.args.siblings.now.items next
+    c.requires.so_far)
 
 pub generate-requires-clause-later : goal.generate-requires-clause-later
 generate-requires-clause-later c =
-    let made = c.reads_in_place.ensures.creates c.args.finished c.in-Creates.child c.requires.known (sym c.closing.ensures ∙ c.in-Creates.is) in
-    above_root c.args.table.now c.in-Creates.child c.args.finished c.reads_in_place.ensures made.1
+    let child : ℕ = c.in-Creates.child in
+    let facts = c.reads_in_place.ensures in
+    let closing = sym c.closing.ensures ∙ c.in-Creates.is in
+    let made = facts.creates c.args.finished child c.requires.known closing in
+    above_root c.args.table.now child c.args.finished facts made.1
 
 pub generate-requires-clause-so_far : goal.generate-requires-clause-so_far
 generate-requires-clause-so_far c parent of_parent =
+    let table : Table = c.args.table.now in
+    let child : ℕ = c.in-Creates.child in
     let values = c.requires.values in
-    let next = next_child c.args.table.now c.args.values.now c.args.finished c.in-Creates.child parent c.reads_in_place.ensures c.requires.known (sym c.closing.ensures ∙ c.in-Creates.is) of_parent
-    values c.requires.unfinished c.requires.earlier in
-    siblings_so_far c.args.table.now c.args.values.now c.args.finished c.in-Creates.child parent c.args.siblings.now.items next c.requires.so_far
+    let closing = sym c.closing.ensures ∙ c.in-Creates.is in
+    let next = next_child table c.args.values.now c.args.finished child parent c.reads_in_place.ensures
+    c.requires.known closing of_parent values c.requires.unfinished c.requires.earlier in
+    siblings_so_far table c.args.values.now c.args.finished child parent c.args.siblings.now.items next
+    c.requires.so_far
 
 pub returns-clause-entered : goal.returns-clause-entered
 returns-clause-entered c value =
     let table : Table = c.args.table.now in
     let child : ℕ = c.in-Creates.child in
+    let finished : ℕ = c.args.finished in
+    let facts = c.reads_in_place.ensures in
     let values = c.requires.values in
     let closing = sym c.closing.ensures ∙ c.in-Creates.is in
-    let made = c.reads_in_place.ensures.creates c.args.finished child c.requires.known closing in
-    let below = c.reads_in_place.ensures.below_root child (above_root table child c.args.finished c.reads_in_place.ensures made.1) made.0 in
-    let next = next_child table c.args.values.now c.args.finished child below.parent c.reads_in_place.ensures c.requires.known closing below.is_parent values c.requires.unfinished c.requires.earlier in
-    subst (λ (siblings : List (List Sibling)). AreSiblings table (slice_set c.args.values.now c.args.finished (Some value)) siblings) (sym (c.in_ok-kept.ensures.added below.parent below.is_parent))
-    (siblings_more table c.args.values.now c.args.finished value child below.parent c.args.siblings.now.items next c.requires.so_far)
+    let made = facts.creates finished child c.requires.known closing in
+    let below = facts.below_root child (above_root table child finished facts made.1) made.0 in
+    let next = next_child table c.args.values.now finished child below.parent facts c.requires.known
+    closing below.is_parent values c.requires.unfinished c.requires.earlier in
+    subst (λ (siblings : List (List Sibling)).
+    AreSiblings table (slice_set c.args.values.now finished (Some value)) siblings)
+    (sym (c.in_ok-kept.ensures.added below.parent below.is_parent))
+    (siblings_more table c.args.values.now finished value child below.parent c.args.siblings.now.items
+    next c.requires.so_far)
 
 pub returns-clause-first : goal.returns-clause-first
 returns-clause-first c =
     let table : Table = c.args.table.now in
     let child : ℕ = c.in-Creates.child in
-    let made = c.reads_in_place.ensures.creates c.args.finished child c.requires.known (sym c.closing.ensures ∙ c.in-Creates.is) in
+    let finished : ℕ = c.args.finished in
+    let facts = c.reads_in_place.ensures in
+    let closing = sym c.closing.ensures ∙ c.in-Creates.is in
+    let made = facts.creates finished child c.requires.known closing in
     record {
       does = record { child = child; is_child = made.0; creator = made.1; first = sym c.first.ensures };
       alone = λ t creation.
-          let one = created_one table c.args.finished child creation.child c.reads_in_place.ensures made.0 made.1 creation.is_child creation.creator in
+          let one = created_one table finished child creation.child facts made.0 made.1
+          creation.is_child creation.creator in
           sym creation.first ∙ ap (λ (u : ℕ). (task table u).first) one ∙ sym c.first.ensures;
-      kept = subst (λ (t : ℕ). Lists (λ p. IsKeptEdge table p t) c.first_predecessors.result.items) (sym c.first.ensures) c.first_predecessors.ensures;
+      kept = subst (λ (t : ℕ). Lists (λ p. IsKeptEdge table p t) c.first_predecessors.result.items)
+          (sym c.first.ensures) c.first_predecessors.ensures;
     }
 
 pub returns-clause-room : goal.returns-clause-room
 returns-clause-room c p has apart none =
     let table : Table = c.args.table.now in
     let child : ℕ = c.in-Creates.child in
-    let made = c.reads_in_place.ensures.creates c.args.finished child c.requires.known (sym c.closing.ensures ∙ c.in-Creates.is) in
-    let sibling = first_after table child c.args.finished p c.reads_in_place.ensures made.0 made.1 ((c.first_predecessors.ensures.each p).0 has) apart in
-    subst (λ (n : ℕ). HasRoom c.make_sibling_room.new.successors.items 2 n) sibling.last
-    (c.in_ok-make_sibling_room.ensures.room sibling.earlier sibling.above sibling.below sibling.siblings (ap (λ (n : ℕ). entry c.args.values.now n) sibling.last ∙ none))
+    let finished : ℕ = c.args.finished in
+    let facts = c.reads_in_place.ensures in
+    let closing = sym c.closing.ensures ∙ c.in-Creates.is in
+    let made = facts.creates finished child c.requires.known closing in
+    elim (first_cases table p child facts made.0 ((c.first_predecessors.ensures.each p).0 has)) [
+      | inl creation ↦ absurd (apart (created_by table child p finished facts made.0 made.1 creation))
+      | inr depends ↦ c.in_ok-make_sibling_room.ensures.room p depends none
+    ]

@@ -3,11 +3,10 @@ use Rattle.std.specs.Prelude.{slice_set, All}
 use Rattle.std.proofs.lemmas.Option.{none-some, same_Some, slice_get_within}
 use Rattle.task_segments.specs.Table.{Table, task}
 use Rattle.depend_table.specs.Kept.{children_below}
-use Rattle.depend_table.specs.Siblings.{Sibling, IsKept}
-use Rattle.depend_table.specs.Lists.{Lists}
+use Rattle.depend_table.specs.Siblings.{Sibling}
 use Rattle.task_program.specs.declared.statement.Item.{Item}
 use Rattle.dispatch_core.proofs.Children.{children_small}
-use Rattle.dispatch_core.proofs.SiblingSteps.{stands_at}
+use Rattle.dispatch_core.proofs.SiblingSteps.{stands_at, are_kept}
 use Rattle.dispatch_core.proofs.opening.generate.Goals as goal
 
 pub index_mut-requires : goal.index_mut-requires
@@ -26,18 +25,14 @@ generate-requires c =
 pub returns-clause-kept : goal.returns-clause-kept
 returns-clause-kept c =
     let table : Table = c.args.table.now in
+    let child : ℕ = c.args.child in
     let parent : ℕ = c.in-Some.parent in
-    let is_parent : (task table c.args.child).parent ≡ Some parent = sym c.parent.ensures ∙ c.in-Some.is in
-    let there = c.requires.so_far parent is_parent in
-    let children = stands_at c.args.siblings.now.items parent c.index_mut.result.now (children_below table parent c.args.child) c.index_mut.ensures.value there in
-    let P : List Sibling → Type 0 = λ siblings. Lists (IsKept siblings (task table c.args.child).items) c.in_ok-kept-in-Some.kept.items in
-    let Q : List Item → Type 0 = λ items. Lists (IsKept c.index_mut.result.now items) c.in_ok-kept-in-Some.kept.items in
-    record {
-      is_task = c.requires.known;
-      parent = parent;
-      is_parent = is_parent;
-      lists = subst P children (subst Q c.items.ensures c.in_ok-kept-in-Some.ensures.kept);
-    }
+    let siblings : List Sibling = c.index_mut.result.now in
+    let is_parent : (task table child).parent ≡ Some parent = sym c.parent.ensures ∙ c.in-Some.is in
+    let children = stands_at c.args.siblings.now.items parent siblings (children_below table parent child)
+    c.index_mut.ensures.value (c.requires.so_far parent is_parent) in
+    are_kept table child parent siblings c.items.result.now c.in_ok-kept-in-Some.kept.items
+    c.requires.known is_parent children c.items.ensures c.in_ok-kept-in-Some.ensures.kept
 
 pub returns-clause-added : goal.returns-clause-added
 returns-clause-added c other of_other =

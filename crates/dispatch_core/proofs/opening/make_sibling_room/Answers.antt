@@ -1,40 +1,33 @@
-use Rattle.std.proofs.Common.{ℕ, ◌≡◌, None, sym, arith, ◌∙◌, subst, inl, inr}
-use Rattle.std.proofs.lemmas.Bool.{cases_eq}
-use Rattle.std.proofs.lemmas.Option.{none-some}
-use Rattle.task_segments.specs.Table.{task}
-use Rattle.dispatch_core.specs.Entry.{entry}
-use Rattle.dispatch_core.specs.Rooms.{HasRoom}
-use Rattle.dispatch_core.proofs.Rooms.{roomier_same, roomier_then, long_as}
+use Rattle.std.proofs.Common.{ℕ, List, sym, subst, arith, ◌∙◌}
+use Rattle.std.specs.Prelude.{Contains}
+use Rattle.std.proofs.lemmas.Result.{on_ok_weaker}
+use Rattle.task_segments.specs.Table.{Table, task}
+use Rattle.dispatch_core.proofs.Edges.{kept_task, dependence_from, sibling_edges}
 use Rattle.dispatch_core.proofs.opening.make_sibling_room.Goals as goal
 
-pub make_room_after-requires-clause-each : goal.make_room_after-requires-clause-each
-make_room_after-requires-clause-each c = long_as c.args.successors.now.items c.loop-earlier.successors.items c.loop-earlier.invariant.roomier ∙ c.requires.each
+pub to_last_segments-requires : goal.to_last_segments-requires
+to_last_segments-requires c u has =
+    kept_task c.args.table.now c.args.child u c.in_ok-last.last.items c.in_ok-last.ensures
+    c.reads_in_place.ensures has
 
-pub loop-earlier-init : goal.loop-earlier-init
-loop-earlier-init c = record {
-  roomier = roomier_same c.args.successors.now.items;
-  room = λ u above below sibling none.
-      let ended = c.requires.complete u above below in
-      absurd (none-some ended.value (sym none ∙ ended.is));
-}
-
-pub loop-earlier-preserved : goal.loop-earlier-preserved
-loop-earlier-preserved c =
-    let more = c.in_ok-make_room_after.ensures.roomier in
-    record {
-      roomier = roomier_then c.args.successors.now.items c.loop-earlier.successors.items c.make_room_after.new.successors.items c.loop-earlier.invariant.roomier more;
-      room = λ u above below sibling none. elim (cases_eq u c.loop-earlier.earlier) [
-        | inl same ↦
-            subst (λ (n : ℕ). (task c.args.table.now n).parent ≡ (task c.args.table.now c.args.child).parent → entry c.args.values.now (task c.args.table.now n).last ≡ None
-            → HasRoom c.make_room_after.new.successors.items 2 (task c.args.table.now n).last) (sym same) c.in_ok-make_room_after.ensures.room sibling none
-        | inr apart ↦ more.still 2 (task c.args.table.now u).last (c.loop-earlier.invariant.room u above (omega (arith, below, apart)) sibling none)
-      ];
-    }
-
-pub returns-in_err-make_room_after-clause-roomier : goal.returns-in_err-make_room_after-clause-roomier
-returns-in_err-make_room_after-clause-roomier c =
-    roomier_then c.args.successors.now.items c.loop-earlier.successors.items c.make_room_after.new.successors.items c.loop-earlier.invariant.roomier c.make_room_after.ensures.roomier
+pub make_room-requires : goal.make_room-requires
+make_room-requires c place has =
+    let table : Table = c.args.table.now in
+    let child : ℕ = c.args.child in
+    let facts = c.reads_in_place.ensures in
+    let edges = sibling_edges table child c.in_ok-last.last.items c.in_ok-last.ensures facts in
+    let ends = c.as_slice.ensures.value ∙ c.to_last_segments.ensures.items in
+    let depends = (edges.each place).0 (subst (λ (l : List ℕ). Contains l place) ends has) in
+    let known = dependence_from table place (task table child).first facts depends in
+    omega (arith, known, c.requires.each)
 
 pub returns-clause-room : goal.returns-clause-room
-returns-clause-room c earlier above below sibling none =
-    c.loop-earlier.invariant.room earlier above (omega (arith, below, c.loop-earlier-test.false, c.loop-earlier.auto.earlier-end)) sibling none
+returns-clause-room c =
+    on_ok_weaker c.make_room.result
+    (λ room place depends none.
+    let table : Table = c.args.table.now in
+    let kept : List ℕ = c.in_ok-last.last.items in
+    let edges = sibling_edges table c.args.child kept c.in_ok-last.ensures c.reads_in_place.ensures in
+    let ends = c.as_slice.ensures.value ∙ c.to_last_segments.ensures.items in
+    room place (subst (λ (l : List ℕ). Contains l place) (sym ends) ((edges.each place).1 depends)) none)
+    c.make_room.ensures.room

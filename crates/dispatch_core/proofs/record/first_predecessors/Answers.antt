@@ -8,10 +8,9 @@ use Rattle.dispatch_core.proofs.Edges
 use Rattle.dispatch_core.proofs.record.first_predecessors.Goals as goal
 
 pub to_last_segments-requires : goal.to_last_segments-requires
-to_last_segments-requires c u h =
-    let given = c.requires.kept in
-    let sibling = Edges.kept_sibling c.args.table.now given.parent c.args.child u ((given.lists.each u).0 h) in
-    c.reads_in_place.ensures.with_parent u given.parent sibling.of_parent
+to_last_segments-requires c u has =
+    Edges.kept_task c.args.table.now c.args.child u c.args.kept.items c.requires.kept
+    c.reads_in_place.ensures has
 
 pub returns-in-Some : goal.returns-in-Some
 returns-in-Some c =

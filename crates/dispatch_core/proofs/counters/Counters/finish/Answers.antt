@@ -1,8 +1,7 @@
 use Rattle.std.proofs.Common.{ℕ, List, Option, sym, subst, arith}
 use Rattle.dispatch_core.specs.Openings.{IsGrown, IsOpened, IsRoomToOpen, AreReady}
-use Rattle.dispatch_core.specs.Counters.{AreComplete}
 use Rattle.dispatch_core.specs.UpToDate.{IsFreed}
-use Rattle.dispatch_core.proofs.Stages.{IsFinishing, recorded_still, has_successors, can_open_next, can_open_first, stage_first, siblings_end, complete_end, sorted_lists}
+use Rattle.dispatch_core.proofs.Stages.{IsFinishing, recorded_still, has_successors, can_open_next, can_open_first, stage_first, siblings_end, sorted_lists}
 use Rattle.dispatch_core.proofs.counters.Counters.finish.Goals as goal
 
 pub lower-requires-clause-known : goal.lower-requires-clause-known
@@ -99,8 +98,6 @@ returns-clause-up_to_date c =
       counts = stage.counted;
       successors = stage.followed;
       siblings = siblings_end c.args.table.now values s c.args.value c.grow.new.self c.lower.new.self c.open.new.self c.open-2.new.self growths here opened opened_first;
-      complete = complete_end c.args.table.now values s c.args.value c.grow.new.self c.lower.new.self c.open.new.self c.open-2.new.self growths here opened opened_first
-          (subst (λ (v : List (Option ℕ)). AreComplete c.args.table.now v c.grow.new.self.complete) c.as_slice.ensures.value c.grow.ensures.complete);
     }
 
 pub returns-clause-ready : goal.returns-clause-ready

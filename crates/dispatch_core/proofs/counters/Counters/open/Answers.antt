@@ -23,7 +23,6 @@ returns-clause-opened c =
       successors = c.push_on.new.lists;
       counts = with_item c.args.self.now.counts t c.count_unfinished-count.result;
       siblings = c.args.self.now.siblings;
-      complete = c.args.self.now.complete;
     } in
     let adds : AddsOpen c.args.values.now c.in-Some.opened c.args.self.now after = record {
       preds = items_set c.args.self.now.preds.items t c.in-Some.opened.preds;
@@ -31,6 +30,5 @@ returns-clause-opened c =
       successors = subst (λ (l : List ℕ). ArePushed t (λ p. Contains l p × (entry c.args.values.now p ≡ None)) (items_of c.args.self.now.successors.items) (items_of c.push_on.new.lists.items)) c.as_slice-2.ensures.value c.push_on.ensures.pushed;
       room = λ count place room. c.push_on.ensures.fuller.one_less count place room;
       siblings = refl;
-      complete = refl;
     } in
     subst (λ (o : Option Opening). IsOpened c.args.values.now o c.args.self.now after) (sym c.in-Some.is) adds

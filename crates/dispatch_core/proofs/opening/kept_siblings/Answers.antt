@@ -1,0 +1,39 @@
+use Rattle.std.proofs.Common.{ℕ, ◌≡◌, List, Some, sym, arith, ◌∙◌}
+use Rattle.std.proofs.lemmas.Option.{none-some, slice_get_within}
+use Rattle.std.proofs.lemmas.Result.{IfOk-weaker}
+use Rattle.task_segments.specs.Table.{Table, task}
+use Rattle.task_program.specs.declared.statement.Item.{Item}
+use Rattle.depend_table.specs.Kept.{children_below}
+use Rattle.depend_table.specs.Siblings.{Sibling, IsKept}
+use Rattle.depend_table.specs.Lists.{Lists}
+use Rattle.dispatch_core.specs.Places.{AreKeptSiblings}
+use Rattle.dispatch_core.proofs.SiblingSteps.{stands_at, are_kept}
+use Rattle.dispatch_core.proofs.opening.kept_siblings.Goals as goal
+
+pub returns : goal.returns
+returns c =
+    let table : Table = c.args.table.now in
+    let child : ℕ = c.args.child in
+    let parent : ℕ = c.in-Some.parent in
+    let siblings : List Sibling = c.index-siblings-parent.result in
+    let items : List Item = c.items.result.now in
+    let is_parent : (task table child).parent ≡ Some parent = sym c.parent.ensures ∙ c.in-Some.is in
+    let children = stands_at c.args.siblings.now parent siblings (children_below table parent child)
+    c.index-siblings-parent.is (c.requires.so_far parent is_parent) in
+    IfOk-weaker c.kept_siblings.result (λ kept. Lists (IsKept siblings items) kept.items)
+    (λ kept. AreKeptSiblings table child kept.items)
+    (λ kept lists. are_kept table child parent siblings items kept.items c.requires.known is_parent
+    children c.items.ensures lists)
+    c.kept_siblings.ensures
+
+pub bounds-siblings-parent : goal.bounds-siblings-parent
+bounds-siblings-parent c =
+    let there = c.requires.so_far c.in-Some.parent (sym c.parent.ensures ∙ c.in-Some.is) in
+    let within = slice_get_within c.args.siblings.now c.in-Some.parent
+    (children_below c.args.table.now c.in-Some.parent c.args.child) there in
+    omega (arith, within)
+
+pub unreachable-requires : goal.unreachable-requires
+unreachable-requires c =
+    let made = c.reads_in_place.ensures.below_root c.args.child c.requires.later c.requires.known in
+    none-some made.parent (sym (sym c.parent.ensures ∙ c.in-None.is) ∙ made.is_parent)
