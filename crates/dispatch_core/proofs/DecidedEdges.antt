@@ -189,20 +189,20 @@ decide_group table s t facts =
     let B : ℕ → Type 0 = λ child. IsEarlierChild table child t × (Inside child × Below child) in
     let Child : Type 0 = (child : ℕ) × (child < length table.tasks) × B child in
     alike (Before × Child) (GroupEnd table s t)
-    (λ h. let b = h.0 in let c = h.1 in record {
-      child = c.0;
-      encloses = record { before = b.0; ends_group = b.2.0; opens = b.2.1; generated = c.2.0; inside = c.2.1.0 };
-      descendant = c.2.1.1.0;
-      is_descendant = c.2.1.1.1;
-      descends = c.2.1.1.2.0;
-      last = c.2.1.1.2.1;
+    (λ h. let before_of = h.0 in let child_of = h.1 in record {
+      child = child_of.0;
+      encloses = record { before = before_of.0; ends_group = before_of.2.0; opens = before_of.2.1; generated = child_of.2.0; inside = child_of.2.1.0 };
+      descendant = child_of.2.1.1.0;
+      is_descendant = child_of.2.1.1.1;
+      descends = child_of.2.1.1.2.0;
+      last = child_of.2.1.1.2.1;
     })
-    (λ g. let e = g.encloses in (
-      (e.before, e.opens.is_from, (e.ends_group, e.opens)),
+    (λ g. let encloses = g.encloses in (
+      (encloses.before, encloses.opens.is_from, (encloses.ends_group, encloses.opens)),
       (
         g.child,
-        e.generated.is_child,
-        (e.generated, (e.inside, (g.descendant, g.is_descendant, (g.descends, g.last)))),
+        encloses.generated.is_child,
+        (encloses.generated, (encloses.inside, (g.descendant, g.is_descendant, (g.descends, g.last)))),
       ),
     ))
     (decide_both Before Child
@@ -363,25 +363,25 @@ decide_kept_wait table s t =
     λ before. (child : ℕ) × (child < length table.tasks) × (B child × (L child × C before child)) in
     alike ((before : ℕ) × (before < length table.segments) × (A before × D before)) (KeptWait table s t)
     (λ h.
-    let a = h.2.0 in
-    let d = h.2.1 in
-    let c = d.2.1.1 in
+    let waits = h.2.0 in
+    let child_of = h.2.1 in
+    let creator_of = child_of.2.1.1 in
     record {
       wait = record {
         before = h.0;
-        waits = a.0;
-        opens = a.1;
-        child = d.0;
-        generated = record { is_child = d.1; parent = d.2.0; creator = c.0; is_creator = c.1; earlier = c.2.0 };
-        last = d.2.1.0;
+        waits = waits.0;
+        opens = waits.1;
+        child = child_of.0;
+        generated = record { is_child = child_of.1; parent = child_of.2.0; creator = creator_of.0; is_creator = creator_of.1; earlier = creator_of.2.0 };
+        last = child_of.2.1.0;
       };
-      none_between = c.2.1;
+      none_between = creator_of.2.1;
     })
     (λ k.
-    let w = k.wait in
-    let g = w.generated in
-    let made : C w.before w.child = (g.creator, g.is_creator, (g.earlier, k.none_between)) in
-    (w.before, w.opens.is_from, ((w.waits, w.opens), (w.child, g.is_child, (g.parent, (w.last, made))))))
+    let wait = k.wait in
+    let generated = wait.generated in
+    let made : C wait.before wait.child = (generated.creator, generated.is_creator, (generated.earlier, k.none_between)) in
+    (wait.before, wait.opens.is_from, ((wait.waits, wait.opens), (wait.child, generated.is_child, (generated.parent, (wait.last, made))))))
     (decide_below (λ before. A before × D before) (length table.segments) (λ before.
     decide_both (A before) (D before)
     (decide_both ((segment table before).closing ≡ Waits) (Continues table before t)

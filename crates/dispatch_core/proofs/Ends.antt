@@ -9,13 +9,13 @@ use Rattle.std.proofs.lemmas.Bool.{cases_eq, cases_lt, both_ways}
 use Rattle.std.proofs.lemmas.Option.{same_Some, none-some, slice_get_within}
 use Rattle.std.proofs.lemmas.List.{length-map, length-replicate, get_or_past, get_or_default}
 use Rattle.std.proofs.lemmas.List.Folds.{sum_by-replicate}
-use Rattle.task_segments.specs.Table.{Table}
+use Rattle.task_segments.specs.Table.{Table, costs_of}
 use Rattle.task_segments.specs.declared.table.Segment.{Segment}
 use Rattle.task_segments.specs.Precedence.{MustPrecede, Continues, Creation}
 use Rattle.dispatch_core.specs.declared.event.TheConstants.{MOST_WORKERS}
 use Rattle.dispatch_core.specs.declared.event.Event.{Event}
 use Rattle.dispatch_core.specs.Run.{HasStarted, HasFinished, Runs, IsFinished, IsOpen}
-use Rattle.dispatch_core.specs.Facts.{costs_of, IsSoundTable}
+use Rattle.dispatch_core.specs.Facts.{IsSoundTable}
 use Rattle.dispatch_core.specs.Entry.{entry}
 use Rattle.dispatch_core.specs.Sound.{IsSound}
 use Rattle.dispatch_core.specs.declared.counters.Counters.{Counters}

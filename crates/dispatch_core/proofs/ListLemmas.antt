@@ -94,18 +94,18 @@ Lists-map f P Q list lists up there back = record {
   ascending = λ k h.
       let next : k + 1 < length list = omega (arith, h, length-map list f) in
       let here : k < length list = omega (arith, next) in
-      let a = get_or-map f list k 0 0 here in
-      let b = get_or-map f list (k + 1) 0 0 next in
-      let x : ℕ = get_or list k 0 in
-      let y : ℕ = get_or list (k + 1) 0 in
-      let less = up x y ((lists.each x).0 (Contains-get_or list k 0 here)) ((lists.each y).0 (Contains-get_or list (k + 1) 0 next)) (lists.ascending k next) in
-      rw (a, b) less;
+      let value_is = get_or-map f list k 0 0 here in
+      let next_is = get_or-map f list (k + 1) 0 0 next in
+      let value : ℕ = get_or list k 0 in
+      let next_value : ℕ = get_or list (k + 1) 0 in
+      let less = up value next_value ((lists.each value).0 (Contains-get_or list k 0 here)) ((lists.each next_value).0 (Contains-get_or list (k + 1) 0 next)) (lists.ascending k next) in
+      rw (value_is, next_is) less;
   each = λ m. (
     λ h.
-        let within : h.0 < length list = let w = h.1 in omega (arith, w, length-map list f) in
-        let x : ℕ = get_or list h.0 0 in
-        let same : f x ≡ m = sym (get_or-map f list h.0 0 m within) ∙ h.2 in
-        subst Q same (there x ((lists.each x).0 (Contains-get_or list h.0 0 within))),
+        let within : h.0 < length list = let known = h.1 in omega (arith, known, length-map list f) in
+        let value : ℕ = get_or list h.0 0 in
+        let same : f value ≡ m = sym (get_or-map f list h.0 0 m within) ∙ h.2 in
+        subst Q same (there value ((lists.each value).0 (Contains-get_or list h.0 0 within))),
     λ h.
         let from = back m h in
         subst (λ (n : ℕ). Contains (map f list) n) from.2 (contains_map f list from.0 ((lists.each from.0).1 from.1)),

@@ -1,13 +1,8 @@
 -- What holds of every table, as the steps of a run ask for it.
-use Rattle.std.specs.Prelude.{ℕ, ◌<◌, ◌≤◌, ◌^◌, List, length, map, sum}
-use Rattle.task_segments.specs.Table.{Table}
-use Rattle.task_segments.specs.declared.table.Segment.{Segment}
+use Rattle.std.specs.Prelude.{ℕ, ◌<◌, ◌≤◌, ◌^◌, length, sum}
+use Rattle.task_segments.specs.Table.{Table, costs_of}
 use Rattle.task_segments.specs.InPlace.{IsReadInPlace}
 use Rattle.dispatch_core.specs.Counters.{GoesUp, KeepsChains}
-
--- the segments' costs, in order
-abbrev pub costs_of : Table → List ℕ
-costs_of table = map (λ (row : Segment). row.cost) table.segments
 
 pub record IsSoundTable (table : Table) : Type 0 where
   -- there is a segment, and there are not too many

@@ -1,10 +1,9 @@
 -- What a core keeps at the start of a run.
 use Rattle.std.specs.Prelude.{◌*◌, ◌≤◌, ◌≡◌, false, None, [], length, replicate, vec_capacity}
-use Rattle.task_segments.specs.Table.{Table}
+use Rattle.task_segments.specs.Table.{Table, costs_of}
 use Rattle.dispatch_core.specs.declared.event.TheConstants.{MOST_WORKERS}
 use Rattle.dispatch_core.specs.declared.places.Places.{Places}
 use Rattle.dispatch_core.specs.UpToDate.{IsUpToDate}
-use Rattle.dispatch_core.specs.Facts.{costs_of}
 
 pub record AreFirst (table : Table) (places : Places) : Type 0 where
   pub history : places.history.items ≡ []

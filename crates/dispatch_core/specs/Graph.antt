@@ -1,9 +1,8 @@
 -- The graph of a program: its segments' costs, and the kept edges.
 use Rattle.std.specs.Prelude.{ℕ, ◌<◌, ◌≡◌, length, map}
-use Rattle.task_segments.specs.Table.{Table}
+use Rattle.task_segments.specs.Table.{Table, costs_of}
 use Rattle.depend_table.specs.Kept.{IsKeptEdge}
 use Rattle.depend_table.specs.Lists.{Lists}
-use Rattle.dispatch_core.specs.Facts.{costs_of}
 use Rattle.dispatch_core.specs.Recorded.{Recorded, predecessors_of}
 use Rattle.dispatch_core.specs.declared.graph.Graph.TheInside.{Inside}
 

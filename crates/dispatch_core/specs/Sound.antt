@@ -1,13 +1,13 @@
 -- What a core keeps beside its history.
 use Rattle.std.specs.Prelude.{ℕ, ◌+◌, ◌*◌, ◌≤◌, ◌≡◌, Bool, true, List, Option, Some, length, slice_get, count_by, is_some}
-use Rattle.task_segments.specs.Table.{Table}
+use Rattle.task_segments.specs.Table.{Table, costs_of}
 use Rattle.dispatch_core.specs.declared.event.TheConstants.{MOST_WORKERS}
 use Rattle.dispatch_core.specs.declared.event.Event.{Event}
 use Rattle.dispatch_core.specs.declared.counters.Counters.{Counters}
 use Rattle.dispatch_core.specs.Counters.{TellFinished}
 use Rattle.dispatch_core.specs.UpToDate.{IsUpToDate}
 use Rattle.dispatch_core.specs.Entry.{entry}
-use Rattle.dispatch_core.specs.Facts.{costs_of, IsSoundTable}
+use Rattle.dispatch_core.specs.Facts.{IsSoundTable}
 use Rattle.dispatch_core.specs.Run.{HasStarted, Runs, IsLegal}
 use Rattle.dispatch_core.specs.Values.{IsValue}
 

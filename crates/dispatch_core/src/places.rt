@@ -2,7 +2,7 @@
 ghost use Rattle.std.specs.Prelude.{◌≤◌, ◌++◌, ◌∷◌, [], vec_len, vec_capacity, OnOk, if◌then◌else◌};
 ghost use Rattle.std.specs.Prelude.{ℕ, Some, ◌≡◌, ◌<◌, ◌%◌, ◌^◌, length, slice_get, slice_set, sum_by, unwrap_or};
 ghost use Rattle.dispatch_core.specs.Entry.{entry};
-ghost use Rattle.dispatch_core.specs.Facts.{costs_of};
+ghost use Rattle.task_segments.specs.Table.{costs_of};
 ghost use Rattle.std.specs.Prelude.{List, IfOk, map, replicate};
 ghost use Rattle.dispatch_core.specs.First.{AreFirst};
 

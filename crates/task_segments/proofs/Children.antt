@@ -60,10 +60,10 @@ nth_child : (e : List Mark) (p k : ℕ) → k < children_of p e → (u : ℕ) ×
 nth_child [] p k l = absurd (omega arith)
 nth_child (Begins d i ∷ e) p k l = elim (cases_lt k (children_of p e)) [
   | inl older ↦ (
-      let c = nth_child e p k older in
-      let same : before_task c.0 (Begins d i ∷ e) ≡ before_task c.0 e =
-      ap (drop 1) (beginning_of-old (Begins d i) e c.0 c.1.has_begun) in
-      (c.0, child_from e (Begins d i ∷ e) p k c.0 same (omega (arith, c.1.has_begun, tasks_begins d i e)) c.1))
+      let child = nth_child e p k older in
+      let same : before_task child.0 (Begins d i ∷ e) ≡ before_task child.0 e =
+      ap (drop 1) (beginning_of-old (Begins d i) e child.0 child.1.has_begun) in
+      (child.0, child_from e (Begins d i ∷ e) p k child.0 same (omega (arith, child.1.has_begun, tasks_begins d i e)) child.1))
   | inr newest ↦ elim (cases_Bool (runs p e)) [
     | inl now ↦ (
         let one : ◌≡◌ {A = ℕ} (cond (runs p e) 1 0) 1 = rw now refl in
@@ -73,15 +73,15 @@ nth_child (Begins d i ∷ e) p k l = elim (cases_lt k (children_of p e)) [
   ]
 ]
 nth_child (Ends ∷ e) p k l =
-    let c = nth_child e p k l in (c.0, child_from e (Ends ∷ e) p k c.0 refl c.1.has_begun c.1)
+    let child = nth_child e p k l in (child.0, child_from e (Ends ∷ e) p k child.0 refl child.1.has_begun child.1)
 nth_child (Works cost ∷ e) p k l =
-    let c = nth_child e p k l in (c.0, child_from e (Works cost ∷ e) p k c.0 refl c.1.has_begun c.1)
+    let child = nth_child e p k l in (child.0, child_from e (Works cost ∷ e) p k child.0 refl child.1.has_begun child.1)
 nth_child (Waits ∷ e) p k l =
-    let c = nth_child e p k l in (c.0, child_from e (Waits ∷ e) p k c.0 refl c.1.has_begun c.1)
+    let child = nth_child e p k l in (child.0, child_from e (Waits ∷ e) p k child.0 refl child.1.has_begun child.1)
 nth_child (GroupBegins ∷ e) p k l =
-    let c = nth_child e p k l in (c.0, child_from e (GroupBegins ∷ e) p k c.0 refl c.1.has_begun c.1)
+    let child = nth_child e p k l in (child.0, child_from e (GroupBegins ∷ e) p k child.0 refl child.1.has_begun child.1)
 nth_child (GroupEnds ∷ e) p k l =
-    let c = nth_child e p k l in (c.0, child_from e (GroupEnds ∷ e) p k c.0 refl c.1.has_begun c.1)
+    let child = nth_child e p k l in (child.0, child_from e (GroupEnds ∷ e) p k child.0 refl child.1.has_begun child.1)
 
 -- a child's row has its parent and its number among its siblings
 row_of_child : (e : List Mark) → IsLast e → (p k u : ℕ) → IsChildAt e p k u

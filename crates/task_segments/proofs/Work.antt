@@ -63,15 +63,15 @@ unfolding total
 adds cost e zero = omega arith
 adds cost e (suc n) = elim (cases_eq (segments_so_far e) (n + 1)) [
   | inl x ↦ (
-      let k : is_latest n e ≡ true = grind (arith, nat_tests) in
-      let h = gains cost e n (omega arith) in
-      let c : cost_of n (Works cost ∷ e) ≡ cost + cost_of n e = rw k refl in
-      omega (arith, h, c))
+      let tested : is_latest n e ≡ true = grind (arith, nat_tests) in
+      let earlier = gains cost e n (omega arith) in
+      let cost_is : cost_of n (Works cost ∷ e) ≡ cost + cost_of n e = rw tested refl in
+      omega (arith, earlier, cost_is))
   | inr x ↦ (
-      let k : is_latest n e ≡ false = grind (arith, nat_tests) in
-      let h = adds cost e n in
-      let c : cost_of n (Works cost ∷ e) ≡ cost_of n e = rw k (omega arith) in
-      omega (arith, h, c))
+      let tested : is_latest n e ≡ false = grind (arith, nat_tests) in
+      let earlier = adds cost e n in
+      let cost_is : cost_of n (Works cost ∷ e) ≡ cost_of n e = rw tested (omega arith) in
+      omega (arith, earlier, cost_is))
 ]
 
 -- the sum is at most the work, however many numbers are counted

@@ -1,8 +1,7 @@
 use Rattle.std.proofs.Common.{ℕ, ◌≡◌, ◌<◌, ◌++◌, ◌∷◌, [], List, sym, ap, ◌∙◌, arith, take, get_or, length}
 use Rattle.std.proofs.lemmas.List.{take_more, length-map, get_or-map}
-use Rattle.task_segments.specs.Table.{no_segment}
+use Rattle.task_segments.specs.Table.{no_segment, costs_of}
 use Rattle.task_segments.specs.declared.table.Segment.{Segment}
-use Rattle.dispatch_core.specs.Facts.{costs_of}
 use Rattle.dispatch_core.proofs.places.costs.Goals as goal
 
 pub loop-segment-preserved : goal.loop-segment-preserved

@@ -1,5 +1,5 @@
 use Rattle.std.proofs.Common.{◌≡◌, take}
-use Rattle.dispatch_core.specs.Facts.{costs_of}
+use Rattle.task_segments.specs.Table.{costs_of}
 use Rattle.dispatch_core.proofs.places.costs.Given as goal
 
 abbrev pub invariant-loop-segment : goal.invariant-loop-segment
