@@ -54,8 +54,8 @@ loop-item-preserved c =
           (marked_in_turn first old new (flat_map (predecessors_for names items) (take i items)) (predecessors_for names items (get_or items i no_item)) c.loop-item.invariant.marked more place));
     }
 
-pub returns-clause-kept : goal.returns-clause-kept
-returns-clause-kept c =
+pub returns : goal.returns
+returns c =
     let names = c.args.names.now in
     let calls = c.args.calls.now in
     let items = c.args.items.now in
@@ -68,4 +68,4 @@ returns-clause-kept c =
     (λ place. subst (λ (xs : List Item). IsMarked first marks place ↔ Contains (flat_map (predecessors_for names items) xs) place) all (c.loop-item.invariant.marked place))
     (λ place marked. marked_within first marks place marked)
     (subst (λ (xs : List Bool). Lists (IsMarkedNumber first xs (tasks_of calls) (first + length xs)) kept.items) c.deref.ensures.value lists))
-    c.marked_tasks.ensures.kept
+    c.marked_tasks.ensures

@@ -29,11 +29,12 @@ loop-place-preserved c =
           (numbers_unmarked first marks (tasks_of calls) kept i w.if-marks-place.false c.loop-place.invariant)
     ]
 
-pub returns-clause-kept : goal.returns-clause-kept
-returns-clause-kept c =
+pub returns : goal.returns
+returns c =
     let first = c.args.first in
     let marks = c.args.marks.now in
     let numbers = tasks_of c.args.calls.now in
-    let ended : c.loop-place.place ≡ first + length marks = omega (arith, c.loop-place.auto.place-end, c.loop-place-test.false) in
-    subst (λ (xs : List ℕ). Lists (IsMarkedNumber first marks numbers (first + length marks)) xs) (sym c.in_ok-reserve.ensures.items)
-    (subst (λ n. Lists (IsMarkedNumber first marks numbers n) c.loop-place.kept.items) ended c.loop-place.invariant)
+    let ended : c.loop-place.place ≡ first + length marks =
+    omega (arith, c.loop-place.auto.place-end, c.loop-place-test.false) in
+    subst (λ n. Lists (IsMarkedNumber first marks numbers n) c.loop-place.kept.items) ended
+    c.loop-place.invariant
