@@ -9,6 +9,7 @@ use Rattle.std.proofs.lemmas.Bool.{cases_eq, cases_lt, both_ways}
 use Rattle.std.proofs.lemmas.Option.{same_Some, none-some, slice_get_within}
 use Rattle.std.proofs.lemmas.List.{length-map, length-replicate, get_or_past, get_or_default}
 use Rattle.std.proofs.lemmas.List.Folds.{sum_by-replicate}
+use Rattle.task_program.specs.declared.limits.TheConstants.{MOST_SEGMENTS}
 use Rattle.task_segments.specs.Table.{Table, costs_of}
 use Rattle.task_segments.specs.declared.table.Segment.{Segment}
 use Rattle.task_segments.specs.Precedence.{MustPrecede, Continues, Creation}
@@ -195,16 +196,16 @@ graph_of_program table graph sound of =
     }
 
 -- how many pairs of a predecessor and a segment a graph has
-pub few_edges : (graph : Recorded) → IsGraph graph → sum_by (λ (list : List ℕ). length list) graph.predecessors ≤ 16384 * 16384
+pub few_edges : (graph : Recorded) → IsGraph graph → sum_by (λ (list : List ℕ). length list) graph.predecessors ≤ MOST_SEGMENTS * MOST_SEGMENTS
 few_edges graph is_graph =
-    let each : All (λ (list : List ℕ). length list ≤ 16384) graph.predecessors = λ k d within.
+    let each : All (λ (list : List ℕ). length list ≤ MOST_SEGMENTS) graph.predecessors = λ k d within.
     let same : get_or graph.predecessors k d ≡ predecessors_of graph k = get_or_default graph.predecessors k d [] within in
     let few = length_below k (predecessors_of graph k) (is_graph.ascending k) (λ p member. is_graph.smaller p k member) in
     let all = is_graph.each in
     let limit = is_graph.few in
     omega (arith, few, all, limit, within, ap (λ (l : List ℕ). length l) same) in
-    let total = sum_by-le (λ (list : List ℕ). length list) 16384 graph.predecessors each in
-    let few : length graph.predecessors ≤ 16384 = let all = is_graph.each in let limit = is_graph.few in omega arith in
+    let total = sum_by-le (λ (list : List ℕ). length list) MOST_SEGMENTS graph.predecessors each in
+    let few : length graph.predecessors ≤ MOST_SEGMENTS = let all = is_graph.each in let limit = is_graph.few in omega arith in
     omega arith
 
 same_lists : (xs ys : List (List ℕ)) → length xs ≡ length ys → ((t : ℕ) → t < length xs → get_or xs t [] ≡ get_or ys t []) → xs ≡ ys

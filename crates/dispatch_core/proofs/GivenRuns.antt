@@ -1,6 +1,6 @@
 -- Every segment in order, and lists of events.
 use Rattle.std.proofs.Common.{ℕ, ◌+◌, ◌<◌, ◌≡◌, List, [], ◌∷◌, ◌++◌, Some, take, length, subst, arith, inl, inr}
-use Rattle.std.specs.Prelude.{slice_get, OnOk, IfOk, Result, Ok, Err}
+use Rattle.std.specs.Prelude.{slice_get, OnOk, Result, Ok, Err}
 use Rattle.std.proofs.lemmas.Bool.{cases_lt}
 use Rattle.std.proofs.lemmas.List.Elements.{Contains-push}
 use Rattle.task_segments.specs.Table.{Table}

@@ -1,5 +1,5 @@
 -- The lists of what joins a segment after a wait or the end of a group.
-use Rattle.std.proofs.Common.{ℕ, ◌<◌, ◌≤◌, ◌≡◌, List, [], ◌∷◌, ◌++◌, sym, subst, arith, inl, inr}
+use Rattle.std.proofs.Common.{ℕ, ◌≤◌, ◌≡◌, List, [], ◌∷◌, ◌++◌, sym, subst, arith, inl, inr}
 use Rattle.task_segments.specs.Table.{Table, segment}
 use Rattle.task_segments.specs.InPlace.{IsReadInPlace}
 use Rattle.task_segments.specs.declared.table.Closing.TheVariants.{Creates}

@@ -1,5 +1,6 @@
 -- What holds of every table, as the steps of a run ask for it.
-use Rattle.std.specs.Prelude.{ℕ, ◌<◌, ◌≤◌, ◌^◌, length, sum}
+use Rattle.std.specs.Prelude.{ℕ, ◌+◌, ◌<◌, ◌≤◌, length, sum}
+use Rattle.task_program.specs.declared.limits.TheConstants.{MOST_SEGMENTS, MOST_TASKS, MOST_WORK}
 use Rattle.task_segments.specs.Table.{Table, costs_of}
 use Rattle.task_segments.specs.InPlace.{IsReadInPlace}
 use Rattle.dispatch_core.specs.Counters.{GoesUp, KeepsChains}
@@ -7,9 +8,9 @@ use Rattle.dispatch_core.specs.Counters.{GoesUp, KeepsChains}
 pub record IsSoundTable (table : Table) : Type 0 where
   -- there is a segment, and there are not too many
   pub some_segment : 0 < length table.segments
-  pub few_segments : length table.segments ≤ 16384
-  pub few_tasks : length table.tasks ≤ 4097
-  pub little_work : sum (costs_of table) ≤ 10 ^ 15
+  pub few_segments : length table.segments ≤ MOST_SEGMENTS
+  pub few_tasks : length table.tasks ≤ MOST_TASKS + 1
+  pub little_work : sum (costs_of table) ≤ MOST_WORK
   pub goes_up : GoesUp table
   pub chains : KeepsChains table
   pub in_place : IsReadInPlace table

@@ -1,6 +1,7 @@
 -- What opens at the finish of a segment, and how it is entered.
 use Rattle.std.specs.Prelude.{ℕ, ◌+◌, ◌<◌, ◌≤◌, ◌≡◌, ◌≢◌, ◌↔◌, ◌++◌, ◌∷◌, [], List, Option, Some, None, Vec, length, slice_get, slice_set, Contains, AllPairs, vec_len, vec_capacity}
 use Rattle.std.specs.declared.alloc.Global.{Global}
+use Rattle.task_program.specs.declared.limits.TheConstants.{MOST_SEGMENTS}
 use Rattle.task_segments.specs.Table.{Table}
 use Rattle.task_segments.specs.Precedence.{Continues, Creation}
 use Rattle.depend_table.specs.Kept.{IsKeptEdge}
@@ -43,7 +44,7 @@ pub record IsGrown (table : Table) (values : List (Option ℕ)) (s : ℕ) (count
 pub record CanOpen (values : List (Option ℕ)) (counters : Counters) (ready : Vec ℕ Global) (opening : Opening) : Type 0 where
   pub known : opening.segment < length counters.preds.items
   pub counted : opening.segment < length counters.counts.items
-  pub few : length opening.preds.items ≤ 16384
+  pub few : length opening.preds.items ≤ MOST_SEGMENTS
   pub once : AllPairs (λ x y. x ≢ y) opening.preds.items
   pub room : (p : ℕ) → Contains opening.preds.items p → entry values p ≡ None → HasRoom counters.successors.items 1 p
   pub ready_room : vec_len ready < vec_capacity ready

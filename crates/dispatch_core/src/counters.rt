@@ -1,5 +1,6 @@
 //! How far each segment is from being ready: its kept predecessors, once it is open, and how many of them are not finished.
 ghost use Rattle.std.specs.Prelude.{ℕ, Option, Some, None, ◌≡◌, ◌<◌, ◌≤◌, ◌+◌, ◌↔◌, ◌++◌, ◌∷◌, [], List, length, replicate, slice_get, slice_set, vec_len, vec_capacity, Contains, AllPairs, ◌≢◌, IsTrue, IfOk, OnOk, OnErr, ◌==◌, if◌then◌else◌};
+ghost use Rattle.task_program.specs.declared.limits.TheConstants.{MOST_SEGMENTS};
 ghost use Rattle.task_segments.specs.Precedence.{IsSegment};
 ghost use Rattle.task_segments.specs.Table.{Table, segment};
 ghost use Rattle.task_segments.specs.InPlace.{IsOf};
@@ -218,7 +219,7 @@ fn lower(counts: &mut Vec<u32>, segments: &[u32])
 
 /// How many of these segments have no value yet.
 fn count_unfinished(values: &[Option<u64>], segments: &[u32]) -> u32
-    requires { length segments.now ≤ 16384 }
+    requires { length segments.now ≤ MOST_SEGMENTS }
     ensures { result ≡ unfinished values.now segments.now }
 {
     let mut count = 0u32;

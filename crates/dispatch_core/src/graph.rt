@@ -1,5 +1,6 @@
 //! Recorded graphs: segments with costs, each with its predecessors.
 ghost use Rattle.std.specs.Prelude.{ℕ, List, ◌≡◌, ◌<◌, ◌≤◌, ◌^◌, length, sum, sum_by, slice_index_or, map};
+ghost use Rattle.task_program.specs.declared.limits.TheConstants.{MOST_WORK};
 ghost use Rattle.dispatch_core.specs.Recorded.{Recorded, IsGraph, predecessors_of};
 
 use std::marker::Model;
@@ -76,7 +77,7 @@ impl Graph {
     /// Puts other costs, one for each segment, in the place of these. The predecessors stay.
     pub fn set_costs(&mut self, costs: &[u64])
         requires each { length costs.now ≡ length self.old.costs }
-        requires little { sum costs.now ≤ 10 ^ 15 }
+        requires little { sum costs.now ≤ MOST_WORK }
         ensures { self.new ≡ record self.old { costs = costs.now } }
     {
         copy_costs(&mut self.costs, costs);

@@ -1,13 +1,12 @@
 -- The first broken pair of each column, and of all.
 use Rattle.std.proofs.Common.{Bool, true, false, if◌then◌else◌, ◌≡◌, ◌<◌, ◌≤◌, ◌+◌, ◌/◌, ◌%◌, ℕ, List, length, Option, Some, None, MatchOption, arith, inl, inr, subst, sym, get_or, zero, suc, [], ◌∷◌, refl, ap, ◌∙◌}
 use Rattle.std.proofs.Math.Nat.{mod-add-div', mod-lt}
-use Rattle.std.proofs.lemmas.Bool.{cases_lt, cases_eq, ltb-true, ltb-false}
-use Rattle.std.proofs.Math.Dec.{ltb}
+use Rattle.std.proofs.lemmas.Bool.{cases_lt, cases_eq}
 use Rattle.std.proofs.lemmas.Option.{slice_get-get_or}
 use Rattle.std.specs.List.{AllZip, range_with_len}
 use Rattle.std.specs.Prelude.{slice_get}
 use Rattle.task_segments.specs.Table.{Table}
-use Rattle.span_cert.specs.Rows.{AreColumns, InColumn, IsColumn, IsEarliest, IsRow, earlier}
+use Rattle.span_cert.specs.Rows.{AreColumns, InColumn, IsColumn, IsEarliest, IsRow}
 use Rattle.span_cert.specs.Tests.{FirstBroken, IsBroken, IsKept}
 
 -- ---- one column

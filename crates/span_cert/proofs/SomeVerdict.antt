@@ -29,6 +29,7 @@ use Rattle.span_cert.specs.declared.claim.Expected.{Expected}
 use Rattle.span_cert.specs.declared.claim.Expected.TheVariants as expected
 use Rattle.span_cert.specs.declared.fault.CheckFault.{CheckFault}
 use Rattle.span_cert.specs.declared.fault.CheckFault.TheVariants as fault
+use Rattle.span_cert.specs.declared.claim.TheConstants.{MOST_BYTES}
 use Rattle.dispatch_core.proofs.DecidedEdges.{decide_precedes}
 use Rattle.dispatch_core.proofs.Decisions.{IsDecided, alike, decide_below, decide_both, decide_each, decide_less, decide_same, find_first}
 use Rattle.dispatch_core.proofs.SomeGraph.{IsWhole, tree_fits, whole_table}
@@ -58,7 +59,7 @@ nothing_read : (p : Progress) → None ≡ Some p → ⊥
 nothing_read p e = cc
 
 form_of : (text : List ℕ) (read : Option Progress) → all_steps (step_by word_says step) begin (words_of text) ≡ read
-    → length text ≤ 4194304 → FormOrNone text
+    → length text ≤ MOST_BYTES → FormOrNone text
 form_of text None is fits = inr (λ claim form. nothing_read _ (sym is ∙ spelled_reads text claim form))
 form_of text (Some p) is fits = elim (decide_link p.next) [
   | inr other ↦ inr (λ claim form. other (ap next_in (sym is ∙ spelled_reads text claim form)))
@@ -72,7 +73,7 @@ form_of text (Some p) is fits = elim (decide_link p.next) [
 ]
 
 form_or_none : (text : List ℕ) → FormOrNone text
-form_or_none text = elim (cases_lt 4194304 (length text)) [
+form_or_none text = elim (cases_lt MOST_BYTES (length text)) [
   | inl longer ↦ inr (λ claim form. let fits = form.fits in absurd (omega (arith, longer, fits)))
   | inr fits ↦ form_of text (all_steps (step_by word_says step) begin (words_of text)) refl fits
 ]

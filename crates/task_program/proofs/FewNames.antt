@@ -11,7 +11,7 @@ use Rattle.task_program.specs.declared.limits.TheConstants.{MOST_ITEMS}
 use Rattle.task_program.specs.Names.{number_of, with_name}
 use Rattle.task_program.specs.Expansion.{Piece}
 use Rattle.task_program.specs.Expansion.Piece.{TurnBegins, TaskComes, ItemComes, TaskOpens, GroupComes, GroupOpens, BlockEnds, WorkIs, WaitIs}
-use Rattle.task_program.specs.SecondPass.{Expanded, fault_of, after_piece, take_pieces, nothing_expanded}
+use Rattle.task_program.specs.SecondPass.{Expanded, fault_of, after_piece, take_pieces}
 use Rattle.task_program.specs.FewNames.{HasFewNames}
 use Rattle.task_program.proofs.Allowed.{below_piece, weighs}
 use Rattle.task_program.proofs.Keeping.{bool_cases, with_one}
