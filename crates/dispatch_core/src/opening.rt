@@ -4,7 +4,7 @@ ghost use Rattle.task_segments.specs.Table.{Table, segment, task};
 ghost use Rattle.task_segments.specs.Precedence.{IsSegment, IsTask, Continues, Creation};
 ghost use Rattle.task_segments.specs.InPlace.{IsOf};
 ghost use Rattle.depend_table.specs.Siblings.{Sibling};
-ghost use Rattle.depend_table.specs.Kept.{KeptDependence, children_below};
+ghost use Rattle.depend_table.specs.Kept.{children_below};
 ghost use Rattle.dispatch_core.specs.Entry.{entry};
 ghost use Rattle.dispatch_core.specs.Places.{AreKeptSiblings};
 ghost use Rattle.dispatch_core.specs.Counters.{HasValue, AreSiblings};
@@ -13,7 +13,7 @@ ghost use Rattle.dispatch_core.specs.Rooms.{HasRoom, IsRoomier};
 
 use crate::continuing::next_predecessors;
 use crate::listed::make_room;
-use crate::record::{first_predecessors, to_last_segments};
+use crate::record::first_predecessors;
 use depend_table::laws::same_chains;
 use depend_table::table::SiblingTable;
 use std::alloc::Global;
@@ -93,40 +93,17 @@ pub fn first_opening(
         Closing::Creates(child) => child,
         _ => return Ok(None),
     };
-    make_sibling_room(table, siblings.as_slice(), successors, values, child)?;
-    let kept = generate(table, siblings, child)?;
-    Ok(Some(Opening {
+    let kept = kept_siblings(table, siblings.as_slice(), child)?;
+    let opening = Opening {
         segment: table.first(child),
         preds: first_predecessors(table, child, kept),
-    }))
+    };
+    make_room(successors, values, opening.preds.as_slice())?;
+    add_sibling(table, siblings, child)?;
+    Ok(Some(opening))
 }
 
-/// Makes room in the successors of the last segments of a child's kept siblings, as far as these
-/// are not finished.
-fn make_sibling_room(
-    table: &SegTable,
-    siblings: &[SiblingTable],
-    successors: &mut Vec<Vec<u32>>,
-    values: &[Option<u64>],
-    child: u32,
-) -> Result<(), AllocFault>
-    requires known { IsTask table.now child }
-    requires later { 0 < child }
-    requires so_far { (parent : ℕ) → (task table.now child).parent ≡ Some parent
-        → slice_get siblings.now parent ≡ Some (children_below table.now parent child) }
-    requires each { length successors.old.items ≡ length table.now.segments }
-    ensures roomier { IsRoomier successors.old.items successors.new.items }
-    ensures room { OnOk result ((place : ℕ)
-        → KeptDependence table.now place (task table.now child).first
-        → entry values.now place ≡ None → HasRoom successors.new.items 2 place) }
-{
-    reads_in_place(table);
-    let mut last = kept_siblings(table, siblings, child)?;
-    to_last_segments(table, &mut last);
-    make_room(successors, values, last.as_slice())
-}
-
-/// The kept siblings of a child.
+/// The kept siblings of a child, with room for one more.
 fn kept_siblings(
     table: &SegTable,
     siblings: &[SiblingTable],
@@ -136,35 +113,42 @@ fn kept_siblings(
     requires later { 0 < child }
     requires so_far { (parent : ℕ) → (task table.now child).parent ≡ Some parent
         → slice_get siblings.now parent ≡ Some (children_below table.now parent child) }
-    ensures { IfOk result (λ kept. AreKeptSiblings table.now child kept.items) }
-{
-    reads_in_place(table);
-    match table.parent(child) {
-        Some(parent) => siblings[parent as usize].kept_siblings(table.items(child)),
-        None => unreachable!(),
-    }
-}
-
-/// The kept siblings of a child, which is added to its parent's children.
-fn generate(
-    table: &SegTable,
-    siblings: &mut Vec<SiblingTable>,
-    child: u32,
-) -> Result<Vec<u32>, AllocFault>
-    requires known { IsTask table.now child }
-    requires later { 0 < child }
-    requires each { length siblings.old.items ≡ length table.now.tasks }
-    requires so_far { (parent : ℕ) → (task table.now child).parent ≡ Some parent → slice_get siblings.old.items parent ≡ Some (children_below table.now parent child) }
     ensures kept { IfOk result (λ kept. AreKeptSiblings table.now child kept.items) }
     ensures room { IfOk result (λ kept. vec_len kept < vec_capacity kept) }
-    ensures refused { OnErr result (siblings.new.items ≡ siblings.old.items) }
-    ensures added { OnOk result ((parent : ℕ) → (task table.now child).parent ≡ Some parent → siblings.new.items ≡ slice_set siblings.old.items parent (record { task = child; items = (task table.now child).items } ∷ children_below table.now parent child)) }
 {
     reads_in_place(table);
     match table.parent(child) {
         Some(parent) => {
-            let kept = siblings[parent as usize].generate(child, table.items(child))?;
+            let mut kept = siblings[parent as usize].kept_siblings(table.items(child))?;
+            kept.reserve(1)?;
             Ok(kept)
+        }
+        None => unreachable!(),
+    }
+}
+
+/// Adds a child to its parent's children.
+fn add_sibling(
+    table: &SegTable,
+    siblings: &mut Vec<SiblingTable>,
+    child: u32,
+) -> Result<(), AllocFault>
+    requires known { IsTask table.now child }
+    requires later { 0 < child }
+    requires each { length siblings.old.items ≡ length table.now.tasks }
+    requires so_far { (parent : ℕ) → (task table.now child).parent ≡ Some parent
+        → slice_get siblings.old.items parent ≡ Some (children_below table.now parent child) }
+    ensures refused { OnErr result (siblings.new.items ≡ siblings.old.items) }
+    ensures added { OnOk result ((parent : ℕ) → (task table.now child).parent ≡ Some parent
+        → siblings.new.items ≡ slice_set siblings.old.items parent
+        (record { task = child; items = (task table.now child).items }
+        ∷ children_below table.now parent child)) }
+{
+    reads_in_place(table);
+    match table.parent(child) {
+        Some(parent) => {
+            siblings[parent as usize].add(child, table.items(child))?;
+            Ok(())
         }
         None => unreachable!(),
     }

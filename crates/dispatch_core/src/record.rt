@@ -27,7 +27,7 @@ pub fn first_predecessors(table: &SegTable, child: u32, kept: Vec<u32>) -> Vec<u
 }
 
 /// Puts for each task its last segment.
-pub fn to_last_segments(table: &SegTable, tasks: &mut Vec<u32>)
+fn to_last_segments(table: &SegTable, tasks: &mut Vec<u32>)
     requires { (u : ℕ) → Contains tasks.old.items u → IsTask table.now u }
     ensures items { tasks.new.items ≡ map (last_segment table.now) tasks.old.items }
     ensures capacity { vec_capacity tasks.old ≤ vec_capacity tasks.new }

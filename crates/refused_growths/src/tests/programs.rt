@@ -70,6 +70,21 @@ fn on(kind: DependKind, name: u32) -> Item {
     Item { kind, name }
 }
 
+/// The siblings that a new one is kept after, before it is one.
+fn kept_siblings(
+    supply: &mut Supply,
+    table: &SiblingTable,
+    items: &[Item],
+) -> Result<Vec<u32>, Fail> {
+    match table.kept_siblings(items) {
+        Ok(kept) => Ok(kept),
+        Err(_) => {
+            supply.refused();
+            Ok(table.kept_siblings(items)?)
+        }
+    }
+}
+
 /// A sibling more, and the siblings that it is kept after.
 fn generated(
     rt: &impl Abort,
@@ -82,6 +97,8 @@ fn generated(
     requires { All (λ sibling. sibling.task < task) table.old }
     ensures { All (λ sibling. sibling.task ≤ task) table.new }
 {
+    let siblings = kept_siblings(supply, table, items)?;
+    assert_eq!(rt; siblings.as_slice(), wanted, "before task {task}");
     let kept = match table.generate(task, items) {
         Ok(kept) => kept,
         Err(_) => {

@@ -1,11 +1,11 @@
 use Rattle.std.proofs.Common.{ℕ, ◌≡◌, List, Some, sym, ap, subst, arith, ◌∙◌, inl, inr}
-use Rattle.std.specs.Prelude.{slice_set, slice_get}
+use Rattle.std.specs.Prelude.{Contains, slice_set, slice_get}
 use Rattle.task_segments.specs.Table.{Table, task}
 use Rattle.depend_table.specs.Siblings.{Sibling}
 use Rattle.depend_table.specs.Kept.{IsKeptEdge, children_below}
 use Rattle.depend_table.specs.Lists.{Lists}
 use Rattle.dispatch_core.specs.Counters.{AreSiblings}
-use Rattle.dispatch_core.proofs.Edges.{first_cases, created_by}
+use Rattle.dispatch_core.proofs.Edges.{first_cases, created_by, dependence_from}
 use Rattle.dispatch_core.proofs.Rooms.{roomier_same}
 use Rattle.dispatch_core.proofs.SiblingSteps.{next_child, above_root, created_one, siblings_still, siblings_so_far, siblings_more}
 use Rattle.dispatch_core.proofs.opening.first_opening.Goals as goal
@@ -29,21 +29,21 @@ returns-in_default c =
       room = tt;
     }
 
-pub make_sibling_room-requires-clause-known : goal.make_sibling_room-requires-clause-known
-make_sibling_room-requires-clause-known c =
+pub kept_siblings-requires-clause-known : goal.kept_siblings-requires-clause-known
+kept_siblings-requires-clause-known c =
     let closing = sym c.closing.ensures ∙ c.in-Creates.is in
     (c.reads_in_place.ensures.creates c.args.finished c.in-Creates.child c.requires.known closing).0
 
-pub make_sibling_room-requires-clause-later : goal.make_sibling_room-requires-clause-later
-make_sibling_room-requires-clause-later c =
+pub kept_siblings-requires-clause-later : goal.kept_siblings-requires-clause-later
+kept_siblings-requires-clause-later c =
     let child : ℕ = c.in-Creates.child in
     let facts = c.reads_in_place.ensures in
     let closing = sym c.closing.ensures ∙ c.in-Creates.is in
     let made = facts.creates c.args.finished child c.requires.known closing in
     above_root c.args.table.now child c.args.finished facts made.1
 
-pub make_sibling_room-requires-clause-so_far : goal.make_sibling_room-requires-clause-so_far
-make_sibling_room-requires-clause-so_far c parent of_parent =
+pub kept_siblings-requires-clause-so_far : goal.kept_siblings-requires-clause-so_far
+kept_siblings-requires-clause-so_far c parent of_parent =
     let table : Table = c.args.table.now in
     let child : ℕ = c.in-Creates.child in
     let values = c.requires.values in
@@ -55,16 +55,16 @@ make_sibling_room-requires-clause-so_far c parent of_parent =
     (siblings_so_far table c.args.values.now c.args.finished child parent c.args.siblings.now.items next
     c.requires.so_far)
 
-pub generate-requires-clause-later : goal.generate-requires-clause-later
-generate-requires-clause-later c =
+pub add_sibling-requires-clause-later : goal.add_sibling-requires-clause-later
+add_sibling-requires-clause-later c =
     let child : ℕ = c.in-Creates.child in
     let facts = c.reads_in_place.ensures in
     let closing = sym c.closing.ensures ∙ c.in-Creates.is in
     let made = facts.creates c.args.finished child c.requires.known closing in
     above_root c.args.table.now child c.args.finished facts made.1
 
-pub generate-requires-clause-so_far : goal.generate-requires-clause-so_far
-generate-requires-clause-so_far c parent of_parent =
+pub add_sibling-requires-clause-so_far : goal.add_sibling-requires-clause-so_far
+add_sibling-requires-clause-so_far c parent of_parent =
     let table : Table = c.args.table.now in
     let child : ℕ = c.in-Creates.child in
     let values = c.requires.values in
@@ -88,7 +88,7 @@ returns-clause-entered c value =
     closing below.is_parent values c.requires.unfinished c.requires.earlier in
     subst (λ (siblings : List (List Sibling)).
     AreSiblings table (slice_set c.args.values.now finished (Some value)) siblings)
-    (sym (c.in_ok-kept.ensures.added below.parent below.is_parent))
+    (sym (c.in_ok-add_sibling.ensures.added below.parent below.is_parent))
     (siblings_more table c.args.values.now finished value child below.parent c.args.siblings.now.items
     next c.requires.so_far)
 
@@ -110,15 +110,30 @@ returns-clause-first c =
           (sym c.first.ensures) c.first_predecessors.ensures;
     }
 
-pub returns-clause-room : goal.returns-clause-room
-returns-clause-room c p has apart none =
+pub make_room-requires : goal.make_room-requires
+make_room-requires c place has =
     let table : Table = c.args.table.now in
     let child : ℕ = c.in-Creates.child in
     let finished : ℕ = c.args.finished in
     let facts = c.reads_in_place.ensures in
     let closing = sym c.closing.ensures ∙ c.in-Creates.is in
     let made = facts.creates finished child c.requires.known closing in
-    elim (first_cases table p child facts made.0 ((c.first_predecessors.ensures.each p).0 has)) [
-      | inl creation ↦ absurd (apart (created_by table child p finished facts made.0 made.1 creation))
-      | inr depends ↦ c.in_ok-make_sibling_room.ensures.room p depends none
+    let each = c.requires.each in
+    let known = c.requires.known in
+    let there = subst (λ (l : List ℕ). Contains l place) c.as_slice-2.ensures.value has in
+    elim (first_cases table place child facts made.0 ((c.first_predecessors.ensures.each place).0 there)) [
+      | inl creation ↦
+          let same = created_by table child place finished facts made.0 made.1 creation in
+          omega (arith, same, known, each)
+      | inr depends ↦
+          let begins = dependence_from table place (task table child).first facts depends in
+          omega (arith, begins, each)
     ]
+
+pub returns-in_err-kept-clause-roomier : goal.returns-in_err-kept-clause-roomier
+returns-in_err-kept-clause-roomier c = roomier_same c.args.successors.now.items
+
+pub returns-clause-room : goal.returns-clause-room
+returns-clause-room c p has apart none =
+    c.in_ok-make_room.ensures.room p
+    (subst (λ (l : List ℕ). Contains l p) (sym c.as_slice-2.ensures.value) has) none

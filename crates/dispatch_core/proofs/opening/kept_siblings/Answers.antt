@@ -1,17 +1,15 @@
-use Rattle.std.proofs.Common.{ℕ, ◌≡◌, List, Some, sym, arith, ◌∙◌}
+use Rattle.std.proofs.Common.{ℕ, ◌≡◌, List, Some, sym, subst, arith, ◌∙◌}
 use Rattle.std.proofs.lemmas.Option.{none-some, slice_get_within}
-use Rattle.std.proofs.lemmas.Result.{IfOk-weaker}
 use Rattle.task_segments.specs.Table.{Table, task}
 use Rattle.task_program.specs.declared.statement.Item.{Item}
 use Rattle.depend_table.specs.Kept.{children_below}
-use Rattle.depend_table.specs.Siblings.{Sibling, IsKept}
-use Rattle.depend_table.specs.Lists.{Lists}
+use Rattle.depend_table.specs.Siblings.{Sibling}
 use Rattle.dispatch_core.specs.Places.{AreKeptSiblings}
 use Rattle.dispatch_core.proofs.SiblingSteps.{stands_at, are_kept}
 use Rattle.dispatch_core.proofs.opening.kept_siblings.Goals as goal
 
-pub returns : goal.returns
-returns c =
+pub returns-clause-kept : goal.returns-clause-kept
+returns-clause-kept c =
     let table : Table = c.args.table.now in
     let child : ℕ = c.args.child in
     let parent : ℕ = c.in-Some.parent in
@@ -20,11 +18,9 @@ returns c =
     let is_parent : (task table child).parent ≡ Some parent = sym c.parent.ensures ∙ c.in-Some.is in
     let children = stands_at c.args.siblings.now parent siblings (children_below table parent child)
     c.index-siblings-parent.is (c.requires.so_far parent is_parent) in
-    IfOk-weaker c.kept_siblings.result (λ kept. Lists (IsKept siblings items) kept.items)
-    (λ kept. AreKeptSiblings table child kept.items)
-    (λ kept lists. are_kept table child parent siblings items kept.items c.requires.known is_parent
-    children c.items.ensures lists)
-    c.kept_siblings.ensures
+    subst (λ (l : List ℕ). AreKeptSiblings table child l) (sym c.reserve.ensures.items)
+    (are_kept table child parent siblings items c.in_ok-kept-in-Some.kept.items c.requires.known is_parent
+    children c.items.ensures c.in_ok-kept-in-Some.ensures)
 
 pub bounds-siblings-parent : goal.bounds-siblings-parent
 bounds-siblings-parent c =
