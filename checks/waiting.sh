@@ -1,8 +1,9 @@
 #!/usr/bin/env bash
 # Explores every interleaving of the waiting of 2 and of 3 workers, in the model checks/waiting/waiting.pml. With 2
-# workers it has up to 6 segments, with 3 up to 4. Nobody may sleep for ever, nor after the end, nor be passed over while
-# a token lies in a lane and all others are in their kernels; and every run ends. Each wrong form of the model must fail. It needs
-# spin and a C compiler, three minutes of processor time and 2 GB of memory.
+# workers it has up to 6 segments; with 3 up to 4 where no lane is passed over, and up to 3 where lanes are. Nobody may
+# sleep for ever, nor after the end, nor be passed over while a token lies in a lane and all others are in their kernels;
+# and every run ends. Each wrong form of the model must fail. It needs spin and a C compiler, some five minutes of
+# processor time and 2 GB of memory.
 set -euo pipefail
 cd "$(dirname "$0")/waiting"
 for need in spin cc; do
@@ -39,7 +40,7 @@ must_fail() {
     if [ "$errors" = 0 ]; then echo "FAILED: a wrong form is not found out"; exit 1; fi
 }
 
-for wrong in FLAG_FIRST COUNT_LAST SILENT_END ASLEEP_FIRST; do
+for wrong in FLAG_FIRST COUNT_LAST SILENT_END ASLEEP_FIRST PASSED_AS_EMPTY; do
     must_fail WORKERS=2 SEGMENTS=3 FAULTS=0 "$wrong"
     must_fail WORKERS=3 SEGMENTS=3 FAULTS=0 "$wrong"
 done
@@ -49,9 +50,15 @@ done
 must_hold cycles WORKERS=2 SEGMENTS=5 FAULTS=2
 must_hold states WORKERS=2 SEGMENTS=4 FAULTS=2 SPURIOUS
 for segments in 1 2 3; do
+    must_hold states WORKERS=3 SEGMENTS=$segments FAULTS=1 PATIENCE=0
+done
+must_hold states WORKERS=3 SEGMENTS=4 FAULTS=0 PATIENCE=0
+must_hold cycles WORKERS=3 SEGMENTS=3 FAULTS=0 PATIENCE=0
+must_hold states WORKERS=3 SEGMENTS=3 FAULTS=0 PATIENCE=0 SPURIOUS
+for segments in 1 2; do
     must_hold states WORKERS=3 SEGMENTS=$segments FAULTS=1
 done
-must_hold states WORKERS=3 SEGMENTS=4 FAULTS=0
-must_hold cycles WORKERS=3 SEGMENTS=3 FAULTS=0
-must_hold states WORKERS=3 SEGMENTS=3 FAULTS=0 SPURIOUS
+must_hold states WORKERS=3 SEGMENTS=3 FAULTS=0
+must_hold cycles WORKERS=3 SEGMENTS=2 FAULTS=0
+must_hold states WORKERS=3 SEGMENTS=2 FAULTS=0 SPURIOUS
 echo "all interleavings explored: nobody sleeps for ever, and each wrong form is refused"

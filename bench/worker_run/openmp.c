@@ -1,5 +1,5 @@
 /* The same tasks under the compiler's OpenMP: `openmp SHAPE TURNS THREADS TIMES`. The shapes are those of texts.py, and a
-   task of cost above 0 makes so many turns. Prints the best and the mean time in microseconds; the first region, which
+   task of cost above 0 makes so many turns. Prints the best and the median time in microseconds; the first region, which
    starts the threads, is not counted. */
 #include <omp.h>
 #include <stdio.h>
@@ -55,6 +55,11 @@ static void grid(void) {
     }
 }
 
+static int compare(const void *left, const void *right) {
+    double one = *(const double *)left, other = *(const double *)right;
+    return (one > other) - (one < other);
+}
+
 static void make(const char *shape) {
     if (!strcmp(shape, "independent")) independent();
     if (!strcmp(shape, "chain")) chain();
@@ -67,17 +72,17 @@ int main(int count, char **words) {
     turns = atol(words[2]);
     int threads = atoi(words[3]);
     int times = atoi(words[4]);
-    double best = 1e9, total = 0;
+    double *all = malloc(sizeof(double) * (times > 0 ? times : 1));
     for (int run = 0; run <= times; run++) {
         double began = omp_get_wtime();
 #pragma omp parallel num_threads(threads)
 #pragma omp single
         make(words[1]);
         double taken = omp_get_wtime() - began;
-        if (run == 0) continue;
-        if (taken < best) best = taken;
-        total += taken;
+        if (run > 0) all[run - 1] = taken;
     }
-    printf("best %.0f us, mean %.0f us\n", best * 1e6, total * 1e6 / times);
+    qsort(all, times, sizeof(double), compare);
+    if (times > 0) printf("best %.0f us, median %.0f us\n", all[0] * 1e6, all[times / 2] * 1e6);
+    free(all);
     return 0;
 }

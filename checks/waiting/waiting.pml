@@ -12,6 +12,7 @@
  *   COUNT_LAST       a worker reads the count of news after it has looked at the lanes
  *   SILENT_END       the end sets the flag and wakes, and adds no news
  *   ASLEEP_FIRST     who has put tokens asks whether anyone sleeps before it adds the news
+ *   PASSED_AS_EMPTY  a worker takes a lane that it passes over for an empty one
  */
 #ifndef WORKERS
 #define WORKERS 2
@@ -21,6 +22,10 @@
 #endif
 #ifndef FAULTS
 #define FAULTS 1
+#endif
+/* How many looks in a row may pass over lanes: 1 is as good as more, since which lanes a look passes over is open. */
+#ifndef PATIENCE
+#define PATIENCE 1
 #endif
 
 /* Signal */
@@ -100,6 +105,7 @@ proctype worker(byte me) {
     byte seen;      /* the count of news, as read */
     byte lane;      /* the lane that is looked at */
     byte at;        /* its front, as read */
+    byte passed;    /* how many looks in a row have passed over lanes */
     byte tokens;    /* what a finish has made ready */
     bool unsure;
     bool someone;
@@ -125,22 +131,35 @@ again:  /* Crew::work */
     :: else -> front[me] = at
     fi;
 
-steal:  /* Station::steal: LaneThief::try_steal reads the front, then the back, and then moves the front if it is as read. */
+steal:  /* Station::steal: a patient worker may pass over a lane. LaneThief::try_steal reads the front, then the back, and then
+         * moves the front if it is as read. */
     lane = (me + 1) % WORKERS;
     do
     :: lane == me -> break
     :: else ->
-        at = front[lane];
         if
-        :: back[lane] <= at
-        :: else ->
+        :: passed < PATIENCE ->
+#ifdef PASSED_AS_EMPTY
+            skip
+#else
+            unsure = true
+#endif
+        :: at = front[lane];
             if
-            :: d_step { front[lane] == at -> front[lane] = at + 1 }; goto start
-            :: d_step { front[lane] != at -> unsure = true }
+            :: back[lane] <= at
+            :: else ->
+                if
+                :: d_step { front[lane] == at -> front[lane] = at + 1 }; goto start
+                :: d_step { front[lane] != at -> unsure = true }
+                fi
             fi
         fi;
         lane = (lane + 1) % WORKERS
     od;
+    if
+    :: d_step { unsure && passed < PATIENCE -> passed++; at = 0 }
+    :: d_step { !(unsure && passed < PATIENCE) -> passed = 0; at = 0 }
+    fi;
     if :: unsure -> goto again :: else fi;          /* Found::Unsure */
 
 #ifdef COUNT_LAST
@@ -165,7 +184,7 @@ steal:  /* Station::steal: LaneThief::try_steal reads the front, then the back, 
     goto again;
 
 start:  /* Crew::run_segment: Dispatcher::start, then the kernel */
-    atomic { !locked -> computes[me] = true; at = 0; lane = 0 };
+    atomic { !locked -> computes[me] = true; at = 0; lane = 0; passed = 0 };
     if
     :: d_step { computes[me] = false }
     :: d_step { faults > 0 -> faults--; computes[me] = false };
