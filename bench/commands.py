@@ -186,7 +186,7 @@ def changes():
 
 
 STAGES = {
-    "reading": ("task_program",),
+    "reading": ("program_text", "loop_text", "task_program"),
     "cutting": ("task_segments",),
     "kept edges": ("depend_table", "dispatch_core"),
     "analysis": ("span_analysis", "spanprof_command::graphs"),

@@ -3,6 +3,7 @@ use Rattle.std.proofs.Common.{◌≡◌, ℕ, ◌+◌, ◌-◌, ◌<◌, ◌≤�
 use Rattle.std.proofs.lemmas.Bool.{cases_lt, lt-ltb, le-ltb}
 use Rattle.std.proofs.lemmas.List.{get_or_default, get_or_past, get_or-replicate, length-replicate}
 use Rattle.std.proofs.lemmas.List.Sums.{sum_by-cons, get_or-le-sum_by, count_by-le-length}
+use Rattle.task_program.specs.declared.limits.TheConstants.{MOST_WORK}
 use Rattle.task_segments.specs.Schedule.{at, end_of}
 use Rattle.greedy_sim.specs.Greedy.{running, ReadyBy, IsGreedyRun}
 use Rattle.task_segments.specs.StartsAndTails.{IsAscending}
@@ -186,7 +187,7 @@ go_on {costs} {R} {p} {m} {cursor} {next} {starts} {threads} {busy} asc state ea
 -- the next end is known
 pub next_early : {costs : List ℕ} {R : ℕ → ℕ → Type 0} {p m i cursor next : ℕ} {starts : List ℕ}
     {threads : List (Option ℕ)} {busy : List ℕ}
-    → IsSimulated costs R p m i cursor starts threads busy → sum costs ≤ 1000000000000000
+    → IsSimulated costs R p m i cursor starts threads busy → sum costs ≤ MOST_WORK
     → NextEnd busy m next → next < never
 next_early {costs} {R} {p} {m} {i} {cursor} {next} {starts} {threads} {busy} state small ahead =
     let here : get_or busy ahead.found.0 0 ≡ next = get_or_default busy ahead.found.0 0 next ahead.found.1
@@ -349,7 +350,7 @@ has_begun state s h other = elim (state.started s h) [
 -- a sum of a moment and a cost is early
 pub end_early : {costs : List ℕ} {R : ℕ → ℕ → Type 0} {p m i cursor : ℕ} {starts : List ℕ}
     {threads : List (Option ℕ)} {busy : List ℕ}
-    → IsSimulated costs R p m i cursor starts threads busy → sum costs ≤ 1000000000000000 → (s : ℕ)
+    → IsSimulated costs R p m i cursor starts threads busy → sum costs ≤ MOST_WORK → (s : ℕ)
     → s < length costs → m + at costs s < never
 end_early {costs} state small s h = omega (arith, moment-le-work state, small, get_or-le-sum_by (λ x. x) costs s 0 h)
 

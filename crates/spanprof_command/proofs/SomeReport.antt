@@ -1,5 +1,5 @@
 -- Each words and input have a report.
-use Rattle.std.proofs.Common.{ℕ, zero, suc, ◌+◌, ◌<◌, ◌≤◌, ◌≡◌, ◌⊎◌, ◌∙◌, ◌^◌, Bool, true, false, List, [], ◌∷◌, ◌++◌, Option, Some, None, Result, Ok, Err, length, sum, get_or, refl, sym, subst, arith, inl, inr}
+use Rattle.std.proofs.Common.{ℕ, zero, suc, ◌+◌, ◌<◌, ◌≤◌, ◌≡◌, ◌⊎◌, ◌∙◌, Bool, true, false, List, [], ◌∷◌, ◌++◌, Option, Some, None, Result, Ok, Err, length, sum, get_or, refl, sym, subst, arith, inl, inr}
 use Rattle.std.specs.Prelude.{if◌then◌else◌, nat_le, nat_lt}
 use Rattle.std.proofs.lemmas.Bool.{both_ways, cases_lt, ltb-false}
 use Rattle.std.proofs.lemmas.List.{get_or_append_left, get_or_push, length-set, length_push}
@@ -15,6 +15,7 @@ use Rattle.task_program.specs.ProgramText.{ProgramText}
 use Rattle.task_program.specs.ReadInVersion.{program_of}
 use Rattle.task_program.specs.Trees.{HasTree}
 use Rattle.task_program.specs.declared.fault.ReadFault.{ReadFault}
+use Rattle.task_program.specs.declared.limits.TheConstants.{MOST_WORK}
 use Rattle.task_segments.proofs.SameSchedules.{same_span}
 use Rattle.task_segments.proofs.StartsAndTails.{IsSpan-earliest}
 use Rattle.task_segments.specs.Precedence.{MustPrecede}
@@ -315,9 +316,9 @@ changed_graph graph s cost is allowed =
       each = all ∙ sym each;
       some = omega (arith, each, some);
       few = omega (arith, each, few);
-      small = ltb-false (10 ^ 15) (sum (changed graph s cost).costs)
-          (within_work (nat_le (length graph.costs) s) (nat_lt (10 ^ 15) cost)
-          (nat_lt (10 ^ 15) (sum (changed graph s cost).costs)) allowed);
+      small = ltb-false MOST_WORK (sum (changed graph s cost).costs)
+          (within_work (nat_le (length graph.costs) s) (nat_lt MOST_WORK cost)
+          (nat_lt MOST_WORK (sum (changed graph s cost).costs)) allowed);
       smaller = is.smaller;
       ascending = is.ascending;
       reached = λ t later known. is.reached t later (omega (arith, known, each));

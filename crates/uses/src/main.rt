@@ -6,7 +6,7 @@ mod replaying;
 mod waiting;
 
 use dispatch_core::event::Event;
-use printing::canonical_text;
+use printing::reprint;
 use replaying::record_of;
 use std::alloc::Global;
 use std::{io, str};
@@ -46,7 +46,7 @@ fn main(rt: HostRuntime) -> io::Result<()> {
 }
 
 fn tell_text(rt: &impl Print, alloc: Global) -> io::Result<()> {
-    match canonical_text(alloc, PROGRAM) {
+    match reprint(alloc, PROGRAM) {
         Ok(printed) => match str::from_utf8(&printed) {
             Ok(text) => print!(rt; "{text}"),
             Err(fault) => println!(rt; "{fault}"),

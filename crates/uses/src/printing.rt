@@ -10,7 +10,7 @@ use task_program::print::print_program;
 use task_program::read::read_program;
 
 /// The canonical text of a program, from any text of it. Both texts have one tree.
-pub fn canonical_text(alloc: Global, text: &[u8]) -> Result<Vec<u8>, ReadFault>
+pub fn reprint(alloc: Global, text: &[u8]) -> Result<Vec<u8>, ReadFault>
     ensures same { IfOk result (λ printed. (program : ProgramText)
         × HasTree text.now program × HasTree printed.items program
         × (printed.items ≡ canonical program)) }
