@@ -33,17 +33,17 @@ pub record IsPlaced (siblings : List Sibling) (x : Sibling) (older : List Siblin
   pub found : get_or (oldest_first siblings) (length older) 0 ≡ x.task
 
 -- a sibling's place is how many are older
-pub placed : (siblings : List Sibling) (x : Sibling) (older : List Sibling) → IsAmong siblings x older
+pub place_counts_older : (siblings : List Sibling) (x : Sibling) (older : List Sibling) → IsAmong siblings x older
     → IsPlaced siblings x older
-placed siblings x older Newest = record {
+place_counts_older siblings x older Newest = record {
   below = omega arith;
   found =
       ap (λ (xs : List ℕ). get_or xs (length older) 0) (reverse-cons x.task (map (λ (sibling : Sibling). sibling.task) older))
       ∙ ap (λ n. get_or (oldest_first older ++ x.task ∷ []) n 0) (sym (length-oldest older))
       ∙ get_or-append_seam (oldest_first older) x.task [] 0;
 }
-placed siblings x older (Below {x = z} {y} {siblings = rest} {older = before} among) =
-    let p = placed rest x older among in
+place_counts_older siblings x older (Below {x = z} {y} {siblings = rest} {older = before} among) =
+    let p = place_counts_older rest x older among in
     let below = p.below in
     let one_more : length siblings ≡ length rest + 1 = omega arith in
     record {
@@ -70,7 +70,7 @@ length-newest calls = length-map (reverse calls) sibling_of ∙ length-reverse c
 ranked_within : (name : ℕ) (siblings : List Sibling) (level place : ℕ) → HasRank name siblings level place
     → place < length siblings
 ranked_within name siblings level place r =
-    let below = (placed siblings r.sibling r.older r.among).below in
+    let below = (place_counts_older siblings r.sibling r.older r.among).below in
     let at_place = r.placed in
     omega arith
 
@@ -106,7 +106,7 @@ kept_listed names calls items first marks end kept table marked within lists =
     there s m =
         let k =
         predecessors_are_kept names (newest_first calls) items m.place table.tied ((marked m.place).0 m.marked) in
-        let p = placed (newest_first calls) k.kept.earlier k.kept.older k.kept.among in
+        let p = place_counts_older (newest_first calls) k.kept.earlier k.kept.older k.kept.among in
         record {
           earlier = k.kept.earlier;
           older = k.kept.older;
@@ -120,7 +120,7 @@ kept_listed names calls items first marks end kept table marked within lists =
 
     back : (s : ℕ) → IsKept (newest_first calls) items s → IsMarkedNumber first marks (tasks_of calls) end s
     back s k =
-        let p = placed (newest_first calls) k.earlier k.older k.among in
+        let p = place_counts_older (newest_first calls) k.earlier k.older k.among in
         let at_place : IsKeptPlace (newest_first calls) items (length k.older) = record { name = k.name; kept = record { earlier = k.earlier; older = k.older; among = k.among; placed = refl; conflicts = k.conflicts; one_less = k.one_less } } in
         let at_mark = (marked (length k.older)).1 (kept_are_predecessors names (newest_first calls) items (length k.older) table.tied at_place) in
         record {

@@ -7,7 +7,7 @@ use Rattle.std.proofs.lemmas.List.Sums.{count_by-le-length, sum_by-cons}
 use Rattle.task_segments.specs.Table.{Table}
 use Rattle.dispatch_core.specs.declared.event.Event.{Event}
 use Rattle.dispatch_core.specs.Entry.{entry}
-use Rattle.dispatch_core.specs.Run.{IsLegal, IsFinished}
+use Rattle.dispatch_core.specs.Run.{IsLegalRun, IsFinished}
 use Rattle.dispatch_core.specs.Counters.{TellFinished}
 use Rattle.dispatch_core.specs.Sound.{AreStarted}
 use Rattle.dispatch_core.proofs.Histories.{started_before_finish}
@@ -23,30 +23,30 @@ count_all {A = A} p (x ∷ xs) all =
     omega (arith, here, rest, more)
 
 -- where something stands at a place, or not
-standing : (values : List (Option ℕ)) (s : ℕ) (found : Option ℕ) → slice_get values s ≡ Some found → count_by is_some values ≡ length values → (value : ℕ) × (entry values s ≡ Some value)
-standing values s (Some value) is all = (value, ap (λ (o : Option (Option ℕ)). option_flatten o) is)
-standing values s None is all = let fewer = count_by_some_no is_some values s None is refl in absurd (omega (arith, fewer, all))
+entry_where_all_stand : (values : List (Option ℕ)) (s : ℕ) (found : Option ℕ) → slice_get values s ≡ Some found → count_by is_some values ≡ length values → (value : ℕ) × (entry values s ≡ Some value)
+entry_where_all_stand values s (Some value) is all = (value, ap (λ (o : Option (Option ℕ)). option_flatten o) is)
+entry_where_all_stand values s None is all = let fewer = count_by_some_no is_some values s None is refl in absurd (omega (arith, fewer, all))
 
-pub complete : (table : Table) (history : List Event) (started : List Bool) (values : List (Option ℕ)) → AreStarted table history started → TellFinished (length table.segments) history values
+pub finished_at_full_length : (table : Table) (history : List Event) (started : List Bool) (values : List (Option ℕ)) → AreStarted table history started → TellFinished (length table.segments) history values
     → length history ≡ count_by (λ b. b) started + count_by is_some values → length history ≡ 2 * length table.segments → IsFinished table history
-complete table history started values are_started tell counted twice s known =
+finished_at_full_length table history started values are_started tell counted twice s known =
     let starts : count_by (λ b. b) started ≤ length started = count_by-le-length (λ (b : Bool). b) started in
     let ends : count_by is_some values ≤ length values = count_by-le-length is_some values in
     let started_each = are_started.each in
     let values_each = tell.each in
     let all : count_by is_some values ≡ length values = omega (arith, starts, ends, started_each, values_each, counted, twice) in
     let within : s < length values = omega (arith, known, values_each) in
-    let value = standing values s (get_or values s None) (slice_get-get_or values s None within) all in
+    let value = entry_where_all_stand values s (get_or values s None) (slice_get-get_or values s None within) all in
     tell.is_finished s value.0 value.1
 
 has_entry : (values : List (Option ℕ)) (s value : ℕ) (found : Option ℕ) → slice_get values s ≡ Some found → entry values s ≡ Some value → is_some found ≡ true
 has_entry values s value found is stands =
     ap (λ (o : Option ℕ). is_some o) (ap (λ (o : Option (Option ℕ)). option_flatten o) (sym is) ∙ stands)
 
-pub completed : (table : Table) (history : List Event) (started : List Bool) (values : List (Option ℕ)) → IsLegal table history → AreStarted table history started
+pub full_length_of_finished : (table : Table) (history : List Event) (started : List Bool) (values : List (Option ℕ)) → IsLegalRun table history → AreStarted table history started
     → TellFinished (length table.segments) history values → length history ≡ count_by (λ b. b) started + count_by is_some values → IsFinished table history
     → length history ≡ 2 * length table.segments
-completed table history started values legal are_started tell counted finished =
+full_length_of_finished table history started values legal are_started tell counted finished =
     let started_each = are_started.each in
     let values_each = tell.each in
     let starts : count_by (λ b. b) started ≡ length started = count_all (λ (b : Bool). b) started (λ s flag is.

@@ -16,7 +16,7 @@ use Rattle.depend_table.specs.Kept.{IsKeptEdge, KeptDependence, KeptGroupEnd, Ke
 use Rattle.depend_table.specs.Siblings.{IsAmong, IsKept, Sibling, conflict_at, rank}
 use Rattle.depend_table.specs.Siblings.IsAmong.{Below as Older, Newest}
 use Rattle.dispatch_core.proofs.Edges.{kept_sibling}
-use Rattle.dispatch_core.proofs.Decisions.{IsDecided, alike, decide_below, decide_both, decide_each, decide_either, decide_held, decide_implies, decide_less, decide_most, decide_options, decide_same, decide_some, decide_true}
+use Rattle.dispatch_core.proofs.Decisions.{IsDecided, decided_by_equivalent, decide_below, decide_both, decide_each, decide_either, decide_held, decide_implies, decide_less, decide_most, decide_options, decide_same, decide_some, decide_true}
 
 decide_waits : (closing : Closing) → IsDecided (closing ≡ Waits)
 decide_waits (Creates child) = inr (λ e. cc)
@@ -36,7 +36,7 @@ decide_continues table s t =
     let B : Type 0 = IsSegment table t in
     let C : Type 0 = (segment table t).task ≡ (segment table s).task in
     let D : Type 0 = (segment table t).index ≡ (segment table s).index + 1 in
-    alike (A × (B × (C × D))) (Continues table s t)
+    decided_by_equivalent (A × (B × (C × D))) (Continues table s t)
     (λ h. record { is_from = h.0; is_to = h.1.0; same_task = h.1.1.0; next = h.1.1.1 })
     (λ c. (c.is_from, (c.is_to, (c.same_task, c.next))))
     (decide_both A (B × (C × D)) (decide_less s (length table.segments))
@@ -47,7 +47,7 @@ decide_continues table s t =
 pub decide_creation : (table : Table) (s t : ℕ) → IsDecided (Creation table s t)
 decide_creation table s t =
     let P : ℕ → Type 0 = λ u. ((task table u).creator ≡ Some s) × ((task table u).first ≡ t) in
-    alike ((u : ℕ) × (u < length table.tasks) × P u) (Creation table s t)
+    decided_by_equivalent ((u : ℕ) × (u < length table.tasks) × P u) (Creation table s t)
     (λ h. record { child = h.0; is_child = h.1; creator = h.2.0; first = h.2.1 })
     (λ c. (c.child, c.is_child, (c.creator, c.first)))
     (decide_below P (length table.tasks) (λ u.
@@ -59,7 +59,7 @@ decide_resumption table s t =
     let A : ℕ → Type 0 = λ u. (task table u).undeferred ≡ true in
     let B : ℕ → Type 0 = λ u. (task table u).last ≡ s in
     let C : ℕ → Type 0 = λ u. (creator : ℕ) × ((task table u).creator ≡ Some creator) × Continues table creator t in
-    alike ((u : ℕ) × (u < length table.tasks) × (A u × (B u × C u))) (Resumption table s t)
+    decided_by_equivalent ((u : ℕ) × (u < length table.tasks) × (A u × (B u × C u))) (Resumption table s t)
     (λ h. let c = h.2.1.1 in record {
       child = h.0;
       is_child = h.1;
@@ -83,7 +83,7 @@ decide_dependence table s t =
     let C : ℕ → Type 0 = λ u. (task table u).last ≡ s in
     let D : ℕ → Type 0 = λ v. (task table v).first ≡ t in
     let E : ℕ → Type 0 = λ v. (u : ℕ) × (u < v) × (A u v × (B u v × C u)) in
-    alike ((v : ℕ) × (v < length table.tasks) × (D v × E v)) (Dependence table s t)
+    decided_by_equivalent ((v : ℕ) × (v < length table.tasks) × (D v × E v)) (Dependence table s t)
     (λ h. let e = h.2.1 in record {
       earlier = e.0;
       later = h.0;
@@ -108,7 +108,7 @@ decide_earlier_child table child t =
     let A : Type 0 = IsTask table child in
     let B : Type 0 = (task table child).parent ≡ Some (segment table t).task in
     let C : Type 0 = (creator : ℕ) × ((task table child).creator ≡ Some creator) × (creator < t) in
-    alike (A × (B × C)) (IsEarlierChild table child t)
+    decided_by_equivalent (A × (B × C)) (IsEarlierChild table child t)
     (λ h. let c = h.1.1 in record { is_child = h.0; parent = h.1.0; creator = c.0; is_creator = c.1; earlier = c.2 })
     (λ c. (c.is_child, (c.parent, (c.creator, c.is_creator, c.earlier))))
     (decide_both A (B × C) (decide_less child (length table.tasks))
@@ -121,7 +121,7 @@ decide_wait table s t =
     let B : ℕ → Type 0 = λ child. IsEarlierChild table child t × ((task table child).last ≡ s) in
     let Before : Type 0 = (before : ℕ) × (before < length table.segments) × A before in
     let Child : Type 0 = (child : ℕ) × (child < length table.tasks) × B child in
-    alike (Before × Child) (Wait table s t)
+    decided_by_equivalent (Before × Child) (Wait table s t)
     (λ h. let b = h.0 in let c = h.1 in record {
       before = b.0;
       waits = b.2.0;
@@ -170,7 +170,7 @@ descends_by table (suc n) d u facts less = elim (cases_eq d u) [
             (descends_by table n v u facts (omega (arith, less, lower)))
         | inr fails ↦ inr (λ h. absurd (omega (arith, h.0, fails)))
       ] in
-      alike ((v : ℕ) × ((task table d).parent ≡ Some v) × P v) (Descends table d u)
+      decided_by_equivalent ((v : ℕ) × ((task table d).parent ≡ Some v) × P v) (Descends table d u)
       (λ h. Below d h.0 u (facts.with_parent d h.0 h.1) h.1 h.2.1)
       (λ h. elim (descends_cases table d u h) [
         | inl same ↦ absurd (apart same)
@@ -188,7 +188,7 @@ decide_group table s t facts =
     let Below : ℕ → Type 0 = λ child. (d : ℕ) × (d < length table.tasks) × D child d in
     let B : ℕ → Type 0 = λ child. IsEarlierChild table child t × (Inside child × Below child) in
     let Child : Type 0 = (child : ℕ) × (child < length table.tasks) × B child in
-    alike (Before × Child) (GroupEnd table s t)
+    decided_by_equivalent (Before × Child) (GroupEnd table s t)
     (λ h. let before_of = h.0 in let child_of = h.1 in record {
       child = child_of.0;
       encloses = record { before = before_of.0; ends_group = before_of.2.0; opens = before_of.2.1; generated = child_of.2.0; inside = child_of.2.1.0 };
@@ -233,8 +233,8 @@ decide_precedes table s t facts =
 
 -- ---- kept edges
 
-nobody : (x : Sibling) (older : List Sibling) → IsAmong [] x older → ⊥
-nobody x older h = elim h [ ]
+among_none : (x : Sibling) (older : List Sibling) → IsAmong [] x older → ⊥
+among_none x older h = elim h [ ]
 
 newest_or_older : (Q : Sibling → List Sibling → Type 0) (y : Sibling) (ys : List Sibling) (x : Sibling) (older : List Sibling)
     → IsAmong (y ∷ ys) x older → Q x older → Q y ys ⊎ IsAmong ys x older
@@ -245,7 +245,7 @@ newest_or_older Q y ys x older (Older h) q = inr h
 decide_among : (Q : Sibling → List Sibling → Type 0) → ((x : Sibling) (older : List Sibling) → IsDecided (Q x older))
     → (siblings : List Sibling)
     → IsDecided ((x : Sibling) × (older : List Sibling) × IsAmong siblings x older × Q x older)
-decide_among Q each [] = inr (λ h. nobody h.0 h.1 h.2)
+decide_among Q each [] = inr (λ h. among_none h.0 h.1 h.2)
 decide_among Q each (y ∷ ys) = elim (each y ys) [
   | inl here ↦ inl (y, ys, Newest, here)
   | inr fails ↦ elim (decide_among Q each ys) [
@@ -257,8 +257,8 @@ decide_among Q each (y ∷ ys) = elim (each y ys) [
   ]
 ]
 
-nothing : (x : Item) → Member [] x → ⊥
-nothing x h = elim h [ ]
+no_item_in_none : (x : Item) → Member [] x → ⊥
+no_item_in_none x h = elim h [ ]
 
 head_or_tail : (P : ℕ → Type 0) (y : Item) (ys : List Item) (x : Item) → Member (y ∷ ys) x → P x.name
     → P y.name ⊎ Member ys x
@@ -268,7 +268,7 @@ head_or_tail P y ys x (Tail h) q = inr h
 -- of the name of some item
 decide_named : (P : ℕ → Type 0) → ((name : ℕ) → IsDecided (P name)) → (items : List Item)
     → IsDecided ((item : Item) × Member items item × P item.name)
-decide_named P each [] = inr (λ h. nothing h.0 h.1)
+decide_named P each [] = inr (λ h. no_item_in_none h.0 h.1)
 decide_named P each (y ∷ ys) = elim (each y.name) [
   | inl here ↦ inl (y, Head, here)
   | inr fails ↦ elim (decide_named P each ys) [
@@ -287,7 +287,7 @@ decide_kept siblings items number =
     let N : Sibling → List Sibling → Type 0 =
     λ x older. (item : Item) × Member x.items item × (B x item.name × C x older item.name) in
     let Q : Sibling → List Sibling → Type 0 = λ x older. A x × N x older in
-    alike ((x : Sibling) × (older : List Sibling) × IsAmong siblings x older × Q x older)
+    decided_by_equivalent ((x : Sibling) × (older : List Sibling) × IsAmong siblings x older × Q x older)
     (IsKept siblings items number)
     (λ h. let n = h.3.1 in record {
       earlier = h.0;
@@ -315,7 +315,7 @@ decide_kept_dependence table s t =
     let L : ℕ → Type 0 = λ u. (task table u).last ≡ s in
     let B : ℕ → ℕ → Type 0 = λ v parent. (u : ℕ) × (u < v) × (K v parent u × L u) in
     let C : ℕ → Type 0 = λ v. (parent : ℕ) × ((task table v).parent ≡ Some parent) × B v parent in
-    alike ((v : ℕ) × (v < length table.tasks) × (A v × C v)) (KeptDependence table s t)
+    decided_by_equivalent ((v : ℕ) × (v < length table.tasks) × (A v × C v)) (KeptDependence table s t)
     (λ h. let p = h.2.1 in let e = p.2 in record {
       earlier = e.0;
       later = h.0;
@@ -361,7 +361,7 @@ decide_kept_wait table s t =
     λ before child. (creator : ℕ) × ((task table child).creator ≡ Some creator) × M before creator in
     let D : ℕ → Type 0 =
     λ before. (child : ℕ) × (child < length table.tasks) × (B child × (L child × C before child)) in
-    alike ((before : ℕ) × (before < length table.segments) × (A before × D before)) (KeptWait table s t)
+    decided_by_equivalent ((before : ℕ) × (before < length table.segments) × (A before × D before)) (KeptWait table s t)
     (λ h.
     let waits = h.2.0 in
     let child_of = h.2.1 in
@@ -396,7 +396,7 @@ decide_kept_wait table s t =
 decide_kept_group_end : (table : Table) (s t : ℕ) → IsDecided (KeptGroupEnd table s t)
 decide_kept_group_end table s t =
     let P : ℕ → Type 0 = λ u. ((task table u).innermost_group ≡ Some t) × ((task table u).last ≡ s) in
-    alike ((u : ℕ) × (u < length table.tasks) × P u) (KeptGroupEnd table s t)
+    decided_by_equivalent ((u : ℕ) × (u < length table.tasks) × P u) (KeptGroupEnd table s t)
     (λ h. record { inside = h.0; is_inside = h.1; innermost = h.2.0; last = h.2.1 })
     (λ g. (g.inside, g.is_inside, (g.innermost, g.last)))
     (decide_below P (length table.tasks) (λ u.

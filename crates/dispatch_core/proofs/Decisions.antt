@@ -8,9 +8,9 @@ use Rattle.dispatch_core.proofs.ListLemmas.{Below, Lists-all, Lists-none, Lists-
 abbrev pub IsDecided : Type 0 → Type 0
 IsDecided P = P ⊎ (¬ P)
 
-pub alike : (P Q : Type 0) → (P → Q) → (Q → P) → IsDecided P → IsDecided Q
-alike P Q there back (inl p) = inl (there p)
-alike P Q there back (inr fails) = inr (λ q. fails (back q))
+pub decided_by_equivalent : (P Q : Type 0) → (P → Q) → (Q → P) → IsDecided P → IsDecided Q
+decided_by_equivalent P Q there back (inl p) = inl (there p)
+decided_by_equivalent P Q there back (inr fails) = inr (λ q. fails (back q))
 
 pub decide_both : (P Q : Type 0) → IsDecided P → IsDecided Q → IsDecided (P × Q)
 decide_both P Q (inl p) (inl q) = inl (p, q)
@@ -49,7 +49,7 @@ decide_true false = inr (λ e. both_ways false refl e)
 pub decide_some : (o : Option ℕ) (n : ℕ) → IsDecided (o ≡ Some n)
 decide_some None n = inr (λ e. none-some n e)
 decide_some (Some m) n =
-    alike (m ≡ n) (Some m ≡ Some n) (λ e. ap (λ k. Some k) e) (λ e. same_Some m n e) (decide_same m n)
+    decided_by_equivalent (m ≡ n) (Some m ≡ Some n) (λ e. ap (λ k. Some k) e) (λ e. same_Some m n e) (decide_same m n)
 
 pub decide_options : (a b : Option ℕ) → IsDecided (a ≡ b)
 decide_options a (Some n) = decide_some a n

@@ -20,7 +20,7 @@ use Rattle.dispatch_core.specs.Facts.{IsSoundTable}
 use Rattle.dispatch_core.specs.Entry.{entry}
 use Rattle.dispatch_core.specs.Sound.{IsSound}
 use Rattle.dispatch_core.specs.declared.counters.Counters.{Counters}
-use Rattle.dispatch_core.specs.Counters.{unfinished, AreCounts, AreKept, AreKeptOf, AreSiblings, AreSuccessors, GoesUp, HasValue, IsOpenBy, TellFinished}
+use Rattle.dispatch_core.specs.Counters.{unfinished_count, AreCounts, AreKept, AreKeptOf, AreSiblings, AreSuccessors, GoesUp, HasValue, IsOpenBy, TellFinished}
 use Rattle.depend_table.specs.Siblings.{Sibling}
 use Rattle.depend_table.specs.Kept.{IsKeptEdge}
 use Rattle.dispatch_core.proofs.ListLemmas.{Lists-none}
@@ -28,7 +28,7 @@ use Rattle.dispatch_core.proofs.SiblingSteps.{siblings_first}
 use Rattle.dispatch_core.specs.Listed.{items_of}
 use Rattle.dispatch_core.specs.UpToDate.{IsUpToDate}
 use Rattle.dispatch_core.proofs.KeptEnough.{kept_at, open_after}
-use Rattle.dispatch_core.specs.Recorded.{Recorded, IsGraph, Precedes, predecessors_of}
+use Rattle.dispatch_core.specs.RecordedGraph.{RecordedGraph, IsGraph, Precedes, predecessors_of}
 use Rattle.dispatch_core.specs.Graph.{IsGraphOf}
 
 get-replicate : {A : Type 0} (n : ℕ) (x y : A) (i : ℕ) → slice_get (replicate n x) i ≡ Some y → x ≡ y
@@ -74,7 +74,7 @@ counts_first values n = record {
       let within : t < length (replicate {A = ℕ} n 0) = omega (arith, less, length-replicate {A = List ℕ} n [], length-replicate {A = ℕ} n 0) in
       let there = slice_get-get_or (replicate n 0) t 0 within in
       let zero_there : 0 ≡ get_or (replicate n 0) t 0 = get-replicate n 0 (get_or (replicate n 0) t 0) t there in
-      there ∙ ap (λ (k : ℕ). Some k) (sym zero_there) ∙ ap (λ (l : List ℕ). Some (unfinished values l)) (get-replicate n [] list t is);
+      there ∙ ap (λ (k : ℕ). Some k) (sym zero_there) ∙ ap (λ (l : List ℕ). Some (unfinished_count values l)) (get-replicate n [] list t is);
 }
 
 successors_first : (values : List (Option ℕ)) (n : ℕ) → AreSuccessors values (replicate n []) (replicate n [])
@@ -165,12 +165,12 @@ graph_at_end table history values counters costs up tell finished state same = r
 }
 
 -- a segment past the last has no predecessors
-pub no_more : (graph : Recorded) (t s : ℕ) → length graph.predecessors ≤ t → ¬ Precedes graph s t
+pub no_more : (graph : RecordedGraph) (t s : ℕ) → length graph.predecessors ≤ t → ¬ Precedes graph s t
 no_more graph t s past member =
     let within : member.0 < length (predecessors_of graph t) = member.1 in
     absurd (omega (arith, within, ap (λ (l : List ℕ). length l) (get_or_past graph.predecessors t [] past)))
 
-pub graph_of_program : (table : Table) (graph : Recorded) → IsSoundTable table → IsGraphOf table graph → IsGraph graph
+pub graph_of_program : (table : Table) (graph : RecordedGraph) → IsSoundTable table → IsGraphOf table graph → IsGraph graph
 graph_of_program table graph sound of =
     let same : length graph.costs ≡ length table.segments = ap length of.costs ∙ length-map table.segments (λ (row : Segment). row.cost) in
     record {
@@ -196,7 +196,7 @@ graph_of_program table graph sound of =
     }
 
 -- how many pairs of a predecessor and a segment a graph has
-pub few_edges : (graph : Recorded) → IsGraph graph → sum_by (λ (list : List ℕ). length list) graph.predecessors ≤ MOST_SEGMENTS * MOST_SEGMENTS
+pub few_edges : (graph : RecordedGraph) → IsGraph graph → sum_by (λ (list : List ℕ). length list) graph.predecessors ≤ MOST_SEGMENTS * MOST_SEGMENTS
 few_edges graph is_graph =
     let each : All (λ (list : List ℕ). length list ≤ MOST_SEGMENTS) graph.predecessors = λ k d within.
     let same : get_or graph.predecessors k d ≡ predecessors_of graph k = get_or_default graph.predecessors k d [] within in
@@ -217,7 +217,7 @@ same_lists (x ∷ xs) (y ∷ ys) each same =
     let tail : xs ≡ ys = same_lists xs ys (omega arith) (λ t within. same (suc t) (omega arith)) in
     cc
 
-pub one_graph : (table : Table) (one other : Recorded) → IsGraphOf table one → IsGraphOf table other → one ≡ other
+pub one_graph : (table : Table) (one other : RecordedGraph) → IsGraphOf table one → IsGraphOf table other → one ≡ other
 one_graph table one other of_one of_other =
     let costs : one.costs ≡ other.costs = of_one.costs ∙ sym of_other.costs in
     let lists : one.predecessors ≡ other.predecessors = same_lists one.predecessors other.predecessors (of_one.each ∙ sym of_other.each)

@@ -10,7 +10,7 @@ use Rattle.std.proofs.lemmas.List.{length-set, get_or-take, length-take, take_mo
 use Rattle.std.proofs.lemmas.List.Elements.{Contains-append_left, Contains-push, Contains-push_cases}
 use Rattle.depend_table.specs.Lists.{Lists}
 use Rattle.dispatch_core.specs.Entry.{entry}
-use Rattle.dispatch_core.specs.Counters.{unfinished, AreCounts, IsCounted, AreLowered}
+use Rattle.dispatch_core.specs.Counters.{unfinished_count, AreCounts, IsCounted, AreLowered}
 use Rattle.dispatch_core.specs.Listed.{IsListed}
 use Rattle.dispatch_core.proofs.PlaceLemmas.{get-set_same, get-set_other}
 
@@ -33,7 +33,7 @@ abbrev pub IsOnce : List ℕ → Type 0
 IsOnce [] = Unit {0}
 IsOnce (x ∷ xs) = (¬ Contains xs x) × IsOnce xs
 
-pub add_one : (values : List (Option ℕ)) (x : ℕ) (xs : List ℕ) → unfinished values (x ∷ xs) ≡ cond {A = ℕ} (is_none (entry values x)) 1 0 + unfinished values xs
+pub add_one : (values : List (Option ℕ)) (x : ℕ) (xs : List ℕ) → unfinished_count values (x ∷ xs) ≡ cond {A = ℕ} (is_none (entry values x)) 1 0 + unfinished_count values xs
 add_one values x xs = sum_by-cons (λ y. cond {A = ℕ} (is_none (entry values y)) 1 0) x xs
 
 pub same_entry : (values : List (Option ℕ)) (s x v : ℕ) → x ≢ s → entry (slice_set values s (Some v)) x ≡ entry values x
@@ -42,18 +42,18 @@ same_entry values s x v apart = ap (λ (o : Option (Option ℕ)). option_flatten
 pub new_entry : (values : List (Option ℕ)) (s v : ℕ) → s < length values → entry (slice_set values s (Some v)) s ≡ Some v
 new_entry values s v within = ap (λ (o : Option (Option ℕ)). option_flatten o) (get-set_same values s (Some v) within)
 
-pub count_stays : (values : List (Option ℕ)) (s v : ℕ) (list : List ℕ) → ¬ Contains list s → unfinished (slice_set values s (Some v)) list ≡ unfinished values list
+pub count_stays : (values : List (Option ℕ)) (s v : ℕ) (list : List ℕ) → ¬ Contains list s → unfinished_count (slice_set values s (Some v)) list ≡ unfinished_count values list
 count_stays values s v [] none = refl
 count_stays values s v (x ∷ xs) none =
     let apart : x ≢ s = λ same. none (0, omega arith, same) in
     let rest = count_stays values s v xs (λ h. none (suc h.0, (let w = h.1 in omega (arith, w)), h.2)) in
     add_one (slice_set values s (Some v)) x xs
-    ∙ ap (λ (o : Option ℕ). cond {A = ℕ} (is_none o) 1 0 + unfinished (slice_set values s (Some v)) xs) (same_entry values s x v apart)
+    ∙ ap (λ (o : Option ℕ). cond {A = ℕ} (is_none o) 1 0 + unfinished_count (slice_set values s (Some v)) xs) (same_entry values s x v apart)
     ∙ ap (λ (n : ℕ). cond {A = ℕ} (is_none (entry values x)) 1 0 + n) rest
     ∙ sym (add_one values x xs)
 
 pub count_falls : (values : List (Option ℕ)) (s v : ℕ) (list : List ℕ) → s < length values → entry values s ≡ None → IsOnce list → Contains list s
-    → unfinished (slice_set values s (Some v)) list + 1 ≡ unfinished values list
+    → unfinished_count (slice_set values s (Some v)) list + 1 ≡ unfinished_count values list
 count_falls values s v [] within none once has = let w = has.1 in absurd (omega (arith, w))
 count_falls values s v (x ∷ xs) within none once has = elim (cases_eq x s) [
   | inl same ↦
@@ -75,7 +75,7 @@ count_falls values s v (x ∷ xs) within none once has = elim (cases_eq x s) [
 ]
 
 -- nothing is left to count exactly where all have a value
-pub none_left : (values : List (Option ℕ)) (list : List ℕ) → unfinished values list ≡ 0 → (p : ℕ) → Contains list p → is_none (entry values p) ≡ false
+pub none_left : (values : List (Option ℕ)) (list : List ℕ) → unfinished_count values list ≡ 0 → (p : ℕ) → Contains list p → is_none (entry values p) ≡ false
 none_left values [] zero_left p has = let w = has.1 in absurd (omega (arith, w))
 none_left values (x ∷ xs) zero_left p has =
     let parts = add_one values x xs in
@@ -88,7 +88,7 @@ none_left values (x ∷ xs) zero_left p has =
     no_one true h = absurd (omega (arith, h))
     no_one false h = refl
 
-pub all_counted : (values : List (Option ℕ)) (list : List ℕ) → ((p : ℕ) → Contains list p → is_none (entry values p) ≡ false) → unfinished values list ≡ 0
+pub all_counted : (values : List (Option ℕ)) (list : List ℕ) → ((p : ℕ) → Contains list p → is_none (entry values p) ≡ false) → unfinished_count values list ≡ 0
 all_counted values [] all = refl
 all_counted values (x ∷ xs) all =
     let here : cond {A = ℕ} (is_none (entry values x)) 1 0 ≡ 0 = ap (λ (b : Bool). cond {A = ℕ} b 1 0) (all x (0, omega arith, refl)) in
@@ -164,7 +164,7 @@ counts_after values preds counts after s v within none once are_counts lowered =
   counted = λ t found is. elim (has_or_not found s) [
     | inl has ↦
         let falls = count_falls values s v found within none (once t found is) has in
-        lowered.lowered t (unfinished (slice_set values s (Some v)) found) (record { list = found; is_list = is; has = has })
+        lowered.lowered t (unfinished_count (slice_set values s (Some v)) found) (record { list = found; is_list = is; has = has })
         (are_counts.counted t found is ∙ ap (λ (n : ℕ). Some n) (sym falls))
     | inr not_has ↦
         lowered.others t (λ listed. not_has (subst (λ (l : List ℕ). Contains l s) (same_Some listed.list found (sym listed.is_list ∙ is)) listed.has))
@@ -178,7 +178,7 @@ pub counted_above : (values : List (Option ℕ)) (preds : List (List ℕ)) (coun
 counted_above values preds counts s t within none once are_counts listed =
     let falls = count_falls values s 0 listed.list within none (once t listed.list listed.is_list) listed.has in
     record {
-      fewer = unfinished (slice_set values s (Some 0)) listed.list;
+      fewer = unfinished_count (slice_set values s (Some 0)) listed.list;
       is = are_counts.counted t listed.list listed.is_list ∙ ap (λ (n : ℕ). Some n) (sym falls);
     }
 

@@ -12,8 +12,8 @@ use Rattle.task_segments.specs.Precedence.{MustPrecede}
 use Rattle.dispatch_core.specs.declared.event.TheConstants.{MOST_WORKERS}
 use Rattle.dispatch_core.specs.declared.event.Event.{Event}
 use Rattle.dispatch_core.specs.declared.event.Event.TheVariants.{Start, Finish}
-use Rattle.dispatch_core.specs.Result.{Computed}
-use Rattle.dispatch_core.specs.Run.{Run, HasFinished, Runs, MayStart, IsLegal}
+use Rattle.dispatch_core.specs.Result.{Computation}
+use Rattle.dispatch_core.specs.Run.{Run, HasFinished, Runs, MayStart, IsLegalRun}
 use Rattle.dispatch_core.specs.Values.{IsValue}
 use Rattle.dispatch_core.specs.Values.IsValue.{Computes}
 use Rattle.dispatch_core.specs.Refusals.{IsCost, MayFinish}
@@ -26,12 +26,12 @@ use Rattle.dispatch_core.proofs.PlaceLemmas.{entry-set_same, entry-set_none, ent
 use Rattle.dispatch_core.proofs.Histories.{finished_kept, started_kept, finished_cases, started_was, legal_push, one_starter, get_at_place, Contains-from_take}
 
 -- a segment that was started is known, by a known worker, after all that must precede it
-pub started_known : (table : Table) (history : List Event) (worker s : ℕ) → IsLegal table history → Contains history (Start worker s) → (worker < MOST_WORKERS) × (s < length table.segments)
+pub started_known : (table : Table) (history : List Event) (worker s : ℕ) → IsLegalRun table history → Contains history (Start worker s) → (worker < MOST_WORKERS) × (s < length table.segments)
 started_known table history worker s legal h =
     let may : MayStart table (take h.0 history) worker s = legal h.0 (Start worker s) (get_at_place history (Start worker s) h) in
     (may.known, may.ready.known)
 
-pub started_after_preds : (table : Table) (history : List Event) (worker s : ℕ) → IsLegal table history → Contains history (Start worker s)
+pub started_after_preds : (table : Table) (history : List Event) (worker s : ℕ) → IsLegalRun table history → Contains history (Start worker s)
     → (pred : ℕ) → MustPrecede table pred s → HasFinished history pred
 started_after_preds table history worker s legal h pred edge =
     let may : MayStart table (take h.0 history) worker s = legal h.0 (Start worker s) (get_at_place history (Start worker s) h) in
@@ -39,21 +39,21 @@ started_after_preds table history worker s legal h pred edge =
     record { worker = done.worker; finished = Contains-from_take h.0 history (Finish done.worker pred) done.finished }
 
 -- what a worker runs is one of the program's segments, as a core stores them
-pub runs_stored : (stored seen : Run) (worker s : ℕ) → stored ≡ seen → IsLegal stored.table stored.history
+pub runs_stored : (stored seen : Run) (worker s : ℕ) → stored ≡ seen → IsLegalRun stored.table stored.history
     → Runs seen.history worker s → s < length stored.table.segments
 runs_stored stored seen worker s same legal runs =
     let Here : Run → Type 0 = λ run. Runs run.history worker s in
     (started_known stored.table stored.history worker s legal (subst Here (sym same) runs).started).1
 
 -- and as contracts see them
-pub runs_known : (stored seen : Run) (worker s : ℕ) → stored ≡ seen → IsLegal stored.table stored.history
+pub runs_known : (stored seen : Run) (worker s : ℕ) → stored ≡ seen → IsLegalRun stored.table stored.history
     → Runs seen.history worker s → s < length seen.table.segments
 runs_known stored seen worker s same legal runs =
     let Here : Run → Type 0 = λ run. s < length run.table.segments in
     subst Here same (runs_stored stored seen worker s same legal runs)
 
 -- and all that must precede it is finished
-pub runs_after : (stored seen : Run) (worker s : ℕ) → stored ≡ seen → IsLegal stored.table stored.history
+pub runs_after : (stored seen : Run) (worker s : ℕ) → stored ≡ seen → IsLegalRun stored.table stored.history
     → Runs seen.history worker s → (pred : ℕ) → MustPrecede seen.table pred s → HasFinished seen.history pred
 runs_after stored seen worker s same legal runs =
     let Here : Run → Type 0 = λ run. Runs run.history worker s in
@@ -62,7 +62,7 @@ runs_after stored seen worker s same legal runs =
     (started_after_preds stored.table stored.history worker s legal (subst Here (sym same) runs).started)
 
 -- its cost is the one that is stored
-pub runs_cost : (stored seen : Run) (worker s cost : ℕ) → stored ≡ seen → IsLegal stored.table stored.history
+pub runs_cost : (stored seen : Run) (worker s cost : ℕ) → stored ≡ seen → IsLegalRun stored.table stored.history
     → Runs seen.history worker s → cost ≡ (segment stored.table s).cost → IsCost seen.table s cost
 runs_cost stored seen worker s cost same legal runs costs =
     let Here : Run → Type 0 = λ run. IsCost run.table s cost in
@@ -82,7 +82,7 @@ started_after_finish table history started worker s are = record {
 start_was : (history : List Event) (worker s w t : ℕ) → Contains (history ++ Finish worker s ∷ []) (Start w t) → Contains history (Start w t)
 start_was history worker s w t h = elim (Contains-push_cases history (Finish worker s) (Start w t) h) [ inl was ↦ was | inr e ↦ absurd (cc) ]
 
-running_after_finish : (table : Table) (history : List Event) (running : List (Option ℕ)) (worker s : ℕ) → IsLegal table history → AreRunning history running
+running_after_finish : (table : Table) (history : List Event) (running : List (Option ℕ)) (worker s : ℕ) → IsLegalRun table history → AreRunning history running
     → Runs history worker s → AreRunning (history ++ Finish worker s ∷ []) (slice_set running worker None)
 running_after_finish table history running worker s legal are runs =
     let next : List Event = history ++ Finish worker s ∷ [] in
@@ -137,7 +137,7 @@ values_after_finish table history value_of values worker s value known is are =
     }
 
 -- a segment's value, from a result for its cost and its input
-computed_value : (table : Table) (value_of : ℕ → ℕ → ℕ → ℕ) (history : List Event) (worker : ℕ) (result : Computed) (value : ℕ)
+computed_value : (table : Table) (value_of : ℕ → ℕ → ℕ → ℕ) (history : List Event) (worker : ℕ) (result : Computation) (value : ℕ)
     → MayFinish table history value_of worker result → value ≡ value_of result.segment result.cost result.input → IsValue table value_of result.segment value
 computed_value table value_of history worker result value may is =
     let s : ℕ = result.segment in
@@ -172,7 +172,7 @@ has_room_to_finish value_of table history capacity started running values counte
     omega (arith, sound.counted, sound.reserved, sound.are_started.each, sound.are_values.tell.each, count_by_some_no is_some values s None off refl, count_by-le-length (λ (b : Bool). b) started)
 
 pub sound_after_finish : (value_of : ℕ → ℕ → ℕ → ℕ) (table : Table) (history : List Event) (capacity later : ℕ) (started : List Bool) (running : List (Option ℕ)) (values : List (Option ℕ))
-    (counters after : Counters) (costs : List ℕ) (worker : ℕ) (result : Computed) (value : ℕ) → IsSound value_of table history capacity started running values counters costs
+    (counters after : Counters) (costs : List ℕ) (worker : ℕ) (result : Computation) (value : ℕ) → IsSound value_of table history capacity started running values counters costs
     → MayFinish table history value_of worker result → value ≡ value_of result.segment result.cost result.input
     → IsUpToDate table (slice_set values result.segment (Some value)) after → capacity ≤ later
     → IsSound value_of table (history ++ Finish worker result.segment ∷ []) later started (slice_set running worker None) (slice_set values result.segment (Some value)) after costs
@@ -208,7 +208,7 @@ sound_when_refused value_of table history capacity started running values later 
 }
 
 -- the values after a finish
-pub tell_after : (table : Table) (history : List Event) (value_of : ℕ → ℕ → ℕ → ℕ) (values : List (Option ℕ)) (worker : ℕ) (result : Computed) (value : ℕ) → IsLegal table history → AreValues table history value_of values
+pub tell_after : (table : Table) (history : List Event) (value_of : ℕ → ℕ → ℕ → ℕ) (values : List (Option ℕ)) (worker : ℕ) (result : Computation) (value : ℕ) → IsLegalRun table history → AreValues table history value_of values
     → MayFinish table history value_of worker result → value ≡ value_of result.segment result.cost result.input
     → TellFinished (length table.segments) (history ++ Finish worker result.segment ∷ []) (slice_set values result.segment (Some value))
 tell_after table history value_of values worker result value legal are may is =

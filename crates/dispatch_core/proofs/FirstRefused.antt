@@ -9,9 +9,9 @@ use Rattle.task_segments.specs.Precedence.{MustPrecede}
 use Rattle.task_segments.specs.Table.{Table, table_of}
 use Rattle.dispatch_core.proofs.Histories.{legal_push}
 use Rattle.dispatch_core.specs.Facts.{IsSoundTable}
-use Rattle.dispatch_core.specs.Replays.{IsFirstRefused, RefusesEvent}
+use Rattle.dispatch_core.specs.Replays.{IsFirstRefused, RefusesNext}
 use Rattle.dispatch_core.specs.Refusals.{AreKnown, IsFirstUnfinished, IsIdle, RefusesStart}
-use Rattle.dispatch_core.specs.Run.{HasFinished, HasStarted, IsLegal, MayFollow, MayStart, Runs}
+use Rattle.dispatch_core.specs.Run.{HasFinished, HasStarted, IsLegalRun, MayFollow, MayStart, Runs}
 use Rattle.dispatch_core.specs.declared.event.TheConstants.{MOST_WORKERS}
 use Rattle.dispatch_core.specs.declared.event.Event.{Event}
 use Rattle.dispatch_core.specs.declared.event.Event.TheVariants.{Finish, Start}
@@ -20,9 +20,9 @@ use Rattle.dispatch_core.specs.declared.event.StartRefusal.TheVariants.{AlreadyS
 use Rattle.dispatch_core.specs.declared.replay.ReplayRefusal.{ReplayRefusal}
 use Rattle.dispatch_core.specs.declared.replay.ReplayRefusal.TheVariants.{NotRunning, OfStart}
 use Rattle.dispatch_core.proofs.DecidedEdges.{decide_precedes}
-use Rattle.dispatch_core.proofs.Decisions.{IsDecided, alike, decide_below, decide_both, decide_not, decide_same, find_first}
+use Rattle.dispatch_core.proofs.Decisions.{IsDecided, decided_by_equivalent, decide_below, decide_both, decide_not, decide_same, find_first}
 use Rattle.dispatch_core.proofs.NeverStuck.{decide_finished}
-use Rattle.task_program.specs.ProgramText.{ProgramText}
+use Rattle.task_program.specs.ProgramMarks.{ProgramMarks}
 use Rattle.task_program.specs.Programs.{IsProgram}
 use Rattle.dispatch_core.proofs.SomeGraph.{whole_table}
 
@@ -32,11 +32,11 @@ decide_same_event : (a b : Event) → IsDecided (a ≡ b)
 decide_same_event (Start v s) (Finish w t) = inr (λ e. cc)
 decide_same_event (Finish v s) (Start w t) = inr (λ e. cc)
 decide_same_event (Start v s) (Start w t) =
-    alike ((v ≡ w) × (s ≡ t)) (Start v s ≡ Start w t) (λ h. ap (λ n. Start n s) h.0 ∙ ap (λ n. Start w n) h.1)
+    decided_by_equivalent ((v ≡ w) × (s ≡ t)) (Start v s ≡ Start w t) (λ h. ap (λ n. Start n s) h.0 ∙ ap (λ n. Start w n) h.1)
     (λ e. (cc, cc))
     (decide_both (v ≡ w) (s ≡ t) (decide_same v w) (decide_same s t))
 decide_same_event (Finish v s) (Finish w t) =
-    alike ((v ≡ w) × (s ≡ t)) (Finish v s ≡ Finish w t) (λ h. ap (λ n. Finish n s) h.0 ∙ ap (λ n. Finish w n) h.1)
+    decided_by_equivalent ((v ≡ w) × (s ≡ t)) (Finish v s ≡ Finish w t) (λ h. ap (λ n. Finish n s) h.0 ∙ ap (λ n. Finish w n) h.1)
     (λ e. (cc, cc))
     (decide_both (v ≡ w) (s ≡ t) (decide_same v w) (decide_same s t))
 
@@ -67,7 +67,7 @@ holds_at history k event within is =
 decide_started : (history : List Event) (s : ℕ) → IsDecided (HasStarted history s)
 decide_started history s =
     let P : ℕ → Type 0 = λ k. (worker : ℕ) × (get_or history k some_event ≡ Start worker s) in
-    alike ((k : ℕ) × (k < length history) × P k) (HasStarted history s)
+    decided_by_equivalent ((k : ℕ) × (k < length history) × P k) (HasStarted history s)
     (λ h. record { worker = h.2.0; started = holds_at history h.0 (Start h.2.0 s) h.1 h.2.1 })
     (λ h. (h.started.0, h.started.1, (h.worker, at_place history (Start h.worker s) h.started)))
     (decide_below P (length history) (λ k. is_start_of (get_or history k some_event) s))
@@ -76,7 +76,7 @@ decide_runs : (history : List Event) (worker s : ℕ) → IsDecided (Runs histor
 decide_runs history worker s =
     let A : Type 0 = Contains history (Start worker s) in
     let B : Type 0 = ¬ HasFinished history s in
-    alike (A × B) (Runs history worker s) (λ h. record { started = h.0; unfinished = h.1 })
+    decided_by_equivalent (A × B) (Runs history worker s) (λ h. record { started = h.0; unfinished = h.1 })
     (λ r. (r.started, r.unfinished))
     (decide_both A B (decide_has history (Start worker s))
     (decide_not (HasFinished history s) (decide_finished history s)))
@@ -97,7 +97,7 @@ keeps_busy history worker (Start w t) = elim (decide_same w worker) [
 decide_busy : (history : List Event) (worker : ℕ) → IsDecided ((s : ℕ) × Runs history worker s)
 decide_busy history worker =
     let P : ℕ → Type 0 = λ k. (s : ℕ) × (get_or history k some_event ≡ Start worker s) × ¬ HasFinished history s in
-    alike ((k : ℕ) × (k < length history) × P k) ((s : ℕ) × Runs history worker s)
+    decided_by_equivalent ((k : ℕ) × (k < length history) × P k) ((s : ℕ) × Runs history worker s)
     (λ h. (h.2.0, record { started = holds_at history h.0 (Start worker h.2.0) h.1 h.2.1; unfinished = h.2.2 }))
     (λ h. let r = h.1 in (r.started.0, r.started.1, (h.0, at_place history (Start worker h.0) r.started, r.unfinished)))
     (decide_below P (length history) (λ k. keeps_busy history worker (get_or history k some_event)))
@@ -161,7 +161,7 @@ start_or_refusal table history worker s sound = elim (cases_lt worker MOST_WORKE
 ]
 
 next_or_refusal : (table : Table) (history : List Event) (event : Event) → IsSoundTable table
-    → MayFollow table history event ⊎ ((why : ReplayRefusal) × RefusesEvent table history event why)
+    → MayFollow table history event ⊎ ((why : ReplayRefusal) × RefusesNext table history event why)
 next_or_refusal table history (Start worker s) sound = elim (start_or_refusal table history worker s sound) [
   | inl may ↦ inl may
   | inr refused ↦ inr (OfStart refused.0, refused.1)
@@ -174,12 +174,12 @@ next_or_refusal table history (Finish worker s) sound = elim (decide_runs histor
 -- all events are legal, or some event is the first that is refused
 abbrev pub LegalOrRefused : Table → List Event → Type 0
 LegalOrRefused table events =
-    IsLegal table events ⊎ ((index : ℕ) × (why : ReplayRefusal) × IsFirstRefused table events index why)
+    IsLegalRun table events ⊎ ((index : ℕ) × (why : ReplayRefusal) × IsFirstRefused table events index why)
 
 legal_from : (table : Table) (events : List Event) (d i : ℕ) → IsSoundTable table → i + d ≡ length events
-    → IsLegal table (take i events) → LegalOrRefused table events
+    → IsLegalRun table (take i events) → LegalOrRefused table events
 legal_from table events zero i sound all legal =
-    inl (subst (λ (es : List Event). IsLegal table es) (take_all i events (omega (arith, all))) legal)
+    inl (subst (λ (es : List Event). IsLegalRun table es) (take_all i events (omega (arith, all))) legal)
 legal_from table events (suc d) i sound all legal =
     let event : Event = get_or events i some_event in
     let within : i < length events = omega (arith, all) in
@@ -187,7 +187,7 @@ legal_from table events (suc d) i sound all legal =
       | inl may ↦
           let more : take (i + 1) events ≡ take i events ++ event ∷ [] = take_more events i some_event within in
           legal_from table events d (i + 1) sound (omega (arith, all))
-          (subst (λ (es : List Event). IsLegal table es) (sym more)
+          (subst (λ (es : List Event). IsLegalRun table es) (sym more)
           (legal_push table (take i events) event legal may))
       | inr refused ↦ inr (
         i,
@@ -205,6 +205,6 @@ pub legal_or_refused : (table : Table) (events : List Event) → IsSoundTable ta
 legal_or_refused table events sound =
     legal_from table events (length events) 0 sound (omega arith) (λ k event is. absurd (none-some event is))
 
-pub legal_or_refused_of : (program : ProgramText) → IsProgram program → (events : List Event)
+pub legal_or_refused_of : (program : ProgramMarks) → IsProgram program → (events : List Event)
     → LegalOrRefused (table_of program.marks) events
 legal_or_refused_of program is events = legal_or_refused (table_of program.marks) events (whole_table program is).sound

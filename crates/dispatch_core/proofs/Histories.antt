@@ -9,7 +9,7 @@ use Rattle.std.proofs.lemmas.List.Elements.{Contains-append_left, Contains-push_
 use Rattle.task_segments.specs.Table.{Table}
 use Rattle.dispatch_core.specs.declared.event.Event.{Event}
 use Rattle.dispatch_core.specs.declared.event.Event.TheVariants.{Start, Finish}
-use Rattle.dispatch_core.specs.Run.{HasStarted, HasFinished, MayFollow, IsLegal}
+use Rattle.dispatch_core.specs.Run.{HasStarted, HasFinished, MayFollow, IsLegalRun}
 use Rattle.dispatch_core.proofs.PlaceLemmas.{get-append_left, get-push_last}
 
 pub Contains-from_take : {A : Type 0} (k : ℕ) (xs : List A) (x : A) → Contains (take k xs) x → Contains xs x
@@ -57,7 +57,7 @@ legal_last table history event may k other last is =
     let Q : Event → Type 0 = λ next. MayFollow table history next in
     subst P (sym all) (subst Q e may)
 
-pub legal_push : (table : Table) (history : List Event) (event : Event) → IsLegal table history → MayFollow table history event → IsLegal table (history ++ event ∷ [])
+pub legal_push : (table : Table) (history : List Event) (event : Event) → IsLegalRun table history → MayFollow table history event → IsLegalRun table (history ++ event ∷ [])
 legal_push table history event legal may k other is =
     elim (cases_lt k (length history)) [
       | inl below ↦
@@ -68,12 +68,12 @@ legal_push table history event legal may k other is =
           legal_last table history event may k other (omega (arith, within, length-append history (event ∷ []))) is
     ]
 
-pub started_before_finish : (table : Table) (history : List Event) (s : ℕ) → IsLegal table history → HasFinished history s → HasStarted history s
+pub started_before_finish : (table : Table) (history : List Event) (s : ℕ) → IsLegalRun table history → HasFinished history s → HasStarted history s
 started_before_finish table history s legal h =
     let at : ℕ = h.finished.0 in
     record { worker = h.worker; started = Contains-from_take at history (Start h.worker s) (legal at (Finish h.worker s) (get_at_place history (Finish h.worker s) h.finished)).started }
 
-pub one_starter : (table : Table) (history : List Event) (worker other s : ℕ) → IsLegal table history → Contains history (Start worker s) → Contains history (Start other s) → worker ≡ other
+pub one_starter : (table : Table) (history : List Event) (worker other s : ℕ) → IsLegalRun table history → Contains history (Start worker s) → Contains history (Start other s) → worker ≡ other
 one_starter table history worker other s legal one two =
     elim (cases_lt one.0 two.0) [
       | inl before ↦

@@ -11,9 +11,9 @@ use Rattle.depend_table.specs.Kept.{IsKeptEdge}
 use Rattle.depend_table.specs.Lists.{Lists}
 use Rattle.dispatch_core.specs.declared.event.Event.{Event}
 use Rattle.dispatch_core.specs.declared.event.Event.TheVariants.{Finish}
-use Rattle.dispatch_core.specs.Run.{HasFinished, Runs, IsLegal, IsOpen, BecomesReady}
+use Rattle.dispatch_core.specs.Run.{HasFinished, Runs, IsLegalRun, IsOpen, BecomesReady}
 use Rattle.dispatch_core.specs.declared.counters.Counters.{Counters}
-use Rattle.dispatch_core.specs.Counters.{AreKeptOf, GoesUp, HasValue, IsOpenBy, KeepsChains, TellFinished, unfinished}
+use Rattle.dispatch_core.specs.Counters.{AreKeptOf, GoesUp, HasValue, IsOpenBy, KeepsChains, TellFinished, unfinished_count}
 use Rattle.dispatch_core.specs.Listed.{items_of}
 use Rattle.dispatch_core.specs.UpToDate.{IsUpToDate, IsFreed}
 use Rattle.dispatch_core.proofs.ListLemmas.{Lists-like}
@@ -23,13 +23,13 @@ use Rattle.dispatch_core.proofs.FinishStep.{started_after_preds}
 use Rattle.dispatch_core.proofs.Falls.{none_left, all_counted, has_or_not}
 
 -- what must precede a finished segment is finished
-pub finished_before : (table : Table) (history : List Event) (s u : ℕ) → IsLegal table history → MustPrecede table s u → HasFinished history u → HasFinished history s
+pub finished_before : (table : Table) (history : List Event) (s u : ℕ) → IsLegalRun table history → MustPrecede table s u → HasFinished history u → HasFinished history s
 finished_before table history s u legal edge done =
     let started = started_before_finish table history u legal done in
     started_after_preds table history started.worker u legal started.started s edge
 
 -- along a chain of pairs that must precede each other
-chain_finished : (table : Table) (history : List Event) (R : ℕ → ℕ → Type 0) (t : ℕ) → IsLegal table history → ((a b : ℕ) → R a b → MustPrecede table a b)
+chain_finished : (table : Table) (history : List Event) (R : ℕ → ℕ → Type 0) (t : ℕ) → IsLegalRun table history → ((a b : ℕ) → R a b → MustPrecede table a b)
     → ((p : ℕ) → R p t → HasFinished history p)
     → (s u : ℕ) (rest : List ℕ) → IsChain R (s ∷ u ∷ rest) → slice_get (s ∷ u ∷ rest) (suc (length rest)) ≡ Some t → HasFinished history s
 chain_finished table history R t legal within all s u [] (edge, linked) ends =
@@ -37,7 +37,7 @@ chain_finished table history R t legal within all s u [] (edge, linked) ends =
 chain_finished table history R t legal within all s u (v ∷ rest) (edge, linked) ends =
     finished_before table history s u legal (within s u edge) (chain_finished table history R t legal within all u v rest linked ends)
 
-joined_finished : (table : Table) (history : List Event) (R : ℕ → ℕ → Type 0) (s t : ℕ) (chain : List ℕ) → IsLegal table history → ((a b : ℕ) → R a b → MustPrecede table a b)
+joined_finished : (table : Table) (history : List Event) (R : ℕ → ℕ → Type 0) (s t : ℕ) (chain : List ℕ) → IsLegalRun table history → ((a b : ℕ) → R a b → MustPrecede table a b)
     → ((p : ℕ) → R p t → HasFinished history p) → s < t
     → IsChain R chain → slice_get chain 0 ≡ Some s → slice_get chain (length chain - 1) ≡ Some t → HasFinished history s
 joined_finished table history R s t [] legal within all less linked begins ends = absurd linked
@@ -49,7 +49,7 @@ joined_finished table history R s t (x ∷ u ∷ rest) legal within all less lin
     (chain_finished table history R t legal within all x u rest linked (ap (λ (n : ℕ). slice_get (x ∷ u ∷ rest) n) (sym last) ∙ ends))
 
 -- the earlier segments of the task of one that runs are finished
-pub earlier_finished : (table : Table) (history : List Event) (worker s t : ℕ) → IsReadInPlace table → IsLegal table history → Runs history worker s → s < length table.segments
+pub earlier_finished : (table : Table) (history : List Event) (worker s t : ℕ) → IsReadInPlace table → IsLegalRun table history → Runs history worker s → s < length table.segments
     → IsOf table (segment table s).task t → t < s → HasFinished history t
 earlier_finished table history worker s t facts legal runs known of_task less =
     let joined = facts.between (segment table s).task t s of_task (record { is_segment = known; of_task = refl }) less in
@@ -57,7 +57,7 @@ earlier_finished table history worker s t facts legal runs known of_task less =
     (λ p follows. started_after_preds table history worker s legal runs.started p (inl follows)) less joined.linked joined.begins joined.ends
 
 -- where all its kept predecessors are finished, all that must precede it is
-pub kept_enough : (table : Table) (history : List Event) (t : ℕ) → GoesUp table → KeepsChains table → IsLegal table history
+pub kept_enough : (table : Table) (history : List Event) (t : ℕ) → GoesUp table → KeepsChains table → IsLegalRun table history
     → ((p : ℕ) → IsKeptEdge table p t → HasFinished history p) → (s : ℕ) → MustPrecede table s t → HasFinished history s
 kept_enough table history t proper chains legal all s edge =
     let joined = chains.joined s t edge in
@@ -65,8 +65,8 @@ kept_enough table history t proper chains legal all s edge =
 
 -- A segment becomes ready by a finish exactly where what finishes is one of its kept predecessors, and all of them are
 -- finished then.
-pub becomes_by_kept : (table : Table) (history : List Event) (worker s t : ℕ) → GoesUp table → KeepsChains table → IsLegal table history
-    → IsLegal table (history ++ Finish worker s ∷ []) → Runs history worker s → IsKeptEdge table s t → t < length table.segments
+pub becomes_by_kept : (table : Table) (history : List Event) (worker s t : ℕ) → GoesUp table → KeepsChains table → IsLegalRun table history
+    → IsLegalRun table (history ++ Finish worker s ∷ []) → Runs history worker s → IsKeptEdge table s t → t < length table.segments
     → ((p : ℕ) → IsKeptEdge table p t → HasFinished (history ++ Finish worker s ∷ []) p) → BecomesReady table history (history ++ Finish worker s ∷ []) t
 becomes_by_kept table history worker s t proper chains legal legal_after runs edge known all = record {
   was_not = λ h. runs.unfinished (h.after s (chains.within s t edge));
@@ -79,7 +79,7 @@ becomes_by_kept table history worker s t proper chains legal legal_after runs ed
   };
 }
 
-pub kept_by_becomes : (table : Table) (history : List Event) (worker s t : ℕ) → GoesUp table → KeepsChains table → IsLegal table history
+pub kept_by_becomes : (table : Table) (history : List Event) (worker s t : ℕ) → GoesUp table → KeepsChains table → IsLegalRun table history
     → (IsKeptEdge table s t ⊎ ¬ IsKeptEdge table s t) → BecomesReady table history (history ++ Finish worker s ∷ []) t
     → IsKeptEdge table s t × ((p : ℕ) → IsKeptEdge table p t → HasFinished (history ++ Finish worker s ∷ []) p)
 kept_by_becomes table history worker s t proper chains legal (inl edge) becomes = (edge, λ p e. becomes.is_now.after p (chains.within p t e))
@@ -141,18 +141,18 @@ opened_after table history t up known all = elim (cases_eq t 0) [
 ]
 
 -- what has s among its recorded predecessors and none that is counted becomes ready by the finish of s
-freed_becomes : (table : Table) (history : List Event) (values : List (Option ℕ)) (counters : Counters) (worker s t : ℕ) → GoesUp table → KeepsChains table → IsLegal table history
+freed_becomes : (table : Table) (history : List Event) (values : List (Option ℕ)) (counters : Counters) (worker s t : ℕ) → GoesUp table → KeepsChains table → IsLegalRun table history
     → Runs history worker s → TellFinished (length table.segments) (history ++ Finish worker s ∷ []) values → IsUpToDate table values counters → IsFreed s counters t
     → BecomesReady table history (history ++ Finish worker s ∷ []) t
 freed_becomes table history values counters worker s t up chains legal runs tell state freed =
     let list : List ℕ = freed.0.list in
     let lists = kept_with table (IsOpenBy table values) t s list freed.0.has (state.kept.lists t list freed.0.is_list) in
     let edge : IsKeptEdge table s t = (lists.each s).0 freed.0.has in
-    let none : unfinished values list ≡ 0 = same_Some (unfinished values list) 0 (sym (state.counts.counted t list freed.0.is_list) ∙ freed.1) in
+    let none : unfinished_count values list ≡ 0 = same_Some (unfinished_count values list) 0 (sym (state.counts.counted t list freed.0.is_list) ∙ freed.1) in
     becomes_by_kept table history worker s t up chains legal (legal_push table history (Finish worker s) legal runs) runs edge (up.within s t (chains.within s t edge))
     (λ p kept. entry_finished table (history ++ Finish worker s ∷ []) values p (entry values p) tell refl (none_left values list none p ((lists.each p).1 kept)))
 
-becomes_freed : (table : Table) (history : List Event) (values : List (Option ℕ)) (counters : Counters) (worker s t : ℕ) → GoesUp table → KeepsChains table → IsLegal table history
+becomes_freed : (table : Table) (history : List Event) (values : List (Option ℕ)) (counters : Counters) (worker s t : ℕ) → GoesUp table → KeepsChains table → IsLegalRun table history
     → TellFinished (length table.segments) (history ++ Finish worker s ∷ []) values → IsUpToDate table values counters
     → BecomesReady table history (history ++ Finish worker s ∷ []) t → IsFreed s counters t
 becomes_freed table history values counters worker s t up chains legal tell state becomes =
@@ -167,7 +167,7 @@ becomes_freed table history values counters worker s t up chains legal tell stat
     let none = all_counted values list (λ p has. finished_entry table (history ++ Finish worker s ∷ []) values p tell (kept.1 p ((lists.each p).0 has))) in
     (record { list = list; is_list = there; has = (lists.each s).1 kept.0 }, state.counts.counted t list there ∙ ap (λ (n : ℕ). Some n) none)
 
-pub newly_listed : (table : Table) (history : List Event) (values : List (Option ℕ)) (counters : Counters) (worker s : ℕ) (ready : List ℕ) → GoesUp table → KeepsChains table → IsLegal table history
+pub newly_listed : (table : Table) (history : List Event) (values : List (Option ℕ)) (counters : Counters) (worker s : ℕ) (ready : List ℕ) → GoesUp table → KeepsChains table → IsLegalRun table history
     → Runs history worker s → TellFinished (length table.segments) (history ++ Finish worker s ∷ []) values → IsUpToDate table values counters
     → Lists (IsFreed s counters) ready → Lists (BecomesReady table history (history ++ Finish worker s ∷ [])) ready
 newly_listed table history values counters worker s ready up chains legal runs tell state lists =
@@ -177,7 +177,7 @@ newly_listed table history values counters worker s ready up chains legal runs t
     lists
 
 -- of an open segment, a count of 0 tells that all that must precede it is finished
-pub none_counted : (table : Table) (history : List Event) (values : List (Option ℕ)) (counters : Counters) (t : ℕ) → GoesUp table → KeepsChains table → IsLegal table history
+pub none_counted : (table : Table) (history : List Event) (values : List (Option ℕ)) (counters : Counters) (t : ℕ) → GoesUp table → KeepsChains table → IsLegalRun table history
     → TellFinished (length table.segments) history values → IsUpToDate table values counters → t < length table.segments → IsOpen table history t
     → (slice_get counters.counts.items t ≡ Some 0) ↔ ((p : ℕ) → MustPrecede table p t → HasFinished history p)
 none_counted table history values counters t up chains legal tell state known opened =
@@ -186,7 +186,7 @@ none_counted table history values counters t up chains legal tell state known op
     let there : slice_get preds t ≡ Some list = slice_get-get_or preds t [] (let each = state.kept.each in omega (arith, known, each)) in
     let lists = kept_at table (IsOpenBy table values) t list (open_by_values table history values t tell opened) (state.kept.lists t list there) in (
       λ is.
-          let none : unfinished values list ≡ 0 = same_Some (unfinished values list) 0 (sym (state.counts.counted t list there) ∙ is) in
+          let none : unfinished_count values list ≡ 0 = same_Some (unfinished_count values list) 0 (sym (state.counts.counted t list there) ∙ is) in
           kept_enough table history t up chains legal (λ p edge. entry_finished table history values p (entry values p) tell refl (none_left values list none p ((lists.each p).1 edge))),
       λ all.
           let none = all_counted values list (λ p has. finished_entry table history values p tell (all p (chains.within p t ((lists.each p).0 has)))) in

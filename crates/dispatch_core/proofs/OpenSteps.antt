@@ -10,7 +10,7 @@ use Rattle.task_segments.specs.Table.{Table}
 use Rattle.depend_table.specs.Kept.{IsKeptEdge}
 use Rattle.depend_table.specs.Lists.{Lists}
 use Rattle.dispatch_core.specs.Entry.{entry}
-use Rattle.dispatch_core.specs.Counters.{unfinished, HasValue, AreKeptOf, AreKept, AreCounts, AreSuccessors, AreLowered, IsCounted}
+use Rattle.dispatch_core.specs.Counters.{unfinished_count, HasValue, AreKeptOf, AreKept, AreCounts, AreSuccessors, AreLowered, IsCounted}
 use Rattle.dispatch_core.specs.Listed.{IsListed, ArePushed}
 use Rattle.dispatch_core.proofs.PlaceLemmas.{get-set_same, get-set_other}
 use Rattle.dispatch_core.proofs.Falls.{IsOnce, has_or_not, once_listed, same_entry, new_entry, counts_after, counted_above}
@@ -59,8 +59,8 @@ not_listed preds t s none listed =
     let w = has.1 in absurd (omega (arith, w))
 
 -- after s has its value
-pub unvalued : (values : List (Option ℕ)) (s v p : ℕ) → s < length values → entry (slice_set values s (Some v)) p ≡ None → (p ≢ s) × (entry values p ≡ None)
-unvalued values s v p within none =
+pub had_no_value : (values : List (Option ℕ)) (s v p : ℕ) → s < length values → entry (slice_set values s (Some v)) p ≡ None → (p ≢ s) × (entry values p ≡ None)
+had_no_value values s v p within none =
     let apart : p ≢ s = λ same. none-some v (sym none ∙ ap (λ (n : ℕ). entry (slice_set values s (Some v)) n) same ∙ new_entry values s v within) in
     (apart, sym (same_entry values s p v apart) ∙ none)
 
@@ -83,8 +83,8 @@ successors_after : (values : List (Option ℕ)) (preds successors : List (List �
     → AreSuccessors (slice_set values s (Some v)) preds successors
 successors_after values preds successors s v within are = record {
   each = are.each;
-  listed = λ p list is none. are.listed p list is (unvalued values s v p within none).1;
-  once = λ p list is none. are.once p list is (unvalued values s v p within none).1;
+  listed = λ p list is none. are.listed p list is (had_no_value values s v p within none).1;
+  once = λ p list is none. are.once p list is (had_no_value values s v p within none).1;
 }
 
 pub lowered_like : (before after : List ℕ) (P Q : ℕ → Type 0) → ((t : ℕ) → P t ↔ Q t) → AreLowered before P after → AreLowered before Q after
@@ -147,15 +147,15 @@ kept_opened table is_open preds t list within so_far here = record {
 }
 
 counts_opened : (values : List (Option ℕ)) (preds : List (List ℕ)) (counts : List ℕ) (t : ℕ) (list : List ℕ) → t < length preds → AreCounts values preds counts
-    → AreCounts values (slice_set preds t list) (slice_set counts t (unfinished values list))
+    → AreCounts values (slice_set preds t list) (slice_set counts t (unfinished_count values list))
 counts_opened values preds counts t list within so_far = record {
-  each = length-set counts t (unfinished values list) ∙ so_far.each ∙ sym (length-set preds t list);
+  each = length-set counts t (unfinished_count values list) ∙ so_far.each ∙ sym (length-set preds t list);
   counted = λ u found is. elim (cases_eq u t) [
     | inl same ↦
         let lists_same : list ≡ found = same_Some list found (sym (get-set_same preds t list within) ∙ subst (λ (n : ℕ). slice_get (slice_set preds t list) n ≡ Some found) same is) in
         let c_within : t < length counts = let each = so_far.each in omega (arith, within, each) in
-        ap (λ (n : ℕ). slice_get (slice_set counts t (unfinished values list)) n) same ∙ get-set_same counts t (unfinished values list) c_within ∙ ap (λ (l : List ℕ). Some (unfinished values l)) lists_same
-    | inr apart ↦ get-set_other counts t u (unfinished values list) apart ∙ so_far.counted u found (sym (get-set_other preds t u list apart) ∙ is)
+        ap (λ (n : ℕ). slice_get (slice_set counts t (unfinished_count values list)) n) same ∙ get-set_same counts t (unfinished_count values list) c_within ∙ ap (λ (l : List ℕ). Some (unfinished_count values l)) lists_same
+    | inr apart ↦ get-set_other counts t u (unfinished_count values list) apart ∙ so_far.counted u found (sym (get-set_other preds t u list apart) ∙ is)
   ];
 }
 
@@ -262,8 +262,8 @@ once_opened preds counts ready later s t count closed so_far once free counted =
 pub stage_opened : (table : Table) (is_open : ℕ → Type 0) (values : List (Option ℕ)) (s t : ℕ) (preds successors after : List (List ℕ)) (counts ready later list : List ℕ)
     → IsStage table is_open values s preds successors counts ready → t < length preds → ¬ is_open t → Lists (λ p. IsKeptEdge table p t) list → Contains list s
     → ArePushed t (λ p. Contains list p × (entry values p ≡ None)) successors after
-    → (unfinished values list ≡ 0 → later ≡ ready ++ t ∷ []) → (unfinished values list ≢ 0 → later ≡ ready)
-    → IsStage table (λ u. is_open u ⊎ (u ≡ t)) values s (slice_set preds t list) after (slice_set counts t (unfinished values list)) later
+    → (unfinished_count values list ≡ 0 → later ≡ ready ++ t ∷ []) → (unfinished_count values list ≢ 0 → later ≡ ready)
+    → IsStage table (λ u. is_open u ⊎ (u ≡ t)) values s (slice_set preds t list) after (slice_set counts t (unfinished_count values list)) later
 stage_opened table is_open values s t preds successors after counts ready later list stage within closed lists has pushed free counted =
     let none = none_recorded table is_open preds t stage.kept within closed in
     let c_within : t < length counts = let each = stage.counted.each in omega (arith, within, each) in
@@ -271,8 +271,8 @@ stage_opened table is_open values s t preds successors after counts ready later 
       kept = kept_opened table is_open preds t list within stage.kept lists;
       counted = counts_opened values preds counts t list within stage.counted;
       followed = successors_opened values preds successors after t list within none stage.followed pushed;
-      freed = freed_opened preds counts ready later s t (unfinished values list) list within c_within none has stage.freed free counted;
-      once = once_opened preds counts ready later s t (unfinished values list) none stage.freed stage.once free counted;
+      freed = freed_opened preds counts ready later s t (unfinished_count values list) list within c_within none has stage.freed free counted;
+      once = once_opened preds counts ready later s t (unfinished_count values list) none stage.freed stage.once free counted;
     }
 
 kept_of_like : (table : Table) (P Q : ℕ → Type 0) (t : ℕ) (list : List ℕ) → (P t → Q t) → (Q t → P t) → AreKeptOf table P t list → AreKeptOf table Q t list

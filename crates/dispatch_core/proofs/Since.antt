@@ -74,9 +74,9 @@ record Created (table : Table) (before p : ℕ) (creator : ℕ) : Type 0 where
   of_task : IsOf table (segment table before).task creator
   earlier : creator < p
 
-created : (table : Table) (before next p : ℕ) → IsReadInPlace table → Continues table before next
+creator_precedes : (table : Table) (before next p : ℕ) → IsReadInPlace table → Continues table before next
     → (kept : KeptWait table p next) → Created table before p kept.wait.generated.creator
-created table before next p facts follows kept =
+creator_precedes table before next p facts follows kept =
     let made = kept.wait.generated in
     let by =
     facts.creator_of kept.wait.child (segment table next).task made.creator made.is_child made.parent made.is_creator in
@@ -92,7 +92,7 @@ pub since_first : (table : Table) (from before next p : ℕ) → IsReadInPlace t
     → KeptWait table p next → from ≤ p
 since_first table from before next p facts follows of_task none kept =
     let u : ℕ = (segment table before).task in
-    let made = created table before next p facts follows kept in
+    let made = creator_precedes table before next p facts follows kept in
     let earlier = made.earlier in
     elim (cases_eq from 0) [
       | inl none ↦ omega (arith, none)
@@ -125,7 +125,7 @@ since_wait table earlier from before next p facts follows since previous waits k
     let u : ℕ = (segment table before).task in
     let wait = kept.wait in
     let creator : ℕ = wait.generated.creator in
-    let made = created table before next p facts follows kept in
+    let made = creator_precedes table before next p facts follows kept in
     let of_u : (segment table earlier).task ≡ u = task_before table u earlier from previous since.of_task in
     let less = made.earlier in
     let later = facts.follows_later earlier from previous in

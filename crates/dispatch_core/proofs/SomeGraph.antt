@@ -2,15 +2,15 @@
 use Rattle.std.proofs.Common.{ℕ, zero, suc, ◌<◌, ◌≤◌, ◌≡◌, ◌∙◌, ◌%◌, ◌^◌, List, [], ◌∷◌, ◌++◌, length, get_or, refl, sym, subst, arith, inl, inr, sum_by}
 use Rattle.std.proofs.lemmas.Bool.{cases_lt}
 use Rattle.std.proofs.lemmas.List.{get_or_append_left, get_or_push, length_push}
-use Rattle.task_program.specs.ProgramText.{ProgramText}
+use Rattle.task_program.specs.ProgramMarks.{ProgramMarks}
 use Rattle.task_program.specs.Programs.{IsProgram}
 use Rattle.task_program.specs.Trees.{HasTree, HasTreeIn}
 use Rattle.task_program.specs.declared.version.Version.{Version}
 use Rattle.task_program.specs.declared.version.Version.TheVariants.{One, Two}
 use Rattle.task_segments.proofs.InPlace.{read_in_place, some_segment}
-use Rattle.task_segments.proofs.Order.{goes_up, reached}
+use Rattle.task_segments.proofs.Order.{goes_up, continues_or_is_created}
 use Rattle.task_segments.proofs.Programs.{few_segments, few_tasks, grouped_program, nested_program}
-use Rattle.task_segments.proofs.Reaches.{joined, one}
+use Rattle.task_segments.proofs.Reaches.{reached_is_joined, reaches_by_one}
 use Rattle.task_segments.proofs.SameSchedules.{same_joined}
 use Rattle.task_segments.proofs.Work.{little_work}
 use Rattle.task_segments.specs.Nesting.{IsGroupedTable, IsNestedTable}
@@ -23,18 +23,18 @@ use Rattle.depend_table.specs.Lists.{Lists}
 use Rattle.dispatch_core.proofs.Within.{within_table}
 use Rattle.dispatch_core.specs.Facts.{IsSoundTable}
 use Rattle.dispatch_core.specs.Graph.{IsGraphOf}
-use Rattle.dispatch_core.specs.Recorded.{Recorded}
+use Rattle.dispatch_core.specs.RecordedGraph.{RecordedGraph}
 use Rattle.dispatch_core.specs.Values.{IsValue}
 use Rattle.dispatch_core.specs.Values.IsValue.{Computes}
 use Rattle.dispatch_core.proofs.DecidedEdges.{decide_kept_edge}
 use Rattle.dispatch_core.proofs.Decisions.{some_list}
 
-fits_in : (version : Version) (text : List ℕ) (program : ProgramText) → HasTreeIn version text program
+fits_in : (version : Version) (text : List ℕ) (program : ProgramMarks) → HasTreeIn version text program
     → IsProgram program
 fits_in One text program h = h.program_fits
 fits_in Two text program h = h.expanded.program_fits
 
-pub tree_fits : (text : List ℕ) (program : ProgramText) → HasTree text program → IsProgram program
+pub tree_fits : (text : List ℕ) (program : ProgramMarks) → HasTree text program → IsProgram program
 tree_fits text program h = fits_in program.version text program h
 
 -- what holds of a program's table
@@ -43,7 +43,7 @@ pub record IsWhole (table : Table) : Type 0 where
   pub grouped : IsGroupedTable table
   pub sound : IsSoundTable table
 
-pub whole_table : (program : ProgramText) → IsProgram program → IsWhole (table_of program.marks)
+pub whole_table : (program : ProgramMarks) → IsProgram program → IsWhole (table_of program.marks)
 whole_table program is =
     let table : Table = table_of program.marks in
     let of_program : IsProgramTable table = record { program = program; is_program = is; is = refl } in
@@ -65,12 +65,12 @@ whole_table program is =
         goes_up = record {
           ascending = goes_up table nested;
           within = λ s t edge. within_table table s t nested edge;
-          reached = reached table nested;
+          reached = continues_or_is_created table nested;
         };
         chains = record {
           within = within;
           joined = λ s t edge. (chains s t).0
-              (joined {R = MustPrecede table} (one edge));
+              (reached_is_joined {R = MustPrecede table} (reaches_by_one edge));
         };
         in_place = read_in_place table nested grouped;
       };
@@ -112,7 +112,7 @@ first_rows table sound (suc n) =
       },
     )
 
-pub some_graph : (table : Table) → IsSoundTable table → (graph : Recorded) × IsGraphOf table graph
+pub some_graph : (table : Table) → IsSoundTable table → (graph : RecordedGraph) × IsGraphOf table graph
 some_graph table sound =
     let rows : (rows : List (List ℕ)) × AreFirstRows table (length table.segments) rows = first_rows table sound
     (length table.segments) in (
@@ -158,11 +158,11 @@ first_values table value_of sound (suc n) all =
       },
     )
 
-pub some_graph_of : (program : ProgramText) → IsProgram program
-    → (graph : Recorded) × IsGraphOf (table_of program.marks) graph
+pub some_graph_of : (program : ProgramMarks) → IsProgram program
+    → (graph : RecordedGraph) × IsGraphOf (table_of program.marks) graph
 some_graph_of program is = some_graph (table_of program.marks) (whole_table program is).sound
 
-pub some_value_of : (program : ProgramText) → IsProgram program → (value_of : ℕ → ℕ → ℕ → ℕ) (s : ℕ)
+pub some_value_of : (program : ProgramMarks) → IsProgram program → (value_of : ℕ → ℕ → ℕ → ℕ) (s : ℕ)
     → IsSegment (table_of program.marks) s → (value : ℕ) × IsValue (table_of program.marks) value_of s value
 some_value_of program is value_of s known =
     let table : Table = table_of program.marks in

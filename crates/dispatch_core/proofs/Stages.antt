@@ -21,14 +21,14 @@ use Rattle.dispatch_core.specs.declared.counters.Counters.{Counters}
 use Rattle.dispatch_core.specs.declared.counters.Growths.{Growths}
 use Rattle.dispatch_core.specs.Entry.{entry}
 use Rattle.dispatch_core.specs.Facts.{IsSoundTable}
-use Rattle.dispatch_core.specs.Counters.{unfinished, AreLowered, IsCounted, IsOpenBy, AreKept, AreCounts, AreSuccessors, AreSiblings}
+use Rattle.dispatch_core.specs.Counters.{unfinished_count, AreLowered, IsCounted, IsOpenBy, AreKept, AreCounts, AreSuccessors, AreSiblings}
 use Rattle.dispatch_core.specs.UpToDate.{IsUpToDate}
 use Rattle.dispatch_core.specs.Listed.{items_of, IsListed}
 use Rattle.dispatch_core.specs.Rooms.{HasRoom, IsRoomier}
 use Rattle.dispatch_core.specs.Openings.{IsGrown, IsOpening, IsRoomFor, IsRoomToOpen, IsOpened, AreReady}
 use Rattle.dispatch_core.proofs.Falls.{counted_above, differ_from_once}
 use Rattle.dispatch_core.proofs.Openers.{created_apart}
-use Rattle.dispatch_core.proofs.OpenSteps.{IsStage, once_in, stage_lowered, stage_opened, stage_like, has_more, has_new, had_value, unvalued}
+use Rattle.dispatch_core.proofs.OpenSteps.{IsStage, once_in, stage_lowered, stage_opened, stage_like, has_more, has_new, had_value, had_no_value}
 use Rattle.dispatch_core.proofs.Rooms.{less_room}
 use Rattle.dispatch_core.proofs.Turning.{items_at, length-items}
 use Rattle.dispatch_core.proofs.Uniqueness.{length_below}
@@ -58,7 +58,7 @@ stage_then table is_open R values s (Some opening) before after ready later stag
     let has : Contains list s = (opens.kept.each s).1 (edge t opens.does) in
     let opened = stage_opened table is_open values s t preds (items_of before.successors.items) (items_of after.successors.items) before.counts.items ready.items later.items list
     stage within (closed t opens.does) opens.kept has adds.successors lists.free lists.counted in
-    let like = stage_like table (λ u. is_open u ⊎ (u ≡ t)) Later values s (slice_set preds t list) (items_of after.successors.items) (slice_set before.counts.items t (unfinished values list)) later.items
+    let like = stage_like table (λ u. is_open u ⊎ (u ≡ t)) Later values s (slice_set preds t list) (items_of after.successors.items) (slice_set before.counts.items t (unfinished_count values list)) later.items
     (λ u h. elim h [ inl was ↦ inl was | inr same ↦ inr (subst R (sym same) opens.does) ]) (λ u h. elim h [ inl was ↦ inl was | inr r ↦ inr (opens.alone u r) ]) opened in
     subst (λ (p : List (List ℕ)). IsStage table Later values s p (items_of after.successors.items) after.counts.items later.items) (sym adds.preds)
     (subst (λ (n : List ℕ). IsStage table Later values s (slice_set preds t list) (items_of after.successors.items) n later.items) (sym adds.counts) like)
@@ -115,7 +115,7 @@ can_open table R values s v (Some opening) counters ready sound within opens kno
       counted = omega (arith, is_segment, counts);
       few = let short = length_below t opening.preds.items opens.kept.ascending (λ p has. sound.goes_up.ascending p t (sound.chains.within p t ((opens.kept.each p).0 has))) in omega (arith, short, limit, is_segment);
       once = differ_from_once opening.preds.items (AllPairs-from_increasing opening.preds.items opens.kept.ascending);
-      room = λ p has none. let before = unvalued values s v p within none in room opening refl p has before.0 before.1;
+      room = λ p has none. let before = had_no_value values s v p within none in room opening refl p has before.0 before.1;
       ready_room = enough;
     }
 
@@ -140,25 +140,25 @@ pub preds_long : (values : List (Option ℕ)) (opening : Option Opening) (before
 preds_long values None before after same = (ap (λ (c : Counters). length c.preds.items) same, ap (λ (c : Counters). length c.counts.items) same)
 preds_long values (Some opening) before after adds = (
   sym (length-items after.preds.items) ∙ ap (λ (l : List (List ℕ)). length l) adds.preds ∙ length-set (items_of before.preds.items) opening.segment opening.preds.items ∙ length-items before.preds.items,
-  ap (λ (l : List ℕ). length l) adds.counts ∙ length-set before.counts.items opening.segment (unfinished values opening.preds.items),
+  ap (λ (l : List ℕ). length l) adds.counts ∙ length-set before.counts.items opening.segment (unfinished_count values opening.preds.items),
 )
 
 -- sorted numbers of which none are the same
-differ : (b : Bool) (x y : ℕ) → eqb x y ≡ b → x ≢ y → b ≡ false
-differ true x y is apart = absurd (apart (eqb-true x y is))
-differ false x y is apart = refl
+eqb_of_different : (b : Bool) (x y : ℕ) → eqb x y ≡ b → x ≢ y → b ≡ false
+eqb_of_different true x y is apart = absurd (apart (eqb-true x y is))
+eqb_of_different false x y is apart = refl
 
-flips : (x y : ℕ) → eqb x y ≡ eqb y x
-flips x y = elim (cases_eq x y) [
+eqb_symmetric : (x y : ℕ) → eqb x y ≡ eqb y x
+eqb_symmetric x y = elim (cases_eq x y) [
   | inl same ↦ ap (λ (n : ℕ). eqb n y) same ∙ ap (λ (n : ℕ). eqb y n) (sym same)
-  | inr apart ↦ differ (eqb x y) x y refl apart ∙ sym (differ (eqb y x) y x refl (λ same. apart (sym same)))
+  | inr apart ↦ eqb_of_different (eqb x y) x y refl apart ∙ sym (eqb_of_different (eqb y x) y x refl (λ same. apart (sym same)))
 ]
 
 pub sorted_lists : (P : ℕ → Type 0) (before after : List ℕ) → IsPermutation before after → IsSorted nat_cmp after → AllPairs (λ x y. x ≢ y) before → ((t : ℕ) → Contains before t ↔ P t) → Lists P after
 sorted_lists P before after moved sorted once each =
-    let distinct : IsDistinct eqb before = IsDistinct-from_apart eqb before (λ i j d less within. differ (eqb (get_or before i d) (get_or before j d)) (get_or before i d) (get_or before j d) refl (once i j d less within)) in
+    let distinct : IsDistinct eqb before = IsDistinct-from_apart eqb before (λ i j d less within. eqb_of_different (eqb (get_or before i d) (get_or before j d)) (get_or before i d) (get_or before j d) refl (once i j d less within)) in
     record {
-      ascending = IsStrictlyIncreasing-from_distinct after (IsNonDecreasingBy-from_sort (λ (x : ℕ). x) after sorted) (IsDistinct-IsPermutation eqb flips before after moved distinct);
+      ascending = IsStrictlyIncreasing-from_distinct after (IsNonDecreasingBy-from_sort (λ (x : ℕ). x) after sorted) (IsDistinct-IsPermutation eqb eqb_symmetric before after moved distinct);
       each = λ t. (
         λ h. (each t).0 (Contains-permutation after before t (IsPermutation-sym before after moved) h),
         λ h. Contains-permutation before after t moved ((each t).1 h),

@@ -9,7 +9,7 @@ use Rattle.std.proofs.lemmas.List.Elements.{Contains-append_left, Contains-push,
 use Rattle.task_segments.specs.Table.{Table}
 use Rattle.dispatch_core.specs.declared.event.Event.{Event}
 use Rattle.dispatch_core.specs.declared.event.Event.TheVariants.{Start}
-use Rattle.dispatch_core.specs.Run.{HasStarted, HasFinished, Runs, MayStart, IsLegal}
+use Rattle.dispatch_core.specs.Run.{HasStarted, HasFinished, Runs, MayStart, IsLegalRun}
 use Rattle.dispatch_core.specs.declared.counters.Counters.{Counters}
 use Rattle.dispatch_core.specs.Entry.{entry}
 use Rattle.dispatch_core.specs.Sound.{IsSound, AreStarted, AreRunning, AreValues}
@@ -40,7 +40,7 @@ started_after table history started worker s are known not_started = record {
   ];
 }
 
-running_after : (table : Table) (history : List Event) (running : List (Option ℕ)) (worker s : ℕ) → IsLegal table history → AreRunning history running
+running_after : (table : Table) (history : List Event) (running : List (Option ℕ)) (worker s : ℕ) → IsLegalRun table history → AreRunning history running
     → MayStart table history worker s → AreRunning (history ++ Start worker s ∷ []) (slice_set running worker (Some s))
 running_after table history running worker s legal are may =
     let next : List Event = history ++ Start worker s ∷ [] in

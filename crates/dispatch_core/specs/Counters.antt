@@ -12,8 +12,8 @@ use Rattle.dispatch_core.specs.Listed.{IsListed}
 use Rattle.dispatch_core.specs.Entry.{entry}
 
 -- how many of these segments have no value yet
-abbrev pub unfinished : List (Option ℕ) → List ℕ → ℕ
-unfinished values list = count_by (λ p. is_none (entry values p)) list
+abbrev pub unfinished_count : List (Option ℕ) → List ℕ → ℕ
+unfinished_count values list = count_by (λ p. is_none (entry values p)) list
 
 -- each of as many segments has a value exactly where it is finished
 pub record TellFinished (segments : ℕ) (history : List Event) (values : List (Option ℕ)) : Type 0 where
@@ -52,7 +52,7 @@ pub record AreKept (table : Table) (is_open : ℕ → Type 0) (preds : List (Lis
 -- for each segment the number of its recorded predecessors that are not finished
 pub record AreCounts (values : List (Option ℕ)) (preds : List (List ℕ)) (counts : List ℕ) : Type 0 where
   pub each : length counts ≡ length preds
-  pub counted : (t : ℕ) (list : List ℕ) → slice_get preds t ≡ Some list → slice_get counts t ≡ Some (unfinished values list)
+  pub counted : (t : ℕ) (list : List ℕ) → slice_get preds t ≡ Some list → slice_get counts t ≡ Some (unfinished_count values list)
 
 -- for each unfinished segment those that have it among their recorded predecessors, each once
 pub record AreSuccessors (values : List (Option ℕ)) (preds successors : List (List ℕ)) : Type 0 where

@@ -3,15 +3,15 @@ use Rattle.std.specs.Prelude.{ℕ, ◌<◌, ◌≡◌, length, map}
 use Rattle.task_segments.specs.Table.{Table, costs_of}
 use Rattle.depend_table.specs.Kept.{IsKeptEdge}
 use Rattle.depend_table.specs.Lists.{Lists}
-use Rattle.dispatch_core.specs.Recorded.{Recorded, predecessors_of}
+use Rattle.dispatch_core.specs.RecordedGraph.{RecordedGraph, predecessors_of}
 use Rattle.dispatch_core.specs.declared.graph.Graph.TheInside.{Inside}
 
 -- it has the costs of the program's segments, and of each segment the kept predecessors
-pub record IsGraphOf (table : Table) (graph : Recorded) : Type 0 where
+pub record IsGraphOf (table : Table) (graph : RecordedGraph) : Type 0 where
   pub costs : graph.costs ≡ costs_of table
   pub each : length graph.predecessors ≡ length table.segments
   pub predecessors : (t : ℕ) → t < length table.segments → Lists (λ s. IsKeptEdge table s t) (predecessors_of graph t)
 
 -- the graph that a graph's fields stand for
-abbrev pub recorded : Inside → Recorded
-recorded a = record { costs = a.costs.items; predecessors = map (λ v. v.items) a.predecessors.items }
+abbrev pub graph_of_fields : Inside → RecordedGraph
+graph_of_fields a = record { costs = a.costs.items; predecessors = map (λ v. v.items) a.predecessors.items }

@@ -1,6 +1,6 @@
 pub mod Result
 pub mod Mix
-pub mod Recorded
+pub mod RecordedGraph
 pub mod Entry
 pub mod Listed
 pub mod Rooms

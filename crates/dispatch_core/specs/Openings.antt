@@ -9,20 +9,20 @@ use Rattle.depend_table.specs.Lists.{Lists}
 use Rattle.dispatch_core.specs.declared.opening.Opening.{Opening}
 use Rattle.dispatch_core.specs.declared.counters.Counters.{Counters}
 use Rattle.dispatch_core.specs.declared.counters.Growths.{Growths}
-use Rattle.dispatch_core.specs.Counters.{AreSiblings, unfinished}
+use Rattle.dispatch_core.specs.Counters.{AreSiblings, unfinished_count}
 use Rattle.dispatch_core.specs.Entry.{entry}
 use Rattle.dispatch_core.specs.Listed.{IsListed, ArePushed, items_of}
 use Rattle.dispatch_core.specs.Rooms.{HasRoom}
 
 -- the one segment that opens so, with its kept predecessors
-pub record Opens (table : Table) (opens : ℕ → Type 0) (opening : Opening) : Type 0 where
+pub record IsTheOpening (table : Table) (opens : ℕ → Type 0) (opening : Opening) : Type 0 where
   pub does : opens opening.segment
   pub alone : (t : ℕ) → opens t → t ≡ opening.segment
   pub kept : Lists (λ p. IsKeptEdge table p opening.segment) opening.preds.items
 
 abbrev pub IsOpening : Table → (ℕ → Type 0) → Option Opening → Type 0
 IsOpening table opens None = (t : ℕ) → ¬ opens t
-IsOpening table opens (Some opening) = Opens table opens opening
+IsOpening table opens (Some opening) = IsTheOpening table opens opening
 
 -- room for two more successors of each unfinished kept predecessor, but for the segment that finishes
 abbrev pub IsRoomFor : List (Option ℕ) → ℕ → List (Vec ℕ Global) → Option Opening → Type 0
@@ -56,7 +56,7 @@ IsRoomToOpen values counters (Some opening) ready = CanOpen values counters read
 -- a segment is opened
 pub record AddsOpen (values : List (Option ℕ)) (opening : Opening) (before after : Counters) : Type 0 where
   pub preds : items_of after.preds.items ≡ slice_set (items_of before.preds.items) opening.segment opening.preds.items
-  pub counts : after.counts.items ≡ slice_set before.counts.items opening.segment (unfinished values opening.preds.items)
+  pub counts : after.counts.items ≡ slice_set before.counts.items opening.segment (unfinished_count values opening.preds.items)
   pub successors : ArePushed opening.segment (λ p. Contains opening.preds.items p × (entry values p ≡ None)) (items_of before.successors.items) (items_of after.successors.items)
   pub room : (count place : ℕ) → HasRoom before.successors.items (count + 1) place → HasRoom after.successors.items count place
   pub siblings : after.siblings ≡ before.siblings
@@ -67,8 +67,8 @@ IsOpened values (Some opening) before after = AddsOpen values opening before aft
 
 -- and listed as ready, if none of its kept predecessors is unfinished
 pub record AddsReady (values : List (Option ℕ)) (opening : Opening) (before after : Vec ℕ Global) : Type 0 where
-  pub free : unfinished values opening.preds.items ≡ 0 → after.items ≡ before.items ++ opening.segment ∷ []
-  pub counted : (unfinished values opening.preds.items ≢ 0) → after.items ≡ before.items
+  pub free : unfinished_count values opening.preds.items ≡ 0 → after.items ≡ before.items ++ opening.segment ∷ []
+  pub counted : (unfinished_count values opening.preds.items ≢ 0) → after.items ≡ before.items
   pub room : (count : ℕ) → vec_len before + (count + 1) ≤ vec_capacity before → vec_len after + count ≤ vec_capacity after
 
 abbrev pub AreReady : List (Option ℕ) → Option Opening → Vec ℕ Global → Vec ℕ Global → Type 0

@@ -8,7 +8,7 @@ use Rattle.dispatch_core.specs.declared.event.StartRefusal.{StartRefusal}
 use Rattle.dispatch_core.specs.declared.event.StartRefusal.TheVariants.{UnknownWorker, UnknownSegment, WorkerBusy, AlreadyStarted, NotReady}
 use Rattle.dispatch_core.specs.declared.event.FinishKind.{FinishKind}
 use Rattle.dispatch_core.specs.declared.event.FinishKind.TheVariants.{NotRunning, WrongCost, WrongInput, OutOfMemory}
-use Rattle.dispatch_core.specs.Result.{Computed}
+use Rattle.dispatch_core.specs.Result.{Computation}
 use Rattle.dispatch_core.specs.Values.{IsInput}
 use Rattle.dispatch_core.specs.Run.{HasStarted, HasFinished, Runs}
 
@@ -44,13 +44,13 @@ pub record IsCost (table : Table) (s cost : ℕ) : Type 0 where
   pub costs : cost ≡ (segment table s).cost
 
 -- the worker runs the segment, and the result is for its cost and its input
-pub record MayFinish (table : Table) (history : List Event) (value_of : ℕ → ℕ → ℕ → ℕ) (worker : ℕ) (result : Computed) : Type 0 where
+pub record MayFinish (table : Table) (history : List Event) (value_of : ℕ → ℕ → ℕ → ℕ) (worker : ℕ) (result : Computation) : Type 0 where
   pub runs : Runs history worker result.segment
   pub cost : IsCost table result.segment result.cost
   pub input : IsInput table value_of result.segment result.input
 
 -- why the worker may not finish with the result; memory is wanted only for one that it may finish with
-abbrev pub RefusesFinish : Table → List Event → (ℕ → ℕ → ℕ → ℕ) → ℕ → Computed → FinishKind → Type 0
+abbrev pub RefusesFinish : Table → List Event → (ℕ → ℕ → ℕ → ℕ) → ℕ → Computation → FinishKind → Type 0
 RefusesFinish table history value_of worker result NotRunning = ¬ Runs history worker result.segment
 RefusesFinish table history value_of worker result WrongCost =
     Runs history worker result.segment × (¬ IsCost table result.segment result.cost)

@@ -9,7 +9,7 @@ use Rattle.dispatch_core.specs.declared.replay.ReplayFault.{ReplayFault}
 use Rattle.dispatch_core.specs.declared.replay.ReplayFault.TheVariants.{At, OutOfMemory}
 use Rattle.dispatch_core.specs.declared.replay.StepFault.{StepFault}
 use Rattle.dispatch_core.specs.declared.replay.StepFault.TheVariants.{Refused, NoMemory}
-use Rattle.dispatch_core.specs.Run.{HasStarted, HasFinished, Runs, IsLegal}
+use Rattle.dispatch_core.specs.Run.{HasStarted, HasFinished, Runs, IsLegalRun}
 use Rattle.dispatch_core.specs.Refusals.{RefusesStart}
 
 -- the segments below a number are finished, and no other is started
@@ -18,16 +18,16 @@ pub record AreDone (history : List Event) (count : ℕ) : Type 0 where
   pub no_other : (s : ℕ) → HasStarted history s → s < count
 
 -- why the event may not be the next one
-abbrev pub RefusesEvent : Table → List Event → Event → ReplayRefusal → Type 0
-RefusesEvent table history (Start worker segment) (OfStart refusal) = RefusesStart table history worker segment refusal
-RefusesEvent table history (Start worker segment) NotRunning = ⊥
-RefusesEvent table history (Finish worker segment) (OfStart refusal) = ⊥
-RefusesEvent table history (Finish worker segment) NotRunning = ¬ Runs history worker segment
+abbrev pub RefusesNext : Table → List Event → Event → ReplayRefusal → Type 0
+RefusesNext table history (Start worker segment) (OfStart refusal) = RefusesStart table history worker segment refusal
+RefusesNext table history (Start worker segment) NotRunning = ⊥
+RefusesNext table history (Finish worker segment) (OfStart refusal) = ⊥
+RefusesNext table history (Finish worker segment) NotRunning = ¬ Runs history worker segment
 
 -- why the event was not made; memory is wanted only for a finish that may follow
 abbrev pub RefusesStep : Table → List Event → Event → StepFault → Type 0
-RefusesStep table history (Start worker segment) (Refused refusal) = RefusesEvent table history (Start worker segment) refusal
-RefusesStep table history (Finish worker segment) (Refused refusal) = RefusesEvent table history (Finish worker segment) refusal
+RefusesStep table history (Start worker segment) (Refused refusal) = RefusesNext table history (Start worker segment) refusal
+RefusesStep table history (Finish worker segment) (Refused refusal) = RefusesNext table history (Finish worker segment) refusal
 RefusesStep table history (Start worker segment) NoMemory = ⊥
 RefusesStep table history (Finish worker segment) NoMemory = Runs history worker segment
 
@@ -35,8 +35,8 @@ RefusesStep table history (Finish worker segment) NoMemory = Runs history worker
 pub record IsFirstRefused (table : Table) (events : List Event) (index : ℕ) (refusal : ReplayRefusal) : Type 0 where
   pub event : Event
   pub is_there : slice_get events index ≡ Some event
-  pub legal : IsLegal table (take index events)
-  pub refused : RefusesEvent table (take index events) event refusal
+  pub legal : IsLegalRun table (take index events)
+  pub refused : RefusesNext table (take index events) event refusal
 
 -- the first refused event, memory aside
 abbrev pub RefusesReplay : Table → List Event → ReplayFault → Type 0

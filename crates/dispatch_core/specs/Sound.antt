@@ -8,7 +8,7 @@ use Rattle.dispatch_core.specs.Counters.{TellFinished}
 use Rattle.dispatch_core.specs.UpToDate.{IsUpToDate}
 use Rattle.dispatch_core.specs.Entry.{entry}
 use Rattle.dispatch_core.specs.Facts.{IsSoundTable}
-use Rattle.dispatch_core.specs.Run.{HasStarted, Runs, IsLegal}
+use Rattle.dispatch_core.specs.Run.{HasStarted, Runs, IsLegalRun}
 use Rattle.dispatch_core.specs.Values.{IsValue}
 
 -- a flag for each segment: whether it is started
@@ -31,7 +31,7 @@ pub record AreValues (table : Table) (history : List Event) (value_of : ℕ → 
 pub record IsSound (value_of : ℕ → ℕ → ℕ → ℕ) (table : Table) (history : List Event) (capacity : ℕ) (started : List Bool)
     (running : List (Option ℕ)) (values : List (Option ℕ)) (counters : Counters) (costs : List ℕ) : Type 0 where
   pub sound_table : IsSoundTable table
-  pub legal : IsLegal table history
+  pub legal : IsLegalRun table history
   pub are_started : AreStarted table history started
   pub are_running : AreRunning history running
   pub are_values : AreValues table history value_of values

@@ -104,7 +104,7 @@ fn wait_begin(table: &SegTable, before: u32, next: u32) -> u32
 {
     reads_in_place(table);
     let mut from = before;
-    while let Some(earlier) = previous(table, from) {
+    while let Some(earlier) = previous_segment(table, from) {
         match table.closing(earlier) {
             Closing::Waits => return from,
             _ => from = earlier,
@@ -114,7 +114,7 @@ fn wait_begin(table: &SegTable, before: u32, next: u32) -> u32
 }
 
 /// The segment before one in its task, if there is one.
-fn previous(table: &SegTable, segment: u32) -> Option<u32>
+fn previous_segment(table: &SegTable, segment: u32) -> Option<u32>
     requires { IsSegment table.now segment }
     ensures { (s : ℕ) → (result ≡ Some s) ↔ Continues table.now s segment }
 {

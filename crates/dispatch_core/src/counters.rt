@@ -5,16 +5,16 @@ ghost use Rattle.task_segments.specs.Precedence.{IsSegment};
 ghost use Rattle.task_segments.specs.Table.{Table, segment};
 ghost use Rattle.task_segments.specs.InPlace.{IsOf};
 ghost use Rattle.depend_table.specs.Lists.{Lists};
-ghost use Rattle.dispatch_core.specs.Counters.{AreLowered, HasValue, IsCounted, unfinished};
+ghost use Rattle.dispatch_core.specs.Counters.{AreLowered, HasValue, IsCounted, unfinished_count};
 ghost use Rattle.dispatch_core.specs.Entry.{entry};
 ghost use Rattle.dispatch_core.specs.UpToDate.{IsUpToDate, IsFreed};
 ghost use Rattle.dispatch_core.specs.Listed.{items_of};
 ghost use Rattle.dispatch_core.specs.Openings.{IsGrown, IsOpened, IsRoomToOpen, AreReady};
 
-use crate::facts::sound;
+use crate::facts::serves_runs;
 use crate::listed::{no_lists, push_in_room, push_on};
 use crate::opening::{Opening, first_opening, next_opening, no_siblings};
-use crate::places::{push_if, repeated, value_entry};
+use crate::places::{copies_of, push_if, value_entry};
 use depend_table::table::SiblingTable;
 use std::alloc::Global;
 use task_program::AllocFault;
@@ -46,11 +46,11 @@ impl Counters {
     pub fn new(alloc: Global, table: &SegTable) -> Result<Counters, AllocFault>
         ensures { IfOk result (IsUpToDate table.now (replicate (length table.now.segments) None)) }
     {
-        sound(table);
+        serves_runs(table);
         Ok(Counters {
             preds: no_lists(alloc, table.len())?,
             successors: no_lists(alloc, table.len())?,
-            counts: repeated(alloc, 0, table.len())?,
+            counts: copies_of(alloc, 0, table.len())?,
             siblings: no_siblings(alloc, table.tasks())?,
         })
     }
@@ -100,7 +100,7 @@ impl Counters {
         ensures refused { OnErr result (values.new.items ≡ values.old.items) }
         ensures ready { IfOk result (λ ready. Lists (IsFreed finished self.new) ready.items) }
     {
-        sound(table);
+        serves_runs(table);
         let growths = self.grow(alloc, table, values.as_slice(), finished)?;
         let mut ready = growths.ready;
         values[finished as usize] = Some(value);
@@ -220,7 +220,7 @@ fn lower(counts: &mut Vec<u32>, segments: &[u32])
 /// How many of these segments have no value yet.
 fn count_unfinished(values: &[Option<u64>], segments: &[u32]) -> u32
     requires { length segments.now ≤ MOST_SEGMENTS }
-    ensures { result ≡ unfinished values.now segments.now }
+    ensures { result ≡ unfinished_count values.now segments.now }
 {
     let mut count = 0u32;
     for segment in segments {

@@ -4,7 +4,7 @@ ghost use Rattle.task_segments.specs.Table.{Table};
 ghost use Rattle.task_segments.specs.Precedence.{MustPrecede};
 ghost use Rattle.depend_table.specs.Kept.{IsKeptEdge};
 ghost use Rattle.depend_table.specs.Lists.{Lists};
-ghost use Rattle.dispatch_core.specs.Run.{Run, HasStarted, HasFinished, Runs, MayStart, MayFollow, IsLegal, IsFinished, IsOpen, IsReady};
+ghost use Rattle.dispatch_core.specs.Run.{Run, HasStarted, HasFinished, Runs, MayStart, MayFollow, IsLegalRun, IsFinished, IsOpen, IsReady};
 ghost use Rattle.dispatch_core.specs.Values.{IsValue, IsInput};
 ghost use Rattle.std.specs.Prelude.{◌≢◌};
 ghost use Rattle.dispatch_core.specs.Run.{BecomesReady};
@@ -13,7 +13,7 @@ ghost use Rattle.dispatch_core.specs.Graph.{IsGraphOf};
 
 use crate::counters::Counters;
 use crate::event::{Event, FinishKind, FinishRefusal, MOST_WORKERS, StartRefusal};
-use crate::facts::sound;
+use crate::facts::serves_runs;
 use crate::graph::{Graph, make_graph};
 use crate::kernel::{Kernel, SegResult};
 use crate::opener::opener;
@@ -60,7 +60,7 @@ impl<K: Kernel> Core<K> {
     {
         match make_places(alloc, &table) {
             Ok(places) => {
-                sound(&table);
+                serves_runs(&table);
                 Ok(Core {
                     alloc,
                     table,
@@ -87,7 +87,7 @@ impl<K: Kernel> Core<K> {
     /// The accepted events, in order. Its other clauses tell callers that they are legal, and at most two for each segment.
     pub fn history(&self) -> &[Event]
         ensures events { result.now ≡ self.now.history }
-        ensures legal { IsLegal self.now.table self.now.history }
+        ensures legal { IsLegalRun self.now.table self.now.history }
         ensures short { length self.now.history ≤ 2 * length self.now.table.segments }
     {
         self.history.as_slice()

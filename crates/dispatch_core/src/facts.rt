@@ -6,7 +6,7 @@ use task_segments::laws::{goes_up, nests, opens_after_another, reads_in_place, w
 use task_segments::table::SegTable;
 
 /// A table keeps all that the steps of a run ask of it.
-pub fn sound(table: &SegTable)
+pub fn serves_runs(table: &SegTable)
     ensures { IsSoundTable table.now }
 {
     goes_up(table);

@@ -1,7 +1,7 @@
 //! Recorded graphs: segments with costs, each with its predecessors.
 ghost use Rattle.std.specs.Prelude.{ℕ, List, ◌≡◌, ◌<◌, ◌≤◌, ◌^◌, length, sum, sum_by, slice_index_or, map};
 ghost use Rattle.task_program.specs.declared.limits.TheConstants.{MOST_WORK};
-ghost use Rattle.dispatch_core.specs.Recorded.{Recorded, IsGraph, predecessors_of};
+ghost use Rattle.dispatch_core.specs.RecordedGraph.{RecordedGraph, IsGraph, predecessors_of};
 
 use std::marker::Model;
 
@@ -14,14 +14,14 @@ pub struct Graph {
 }
 
 impl Model for Graph {
-    ghost use Rattle.dispatch_core.specs.Recorded.{Recorded, IsGraph};
-    ghost use Rattle.dispatch_core.specs.Graph.{recorded};
+    ghost use Rattle.dispatch_core.specs.RecordedGraph.{RecordedGraph, IsGraph};
+    ghost use Rattle.dispatch_core.specs.Graph.{graph_of_fields};
 
-    ghost Value = { Recorded };
+    ghost Value = { RecordedGraph };
 
-    ghost view = { recorded };
+    ghost view = { graph_of_fields };
 
-    ghost invariant = { λ a. IsGraph (recorded a) };
+    ghost invariant = { λ a. IsGraph (graph_of_fields a) };
 }
 
 /// The graph with these costs and predecessors.

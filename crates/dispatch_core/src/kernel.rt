@@ -1,6 +1,6 @@
 //! Kernels, and the results of segments that were computed by one.
 ghost use Rattle.std.specs.Prelude.{ℕ, Bool, ◌≡◌, ◌<◌, IsTrue, IfOk, OnErr, IsOk, false};
-ghost use Rattle.dispatch_core.specs.Result.{Computed};
+ghost use Rattle.dispatch_core.specs.Result.{Computation};
 ghost use Rattle.dispatch_core.specs.Mix.{mix_value};
 
 use std::marker::{Model, PhantomData};
@@ -63,9 +63,9 @@ pub struct SegResult<K: Kernel> {
 
 impl<K: Kernel> Model for SegResult<K> {
     ghost use Rattle.std.specs.Prelude.{◌≡◌};
-    ghost use Rattle.dispatch_core.specs.Result.{Computed};
+    ghost use Rattle.dispatch_core.specs.Result.{Computation};
 
-    ghost Value = { Computed };
+    ghost Value = { Computation };
 
     ghost view = { λ a. record { segment = a.segment; cost = a.cost; input = a.input; value = a.value } };
 

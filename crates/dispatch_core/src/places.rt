@@ -85,16 +85,16 @@ pub fn make_places(alloc: Global, table: &SegTable) -> Result<Places, AllocFault
     let segments = table.len();
     Ok(Places {
         history: Vec::with_capacity(alloc, 2 * segments as usize)?,
-        started: repeated(alloc, false, segments)?,
-        running: repeated(alloc, None, MOST_WORKERS)?,
-        values: repeated(alloc, None, segments)?,
+        started: copies_of(alloc, false, segments)?,
+        running: copies_of(alloc, None, MOST_WORKERS)?,
+        values: copies_of(alloc, None, segments)?,
         counters: Counters::new(alloc, table)?,
         costs: costs(alloc, table)?,
     })
 }
 
 /// A list of as many copies.
-pub fn repeated<T: Copy + Drop>(alloc: Global, one: T, count: u32) -> Result<Vec<T>, AllocFault>
+pub fn copies_of<T: Copy + Drop>(alloc: Global, one: T, count: u32) -> Result<Vec<T>, AllocFault>
     ensures { IfOk result (λ list. list.items ≡ replicate count one) }
 {
     let mut list = Vec::new(alloc);

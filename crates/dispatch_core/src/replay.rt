@@ -1,6 +1,6 @@
 //! Runs that are given: every segment in order, or a list of events.
 ghost use Rattle.std.specs.Prelude.{ℕ, Some, ◌≡◌, ◌<◌, ◌≤◌, ◌+◌, ◌++◌, ◌∷◌, [], length, IfOk, IfErr, OnOk, OnErr, take};
-ghost use Rattle.dispatch_core.specs.Run.{Run, Runs, IsLegal};
+ghost use Rattle.dispatch_core.specs.Run.{Run, Runs, IsLegalRun};
 ghost use Rattle.dispatch_core.specs.Values.{IsInput};
 ghost use Rattle.dispatch_core.specs.Refusals.{IsCost};
 ghost use Rattle.dispatch_core.specs.Mix.{mix_value};
@@ -9,7 +9,7 @@ ghost use Rattle.dispatch_core.specs.Replays.{AreDone, RefusesStep, RefusesRepla
 
 use crate::dispatch::{Core, NewFault};
 use crate::event::{Event, FinishKind, StartRefusal};
-use crate::facts::sound;
+use crate::facts::serves_runs;
 use crate::graph::Graph;
 use crate::kernel::{MixKernel, SegResult};
 use std::alloc::{AllocError, Global};
@@ -71,7 +71,7 @@ fn run_next(core: &mut Core<MixKernel>, segment: u32) -> Result<(), AllocFault>
     ensures table { core.new.table ≡ core.old.table }
     ensures ok { OnOk result (AreDone core.new.history (segment + 1)) }
 {
-    sound(core.table());
+    serves_runs(core.table());
     let _ = core.history();
     match core.start(0, segment) {
         Ok(_) => {}
@@ -125,7 +125,7 @@ pub fn replay(
     events: &[Event],
 ) -> Result<Core<MixKernel>, (ReplayFault, SegTable)>
     ensures ok { IfOk result (λ core. core ≡ record { table = table; history = events.now }) }
-    ensures legal { OnOk result (IsLegal table events.now) }
+    ensures legal { OnOk result (IsLegalRun table events.now) }
     ensures refused { IfErr result (λ fault. RefusesReplay table events.now fault.0) }
     ensures back { IfErr result (λ fault. fault.1 ≡ table) }
 {

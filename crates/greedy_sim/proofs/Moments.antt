@@ -5,11 +5,11 @@ use Rattle.std.proofs.lemmas.List.{get_or_default, get_or_past, get_or-replicate
 use Rattle.std.proofs.lemmas.List.Sums.{sum_by-cons, get_or-le-sum_by, count_by-le-length}
 use Rattle.task_program.specs.declared.limits.TheConstants.{MOST_WORK}
 use Rattle.task_segments.specs.Schedule.{at, end_of}
-use Rattle.greedy_sim.specs.Greedy.{running, ReadyBy, IsGreedyRun}
+use Rattle.greedy_sim.specs.Greedy.{running_count, ReadyBy, IsGreedyRun}
 use Rattle.task_segments.specs.StartsAndTails.{IsAscending}
-use Rattle.greedy_sim.specs.Simulation.{IsSimulated, never}
+use Rattle.greedy_sim.specs.Simulation.{IsSimulated, no_start}
 use Rattle.task_segments.proofs.Schedules.{end_of-covers, end_of-least}
-use Rattle.greedy_sim.proofs.Sums.{strong, total-le, total-same, total-running-le, running_none, running_never, count_by-same, count_by-all, count_by-some}
+use Rattle.greedy_sim.proofs.Sums.{strong_induction, total-le, total-same, total-running-le, running_none, running_never, count_by-same, count_by-all, count_by-some}
 use Rattle.greedy_sim.proofs.Passing.{thread_at, not_both}
 
 -- the moment is no later than the work
@@ -19,7 +19,7 @@ pub moment-le-work : {costs : List ℕ} {R : ℕ → ℕ → Type 0} {p m i curs
 moment-le-work {costs} {R} {p} {m} {i} {cursor} {starts} state =
     omega (
       arith,
-      total-le (λ _. 1) (running costs starts) m state.some_run,
+      total-le (λ _. 1) (running_count costs starts) m state.some_run,
       total-same 1 m,
       total-running-le costs starts m,
     )
@@ -34,7 +34,7 @@ pub record NextEnd (busy : List ℕ) (m next : ℕ) : Type 0 where
 end_cases : {costs : List ℕ} {R : ℕ → ℕ → Type 0} {p m cursor next : ℕ} {starts : List ℕ}
     {threads : List (Option ℕ)} {busy : List ℕ}
     → IsSimulated costs R p m (length costs) cursor starts threads busy
-    → ((k : ℕ) → m < at busy k → next ≤ at busy k) → next < never → m < next
+    → ((k : ℕ) → m < at busy k → next ≤ at busy k) → next < no_start → m < next
     → (r j : ℕ) → r < length costs → j < next → at starts r + at costs r ≤ j → at starts r + at costs r ≤ m
 end_cases {costs} {R} {p} {m} {cursor} {next} {starts} {threads} {busy} state first early later r j h l ended =
     elim (state.started r h) [
@@ -56,7 +56,7 @@ end_cases {costs} {R} {p} {m} {cursor} {next} {starts} {threads} {busy} state fi
 ready_then : {costs : List ℕ} {R : ℕ → ℕ → Type 0} {p m cursor next : ℕ} {starts : List ℕ}
     {threads : List (Option ℕ)} {busy : List ℕ}
     → IsAscending R → IsSimulated costs R p m (length costs) cursor starts threads busy
-    → ((k : ℕ) → m < at busy k → next ≤ at busy k) → next < never → m < next
+    → ((k : ℕ) → m < at busy k → next ≤ at busy k) → next < no_start → m < next
     → (s j : ℕ) → s < length costs → j < next → ReadyBy costs R starts s j → ReadyBy costs R starts s m
 ready_then asc state first early later s j h l ready r pred =
     end_cases state first early later r j (omega (arith, asc.up r s pred)) l (ready r pred)
@@ -64,12 +64,12 @@ ready_then asc state first early later s j h l ready r pred =
 -- the simulation goes on to the next end
 pub go_on : {costs : List ℕ} {R : ℕ → ℕ → Type 0} {p m cursor next : ℕ} {starts : List ℕ}
     {threads : List (Option ℕ)} {busy : List ℕ}
-    → IsAscending R → IsSimulated costs R p m (length costs) cursor starts threads busy → next < never
+    → IsAscending R → IsSimulated costs R p m (length costs) cursor starts threads busy → next < no_start
     → NextEnd busy m next
     → IsSimulated costs R p next 0 0 starts threads busy
 go_on {costs} {R} {p} {m} {cursor} {next} {starts} {threads} {busy} asc state early ahead =
     let later : m < next = ahead.later in
-    let same_count : (j : ℕ) → m ≤ j → j < next → running costs starts j ≡ running costs starts m = λ j low high.
+    let same_count : (j : ℕ) → m ≤ j → j < next → running_count costs starts j ≡ running_count costs starts m = λ j low high.
     let counts : count_by (λ b. nat_lt j b) busy ≡ count_by (λ b. nat_lt m b) busy =
     count_by-same (λ b. nat_lt j b) (λ b. nat_lt m b) busy (λ k l.
     elim (cases_lt m (at busy k)) [
@@ -188,7 +188,7 @@ go_on {costs} {R} {p} {m} {cursor} {next} {starts} {threads} {busy} asc state ea
 pub next_early : {costs : List ℕ} {R : ℕ → ℕ → Type 0} {p m i cursor next : ℕ} {starts : List ℕ}
     {threads : List (Option ℕ)} {busy : List ℕ}
     → IsSimulated costs R p m i cursor starts threads busy → sum costs ≤ MOST_WORK
-    → NextEnd busy m next → next < never
+    → NextEnd busy m next → next < no_start
 next_early {costs} {R} {p} {m} {i} {cursor} {next} {starts} {threads} {busy} state small ahead =
     let here : get_or busy ahead.found.0 0 ≡ next = get_or_default busy ahead.found.0 0 next ahead.found.1
     ∙ ahead.found.2 in
@@ -200,11 +200,11 @@ next_early {costs} {R} {p} {m} {i} {cursor} {next} {starts} {threads} {busy} sta
 -- when no thread is busy any more, all have started
 begun_by : {costs : List ℕ} {R : ℕ → ℕ → Type 0} {p m cursor : ℕ} {starts : List ℕ}
     {threads : List (Option ℕ)} {busy : List ℕ}
-    → IsAscending R → IsSimulated costs R p m (length costs) cursor starts threads busy → 0 < p → m < never
+    → IsAscending R → IsSimulated costs R p m (length costs) cursor starts threads busy → 0 < p → m < no_start
     → ((k : ℕ) → at busy k ≤ m)
     → (s : ℕ) → s < length costs → at starts s ≤ m
 begun_by {costs} {R} {p} {m} {cursor} {starts} {threads} {busy} asc state some early done =
-    strong (λ s. s < length costs → at starts s ≤ m) (λ s before h.
+    strong_induction (λ s. s < length costs → at starts s ≤ m) (λ s before h.
     let ready : ReadyBy costs R starts s m = λ r pred.
     let l : r < length costs = omega (arith, asc.up r s pred) in
     let first : at starts r ≤ m = before r (asc.up r s pred) l in
@@ -221,12 +221,12 @@ begun_by {costs} {R} {p} {m} {cursor} {starts} {threads} {busy} asc state some e
     ])
 
 -- when no thread is busy any more, the run is the greedy run
-pub finished : {costs : List ℕ} {R : ℕ → ℕ → Type 0} {p m cursor : ℕ} {starts : List ℕ}
+pub is_the_greedy_run : {costs : List ℕ} {R : ℕ → ℕ → Type 0} {p m cursor : ℕ} {starts : List ℕ}
     {threads : List (Option ℕ)} {busy : List ℕ}
-    → IsAscending R → IsSimulated costs R p m (length costs) cursor starts threads busy → 0 < p → m < never
+    → IsAscending R → IsSimulated costs R p m (length costs) cursor starts threads busy → 0 < p → m < no_start
     → ((k : ℕ) → at busy k ≤ m)
     → IsGreedyRun costs R p starts threads
-finished {costs} {R} {p} {m} {cursor} {starts} {threads} {busy} asc state some early done =
+is_the_greedy_run {costs} {R} {p} {m} {cursor} {starts} {threads} {busy} asc state some early done =
     let begun : (s : ℕ) → s < length costs → at starts s ≤ m = begun_by asc state some early done in
     let ended : (s : ℕ) → s < length costs → at starts s + at costs s ≤ m = λ s h.
     elim (cases_lt 0 (at costs s)) [
@@ -257,8 +257,8 @@ finished {costs} {R} {p} {m} {cursor} {starts} {threads} {busy} asc state some e
       with = λ s h pos. state.with s h pos (begun s h);
     }
 
-never_started : (n s : ℕ) → s < n → at (replicate n never) s ≡ never
-never_started n s h = get_or-replicate n s never 0 h
+never_started : (n s : ℕ) → s < n → at (replicate n no_start) s ≡ no_start
+never_started n s h = get_or-replicate n s no_start 0 h
 
 no_threads : (n s : ℕ) → thread_at (replicate n None) s ≡ None
 no_threads n s =
@@ -280,9 +280,9 @@ count_none (x ∷ xs) = sum_by-cons (λ (_ : ℕ). 0) x xs ∙ omega (arith, cou
 
 -- before the first moment
 pub begin : (costs : List ℕ) (R : ℕ → ℕ → Type 0) (p n : ℕ) → n ≡ length costs
-    → IsSimulated costs R p 0 0 0 (replicate n never) (replicate n None) (replicate p 0)
+    → IsSimulated costs R p 0 0 0 (replicate n no_start) (replicate n None) (replicate p 0)
 begin costs R p n e = record {
-  each = length-replicate n never ∙ e;
+  each = length-replicate n no_start ∙ e;
   each_thread = length-replicate n None ∙ e;
   each_busy = length-replicate p 0;
   within = omega arith;
@@ -301,7 +301,7 @@ begin costs R p n e = record {
   taken = λ j l free. absurd (omega arith);
   below_busy = λ j l. absurd (omega arith);
   counts = λ j l below.
-      running_never costs n never j below ∙ sym (count_by-same (λ b. nat_lt j b) (λ _. false) (replicate p 0)
+      running_never costs n no_start j below ∙ sym (count_by-same (λ b. nat_lt j b) (λ _. false) (replicate p 0)
       (λ k k_in. le-ltb j (get_or (replicate p 0) k 0) (omega (arith, not_busy p k)))
       ∙ count_none (replicate p 0));
   held = λ s h pos begun. absurd (omega (arith, begun, never_started n s (omega arith)));
@@ -311,11 +311,11 @@ begin costs R p n e = record {
 -- the last moment is the end of the schedule
 pub last_moment : {costs : List ℕ} {R : ℕ → ℕ → Type 0} {p m cursor : ℕ} {starts : List ℕ}
     {threads : List (Option ℕ)} {busy : List ℕ}
-    → IsAscending R → IsSimulated costs R p m (length costs) cursor starts threads busy → 0 < p → m < never
+    → IsAscending R → IsSimulated costs R p m (length costs) cursor starts threads busy → 0 < p → m < no_start
     → ((k : ℕ) → at busy k ≤ m)
     → m ≡ end_of costs starts
 last_moment {costs} {R} {p} {m} {cursor} {starts} asc state some early done =
-    let run = finished asc state some early done in
+    let run = is_the_greedy_run asc state some early done in
     let high : end_of costs starts ≤ m = end_of-least costs starts m (λ s h.
     elim (cases_lt 0 (at costs s)) [
       | inr none ↦ elim (state.started s h) [
@@ -331,7 +331,7 @@ last_moment {costs} {R} {p} {m} {cursor} {starts} asc state some early done =
     elim (cases_lt (end_of costs starts) m) [
       | inr low ↦ omega arith
       | inl sooner ↦
-          let none : running costs starts (m - 1) ≡ 0 =
+          let none : running_count costs starts (m - 1) ≡ 0 =
           running_none costs starts (m - 1)
           (λ s h. omega (arith, end_of-covers costs starts state.each s h)) in
           absurd (omega (arith, none, state.some_run (m - 1) (omega arith)))
@@ -341,7 +341,7 @@ last_moment {costs} {R} {p} {m} {cursor} {starts} asc state some early done =
 pub has_begun : {costs : List ℕ} {R : ℕ → ℕ → Type 0} {p m i cursor : ℕ} {starts : List ℕ}
     {threads : List (Option ℕ)} {busy : List ℕ}
     → IsSimulated costs R p m i cursor starts threads busy → (s : ℕ) → s < length costs
-    → (at starts s ≡ never → ⊥) → at starts s ≤ m
+    → (at starts s ≡ no_start → ⊥) → at starts s ≤ m
 has_begun state s h other = elim (state.started s h) [
   | inl q ↦ elim q [ inl v ↦ omega arith | inr v ↦ omega (arith, v.0) ]
   | inr e ↦ absurd (other e)
@@ -351,21 +351,21 @@ has_begun state s h other = elim (state.started s h) [
 pub end_early : {costs : List ℕ} {R : ℕ → ℕ → Type 0} {p m i cursor : ℕ} {starts : List ℕ}
     {threads : List (Option ℕ)} {busy : List ℕ}
     → IsSimulated costs R p m i cursor starts threads busy → sum costs ≤ MOST_WORK → (s : ℕ)
-    → s < length costs → m + at costs s < never
+    → s < length costs → m + at costs s < no_start
 end_early {costs} state small s h = omega (arith, moment-le-work state, small, get_or-le-sum_by (λ x. x) costs s 0 h)
 
 -- the lists that the simulation makes are those before the first moment
 pub begin_with : (costs : List ℕ) (R : ℕ → ℕ → Type 0) (p n n' : ℕ) (starts : List ℕ)
     (threads : List (Option ℕ)) (busy : List ℕ)
-    → starts ≡ replicate n never → threads ≡ replicate n' None → busy ≡ replicate p 0 → n ≡ length costs
+    → starts ≡ replicate n no_start → threads ≡ replicate n' None → busy ≡ replicate p 0 → n ≡ length costs
     → n' ≡ length costs
     → IsSimulated costs R (length busy) 0 0 0 starts threads busy
 begin_with costs R p n n' starts threads busy es et eb en en' =
     let size : length busy ≡ p = ap length eb ∙ length-replicate p 0 in
     let S : List ℕ → Type 0 = λ x. IsSimulated costs R (length busy) 0 0 0 x threads busy in
-    let T : List (Option ℕ) → Type 0 = λ x. IsSimulated costs R (length busy) 0 0 0 (replicate n never) x busy in
-    let B : List ℕ → Type 0 = λ x. IsSimulated costs R (length busy) 0 0 0 (replicate n never) (replicate n None) x in
-    let P : ℕ → Type 0 = λ x. IsSimulated costs R x 0 0 0 (replicate n never) (replicate n None) (replicate p 0) in
+    let T : List (Option ℕ) → Type 0 = λ x. IsSimulated costs R (length busy) 0 0 0 (replicate n no_start) x busy in
+    let B : List ℕ → Type 0 = λ x. IsSimulated costs R (length busy) 0 0 0 (replicate n no_start) (replicate n None) x in
+    let P : ℕ → Type 0 = λ x. IsSimulated costs R x 0 0 0 (replicate n no_start) (replicate n None) (replicate p 0) in
     let N : ℕ → Type 0 = λ x. threads ≡ replicate x None in
     subst S (sym es) (subst T (sym (subst N (en' ∙ sym en) et))
     (subst B (sym eb) (subst P (sym size) (begin costs R p n en))))

@@ -8,7 +8,7 @@ use Rattle.task_segments.proofs.Schedules.{at-by_rule, by_rule, end_of-reached, 
 use Rattle.task_segments.proofs.StartsAndTails.{tail-fits}
 use Rattle.task_segments.specs.Schedule.{at, end_of}
 use Rattle.task_segments.specs.StartsAndTails.{IsEarliest, IsTails}
-use Rattle.dispatch_core.specs.Recorded.{IsGraph, Precedes, Recorded, predecessors_of}
+use Rattle.dispatch_core.specs.RecordedGraph.{IsGraph, Precedes, RecordedGraph, predecessors_of}
 use Rattle.span_analysis.proofs.AnalysisLemmas.{IsAnalysis-all}
 use Rattle.span_analysis.proofs.ChainSteps.{IsChainFrom, IsChainFrom-more, IsChainFrom-one, LeadsTo-all, first_of_all}
 use Rattle.span_analysis.proofs.Existence.{earliest_exists}
@@ -16,7 +16,7 @@ use Rattle.span_analysis.proofs.PassSteps.{AreRaised-keep, AreRaised-none, AreRa
 use Rattle.span_analysis.specs.Critical.{Delays, DelaysFirst, EndsLast, IsSmallest, LeadsTo}
 use Rattle.span_analysis.specs.Findings.{Findings, IsAnalysis}
 use Rattle.span_analysis.specs.Passes.{AreRaised, AreTailsFrom}
-use Rattle.dispatch_core.proofs.Decisions.{IsDecided, IsFirst, alike, decide_below, decide_both, decide_less, decide_same, find_first}
+use Rattle.dispatch_core.proofs.Decisions.{IsDecided, IsFirst, decided_by_equivalent, decide_below, decide_both, decide_less, decide_same, find_first}
 
 -- ---- tails
 
@@ -47,7 +47,7 @@ some_raised places floor old inside (suc i) all =
     ]
 
 -- the tails of the last d segments alone
-some_tails_from : (graph : Recorded) → IsGraph graph → (d low : ℕ) → low + d ≡ length graph.costs
+some_tails_from : (graph : RecordedGraph) → IsGraph graph → (d low : ℕ) → low + d ≡ length graph.costs
     → (tails : List ℕ) × AreTailsFrom graph low tails
 some_tails_from graph is zero low all =
     let none : List ℕ = replicate (length graph.costs) 0 in
@@ -77,7 +77,7 @@ some_tails_from graph is (suc d) low all =
           (subst (λ (ps : List ℕ). AreRaised ps floor later.0 raised.0) whole raised.2),
     )
 
-some_tails : (graph : Recorded) → IsGraph graph → (tails : List ℕ) × IsTails graph.costs (Precedes graph) tails
+some_tails : (graph : RecordedGraph) → IsGraph graph → (tails : List ℕ) × IsTails graph.costs (Precedes graph) tails
 some_tails graph is =
     let all : (tails : List ℕ) × AreTailsFrom graph 0 tails =
     some_tails_from graph is (length graph.costs) 0 (omega arith) in
@@ -93,7 +93,7 @@ is_smallest P n s first = record {
       (cases_lt other s) [ inl less ↦ absurd (first.none_before other less h) | inr more ↦ more ];
 }
 
-some_last : (graph : Recorded) (starts : List ℕ) → IsGraph graph → length starts ≡ length graph.costs
+some_last : (graph : RecordedGraph) (starts : List ℕ) → IsGraph graph → length starts ≡ length graph.costs
     → (last : ℕ) × IsSmallest (EndsLast graph starts) last
 some_last graph starts is each =
     let end : ℕ = end_of graph.costs starts in
@@ -101,7 +101,7 @@ some_last graph starts is each =
     let decided : (s : ℕ) → IsDecided (E s) = λ s.
     let A : Type 0 = s < length graph.costs in
     let B : Type 0 = at starts s + at graph.costs s ≡ end in
-    alike (A × B) (E s) (λ h. record { is_segment = h.0; ends = h.1 }) (λ h. (h.is_segment, h.ends))
+    decided_by_equivalent (A × B) (E s) (λ h. record { is_segment = h.0; ends = h.1 }) (λ h. (h.is_segment, h.ends))
     (decide_both A B (decide_less s (length graph.costs)) (decide_same (at starts s + at graph.costs s) end)) in
     elim (find_first E (length graph.costs) decided) [
       | inr found ↦ (found.0, is_smallest E (length graph.costs) found.0 found.1)
@@ -109,18 +109,18 @@ some_last graph starts is each =
           (none some.0 some.1 (record { is_segment = some.1; ends = some.2 }))
     ]
 
-decide_delays : (graph : Recorded) (starts : List ℕ) (t s : ℕ) → IsDecided (Delays graph starts t s)
+decide_delays : (graph : RecordedGraph) (starts : List ℕ) (t s : ℕ) → IsDecided (Delays graph starts t s)
 decide_delays graph starts t s =
     let A : Type 0 = Precedes graph s t in
     let B : Type 0 = at starts s + at graph.costs s ≡ at starts t in
-    alike (A × B) (Delays graph starts t s) (λ h. record { precedes = h.0; just = h.1 }) (λ h. (h.precedes, h.just))
+    decided_by_equivalent (A × B) (Delays graph starts t s) (λ h. record { precedes = h.0; just = h.1 }) (λ h. (h.precedes, h.just))
     (decide_both A B
     (decide_below (λ k. get_or (predecessors_of graph t) k s ≡ s) (length (predecessors_of graph t))
     (λ k. decide_same (get_or (predecessors_of graph t) k s) s))
     (decide_same (at starts s + at graph.costs s) (at starts t)))
 
 -- a chain to the last segment goes on down to the first
-leads_from : (graph : Recorded) (starts : List ℕ) → IsGraph graph → IsEarliest graph.costs (Precedes graph) starts
+leads_from : (graph : RecordedGraph) (starts : List ℕ) → IsGraph graph → IsEarliest graph.costs (Precedes graph) starts
     → (last bound member : ℕ) (chain : List ℕ) → member < bound → IsChainFrom graph starts last member chain
     → (whole : List ℕ) × LeadsTo graph starts last whole
 leads_from graph starts is earliest last zero member chain below from = absurd (omega (arith, below))
@@ -141,7 +141,7 @@ leads_from graph starts is earliest last (suc bound) member chain below from =
 
 -- ---- the analysis
 
-pub some_analysis : (graph : Recorded) → IsGraph graph → (found : Findings) × IsAnalysis graph found
+pub some_analysis : (graph : RecordedGraph) → IsGraph graph → (found : Findings) × IsAnalysis graph found
 some_analysis graph is =
     let starts : (starts : List ℕ) × IsEarliest graph.costs (Precedes graph) starts = earliest_exists graph is in
     let tails : (tails : List ℕ) × IsTails graph.costs (Precedes graph) tails = some_tails graph is in

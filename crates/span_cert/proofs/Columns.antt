@@ -6,8 +6,8 @@ use Rattle.std.proofs.lemmas.Option.{slice_get-get_or}
 use Rattle.std.specs.List.{AllZip, range_with_len}
 use Rattle.std.specs.Prelude.{slice_get}
 use Rattle.task_segments.specs.Table.{Table}
-use Rattle.span_cert.specs.Rows.{AreColumns, InColumn, IsColumn, IsEarliest, IsRow}
-use Rattle.span_cert.specs.Tests.{FirstBroken, IsBroken, IsKept}
+use Rattle.span_cert.specs.Rows.{AreColumns, InColumn, IsColumn, IsEarliestPair, IsRow}
+use Rattle.span_cert.specs.Tests.{FirstBroken, IsBroken, NoneIsBroken}
 
 -- ---- one column
 
@@ -45,7 +45,7 @@ none_in_column table starts column t all none r u there b = let inside = b.is_se
 
 -- of the earliest so far and the pair that comes next, the one that a comparison tells
 of_two : (pairs : List (Option (ℕ × ℕ))) (n : ℕ) (one two : ℕ × ℕ) (less : Bool) → (less ≡ true → two.1 < one.1) → (less ≡ false → one.1 ≤ two.1)
-    → IsEarliest pairs n (Some one) → slice_get pairs n ≡ Some (Some two) → IsEarliest pairs (n + 1) (if less then Some two else Some one)
+    → IsEarliestPair pairs n (Some one) → slice_get pairs n ≡ Some (Some two) → IsEarliestPair pairs (n + 1) (if less then Some two else Some one)
 of_two pairs n one two true lesser greater first is = (
   (n, is),
   λ k pair before at. elim (cases_eq k n) [
@@ -89,7 +89,7 @@ pair_for table starts columns s t all b =
 
 -- the earliest of the columns' pairs is the first broken pair; with none in any column, none is broken
 pub first_of_all : (table : Table) (starts : List ℕ) (columns : List (Option (ℕ × ℕ))) (first : Option (ℕ × ℕ)) → AreColumns table starts columns
-    → IsEarliest columns (length columns) first → MatchOption first (IsKept table starts) (λ pair. FirstBroken table starts pair.0 pair.1)
+    → IsEarliestPair columns (length columns) first → MatchOption first (NoneIsBroken table starts) (λ pair. FirstBroken table starts pair.0 pair.1)
 first_of_all table starts columns None all none = λ s t b.
     let (k, pair, inside, is, _) = pair_for table starts columns s t all b in none k pair inside is
 first_of_all table starts columns (Some first) all earliest =

@@ -8,7 +8,7 @@ use Rattle.std.proofs.lemmas.Option.{none-some, same_Some}
 use Rattle.task_program.proofs.ReadWhole.{found_tree_of}
 use Rattle.task_program.specs.Document.{program_part, rest_part}
 use Rattle.task_program.specs.PlainWords.{all_steps, step_by, words_of}
-use Rattle.task_program.specs.ProgramText.{ProgramText}
+use Rattle.task_program.specs.ProgramMarks.{ProgramMarks}
 use Rattle.task_program.specs.ReadInVersion.{program_of}
 use Rattle.task_program.specs.Trees.{HasTree}
 use Rattle.task_program.specs.declared.fault.ReadFault.{ReadFault}
@@ -20,10 +20,10 @@ use Rattle.span_cert.proofs.Broken.{legal_kept}
 use Rattle.span_cert.proofs.Counting.{bad_step, count_of, length-moments, one_link, one_link_more}
 use Rattle.span_cert.proofs.Spelling.{reads_spelled, spelled_reads}
 use Rattle.span_cert.specs.Certificates.{Claims, HasClaim, IsChecked}
-use Rattle.span_cert.specs.Claims.{Claim, HasForm, moments, segments_of, word_says}
+use Rattle.span_cert.specs.Claims.{Claim, HasForm, moments_of_starts, segments_of_starts, word_says}
 use Rattle.span_cert.specs.OneVerdict.{HasVerdict}
 use Rattle.span_cert.specs.Steps.{Progress, begin, step}
-use Rattle.span_cert.specs.Tests.{Fails, FirstBadStep, FirstBroken, IsBroken, IsCounted, IsKept, checked_of}
+use Rattle.span_cert.specs.Tests.{Fails, FirstBadStep, FirstBroken, IsBroken, HasRightNumbers, NoneIsBroken, checked_of}
 use Rattle.span_cert.specs.declared.checker.Checked.{Checked}
 use Rattle.span_cert.specs.declared.claim.Expected.{Expected}
 use Rattle.span_cert.specs.declared.claim.Expected.TheVariants as expected
@@ -31,7 +31,7 @@ use Rattle.span_cert.specs.declared.fault.CheckFault.{CheckFault}
 use Rattle.span_cert.specs.declared.fault.CheckFault.TheVariants as fault
 use Rattle.span_cert.specs.declared.claim.TheConstants.{MOST_BYTES}
 use Rattle.dispatch_core.proofs.DecidedEdges.{decide_precedes}
-use Rattle.dispatch_core.proofs.Decisions.{IsDecided, alike, decide_below, decide_both, decide_each, decide_less, decide_same, find_first}
+use Rattle.dispatch_core.proofs.Decisions.{IsDecided, decided_by_equivalent, decide_below, decide_both, decide_each, decide_less, decide_same, find_first}
 use Rattle.dispatch_core.proofs.SomeGraph.{IsWhole, tree_fits, whole_table}
 
 -- ---- the form
@@ -95,19 +95,19 @@ same_lists (x ∷ xs) (y ∷ ys) = elim (decide_same x y) [
 decide_inside : (costs chain : List ℕ) → IsDecided (AreSegments costs chain)
 decide_inside costs chain =
     let P : ℕ → Type 0 = λ k. get_or chain k 0 < length costs in
-    alike ((k : ℕ) → k < length chain → P k) (AreSegments costs chain)
+    decided_by_equivalent ((k : ℕ) → k < length chain → P k) (AreSegments costs chain)
     (λ all s h.
     let same : get_or chain h.0 0 ≡ s = get_or_default chain h.0 0 s h.1 ∙ h.2 in
     subst (λ (n : ℕ). n < length costs) same (all h.0 h.1))
     (λ all k within. all (get_or chain k 0) (Contains-get_or chain k 0 within))
     (decide_each P (length chain) (λ k. decide_less (get_or chain k 0) (length costs)))
 
-decide_counted : (table : Table) (claim : Claim) → IsDecided (IsCounted table claim)
+decide_counted : (table : Table) (claim : Claim) → IsDecided (HasRightNumbers table claim)
 decide_counted table claim =
-    let A : Type 0 = segments_of claim.starts ≡ range_with_len 0 (length table.segments) in
+    let A : Type 0 = segments_of_starts claim.starts ≡ range_with_len 0 (length table.segments) in
     let B : Type 0 = AreSegments (costs_of table) claim.chain in
-    alike (A × B) (IsCounted table claim) (λ h. record { starts = h.0; chain = h.1 }) (λ c. (c.starts, c.chain))
-    (decide_both A B (same_lists (segments_of claim.starts) (range_with_len 0 (length table.segments)))
+    decided_by_equivalent (A × B) (HasRightNumbers table claim) (λ h. record { starts = h.0; chain = h.1 }) (λ c. (c.starts, c.chain))
+    (decide_both A B (same_lists (segments_of_starts claim.starts) (range_with_len 0 (length table.segments)))
     (decide_inside (costs_of table) claim.chain))
 
 decide_broken : (table : Table) (starts : List ℕ) (s t : ℕ) → IsSoundTable table
@@ -116,7 +116,7 @@ decide_broken table starts s t sound =
     let A : Type 0 = IsSegment table t in
     let B : Type 0 = MustPrecede table s t in
     let C : Type 0 = at starts t < at starts s + at (costs_of table) s in
-    alike (A × (B × C)) (IsBroken table starts s t)
+    decided_by_equivalent (A × (B × C)) (IsBroken table starts s t)
     (λ h. record { is_segment = h.0; precedes = h.1.0; too_soon = h.1.1 })
     (λ b. (b.is_segment, (b.precedes, b.too_soon)))
     (decide_both A (B × C) (decide_less t (length table.segments))
@@ -124,7 +124,7 @@ decide_broken table starts s t sound =
     (decide_less (at starts t) (at starts s + at (costs_of table) s))))
 
 kept_or_broken : (table : Table) (starts : List ℕ) → IsSoundTable table
-    → IsKept table starts ⊎ ((s : ℕ) × (t : ℕ) × FirstBroken table starts s t)
+    → NoneIsBroken table starts ⊎ ((s : ℕ) × (t : ℕ) × FirstBroken table starts s t)
 kept_or_broken table starts sound =
     let n : ℕ = length table.segments in
     let B : ℕ → ℕ → Type 0 = λ t s. IsBroken table starts s t in
@@ -176,7 +176,7 @@ Verdict table claim =
 
 verdict_on : (table : Table) (claim : Claim) → IsSoundTable table → 0 < length claim.chain → Verdict table claim
 verdict_on table claim sound some =
-    let starts : List ℕ = moments claim.starts in
+    let starts : List ℕ = moments_of_starts claim.starts in
     let costs : List ℕ = costs_of table in
     elim (decide_counted table claim) [
       | inr wrong ↦ inr (fault.WrongCount, wrong, λ e. cc)
@@ -243,7 +243,7 @@ refuses_claim document fault.OutOfMemory h other = absurd (other refl)
 refuses_claim document fault.BadForm h other = absurd h.says
 refuses_claim document (fault.BadProgram read) h other = absurd h.says
 
-checks_claim : (document : List ℕ) (program : ProgramText) (claim : Claim) → HasTree (program_part document) program
+checks_claim : (document : List ℕ) (program : ProgramMarks) (claim : Claim) → HasTree (program_part document) program
     → HasClaim document claim → HasVerdict document
 checks_claim document program claim tree has =
     let table : Table = table_of program.marks in
@@ -264,7 +264,7 @@ checks_claim document program claim tree has =
           (record { program = program; tree = tree; claim = claim; has_claim = has; says = bad.1 }) bad.2
     ]
 
-checks_rest : (document : List ℕ) (program : ProgramText) (rest : Option (List ℕ)) → rest_part document ≡ rest
+checks_rest : (document : List ℕ) (program : ProgramMarks) (rest : Option (List ℕ)) → rest_part document ≡ rest
     → HasTree (program_part document) program → HasVerdict document
 checks_rest document program None is tree = (
   Err fault.BadForm,
@@ -284,7 +284,7 @@ checks_rest document program (Some text) is tree = elim (form_or_none text) [
       (Err fault.BadForm, refl, record { program = program; tree = tree; none = other })
 ]
 
-checks_read : (document : List ℕ) (read : Result ProgramText ReadFault) → program_of (program_part document) ≡ read
+checks_read : (document : List ℕ) (read : Result ProgramMarks ReadFault) → program_of (program_part document) ≡ read
     → HasVerdict document
 checks_read document (Ok program) is =
     checks_rest document program (rest_part document) refl (found_tree_of (program_part document) program is)

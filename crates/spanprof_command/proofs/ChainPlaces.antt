@@ -26,8 +26,8 @@ ascends : (chain : List ℕ) → IsStrictlyIncreasing chain → (i j : ℕ) → 
 ascends chain up i j = below_from_sorted chain i j 0 (sorted_from_strictly_increasing chain up)
 
 -- where the member at the place is the segment, it stands in the chain; else it does not
-stands : (chain : List ℕ) (s place : ℕ) → place < length chain → get_or chain place 0 ≡ s → in_chain chain s ≡ 1
-stands chain s place within at =
+stands_in_chain : (chain : List ℕ) (s place : ℕ) → place < length chain → get_or chain place 0 ≡ s → in_chain chain s ≡ 1
+stands_in_chain chain s place within at =
     let here : eqb (get_or chain place 0) s ≡ true = grind (arith, nat_tests) in
     let some : list_any (λ member. eqb member s) chain ≡ true = list_any_at (λ member. eqb member s) chain place 0 within here in
     rw some refl
@@ -58,7 +58,7 @@ pub next_place : (chain : List ℕ) (s place : ℕ) → IsStrictlyIncreasing cha
 next_place chain s place up is = elim (cases_lt place (length chain)) [
   | inl within ↦ elim (cases_eq (get_or chain place 0) s) [
     | inl here ↦ (
-        let one = stands chain s place within here in
+        let one = stands_in_chain chain s place within here in
         rw one (record {
           within = omega arith;
           before = λ k l. elim (cases_eq k place) [

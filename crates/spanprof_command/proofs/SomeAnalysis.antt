@@ -7,7 +7,7 @@ use Rattle.depend_table.proofs.Chains.{edge_reaches}
 use Rattle.depend_table.specs.Kept.{IsKeptEdge}
 use Rattle.dispatch_core.proofs.Ends.{graph_of_program}
 use Rattle.dispatch_core.specs.Graph.{IsGraphOf}
-use Rattle.dispatch_core.specs.Recorded.{Recorded}
+use Rattle.dispatch_core.specs.RecordedGraph.{RecordedGraph}
 use Rattle.span_analysis.proofs.OfProgram.{of_program}
 use Rattle.span_analysis.proofs.SomeAnalysis.{some_analysis}
 use Rattle.span_analysis.specs.Findings.{Findings, IsAnalysis}
@@ -15,7 +15,7 @@ use Rattle.dispatch_core.proofs.SomeGraph.{IsWhole, some_graph}
 use Rattle.spanprof_command.specs.Slacks.{AreAnalysed}
 
 -- what is found of a graph is so of its program
-pub are_analysed : (table : Table) (graph : Recorded) (found : Findings) → IsWhole table → IsGraphOf table graph
+pub are_analysed : (table : Table) (graph : RecordedGraph) (found : Findings) → IsWhole table → IsGraphOf table graph
     → IsAnalysis graph found → AreAnalysed table graph found
 are_analysed table graph found whole of analysis =
     let R : ℕ → ℕ → Type 0 = MustPrecede table in
@@ -33,13 +33,13 @@ are_analysed table graph found whole of analysis =
     }
 
 pub record IsAnalysed (table : Table) : Type 0 where
-  pub graph : Recorded
+  pub graph : RecordedGraph
   pub found : Findings
   pub are_analysed : AreAnalysed table graph found
 
 pub some_analysed : (table : Table) → IsWhole table → IsAnalysed table
 some_analysed table whole =
-    let graph : (graph : Recorded) × IsGraphOf table graph = some_graph table whole.sound in
+    let graph : (graph : RecordedGraph) × IsGraphOf table graph = some_graph table whole.sound in
     let found : (found : Findings) × IsAnalysis graph.0 found =
     some_analysis graph.0 (graph_of_program table graph.0 whole.sound graph.1) in
     record { graph = graph.0; found = found.0; are_analysed = are_analysed table graph.0 found.0 whole graph.1 found.1 }

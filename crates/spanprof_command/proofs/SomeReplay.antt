@@ -3,23 +3,23 @@ use Rattle.std.proofs.Common.{ℕ, zero, suc, ◌<◌, ◌≡◌, ◌⊎◌, ◌
 use Rattle.std.specs.Prelude.{Contains, codes}
 use Rattle.std.proofs.lemmas.Option.{none-some, same_Some}
 use Rattle.task_program.specs.PlainWords.{all_steps, step_by, words_of}
-use Rattle.task_program.specs.ProgramText.{ProgramText}
+use Rattle.task_program.specs.ProgramMarks.{ProgramMarks}
 use Rattle.task_segments.specs.Precedence.{Continues, Creation, IsSegment}
 use Rattle.task_segments.specs.Table.{Table, table_of}
 use Rattle.depend_table.specs.Kept.{IsKeptEdge}
 use Rattle.depend_table.specs.Lists.{Lists}
 use Rattle.dispatch_core.specs.Facts.{IsSoundTable}
-use Rattle.dispatch_core.specs.Run.{HasFinished, IsLegal, IsOpen}
+use Rattle.dispatch_core.specs.Run.{HasFinished, IsLegalRun, IsOpen}
 use Rattle.dispatch_core.specs.declared.event.Event.{Event}
 use Rattle.dispatch_core.proofs.DecidedEdges.{decide_continues, decide_creation}
-use Rattle.dispatch_core.proofs.Decisions.{IsDecided, alike, decide_below, decide_both, decide_either, decide_less, decide_same, some_list}
+use Rattle.dispatch_core.proofs.Decisions.{IsDecided, decided_by_equivalent, decide_below, decide_both, decide_either, decide_less, decide_same, some_list}
 use Rattle.dispatch_core.proofs.FirstRefused.{legal_or_refused}
 use Rattle.dispatch_core.proofs.NeverStuck.{decide_finished}
 use Rattle.dispatch_core.proofs.SomeGraph.{IsWhole, kept_list}
 use Rattle.spanprof_command.proofs.Spelling.{reads_spells, spells_reads}
 use Rattle.spanprof_command.specs.Events.{Spells, word_says}
 use Rattle.spanprof_command.specs.EventSteps.{Progress, begin, step}
-use Rattle.spanprof_command.specs.Replaying.{Recounts, Replays, Row, SaysOfEvents, bad_form, event_refused, row_line, segments_of}
+use Rattle.spanprof_command.specs.Replaying.{Recounts, Replays, Row, SaysOfEvents, bad_form, event_refusal, row_line, segments_of_rows}
 use Rattle.spanprof_command.specs.Report.{Output, number_line}
 use Rattle.spanprof_command.specs.declared.events.Expected.{Expected}
 use Rattle.spanprof_command.specs.declared.events.Expected.TheVariants as expected
@@ -62,7 +62,7 @@ decide_open table history s sound =
       | inr created ↦ sound.goes_up.ascending pred s (inr (inl created))
     ] in
     decide_either (s ≡ 0) Opened (decide_same s 0)
-    (alike ((pred : ℕ) × (pred < s) × P pred) Opened (λ h. (h.0, h.2.0, h.2.1)) (λ h. (h.0, up h.0 h.1, (h.1, h.2)))
+    (decided_by_equivalent ((pred : ℕ) × (pred < s) × P pred) Opened (λ h. (h.0, h.2.0, h.2.1)) (λ h. (h.0, up h.0 h.1, (h.1, h.2)))
     (decide_below P s (λ pred.
     decide_both (E pred) (HasFinished history pred)
     (decide_either (Continues table pred s) (Creation table pred s) (decide_continues table pred s)
@@ -70,7 +70,7 @@ decide_open table history s sound =
 
 -- the rows of these segments
 record AreRowsOf (table : Table) (segments : List ℕ) (rows : List Row) : Type 0 where
-  are : segments_of rows ≡ segments
+  are : segments_of_rows rows ≡ segments
   kept : (row : Row) → Contains rows row → Lists (λ p. IsKeptEdge table p row.segment) row.preds
 
 some_rows : (table : Table) (segments : List ℕ) → IsSoundTable table
@@ -97,7 +97,7 @@ some_rows table (s ∷ segments) sound =
         subst P is here
     kept_first table first rows here later row (suc k, within, is) = later row (k, omega (arith, within), is)
 
-some_recount : (table : Table) (events : List Event) → IsSoundTable table → IsLegal table events
+some_recount : (table : Table) (events : List Event) → IsSoundTable table → IsLegalRun table events
     → (output : Output) × Recounts table events output
 some_recount table events sound legal =
     let n : ℕ = length table.segments in
@@ -136,13 +136,13 @@ some_replay table events sound = elim (legal_or_refused table events sound) [
       let told : (output : Output) × Recounts table events output = some_recount table events sound legal in
       (told.0, inl told.1)
   | inr refused ↦ (
-    event_refused refused.0 refused.1,
+    event_refusal refused.0 refused.1,
     inr
         (record { index = refused.0; refusal = refused.1; is_first = refused.2; says = refl }),
   )
 ]
 
-pub some_said : (rest : Option (List ℕ)) (program : ProgramText) → IsWhole (table_of program.marks)
+pub some_said : (rest : Option (List ℕ)) (program : ProgramMarks) → IsWhole (table_of program.marks)
     → (output : Output) × SaysOfEvents rest program output
 some_said None program whole = (bad_form, inl (record { none = λ events h. none-some h.text h.is_text; says = refl }))
 some_said (Some text) program whole =

@@ -9,9 +9,9 @@ use Rattle.command_words.specs.declared.changes.Change.{Change}
 use Rattle.command_words.specs.declared.request.Request.{Request}
 use Rattle.command_words.specs.declared.request.Request.TheVariants.{Certify, Check, Curve, Greedy, Replay, Run, Show, Slack, Span, WhatIf}
 use Rattle.task_program.proofs.ReadWhole.{found_tree_of}
-use Rattle.task_program.specs.Canonical.{canonical}
+use Rattle.task_program.specs.Canonical.{canonical_text}
 use Rattle.task_program.specs.Document.{program_part, rest_part}
-use Rattle.task_program.specs.ProgramText.{ProgramText}
+use Rattle.task_program.specs.ProgramMarks.{ProgramMarks}
 use Rattle.task_program.specs.ReadInVersion.{program_of}
 use Rattle.task_program.specs.Trees.{HasTree}
 use Rattle.task_program.specs.declared.fault.ReadFault.{ReadFault}
@@ -28,7 +28,7 @@ use Rattle.dispatch_core.proofs.Ends.{graph_of_program}
 use Rattle.dispatch_core.specs.Facts.{IsSoundTable}
 use Rattle.dispatch_core.specs.Graph.{IsGraphOf}
 use Rattle.dispatch_core.specs.Mix.{mix_value}
-use Rattle.dispatch_core.specs.Recorded.{IsGraph, Precedes, Recorded}
+use Rattle.dispatch_core.specs.RecordedGraph.{IsGraph, Precedes, RecordedGraph}
 use Rattle.dispatch_core.specs.Values.{IsValue}
 use Rattle.greedy_sim.proofs.Existence.{some_run}
 use Rattle.greedy_sim.specs.Greedy.{IsCurve, IsGreedyEnd, IsGreedyRun}
@@ -41,46 +41,46 @@ use Rattle.span_cert.specs.OneVerdict.{Judges, is_verdict}
 use Rattle.span_cert.specs.Written.{certificate}
 use Rattle.span_cert.specs.declared.checker.Checked.{Checked}
 use Rattle.span_cert.specs.declared.fault.CheckFault.{CheckFault}
-use Rattle.whatif_costs.specs.Changed.{changed, refusal_of}
+use Rattle.whatif_costs.specs.Changed.{with_cost, refusal_of}
 use Rattle.whatif_costs.specs.declared.fault.WhatFault.{WhatFault}
 use Rattle.whatif_costs.specs.declared.fault.WhatFault.TheVariants.{CostTooLarge, UnknownSegment, WorkTooLarge}
 use Rattle.worker_run.specs.AllValues.{AreAllValues}
 use Rattle.worker_run.specs.Answer.{IsWorkerCount}
-use Rattle.dispatch_core.proofs.Decisions.{IsDecided, alike, decide_both, decide_most}
-use Rattle.spanprof_command.proofs.OneReport.{measured}
+use Rattle.dispatch_core.proofs.Decisions.{IsDecided, decided_by_equivalent, decide_both, decide_most}
+use Rattle.spanprof_command.proofs.OneReport.{span_output}
 use Rattle.spanprof_command.proofs.SomeAnalysis.{IsAnalysed, some_analysed}
 use Rattle.dispatch_core.proofs.SomeGraph.{AreFirstValues, IsWhole, first_values, some_graph, tree_fits, whole_table}
 use Rattle.dispatch_core.specs.declared.event.TheConstants.{MOST_WORKERS}
 use Rattle.spanprof_command.proofs.SomeReplay.{some_said}
 use Rattle.spanprof_command.proofs.TriedSpans.{same_as, tells_trial}
-use Rattle.spanprof_command.specs.Certificates.{AnswersCheck, Certifies, accepted, check_refused}
+use Rattle.spanprof_command.specs.Certificates.{AnswersCheck, Certifies, acceptance, check_refusal}
 use Rattle.spanprof_command.specs.GreedyRuns.{Curves, GreedyRuns, IsThreadCount, curve_header, curve_row, greedy_header, greedy_row, thread_count}
 use Rattle.spanprof_command.specs.OnProgram.{OnProgram}
 use Rattle.spanprof_command.specs.OneReport.{HasReport}
-use Rattle.spanprof_command.specs.Report.{Output, input_too_long, refused, wrong_words}
+use Rattle.spanprof_command.specs.Report.{Output, input_too_long, program_refusal, wrong_words}
 use Rattle.spanprof_command.specs.Reports.{Answers, AnswersWithin, ReportsBy, Shows, Spans}
 use Rattle.spanprof_command.specs.Slacks.{Slacks, slack_header, slack_row}
 use Rattle.spanprof_command.specs.Tables.{numbered_table}
-use Rattle.spanprof_command.specs.Trials.{Trials, TriesChanges, after_changes, change_refused, spans_told, unless_refused}
+use Rattle.spanprof_command.specs.Trials.{Trials, TriesChanges, after_changes, change_refusal, spans_told, unless_refused}
 use Rattle.spanprof_command.specs.WorkerRuns.{WorkerRuns, run_told, worker_count}
 use Rattle.spanprof_command.specs.declared.report.Status.TheVariants.{Done}
 use Rattle.command_io.specs.declared.input.TheConstants.{LARGEST_INPUT}
 
 -- of each program a command says something
-abbrev SaysSome : (ProgramText → Output → Type 0) → Type 0
-SaysSome Says = (program : ProgramText) → IsWhole (table_of program.marks) → (output : Output) × Says program output
+abbrev SaysSome : (ProgramMarks → Output → Type 0) → Type 0
+SaysSome Says = (program : ProgramMarks) → IsWhole (table_of program.marks) → (output : Output) × Says program output
 
-on_read : (Says : ProgramText → Output → Type 0) → SaysSome Says
-    → (input : List ℕ) (read : Result ProgramText ReadFault) → program_of input ≡ read
+on_read : (Says : ProgramMarks → Output → Type 0) → SaysSome Says
+    → (input : List ℕ) (read : Result ProgramMarks ReadFault) → program_of input ≡ read
     → (output : Output) × OnProgram Says input output
 on_read Says some input (Ok program) is =
     let tree : HasTree input program = found_tree_of input program is in
     let said : (output : Output) × Says program output =
     some program (whole_table program (tree_fits input program tree)) in
     (said.0, inl (record { program = program; tree = tree; says = said.1 }))
-on_read Says some input (Err fault) is = (refused fault, inr (record { fault = fault; is_fault = is; says = refl }))
+on_read Says some input (Err fault) is = (program_refusal fault, inr (record { fault = fault; is_fault = is; says = refl }))
 
-on_program : (Says : ProgramText → Output → Type 0) → SaysSome Says → (input : List ℕ)
+on_program : (Says : ProgramMarks → Output → Type 0) → SaysSome Says → (input : List ℕ)
     → (output : Output) × OnProgram Says input output
 on_program Says some input = on_read Says some input (program_of input) refl
 
@@ -91,7 +91,7 @@ some_spans program whole =
     let table : Table = table_of program.marks in
     let analysed : IsAnalysed table = some_analysed table whole in
     let are = analysed.are_analysed.are_findings in (
-      measured table analysed.found.span,
+      span_output table analysed.found.span,
       record {
         span = analysed.found.span;
         is_span = are.greatest_sum;
@@ -101,7 +101,7 @@ some_spans program whole =
     )
 
 some_show : SaysSome Shows
-some_show program whole = (record { text = canonical program; status = Done }, refl)
+some_show program whole = (record { text = canonical_text program; status = Done }, refl)
 
 some_slacks : SaysSome Slacks
 some_slacks program whole =
@@ -127,10 +127,10 @@ some_certificate program whole =
 told_verdict : (document : List ℕ) (verdict : Result Checked CheckFault) → is_verdict verdict ≡ true
     → Judges document verdict → (output : Output) × AnswersCheck document output
 told_verdict document (Ok checked) is judges =
-    (accepted checked, inl (record { checked = checked; accepts = judges; says = refl }))
+    (acceptance checked, inl (record { checked = checked; accepts = judges; says = refl }))
 told_verdict document (Err why) is judges =
     let P : CheckFault → Type 0 = λ w. is_verdict (Err w) ≡ true in (
-      check_refused why,
+      check_refusal why,
       inr
           (record { why = why; refuses = judges; not_memory = λ e. both_ways false refl (subst P e is); says = refl }),
     )
@@ -159,7 +159,7 @@ all_values table value_of sound =
 
 decide_workers : (workers : ℕ) → IsDecided (IsWorkerCount workers)
 decide_workers workers =
-    alike ((1 ≤ workers) × (workers ≤ MOST_WORKERS)) (IsWorkerCount workers) (λ h. h) (λ h. h)
+    decided_by_equivalent ((1 ≤ workers) × (workers ≤ MOST_WORKERS)) (IsWorkerCount workers) (λ h. h) (λ h. h)
     (decide_both (1 ≤ workers) (workers ≤ MOST_WORKERS) (decide_most 1 workers) (decide_most workers MOST_WORKERS))
 
 some_worker_run : (workers : ℕ) → SaysSome (WorkerRuns workers)
@@ -168,7 +168,7 @@ some_worker_run workers program whole =
     elim (decide_workers workers) [
       | inr outside ↦ (worker_count, inl (record { outside = outside; says = refl }))
       | inl within ↦
-          let graph : (graph : Recorded) × IsGraphOf table graph = some_graph table whole.sound in
+          let graph : (graph : RecordedGraph) × IsGraphOf table graph = some_graph table whole.sound in
           let values : (values : List ℕ) × AreAllValues table mix_value values =
           all_values table mix_value whole.sound in (
             run_told graph.0 values.0,
@@ -202,7 +202,7 @@ some_greedy count program whole =
     elim (thread_count_or_not count) [
       | inl outside ↦ (thread_count, inl (record { outside = outside; says = refl }))
       | inr within ↦
-          let graph : (graph : Recorded) × IsGraphOf table graph = some_graph table whole.sound in
+          let graph : (graph : RecordedGraph) × IsGraphOf table graph = some_graph table whole.sound in
           let is_graph : IsGraph graph.0 = graph_of_program table graph.0 whole.sound graph.1 in
           let some = within.some in
           let run : (starts : List ℕ) × (threads : List (Option ℕ)) × IsGreedyRun graph.0.costs
@@ -226,7 +226,7 @@ some_greedy count program whole =
           )
     ]
 
-some_end : (graph : Recorded) (p : ℕ) → IsGraph graph → 0 < p
+some_end : (graph : RecordedGraph) (p : ℕ) → IsGraph graph → 0 < p
     → (end : ℕ) × IsGreedyEnd graph.costs (Precedes graph) p end
 some_end graph p is some =
     let run : (starts : List ℕ) × (threads : List (Option ℕ)) × IsGreedyRun graph.costs
@@ -234,7 +234,7 @@ some_end graph p is some =
     some_run graph p is some in
     (end_of graph.costs run.0, (run.0, run.1, run.2, refl))
 
-some_ends : (graph : Recorded) (upto : ℕ) → IsGraph graph
+some_ends : (graph : RecordedGraph) (upto : ℕ) → IsGraph graph
     → (ends : List ℕ) × IsCurve graph.costs (Precedes graph) upto ends
 some_ends graph zero is = ([], record { each = refl; at_each = λ k less. absurd (omega (arith, less)) })
 some_ends graph (suc n) is =
@@ -270,7 +270,7 @@ some_curve upto program whole =
       | inr within ↦
           let analysed : IsAnalysed table = some_analysed table whole in
           let are = analysed.are_analysed in
-          let graph : Recorded = analysed.graph in
+          let graph : RecordedGraph = analysed.graph in
           let ends : (ends : List ℕ) × IsCurve graph.costs (Precedes graph) upto ends =
           some_ends graph upto are.is_graph in
           let span : ℕ = analysed.found.span in (
@@ -305,10 +305,10 @@ within_work false false true is = absurd cc
 within_work false true heavy is = absurd cc
 within_work true large heavy is = absurd cc
 
-changed_graph : (graph : Recorded) (s cost : ℕ) → IsGraph graph → refusal_of graph s cost ≡ None
-    → IsGraph (changed graph s cost)
+changed_graph : (graph : RecordedGraph) (s cost : ℕ) → IsGraph graph → refusal_of graph s cost ≡ None
+    → IsGraph (with_cost graph s cost)
 changed_graph graph s cost is allowed =
-    let each : length (changed graph s cost).costs ≡ length graph.costs = length-set graph.costs s cost in
+    let each : length (with_cost graph s cost).costs ≡ length graph.costs = length-set graph.costs s cost in
     let all = is.each in
     let some = is.some in
     let few = is.few in
@@ -316,28 +316,28 @@ changed_graph graph s cost is allowed =
       each = all ∙ sym each;
       some = omega (arith, each, some);
       few = omega (arith, each, few);
-      small = ltb-false MOST_WORK (sum (changed graph s cost).costs)
+      small = ltb-false MOST_WORK (sum (with_cost graph s cost).costs)
           (within_work (nat_le (length graph.costs) s) (nat_lt MOST_WORK cost)
-          (nat_lt MOST_WORK (sum (changed graph s cost).costs)) allowed);
+          (nat_lt MOST_WORK (sum (with_cost graph s cost).costs)) allowed);
       smaller = is.smaller;
       ascending = is.ascending;
       reached = λ t later known. is.reached t later (omega (arith, known, each));
     }
 
-none_refused : (refusal : Option WhatFault) (next : Result Recorded WhatFault) (tried : Recorded)
+none_refused : (refusal : Option WhatFault) (next : Result RecordedGraph WhatFault) (tried : RecordedGraph)
     → unless_refused refusal next ≡ Ok tried → (refusal ≡ None) × (next ≡ Ok tried)
 none_refused None next tried is = (refl, is)
 none_refused (Some why) next tried is = absurd cc
 
-tried_graph : (graph tried : Recorded) (changes : List Change) → IsGraph graph
+tried_graph : (graph tried : RecordedGraph) (changes : List Change) → IsGraph graph
     → after_changes graph changes ≡ Ok tried → IsGraph tried
 tried_graph graph tried [] is all = subst IsGraph (same_as graph tried all) is
 tried_graph graph tried (change ∷ changes) is all =
-    let next : Recorded = changed graph change.segment change.cost in
+    let next : RecordedGraph = with_cost graph change.segment change.cost in
     let step = none_refused (refusal_of graph change.segment change.cost) (after_changes next changes) tried all in
     tried_graph next tried changes (changed_graph graph change.segment change.cost is step.0) step.1
 
-some_span : (graph : Recorded) → IsGraph graph → (span : ℕ) × IsSpan graph.costs (Precedes graph) span
+some_span : (graph : RecordedGraph) → IsGraph graph → (span : ℕ) × IsSpan graph.costs (Precedes graph) span
 some_span graph is =
     let starts : (starts : List ℕ) × IsEarliest graph.costs (Precedes graph) starts = earliest_exists graph is in (
       end_of graph.costs starts.0,
@@ -345,11 +345,11 @@ some_span graph is =
           (IsAscending-graph graph is) starts.1 is.some,
     )
 
-tries : (table : Table) (graph : Recorded) (changes : List Change) (tried : Result Recorded WhatFault) → IsWhole table
+tries : (table : Table) (graph : RecordedGraph) (changes : List Change) (tried : Result RecordedGraph WhatFault) → IsWhole table
     → IsGraphOf table graph → after_changes graph changes ≡ tried
     → (output : Output) × TriesChanges changes table output
 tries table graph changes (Err why) whole of all = (
-  change_refused why,
+  change_refusal why,
   record {
     graph = graph;
     is_graph_of = of;
@@ -373,7 +373,7 @@ tries table graph changes (Ok tried) whole of all =
 some_trial : (changes : List Change) → SaysSome (Trials changes)
 some_trial changes program whole =
     let table : Table = table_of program.marks in
-    let graph : (graph : Recorded) × IsGraphOf table graph = some_graph table whole.sound in
+    let graph : (graph : RecordedGraph) × IsGraphOf table graph = some_graph table whole.sound in
     tries table graph.0 changes (after_changes graph.0 changes) whole graph.1 refl
 
 -- ---- each command

@@ -44,11 +44,11 @@ pub accepts_none : (shape : Shape) → accepts shape [] ≡ true → is_whole sh
 unfolding accepts
 accepts_none shape h = h
 
-one : (place : Place) (has_if : Bool) (depth : ℕ) (text : List ℕ) (texts : List (List ℕ))
+accepts_one_more : (place : Place) (has_if : Bool) (depth : ℕ) (text : List ℕ) (texts : List (List ℕ))
     → fits_at place has_if depth text ≡ true → accepts (lead_at place has_if depth text) texts ≡ true
     → accepts (shape_at place has_if depth) (text ∷ texts) ≡ true
 unfolding accepts
-one place has_if depth text texts h later = and_both (fits_at place has_if depth text) (accepts (lead_at place has_if depth text) texts) h later
+accepts_one_more place has_if depth text texts h later = and_both (fits_at place has_if depth text) (accepts (lead_at place has_if depth text) texts) h later
 
 -- ---- names and clauses
 
@@ -57,37 +57,37 @@ names_accepted : (names : List (List ℕ)) (last : List ℕ) (kind : DependKind)
     → accepts (shape_at Clause has_if depth) texts ≡ true
     → accepts (shape_at (DependName kind) has_if depth) (flat_map name_and_comma names ++ last ∷ codes ")" ∷ texts) ≡ true
 names_accepted [] last kind has_if depth texts words last_word later =
-    one (DependName kind) has_if depth last (codes ")" ∷ texts) last_word (one (DependMore kind) has_if depth (codes ")") texts refl later)
+    accepts_one_more (DependName kind) has_if depth last (codes ")" ∷ texts) last_word (accepts_one_more (DependMore kind) has_if depth (codes ")") texts refl later)
 names_accepted (name ∷ names) last kind has_if depth texts words last_word later =
     let others = names_accepted names last kind has_if depth texts (All-tail IsWord name names words) last_word later in
     let rest = flat_map name_and_comma names ++ last ∷ codes ")" ∷ texts in
-    one (DependName kind) has_if depth name (codes "," ∷ rest) (All-head IsWord name names words) (one (DependMore kind) has_if depth (codes ",") rest refl others)
+    accepts_one_more (DependName kind) has_if depth name (codes "," ∷ rest) (All-head IsWord name names words) (accepts_one_more (DependMore kind) has_if depth (codes ",") rest refl others)
 
 depend_accepted : (kind : DependKind) (has_if : Bool) (depth : ℕ) (texts : List (List ℕ))
     → accepts (shape_at (DependName kind) has_if depth) texts ≡ true
     → accepts (shape_at Clause has_if depth) (codes "depend" ∷ codes "(" ∷ type_word kind ∷ codes ":" ∷ texts) ≡ true
 depend_accepted kind has_if depth texts later =
-    let colon : accepts (shape_at (DependColon kind) has_if depth) (codes ":" ∷ texts) ≡ true = one (DependColon kind) has_if depth (codes ":") texts refl later in
-    one Clause has_if depth (codes "depend") (codes "(" ∷ type_word kind ∷ codes ":" ∷ texts) refl
-    (one DependOpens has_if depth (codes "(") (type_word kind ∷ codes ":" ∷ texts) refl
-    (one DependType has_if depth (type_word kind) (codes ":" ∷ texts) (is_type_word kind)
+    let colon : accepts (shape_at (DependColon kind) has_if depth) (codes ":" ∷ texts) ≡ true = accepts_one_more (DependColon kind) has_if depth (codes ":") texts refl later in
+    accepts_one_more Clause has_if depth (codes "depend") (codes "(" ∷ type_word kind ∷ codes ":" ∷ texts) refl
+    (accepts_one_more DependOpens has_if depth (codes "(") (type_word kind ∷ codes ":" ∷ texts) refl
+    (accepts_one_more DependType has_if depth (type_word kind) (codes ":" ∷ texts) (is_type_word kind)
     (subst (λ (k : DependKind). accepts (shape_at (DependColon k) has_if depth) (codes ":" ∷ texts) ≡ true) (sym (type_of_word kind)) colon)))
 
 clauses_accepted : (clauses : List grammar.Clause) (has_if : Bool) (depth : ℕ) (texts : List (List ℕ))
     → All HasClauseForm clauses → cond has_if 1 0 + count_by is_if clauses ≤ 1
     → accepts (shape_at Statement false (suc depth)) texts ≡ true
     → accepts (shape_at Clause has_if depth) (flat_map clause_texts clauses ++ codes "{" ∷ texts) ≡ true
-clauses_accepted [] has_if depth texts forms one_if later = one Clause has_if depth (codes "{") texts refl later
+clauses_accepted [] has_if depth texts forms one_if later = accepts_one_more Clause has_if depth (codes "{") texts refl later
 clauses_accepted (IfClause number ∷ clauses) true depth texts forms one_if later =
     absurd (omega (arith, one_if, sum_by-cons (λ (c : grammar.Clause). cond (is_if c) 1 0) (IfClause number) clauses))
 clauses_accepted (IfClause number ∷ clauses) false depth texts forms one_if later =
     let fewer : cond true 1 0 + count_by is_if clauses ≤ 1 = omega (arith, one_if, sum_by-cons (λ (c : grammar.Clause). cond (is_if c) 1 0) (IfClause number) clauses) in
     let others = clauses_accepted clauses true depth texts (All-tail HasClauseForm (IfClause number) clauses forms) fewer later in
     let rest = flat_map clause_texts clauses ++ codes "{" ∷ texts in
-    one Clause false depth (codes "if") (codes "(" ∷ number ∷ codes ")" ∷ rest) refl
-    (one IfOpens false depth (codes "(") (number ∷ codes ")" ∷ rest) refl
-    (one IfNumber false depth number (codes ")" ∷ rest) (All-head HasClauseForm (IfClause number) clauses forms)
-    (one IfCloses true depth (codes ")") rest refl others)))
+    accepts_one_more Clause false depth (codes "if") (codes "(" ∷ number ∷ codes ")" ∷ rest) refl
+    (accepts_one_more IfOpens false depth (codes "(") (number ∷ codes ")" ∷ rest) refl
+    (accepts_one_more IfNumber false depth number (codes ")" ∷ rest) (All-head HasClauseForm (IfClause number) clauses forms)
+    (accepts_one_more IfCloses true depth (codes ")") rest refl others)))
 clauses_accepted (DependClause kind names last ∷ clauses) has_if depth texts forms one_if later =
     let clause = DependClause kind names last in
     let form : HasClauseForm clause = All-head HasClauseForm clause clauses forms in
@@ -120,7 +120,7 @@ task_accepted : (clauses : List grammar.Clause) (depth : ℕ) (texts : List (Lis
 task_accepted clauses depth texts form later =
     let inside = clauses_accepted clauses false depth texts form.0 (omega (arith, form.1)) later in
     subst (λ (ts : List (List ℕ)). accepts (shape_at Statement false depth) (codes "task" ∷ ts) ≡ true) (sym (append_assoc (flat_map clause_texts clauses) (codes "{" ∷ []) texts))
-    (one Statement false depth (codes "task") _ (first_fits depth (codes "task") refl refl) inside)
+    (accepts_one_more Statement false depth (codes "task") _ (first_fits depth (codes "task") refl refl) inside)
 
 none_accepted : accepts (shape_at Statement false 0) [] ≡ true
 unfolding accepts
@@ -132,22 +132,22 @@ pieces_accepted [] zero forms nested = none_accepted
 pieces_accepted [] (suc depth) forms nested = absurd nested
 pieces_accepted (WorkWritten number ∷ written) depth forms nested =
     let later = pieces_accepted written depth (All-tail HasForm (WorkWritten number) written forms) nested in
-    one Statement false depth (codes "work") (number ∷ flat_map texts_of written) (first_fits depth (codes "work") refl refl)
-    (one WorkNumber false depth number (flat_map texts_of written) (All-head HasForm (WorkWritten number) written forms) later)
+    accepts_one_more Statement false depth (codes "work") (number ∷ flat_map texts_of written) (first_fits depth (codes "work") refl refl)
+    (accepts_one_more WorkNumber false depth number (flat_map texts_of written) (All-head HasForm (WorkWritten number) written forms) later)
 pieces_accepted (TaskWritten clauses ∷ written) depth forms nested =
     let later = pieces_accepted written (suc depth) (All-tail HasForm (TaskWritten clauses) written forms) nested in
     task_accepted clauses depth (flat_map texts_of written) (All-head HasForm (TaskWritten clauses) written forms) later
 pieces_accepted (WaitWritten ∷ written) depth forms nested =
     let later = pieces_accepted written depth (All-tail HasForm WaitWritten written forms) nested in
-    one Statement false depth (codes "taskwait") (flat_map texts_of written) (first_fits depth (codes "taskwait") refl refl) later
+    accepts_one_more Statement false depth (codes "taskwait") (flat_map texts_of written) (first_fits depth (codes "taskwait") refl refl) later
 pieces_accepted (GroupWritten ∷ written) depth forms nested =
     let later = pieces_accepted written (suc depth) (All-tail HasForm GroupWritten written forms) nested in
-    one Statement false depth (codes "taskgroup") (codes "{" ∷ flat_map texts_of written) (first_fits depth (codes "taskgroup") refl refl)
-    (one GroupBrace false depth (codes "{") (flat_map texts_of written) refl later)
+    accepts_one_more Statement false depth (codes "taskgroup") (codes "{" ∷ flat_map texts_of written) (first_fits depth (codes "taskgroup") refl refl)
+    (accepts_one_more GroupBrace false depth (codes "{") (flat_map texts_of written) refl later)
 pieces_accepted (EndWritten ∷ written) zero forms nested = absurd nested
 pieces_accepted (EndWritten ∷ written) (suc depth) forms nested =
     let later = pieces_accepted written depth (All-tail HasForm EndWritten written forms) nested in
-    one Statement false (suc depth) (codes "}") (flat_map texts_of written) refl later
+    accepts_one_more Statement false (suc depth) (codes "}") (flat_map texts_of written) refl later
 
 version_fits : (number one : Bool) → number ≡ true → one ≡ true → ((number && one) && true) ≡ true
 version_fits true true h g = refl
@@ -163,5 +163,5 @@ sentence_accepted texts s =
     let later = pieces_accepted s.written 0 s.forms s.nested in
     let rest = flat_map texts_of s.written in
     subst (λ (ts : List (List ℕ)). accepts (shape_at Header false 0) ts ≡ true) (sym s.spelled)
-    (one Header false 0 (codes "omptasks") (s.version ∷ rest) refl
-    (one Version false 0 s.version rest (version_fits (is_number s.version) (eqb (value_of s.version) 1) s.version_is_one.0 (eqb-one (value_of s.version) s.version_is_one.1)) later))
+    (accepts_one_more Header false 0 (codes "omptasks") (s.version ∷ rest) refl
+    (accepts_one_more Version false 0 s.version rest (version_fits (is_number s.version) (eqb (value_of s.version) 1) s.version_is_one.0 (eqb-one (value_of s.version) s.version_is_one.1)) later))

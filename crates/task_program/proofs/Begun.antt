@@ -10,12 +10,12 @@ use Rattle.task_program.specs.declared.statement.DependKind.{DependKind}
 use Rattle.task_program.specs.Marks.{Mark}
 use Rattle.task_program.specs.Tokens.{Token}
 use Rattle.task_program.specs.Words.{is_text}
-use Rattle.task_program.specs.Faults.{State, Block, form_fault, place_fault, is_header, closes_nothing, is_allowed, step, after_at, closed_by}
+use Rattle.task_program.specs.Faults.{State, Block, form_fault, place_fault, is_header, closes_nothing, is_allowed, step, after_at, after_end_of}
 use Rattle.task_program.specs.ViablePrefix.{IsSentence, IsViable}
 use Rattle.task_program.proofs.Keeping.{at, passes, bool_cases, unless_ok, ok_is}
 use Rattle.task_program.proofs.Found.{same_text}
 use Rattle.task_program.proofs.FoundWhole.{bytes_stay}
-use Rattle.task_program.proofs.Shapes.{Shape, shape_at, one_less, closes_none, fits, lead_at, lead, Follows, FollowsAt, steps_back, nothing_follows, continued}
+use Rattle.task_program.proofs.Shapes.{Shape, shape_at, one_less, closes_none, fits, lead_at, lead, Follows, FollowsAt, steps_back, nothing_follows, may_continue}
 use Rattle.task_program.proofs.Accepting.{accepts, is_whole, accepts_next, accepts_none}
 
 abbrev pub shape_of : State → Shape
@@ -24,7 +24,7 @@ shape_of state = shape_at state.place state.head.has_if (length state.tree.block
 -- ---- where a token leads
 
 closed_depth : (blocks : List Block) (marks : List Mark)
-    → length (closed_by blocks marks).blocks ≡ one_less (length blocks)
+    → length (after_end_of blocks marks).blocks ≡ one_less (length blocks)
 closed_depth [] marks = refl
 closed_depth (block ∷ blocks) marks = refl
 
@@ -142,9 +142,9 @@ pub record Began (before : List (List ℕ)) (state : State) : Type 0 where
   pub bytes_are : state.bytes ≡ sum_by length before
 
 -- a token that the grammar does not have
-pub unviable : (before : List (List ℕ)) (state : State) (text : List ℕ) → Began before state
+pub is_not_viable : (before : List (List ℕ)) (state : State) (text : List ℕ) → Began before state
     → fits (shape_of state) text ≡ false → IsViable (before ++ text ∷ []) → ⊥
-unviable before state text b wrong_here v =
+is_not_viable before state text b wrong_here v =
     let sentence : IsSentence (before ++ text ∷ v.0) = subst IsSentence (append_assoc before (text ∷ []) v.0) v.1 in
     let fits_so : fits (shape_of state) text ≡ true = (accepts_next (shape_of state) text v.0 (b.accepted (text ∷ v.0) sentence)).0 in
     absurd (let wrong : true ≡ false = sym fits_so ∙ wrong_here in cc)
@@ -154,7 +154,7 @@ pub viable_next : (before : List (List ℕ)) (state : State) (text : List ℕ) �
     → fits (shape_of state) text ≡ true → IsViable (before ++ text ∷ [])
 viable_next before state text b yes_fits =
     let next = lead (shape_of state) text in
-    let c = continued next.place next.has_if next.depth in
+    let c = may_continue next.place next.has_if next.depth in
     let back = steps_back state.place state.head.has_if (length state.tree.blocks) text c.0 yes_fits c.1 in
     (c.0, subst IsSentence (sym (append_assoc before (text ∷ []) c.0)) (b.follows (text ∷ c.0) back))
 

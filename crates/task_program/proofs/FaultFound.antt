@@ -13,8 +13,8 @@ use Rattle.task_program.specs.Tokens.{Token, texts, tokens_of, line_at_end}
 use Rattle.task_program.specs.TokenCounts.{open_braces, limit_fault_after}
 use Rattle.task_program.specs.Words.{is_text}
 use Rattle.task_program.specs.Within.{IsWithin}
-use Rattle.task_program.specs.ProgramText.{ProgramText}
-use Rattle.task_program.specs.Faults.{State, Block, form_fault, place_fault, is_header, closes_nothing, is_allowed, unless_fault, step, after_at, line_of, end_at, ended, go_on, reading, start, one_pass}
+use Rattle.task_program.specs.ProgramMarks.{ProgramMarks}
+use Rattle.task_program.specs.Faults.{State, Block, form_fault, place_fault, is_header, closes_nothing, is_allowed, unless_fault, step, after_at, line_of_block, end_at, program_or_fault, go_on, read_tokens, start, one_pass}
 use Rattle.task_program.specs.ReadInVersion.{begins_version_two, program_of}
 use Rattle.task_program.specs.ViablePrefix.{IsSentence, IsViable}
 use Rattle.task_program.specs.FirstFault.{IsMisplaced, IsWrong, IsRight, AreRight, EndsEarly, IsFirstFault, HasFault, IsToldApart, FaultIsFirst}
@@ -31,7 +31,7 @@ use Rattle.task_program.proofs.ReadWhole.{of_one}
 use Rattle.task_program.proofs.Shapes.{closes_none, fits_at, FollowsAt, nothing_follows}
 use Rattle.task_program.proofs.Accepting.{is_whole, sentence_accepted}
 use Rattle.task_program.proofs.Tallies.{Tally, tally_of, tally_after, tally_now, limit_of, limits, NoItems, is_past_header, tally_more, place_tallies, place_limits, header_tallies, header_limits, nothing_counted}
-use Rattle.task_program.proofs.Begun.{LengthAt, Began, unviable, viable_next, fits_of, step_begins, row_cases, in_header, after_header, closes_at, whole_closes, whole_now, closes_same, no_header, no_close, none_allowed}
+use Rattle.task_program.proofs.Begun.{LengthAt, Began, is_not_viable, viable_next, fits_of, step_begins, row_cases, in_header, after_header, closes_at, whole_closes, whole_now, closes_same, no_header, no_close, none_allowed}
 
 -- ---- what is known where these tokens were read
 
@@ -179,18 +179,18 @@ at_place before state text kind c formed h =
     let closes_is = closes_none place depth text in
     let closes_so : closes_nothing place state.tree.blocks text ≡ closes_is = closes_same place state.tree.blocks text in
     row_cases (not header_is) BadHeader kind _ h
-    (λ bad same. subst (IsWrong before text) same (Misplaced before text BadHeader formed (unviable (texts before) state text b (no_header header_is closes_is allowed_is bad))
+    (λ bad same. subst (IsWrong before text) same (Misplaced before text BadHeader formed (is_not_viable (texts before) state text b (no_header header_is closes_is allowed_is bad))
     (OfHeader (texts before) text (in_header place text (length (texts before)) b.length_is bad))))
     (λ header h1. row_cases (closes_nothing place state.tree.blocks text) Unopened kind _ h1
     (λ closes same.
     let whole = closes_at place state.head.has_if depth text (sym closes_so ∙ closes) in
     let sentence : IsSentence (texts before) = subst IsSentence (append-nil (texts before)) (b.follows [] whole.1) in
-    subst (IsWrong before text) same (Misplaced before text Unopened formed (unviable (texts before) state text b (no_close header_is _ closes_is allowed_is closes closes_so))
+    subst (IsWrong before text) same (Misplaced before text Unopened formed (is_not_viable (texts before) state text b (no_close header_is _ closes_is allowed_is closes closes_so))
     (AfterWhole (texts before) text sentence whole.0)))
     (λ unopened h2. row_cases (not allowed_is) BadWord kind _ h2
     (λ bad same.
     let no_whole : IsSentence (texts before) → text ≡ codes "}" → ⊥ = λ s text_is. absurd (let wrong : true ≡ false = sym (whole_closes place depth text (whole_now (texts before) state b s) text_is) ∙ sym closes_so ∙ unopened in cc) in
-    subst (IsWrong before text) same (Misplaced before text BadWord formed (unviable (texts before) state text b (none_allowed header_is closes_is allowed_is bad))
+    subst (IsWrong before text) same (Misplaced before text BadWord formed (is_not_viable (texts before) state text b (none_allowed header_is closes_is allowed_is bad))
     (Elsewhere (texts before) text (after_header place state.head.has_if text (length (texts before)) b.length_is bad) no_whole)))
     (λ allowed h3. PastLimit before text kind formed (viable_next (texts before) state text b (fits_of state text header unopened allowed))
     (limits_so before state text c (is_true header_is header) (is_true allowed_is allowed) ∙ h3))))
@@ -286,7 +286,7 @@ ends_once all end_line one other (Inside _ _ long no_viable) (Inside _ _ again n
 -- ---- the end
 
 end_by : (all : List Token) (place : Place) (has_if : Bool) (blocks : List Block) (end_line : ℕ) (fault : ReadFault)
-    → LengthAt place (length all) → open_braces (drop 2 all) ≡ map line_of blocks
+    → LengthAt place (length all) → open_braces (drop 2 all) ≡ map line_of_block blocks
     → (fits_at place has_if (length blocks) (codes "}") ≡ true → IsViable (texts all ++ codes "}" ∷ []))
     → (fits_at place has_if (length blocks) (codes "}") ≡ false → IsViable (texts all ++ codes "}" ∷ []) → ⊥)
     → end_at place blocks end_line ≡ Some fault → EndsEarly all end_line fault
@@ -294,7 +294,7 @@ end_by all Header has_if blocks end_line fault long braces can cannot h = let sa
 end_by all Version has_if blocks end_line fault long braces can cannot h = let same : fault_so BadHeader end_line ≡ fault = cc in subst (EndsEarly all end_line) same (InHeader all end_line (omega (arith, long)))
 end_by all Statement has_if [] end_line fault long braces can cannot h = absurd cc
 end_by all Statement has_if (block ∷ blocks) end_line fault long braces can cannot h =
-    let same : fault_so Unclosed (line_of block) ≡ fault = cc in subst (EndsEarly all end_line) same (BlockOpen all end_line (line_of block) (map line_of blocks) (can refl) braces)
+    let same : fault_so Unclosed (line_of_block block) ≡ fault = cc in subst (EndsEarly all end_line) same (BlockOpen all end_line (line_of_block block) (map line_of_block blocks) (can refl) braces)
 end_by all _ has_if blocks end_line fault long braces can cannot h = let same : fault_so BadWord end_line ≡ fault = cc in subst (EndsEarly all end_line) same (Inside all end_line long (cannot refl))
 
 whole_ends : (place : Place) (blocks : List Block) (line : ℕ) (fault : ReadFault)
@@ -303,13 +303,13 @@ whole_ends Statement [] line fault h g = absurd cc
 whole_ends Statement (block ∷ blocks) line fault h g = absurd cc
 whole_ends _ blocks line fault h g = absurd cc
 
-ended_err : (found : Option ReadFault) (state : State) (fault : ReadFault) → ended found state ≡ Err fault
+ended_err : (found : Option ReadFault) (state : State) (fault : ReadFault) → program_or_fault found state ≡ Err fault
     → found ≡ Some fault
 ended_err (Some other) state fault h = cc
 ended_err None state fault h = absurd cc
 
-ended_ok : (place : Place) (has_if : Bool) (blocks : List Block) (line : ℕ) (state : State) (program : ProgramText)
-    → ended (end_at place blocks line) state ≡ Ok program → FollowsAt place has_if (length blocks) []
+ended_ok : (place : Place) (has_if : Bool) (blocks : List Block) (line : ℕ) (state : State) (program : ProgramMarks)
+    → program_or_fault (end_at place blocks line) state ≡ Ok program → FollowsAt place has_if (length blocks) []
 ended_ok Statement has_if [] line state program h = nothing_follows has_if
 ended_ok Statement has_if (block ∷ blocks) line state program h = absurd cc
 ended_ok _ has_if blocks line state program h = absurd cc
@@ -319,11 +319,11 @@ early_at : (all : List Token) (state : State) (end_line : ℕ) (fault : ReadFaul
 early_at all state end_line fault c h =
     let b = c.began in
     end_by all state.place state.head.has_if state.tree.blocks end_line fault (subst (λ (n : ℕ). LengthAt state.place n) (texts_long all) b.length_is)
-    (ap (λ (t : Tally). t.braces) c.tally_is) (viable_next (texts all) state (codes "}") b) (unviable (texts all) state (codes "}") b) h
+    (ap (λ (t : Tally). t.braces) c.tally_is) (viable_next (texts all) state (codes "}") b) (is_not_viable (texts all) state (codes "}") b) h
 
-end_is : (state : State) (line : ℕ) (fault : ReadFault) → reading [] line state ≡ Err fault
+end_is : (state : State) (line : ℕ) (fault : ReadFault) → read_tokens [] line state ≡ Err fault
     → end_at state.place state.tree.blocks line ≡ Some fault
-unfolding reading
+unfolding read_tokens
 end_is state line fault h = ended_err (end_at state.place state.tree.blocks line) state fault h
 
 end_fault : (all : List Token) (state : State) (end_line : ℕ) (fault : ReadFault) → Counts all state
@@ -333,19 +333,19 @@ end_fault all state end_line fault c h =
 
 -- ---- the whole
 
-stepped : {P : Type 0} (read : Result State ReadFault) (later : State → Result ProgramText ReadFault) (fault : ReadFault)
+by_next_or_fault : {P : Type 0} (read : Result State ReadFault) (later : State → Result ProgramMarks ReadFault) (fault : ReadFault)
     → go_on read later ≡ Err fault
     → ((next : State) → read ≡ Ok next → later next ≡ Err fault → P) → (read ≡ Err fault → P) → P
-stepped (Ok next) later fault h on stops = on next refl h
-stepped (Err other) later fault h on stops = stops cc
+by_next_or_fault (Ok next) later fault h on stops = on next refl h
+by_next_or_fault (Err other) later fault h on stops = stops cc
 
 fault_from : (tokens before : List Token) (state : State) (end_line : ℕ) (fault : ReadFault) → Counts before state
-    → reading tokens end_line state ≡ Err fault → IsFirstFault (before ++ tokens) end_line fault
-unfolding reading
+    → read_tokens tokens end_line state ≡ Err fault → IsFirstFault (before ++ tokens) end_line fault
+unfolding read_tokens
 fault_from [] before state end_line fault c h =
     subst (λ (ts : List Token). IsFirstFault ts end_line fault) (sym (append-nil before)) (end_fault before state end_line fault c (ended_err (end_at state.place state.tree.blocks end_line) state fault h))
 fault_from (token ∷ tokens) before state end_line fault c h =
-    stepped (step state token) (λ next. reading tokens end_line next) fault h
+    by_next_or_fault (step state token) (λ next. read_tokens tokens end_line next) fault h
     (λ next one later. subst (λ (ts : List Token). IsFirstFault ts end_line fault) (append_assoc before (token ∷ []) tokens)
     (fault_from tokens (before ++ token ∷ []) next end_line fault (counts_more before state next token c one) later))
     (λ stops. token_fault before tokens state token end_line fault c stops)
@@ -353,14 +353,14 @@ fault_from (token ∷ tokens) before state end_line fault c h =
 abbrev Whole : List Token → Type 0
 Whole all = IsSentence (texts all) × AreRight all
 
-whole_from : (tokens before : List Token) (state : State) (end_line : ℕ) (program : ProgramText) → Counts before state
-    → reading tokens end_line state ≡ Ok program → Whole (before ++ tokens)
-unfolding reading
+whole_from : (tokens before : List Token) (state : State) (end_line : ℕ) (program : ProgramMarks) → Counts before state
+    → read_tokens tokens end_line state ≡ Ok program → Whole (before ++ tokens)
+unfolding read_tokens
 whole_from [] before state end_line program c h =
     let whole = c.began.follows [] (ended_ok state.place state.head.has_if state.tree.blocks end_line state program h) in
     subst Whole (sym (append-nil before)) (subst IsSentence (append-nil (texts before)) whole, c.right)
 whole_from (token ∷ tokens) before state end_line program c h =
-    let went = step_went (step state token) (λ next. reading tokens end_line next) program h in
+    let went = step_went (step state token) (λ next. read_tokens tokens end_line next) program h in
     subst Whole (append_assoc before (token ∷ []) tokens)
     (whole_from tokens (before ++ token ∷ []) went.0 end_line program (counts_more before state went.0 token c went.1) went.2)
 
@@ -376,7 +376,7 @@ at_start = record {
 too_long : (text : List ℕ) → nat_lt MOST_TEXT_BYTES (length text) ≡ true → program_of text ≡ Err (fault_so TooLong 1)
 too_long text long = rw long refl
 
-same_fault : (read : Result ProgramText ReadFault) (one other : ReadFault) → read ≡ Err one → read ≡ Err other
+same_fault : (read : Result ProgramMarks ReadFault) (one other : ReadFault) → read ≡ Err one → read ≡ Err other
     → one ≡ other
 same_fault read one other h g = cc
 
@@ -386,7 +386,7 @@ same_fault read one other h g = cc
 record ReadSo (before : List Token) : Type 0 where
   state : State
   counts : Counts before state
-  goes_on : (later : List Token) (line : ℕ) → reading (before ++ later) line start ≡ reading later line state
+  goes_on : (later : List Token) (line : ℕ) → read_tokens (before ++ later) line start ≡ read_tokens later line state
 
 step_cases : {P : Type 0} (read : Result State ReadFault) → ((next : State) → read ≡ Ok next → P)
     → ((fault : ReadFault) → read ≡ Err fault → P) → P
@@ -394,13 +394,13 @@ step_cases (Ok next) on stops = on next refl
 step_cases (Err fault) on stops = stops fault refl
 
 one_on : (token : Token) (later : List Token) (line : ℕ) (state next : State) → step state token ≡ Ok next
-    → reading (token ∷ later) line state ≡ reading later line next
-unfolding reading
+    → read_tokens (token ∷ later) line state ≡ read_tokens later line next
+unfolding read_tokens
 one_on token later line state next h = rw h refl
 
 one_stops : (token : Token) (later : List Token) (line : ℕ) (state : State) (fault : ReadFault)
-    → step state token ≡ Err fault → reading (token ∷ later) line state ≡ Err fault
-unfolding reading
+    → step state token ≡ Err fault → read_tokens (token ∷ later) line state ≡ Err fault
+unfolding read_tokens
 one_stops token later line state fault h = rw h refl
 
 right_read : (before : List Token) → AreRight before → ReadSo before
@@ -412,15 +412,15 @@ right_read before (More others token rights right) =
       state = next;
       counts = counts_more others r.state next token r.counts one;
       goes_on = λ later line.
-          ap (λ (ts : List Token). reading ts line start) (append_assoc others (token ∷ []) later) ∙ r.goes_on (token ∷ later) line ∙ one_on token later line r.state next one;
+          ap (λ (ts : List Token). read_tokens ts line start) (append_assoc others (token ∷ []) later) ∙ r.goes_on (token ∷ later) line ∙ one_on token later line r.state next one;
     })
     (λ fault stops. let wrong = token_wrong others r.state token fault r.counts stops in absurd (right_not_wrong others token.text wrong.0 right wrong.1))
 
-abbrev failed : ReadFault → Result ProgramText ReadFault
-failed fault = Err fault
+abbrev fault_of_program : ReadFault → Result ProgramMarks ReadFault
+fault_of_program fault = Err fault
 
 refused_at : (before later : List Token) (token : Token) (line : ℕ) (kind : ReadKind) → AreRight before
-    → IsWrong before token.text kind → reading (before ++ token ∷ later) line start ≡ Err (fault_so kind token.line)
+    → IsWrong before token.text kind → read_tokens (before ++ token ∷ later) line start ≡ Err (fault_so kind token.line)
 refused_at before later token line kind rights wrong =
     let r = right_read before rights in
     step_cases (step r.state token)
@@ -428,39 +428,39 @@ refused_at before later token line kind rights wrong =
     (λ fault stops.
     let told = token_wrong before r.state token fault r.counts stops in
     let same : fault ≡ fault_so kind token.line = sym told.2 ∙ ap (λ (k : ReadKind). fault_so k token.line) (wrong_once before token.text told.0 kind told.1 wrong) in
-    r.goes_on (token ∷ later) line ∙ one_stops token later line r.state fault stops ∙ ap (λ (f : ReadFault). failed f) same)
+    r.goes_on (token ∷ later) line ∙ one_stops token later line r.state fault stops ∙ ap (λ (f : ReadFault). fault_of_program f) same)
 
-read_cases : {P : Type 0} (read : Result ProgramText ReadFault) → ((program : ProgramText) → read ≡ Ok program → P)
+read_cases : {P : Type 0} (read : Result ProgramMarks ReadFault) → ((program : ProgramMarks) → read ≡ Ok program → P)
     → ((fault : ReadFault) → read ≡ Err fault → P) → P
 read_cases (Ok program) on stops = on program refl
 read_cases (Err fault) on stops = stops fault refl
 
 early_once : (all : List Token) (line : ℕ) (one other : ReadFault) → AreRight all → EndsEarly all line one
-    → reading all line start ≡ Err other → one ≡ other
+    → read_tokens all line start ≡ Err other → one ≡ other
 early_once all line one other rights early h =
     let r = right_read all rights in
-    let ended_so : reading [] line r.state ≡ Err other = sym (r.goes_on [] line) ∙ ap (λ (ts : List Token). reading ts line start) (append-nil all) ∙ h in
+    let ended_so : read_tokens [] line r.state ≡ Err other = sym (r.goes_on [] line) ∙ ap (λ (ts : List Token). read_tokens ts line start) (append-nil all) ∙ h in
     ends_once all line one other early (early_at all r.state line other r.counts (end_is r.state line other ended_so))
 
 refused_end : (all : List Token) (line : ℕ) (fault : ReadFault) → AreRight all → (IsSentence (texts all) → ⊥)
-    → EndsEarly all line fault → reading all line start ≡ Err fault
+    → EndsEarly all line fault → read_tokens all line start ≡ Err fault
 refused_end all line fault rights no_sentence early =
-    read_cases (reading all line start)
+    read_cases (read_tokens all line start)
     (λ program h. absurd (no_sentence (whole_from all [] start line program at_start h).0))
-    (λ other h. h ∙ ap (λ (f : ReadFault). failed f) (sym (early_once all line fault other rights early h)))
+    (λ other h. h ∙ ap (λ (f : ReadFault). fault_of_program f) (sym (early_once all line fault other rights early h)))
 
 refused_first : (tokens : List Token) (line : ℕ) (fault : ReadFault) → IsFirstFault tokens line fault
-    → reading tokens line start ≡ Err fault
+    → read_tokens tokens line start ≡ Err fault
 refused_first tokens line fault (AtToken before later token _ kind rights wrong) = refused_at before later token line kind rights wrong
 refused_first tokens line fault (AtEnd _ _ _ rights no_sentence early) = refused_end tokens line fault rights no_sentence early
 
 -- a sentence of right tokens has no first fault
 whole_read : (all : List Token) (line : ℕ) → IsSentence (texts all) → AreRight all
-    → (program : ProgramText) × (reading all line start ≡ Ok program)
+    → (program : ProgramMarks) × (read_tokens all line start ≡ Ok program)
 whole_read all line s rights =
     let r = right_read all rights in
-    let to_end : reading all line start ≡ reading [] line r.state = ap (λ (ts : List Token). reading ts line start) (sym (append-nil all)) ∙ r.goes_on [] line in
-    read_cases (reading all line start)
+    let to_end : read_tokens all line start ≡ read_tokens [] line r.state = ap (λ (ts : List Token). read_tokens ts line start) (sym (append-nil all)) ∙ r.goes_on [] line in
+    read_cases (read_tokens all line start)
     (λ program h. (program, h))
     (λ fault h. absurd (whole_ends r.state.place r.state.tree.blocks line fault (whole_now (texts all) r.state r.counts.began s) (end_is r.state line fault (sym to_end ∙ h))))
 

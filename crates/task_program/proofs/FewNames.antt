@@ -8,30 +8,30 @@ use Rattle.task_program.specs.declared.statement.Item.{Item}
 use Rattle.task_program.specs.Marks.Mark.{Begins}
 use Rattle.task_program.specs.Limits.{tasks_begun}
 use Rattle.task_program.specs.declared.limits.TheConstants.{MOST_ITEMS}
-use Rattle.task_program.specs.Names.{number_of, with_name}
+use Rattle.task_program.specs.Names.{number_of_name, with_name}
 use Rattle.task_program.specs.Expansion.{Piece}
 use Rattle.task_program.specs.Expansion.Piece.{TurnBegins, TaskComes, ItemComes, TaskOpens, GroupComes, GroupOpens, BlockEnds, WorkIs, WaitIs}
-use Rattle.task_program.specs.SecondPass.{Expanded, fault_of, after_piece, take_pieces}
+use Rattle.task_program.specs.SecondPass.{ExpansionState, fault_of, after_piece, take_pieces}
 use Rattle.task_program.specs.FewNames.{HasFewNames}
 use Rattle.task_program.proofs.Allowed.{below_piece, weighs}
 use Rattle.task_program.proofs.Keeping.{bool_cases, with_one}
-use Rattle.task_program.proofs.Kept.{went, at_end, not_first, is_fault}
+use Rattle.task_program.proofs.Kept.{take_pieces_first, at_end, not_first, is_fault}
 
-grown : (names : List (List ℕ)) (name : List ℕ) → length (with_name names name) ≤ length names + 1
-grown names name =
+one_name_more : (names : List (List ℕ)) (name : List ℕ) → length (with_name names name) ≤ length names + 1
+one_name_more names name =
     bool_cases (list_any (bytes_eq name) names)
     (λ known. rw known (omega arith))
     (λ new. rw new (omega (arith, length-append names (name ∷ []))))
 
-few_piece : (state : Expanded) (piece : Piece) → fault_of state piece ≡ None → HasFewNames state → HasFewNames (after_piece state piece)
+few_piece : (state : ExpansionState) (piece : Piece) → fault_of state piece ≡ None → HasFewNames state → HasFewNames (after_piece state piece)
 few_piece state (TurnBegins line) none h = record { items = h.items; names = h.names }
 few_piece state (TaskComes line) none h = h
 few_piece state (ItemComes place) none h =
     let room : length state.items < MOST_ITEMS = leb-false MOST_ITEMS (length state.items) (not_first (nat_le MOST_ITEMS (length state.items)) _ _ none (is_fault _ place.line)).0 in
-    let item : Item = record { kind = place.kind; name = number_of state.names place.location } in
+    let item : Item = record { kind = place.kind; name = number_of_name state.names place.location } in
     let one : length (state.items ++ item ∷ []) ≡ length state.items + 1 = length-append state.items (item ∷ []) in
     let names_are = h.names in
-    record { items = omega (arith, room, one); names = omega (arith, one, names_are, grown state.names place.location) }
+    record { items = omega (arith, room, one); names = omega (arith, one, names_are, one_name_more state.names place.location) }
 few_piece state (TaskOpens undeferred line) none h =
     let tasks = with_one tasks_begun state.tree.marks (Begins undeferred state.items) in
     let names_are = h.names in
@@ -43,8 +43,8 @@ few_piece state BlockEnds none h = let tasks = weighs tasks_begun state _ (below
 few_piece state (WorkIs cost line) none h = let tasks = weighs tasks_begun state _ (below_piece state (WorkIs cost line)) in let names_are = h.names in record { items = h.items; names = omega (arith, tasks, names_are) }
 few_piece state (WaitIs line) none h = let tasks = weighs tasks_begun state _ (below_piece state (WaitIs line)) in let names_are = h.names in record { items = h.items; names = omega (arith, tasks, names_are) }
 
-pub few_pieces : (pieces : List Piece) (state next : Expanded) → take_pieces state pieces ≡ Ok next → HasFewNames state → HasFewNames next
+pub few_pieces : (pieces : List Piece) (state next : ExpansionState) → take_pieces state pieces ≡ Ok next → HasFewNames state → HasFewNames next
 few_pieces [] state next taken h = subst HasFewNames (at_end state next taken) h
 few_pieces (piece ∷ pieces) state next taken h =
-    let one = went state next piece pieces taken in
+    let one = take_pieces_first state next piece pieces taken in
     few_pieces pieces (after_piece state piece) next one.1 (few_piece state piece one.0 h)

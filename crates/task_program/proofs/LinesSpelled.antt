@@ -242,8 +242,8 @@ HasLocations names _ = Unit {0}
 abbrev words_of : List (List ℕ) → Mark → List (List ℕ)
 words_of names mark = line_texts_by (spell false) names mark
 
-moved : (names : List (List ℕ)) (room : ℕ) (tokens other : List Token) (marks more : List Mark) → tokens ≡ other → marks ≡ more → HasMarks names room tokens marks → HasMarks names room other more
-moved names room tokens other marks more same equal h = record {
+has_marks_of_same : (names : List (List ℕ)) (room : ℕ) (tokens other : List Token) (marks more : List Mark) → tokens ≡ other → marks ≡ more → HasMarks names room tokens marks → HasMarks names room other more
+has_marks_of_same names room tokens other marks more same equal h = record {
   tree = h.tree;
   spelled = subst (λ (ts : List Token). Spelled [] room ts h.tree) same h.spelled;
   stands = subst (λ (ms : List Mark). Stands names ms h.tree) equal h.stands;
@@ -300,8 +300,8 @@ all_back : (P : Mark → Type 0) (one other : List Mark) → All P (one ++ other
 all_back P [] other all = all
 all_back P (mark ∷ one) other all = all_back P one other (All-tail P mark (one ++ other) all)
 
-regrouped : {A : Type 0} (before opens inside : List A) (closes : A) (rest : List A) → (before ++ (opens ++ (inside ++ closes ∷ []))) ++ rest ≡ before ++ (opens ++ (inside ++ closes ∷ rest))
-regrouped before opens inside closes rest =
+append_of_block : {A : Type 0} (before opens inside : List A) (closes : A) (rest : List A) → (before ++ (opens ++ (inside ++ closes ∷ []))) ++ rest ≡ before ++ (opens ++ (inside ++ closes ∷ rest))
+append_of_block before opens inside closes rest =
     append_assoc before (opens ++ (inside ++ closes ∷ [])) rest
     ∙ ap (λ xs. before ++ xs) (append_assoc opens (inside ++ closes ∷ []) rest ∙ ap (λ xs. opens ++ xs) (append_assoc inside (closes ∷ []) rest))
 
@@ -328,15 +328,15 @@ block_lines opens inside rest lines =
 pub lines_spelled : (names : List (List ℕ)) (room : ℕ) (marks : List Mark) → NestsIn room marks → All (HasLocations names) marks → (before : List Token) (done : List Mark) (lines : ℕ → ℕ) → HasMarks names room before done
     → HasMarks names room (before ++ with_lines (flat_map (words_of names) marks) lines) (done ++ marks)
 unfolding with_lines
-lines_spelled names _ _ (nested.NestsIn.Nothing room) all before done lines h = moved names room before (before ++ []) done (done ++ []) (sym (append-nil before)) (sym (append-nil done)) h
+lines_spelled names _ _ (nested.NestsIn.Nothing room) all before done lines h = has_marks_of_same names room before (before ++ []) done (done ++ []) (sym (append-nil before)) (sym (append-nil done)) h
 lines_spelled names _ _ (nested.NestsIn.Work room cost rest n) all before done lines h =
     let later = lines_spelled names room rest n (All-tail (HasLocations names) (Works cost) rest all) (before ++ record { text = codes "work"; line = lines 0 } ∷ record { text = decimal cost; line = lines 1 } ∷ []) (done ++ Works cost ∷ []) (λ i. lines (suc (suc i)))
     (work_added names room cost (lines 0) (lines 1) before done (All-head (HasLocations names) (Works cost) rest all) h) in
-    moved names room _ _ _ _ (append_assoc before (record { text = codes "work"; line = lines 0 } ∷ record { text = decimal cost; line = lines 1 } ∷ []) _) (append_assoc done (Works cost ∷ []) rest) later
+    has_marks_of_same names room _ _ _ _ (append_assoc before (record { text = codes "work"; line = lines 0 } ∷ record { text = decimal cost; line = lines 1 } ∷ []) _) (append_assoc done (Works cost ∷ []) rest) later
 lines_spelled names _ _ (nested.NestsIn.Wait room rest n) all before done lines h =
     let later = lines_spelled names room rest n (All-tail (HasLocations names) Waits rest all) (before ++ record { text = codes "taskwait"; line = lines 0 } ∷ []) (done ++ Waits ∷ []) (λ i. lines (suc i))
     (wait_added names room (lines 0) before done h) in
-    moved names room _ _ _ _ (append_assoc before (record { text = codes "taskwait"; line = lines 0 } ∷ []) _) (append_assoc done (Waits ∷ []) rest) later
+    has_marks_of_same names room _ _ _ _ (append_assoc before (record { text = codes "taskwait"; line = lines 0 } ∷ []) _) (append_assoc done (Waits ∷ []) rest) later
 lines_spelled names _ _ (nested.NestsIn.Task room undeferred items body rest inside n) all before done lines h =
     let opens : List (List ℕ) = words_of names (Begins undeferred items) in
     let within : List (List ℕ) = flat_map (words_of names) body in
@@ -350,10 +350,10 @@ lines_spelled names _ _ (nested.NestsIn.Task room undeferred items body rest ins
     let later = lines_spelled names (suc room) rest n (All-tail (HasLocations names) Ends rest (all_back (HasLocations names) body (Ends ∷ rest) others)) (before ++ (with_lines opens lines ++ (with_lines within b.inside_lines ++ closes ∷ [])))
     (done ++ (Begins undeferred items ∷ (body ++ Ends ∷ []))) b.rest_lines front in
     let texts_are : opens ++ (within ++ codes "}" ∷ after) ≡ flat_map (words_of names) (Begins undeferred items ∷ (body ++ Ends ∷ rest)) = ap (λ (ts : List (List ℕ)). opens ++ ts) (sym (flat_map-append (words_of names) body (Ends ∷ rest))) in
-    moved names (suc room) _ _ _ _
-    (regrouped before (with_lines opens lines) (with_lines within b.inside_lines) closes (with_lines after b.rest_lines)
+    has_marks_of_same names (suc room) _ _ _ _
+    (append_of_block before (with_lines opens lines) (with_lines within b.inside_lines) closes (with_lines after b.rest_lines)
     ∙ ap (λ (ts : List Token). before ++ ts) (sym b.tokens_are ∙ ap (λ (ts : List (List ℕ)). with_lines ts lines) texts_are))
-    (regrouped done (Begins undeferred items ∷ []) body Ends rest) later
+    (append_of_block done (Begins undeferred items ∷ []) body Ends rest) later
 lines_spelled names _ _ (nested.NestsIn.Group room body rest inside n) all before done lines h =
     let opens : List (List ℕ) = words_of names GroupBegins in
     let within : List (List ℕ) = flat_map (words_of names) body in
@@ -366,7 +366,7 @@ lines_spelled names _ _ (nested.NestsIn.Group room body rest inside n) all befor
     let later = lines_spelled names (suc room) rest n (All-tail (HasLocations names) GroupEnds rest (all_back (HasLocations names) body (GroupEnds ∷ rest) others)) (before ++ (with_lines opens lines ++ (with_lines within b.inside_lines ++ closes ∷ [])))
     (done ++ (GroupBegins ∷ (body ++ GroupEnds ∷ []))) b.rest_lines front in
     let texts_are : opens ++ (within ++ codes "}" ∷ after) ≡ flat_map (words_of names) (GroupBegins ∷ (body ++ GroupEnds ∷ rest)) = ap (λ (ts : List (List ℕ)). opens ++ ts) (sym (flat_map-append (words_of names) body (GroupEnds ∷ rest))) in
-    moved names (suc room) _ _ _ _
-    (regrouped before (with_lines opens lines) (with_lines within b.inside_lines) closes (with_lines after b.rest_lines)
+    has_marks_of_same names (suc room) _ _ _ _
+    (append_of_block before (with_lines opens lines) (with_lines within b.inside_lines) closes (with_lines after b.rest_lines)
     ∙ ap (λ (ts : List Token). before ++ ts) (sym b.tokens_are ∙ ap (λ (ts : List (List ℕ)). with_lines ts lines) texts_are))
-    (regrouped done (GroupBegins ∷ []) body GroupEnds rest) later
+    (append_of_block done (GroupBegins ∷ []) body GroupEnds rest) later

@@ -17,7 +17,7 @@ use Rattle.task_program.specs.FirstPass.{step_of}
 use Rattle.task_program.specs.LoopGrammar as grammar
 use Rattle.task_program.specs.LoopGrammar.{index_of, IndexSpelled, ItemSpelled}
 use Rattle.task_program.proofs.Spelled.{spell, word_then, number_then, decimal_value, decimal_number, IsWritten}
-use Rattle.task_program.proofs.ReadBack.{AllShort, none_short, cons_short, number_short, short}
+use Rattle.task_program.proofs.ReadBack.{AllShort, none_short, cons_short, number_short, is_short}
 
 -- ---- tokens with these texts, whatever their lines
 
@@ -107,15 +107,15 @@ location_written _ (Indexed word is_negative size is fits some) = record {
 
 subscript_short : (is_negative : Bool) (size : ℕ) → size ≤ LARGEST_INDEX → AllShort (subscript_texts is_negative size)
 subscript_short false size fits =
-    cons_short (codes "[") _ (short (codes "[") (omega arith)) (cons_short (decimal size) _ (number_short (decimal size) (decimal_number size (omega (arith, fits)))) (cons_short (codes "]") [] (short (codes "]") (omega arith)) none_short))
+    cons_short (codes "[") _ (is_short (codes "[") (omega arith)) (cons_short (decimal size) _ (number_short (decimal size) (decimal_number size (omega (arith, fits)))) (cons_short (codes "]") [] (is_short (codes "]") (omega arith)) none_short))
 subscript_short true size fits =
-    cons_short (codes "[") _ (short (codes "[") (omega arith)) (cons_short (codes "-") _ (short (codes "-") (omega arith))
-    (cons_short (decimal size) _ (number_short (decimal size) (decimal_number size (omega (arith, fits)))) (cons_short (codes "]") [] (short (codes "]") (omega arith)) none_short)))
+    cons_short (codes "[") _ (is_short (codes "[") (omega arith)) (cons_short (codes "-") _ (is_short (codes "-") (omega arith))
+    (cons_short (decimal size) _ (number_short (decimal size) (decimal_number size (omega (arith, fits)))) (cons_short (codes "]") [] (is_short (codes "]") (omega arith)) none_short)))
 
 pub location_short : (name : List ℕ) → IsLocation name → AllShort (spell false name)
-location_short _ (Plain word is) = subst AllShort (sym (word_alone word is.0)) (cons_short word [] (short word is.1) none_short)
+location_short _ (Plain word is) = subst AllShort (sym (word_alone word is.0)) (cons_short word [] (is_short word is.1) none_short)
 location_short _ (Indexed word is_negative size is fits some) =
-    subst AllShort (sym (indexed_alone word is_negative size is.0 fits)) (cons_short word (subscript_texts is_negative size) (short word is.1) (subscript_short is_negative size fits))
+    subst AllShort (sym (indexed_alone word is_negative size is.0 fits)) (cons_short word (subscript_texts is_negative size) (is_short word is.1) (subscript_short is_negative size fits))
 
 -- ---- a location as it is spelled
 

@@ -17,7 +17,7 @@ use Rattle.task_program.specs.LoopViablePrefix.ItemWritten.{PlainItem, IndexedIt
 use Rattle.task_program.specs.LoopViablePrefix.LoopClause.{IfClause, FinalClause, DependClause}
 use Rattle.task_program.specs.LoopViablePrefix.LoopPiece.{WorkPiece, TaskPiece, WaitPiece, GroupPiece, ForPiece, EndPiece}
 use Rattle.task_program.proofs.ReadPieces.{is_type_word, type_of_word}
-use Rattle.task_program.proofs.Shapes.{and_left, and_right}
+use Rattle.task_program.proofs.Shapes.{left_is_true, right_is_true}
 use Rattle.task_program.proofs.Tallies.{other_text, no_digit}
 use Rattle.task_program.proofs.LoopShapes.{LoopShape, shape_at, fits_at, fits, lead_at, lead, lead_item, depend_texts}
 
@@ -38,7 +38,7 @@ and_both false b h g = absurd cc
 pub accepts_next : (s : LoopShape) (text : List ℕ) (texts : List (List ℕ)) → accepts s (text ∷ texts) ≡ true
     → (fits s text ≡ true) × (accepts (lead s text) texts ≡ true)
 unfolding accepts
-accepts_next s text texts h = (and_left (fits s text) (accepts (lead s text) texts) h, and_right (fits s text) (accepts (lead s text) texts) h)
+accepts_next s text texts h = (left_is_true (fits s text) (accepts (lead s text) texts) h, right_is_true (fits s text) (accepts (lead s text) texts) h)
 
 pub accepts_none : (s : LoopShape) → accepts s [] ≡ true → is_whole s.place s.around ≡ true
 unfolding accepts
@@ -47,11 +47,11 @@ accepts_none s h = h
 abbrev Accepted : LoopPlace → Bool → Bool → List ℕ → List (List ℕ) → List (List (List ℕ)) → List (List ℕ) → Type 0
 Accepted place hi hf x vs us ts = accepts (shape_at place hi hf x vs us) ts ≡ true
 
-one : (place : LoopPlace) (hi hf : Bool) (x : List ℕ) (vs : List (List ℕ)) (us : List (List (List ℕ))) (text : List ℕ) (ts : List (List ℕ))
+accepts_one_more : (place : LoopPlace) (hi hf : Bool) (x : List ℕ) (vs : List (List ℕ)) (us : List (List (List ℕ))) (text : List ℕ) (ts : List (List ℕ))
     → fits_at place hi hf vs us text ≡ true
     → accepts (lead_at place hi hf x vs us text) ts ≡ true → Accepted place hi hf x vs us (text ∷ ts)
 unfolding accepts
-one place hi hf x vs us text ts h later = and_both (fits_at place hi hf vs us text) (accepts (lead_at place hi hf x vs us text) ts) h later
+accepts_one_more place hi hf x vs us text ts h later = and_both (fits_at place hi hf vs us text) (accepts (lead_at place hi hf x vs us text) ts) h later
 
 -- ---- items
 
@@ -64,7 +64,7 @@ start_number : (kind : DependKind) (hi hf : Bool) (x : List ℕ) (vs : List (Lis
     → IsNumber text → Accepted (IndexCloses kind) hi hf x vs us ts
     → Accepted (IndexStart kind) hi hf x vs us (text ∷ ts)
 start_number kind hi hf x vs us text ts number later =
-    one (IndexStart kind) hi hf x vs us text ts (rw number refl) (rw number later)
+    accepts_one_more (IndexStart kind) hi hf x vs us text ts (rw number refl) (rw number later)
 
 start_variable : (kind : DependKind) (hi hf : Bool) (x : List ℕ) (vs : List (List ℕ)) (us : List (List (List ℕ))) (text : List ℕ) (ts : List (List ℕ))
     → IsVariable vs text → Accepted (IndexSign kind) hi hf x vs us ts
@@ -72,24 +72,24 @@ start_variable : (kind : DependKind) (hi hf : Bool) (x : List ℕ) (vs : List (L
 start_variable kind hi hf x vs us text ts known later =
     let no_number : is_number text ≡ false = no_digit (is_run text) (begins_with_digit text) _ known.0 in
     let no_minus : is_text text (codes "-") ≡ false = other_text is_word text (codes "-") known.0 refl in
-    one (IndexStart kind) hi hf x vs us text ts (rw (no_number, no_minus, known.0, known.1) refl) (rw (no_number, no_minus) later)
+    accepts_one_more (IndexStart kind) hi hf x vs us text ts (rw (no_number, no_minus, known.0, known.1) refl) (rw (no_number, no_minus) later)
 
 index_accepted : (index : IndexWritten) (kind : DependKind) (hi hf : Bool) (x : List ℕ) (vs : List (List ℕ)) (us : List (List (List ℕ))) (ts : List (List ℕ))
     → HasIndexForm vs index
     → Accepted (DependMore kind) hi hf x vs us ts
     → Accepted (IndexStart kind) hi hf x vs us (index_texts index ++ codes "]" ∷ ts)
 index_accepted (NumberIndex number) kind hi hf x vs us ts form later =
-    start_number kind hi hf x vs us number (codes "]" ∷ ts) form (one (IndexCloses kind) hi hf x vs us (codes "]") ts refl later)
+    start_number kind hi hf x vs us number (codes "]" ∷ ts) form (accepts_one_more (IndexCloses kind) hi hf x vs us (codes "]") ts refl later)
 index_accepted (MinusIndex number) kind hi hf x vs us ts form later =
-    one (IndexStart kind) hi hf x vs us (codes "-") (number ∷ codes "]" ∷ ts) refl
-    (one (IndexNumber kind) hi hf x vs us number (codes "]" ∷ ts) form (one (IndexCloses kind) hi hf x vs us (codes "]") ts refl later))
+    accepts_one_more (IndexStart kind) hi hf x vs us (codes "-") (number ∷ codes "]" ∷ ts) refl
+    (accepts_one_more (IndexNumber kind) hi hf x vs us number (codes "]" ∷ ts) form (accepts_one_more (IndexCloses kind) hi hf x vs us (codes "]") ts refl later))
 index_accepted (VariableIndex variable) kind hi hf x vs us ts form later =
-    start_variable kind hi hf x vs us variable (codes "]" ∷ ts) form (one (IndexSign kind) hi hf x vs us (codes "]") ts refl later)
+    start_variable kind hi hf x vs us variable (codes "]" ∷ ts) form (accepts_one_more (IndexSign kind) hi hf x vs us (codes "]") ts refl later)
 index_accepted (SignIndex variable sign number) kind hi hf x vs us ts form later =
     let no_close : is_text sign (codes "]") ≡ false = other_text is_plus_or_minus sign (codes "]") form.1 refl in
     start_variable kind hi hf x vs us variable (sign ∷ number ∷ codes "]" ∷ ts) form.0
-    (one (IndexSign kind) hi hf x vs us sign (number ∷ codes "]" ∷ ts) (or_left (is_plus_or_minus sign) (is_text sign (codes "]")) form.1) (rw no_close
-    (one (IndexNumber kind) hi hf x vs us number (codes "]" ∷ ts) form.2 (one (IndexCloses kind) hi hf x vs us (codes "]") ts refl later))))
+    (accepts_one_more (IndexSign kind) hi hf x vs us sign (number ∷ codes "]" ∷ ts) (or_left (is_plus_or_minus sign) (is_text sign (codes "]")) form.1) (rw no_close
+    (accepts_one_more (IndexNumber kind) hi hf x vs us number (codes "]" ∷ ts) form.2 (accepts_one_more (IndexCloses kind) hi hf x vs us (codes "]") ts refl later))))
 
 -- an item, and what ends it
 item_accepted : (item : ItemWritten) (ends : List ℕ) (kind : DependKind) (hi hf : Bool) (x : List ℕ) (vs : List (List ℕ)) (us : List (List (List ℕ))) (ts : List (List ℕ))
@@ -97,10 +97,10 @@ item_accepted : (item : ItemWritten) (ends : List ℕ) (kind : DependKind) (hi h
     → accepts (lead_item kind hi hf x vs us ends) ts ≡ true
     → Accepted (DependName kind) hi hf x vs us (item_texts item ++ ends ∷ ts)
 item_accepted (PlainItem name) ends kind hi hf x vs us ts form is_end no_opens later =
-    one (DependName kind) hi hf x vs us name (ends ∷ ts) form (one (Subscript kind) hi hf x vs us ends ts (rw no_opens is_end) (rw no_opens later))
+    accepts_one_more (DependName kind) hi hf x vs us name (ends ∷ ts) form (accepts_one_more (Subscript kind) hi hf x vs us ends ts (rw no_opens is_end) (rw no_opens later))
 item_accepted (IndexedItem name index) ends kind hi hf x vs us ts form is_end no_opens later =
-    let more : Accepted (DependMore kind) hi hf x vs us (ends ∷ ts) = one (DependMore kind) hi hf x vs us ends ts is_end later in
-    one (DependName kind) hi hf x vs us name _ form.0 (one (Subscript kind) hi hf x vs us (codes "[") _ refl
+    let more : Accepted (DependMore kind) hi hf x vs us (ends ∷ ts) = accepts_one_more (DependMore kind) hi hf x vs us ends ts is_end later in
+    accepts_one_more (DependName kind) hi hf x vs us name _ form.0 (accepts_one_more (Subscript kind) hi hf x vs us (codes "[") _ refl
     (subst (λ (texts : List (List ℕ)). Accepted (IndexStart kind) hi hf x vs us texts) (sym (append_assoc (index_texts index) (codes "]" ∷ []) (ends ∷ ts)))
     (index_accepted index kind hi hf x vs us (ends ∷ ts) form.1 more)))
 
@@ -122,19 +122,19 @@ depend_accepted : (kind : DependKind) (hi hf : Bool) (x : List ℕ) (vs : List (
     → Accepted (DependName kind) hi hf x vs us ts
     → Accepted Clause hi hf x vs us (codes "depend" ∷ codes "(" ∷ type_word kind ∷ codes ":" ∷ ts)
 depend_accepted kind hi hf x vs us ts later =
-    let colon : Accepted (DependColon kind) hi hf x vs us (codes ":" ∷ ts) = one (DependColon kind) hi hf x vs us (codes ":") ts refl later in
-    one Clause hi hf x vs us (codes "depend") (codes "(" ∷ type_word kind ∷ codes ":" ∷ ts) refl
-    (one DependOpens hi hf x vs us (codes "(") (type_word kind ∷ codes ":" ∷ ts) refl
-    (one DependType hi hf x vs us (type_word kind) (codes ":" ∷ ts) (is_type_word kind)
+    let colon : Accepted (DependColon kind) hi hf x vs us (codes ":" ∷ ts) = accepts_one_more (DependColon kind) hi hf x vs us (codes ":") ts refl later in
+    accepts_one_more Clause hi hf x vs us (codes "depend") (codes "(" ∷ type_word kind ∷ codes ":" ∷ ts) refl
+    (accepts_one_more DependOpens hi hf x vs us (codes "(") (type_word kind ∷ codes ":" ∷ ts) refl
+    (accepts_one_more DependType hi hf x vs us (type_word kind) (codes ":" ∷ ts) (is_type_word kind)
     (subst (λ (k : DependKind). Accepted (DependColon k) hi hf x vs us (codes ":" ∷ ts)) (sym (type_of_word kind)) colon)))
 
 if_accepted : (hf : Bool) (x : List ℕ) (vs : List (List ℕ)) (us : List (List (List ℕ))) (number : List ℕ) (ts : List (List ℕ))
     → IsNumber number → Accepted Clause true hf x vs us ts
     → Accepted Clause false hf x vs us (codes "if" ∷ codes "(" ∷ number ∷ codes ")" ∷ ts)
 if_accepted hf x vs us number ts h later =
-    one Clause false hf x vs us (codes "if") (codes "(" ∷ number ∷ codes ")" ∷ ts) refl
-    (one IfOpens false hf x vs us (codes "(") (number ∷ codes ")" ∷ ts) refl
-    (one IfNumber false hf x vs us number (codes ")" ∷ ts) h (one IfCloses true hf x vs us (codes ")") ts refl later)))
+    accepts_one_more Clause false hf x vs us (codes "if") (codes "(" ∷ number ∷ codes ")" ∷ ts) refl
+    (accepts_one_more IfOpens false hf x vs us (codes "(") (number ∷ codes ")" ∷ ts) refl
+    (accepts_one_more IfNumber false hf x vs us number (codes ")" ∷ ts) h (accepts_one_more IfCloses true hf x vs us (codes ")") ts refl later)))
 
 final_fits : (hi : Bool) (vs : List (List ℕ)) (us : List (List (List ℕ)))
     → fits_at Clause hi false vs us (codes "final") ≡ true
@@ -145,9 +145,9 @@ final_accepted : (hi : Bool) (x : List ℕ) (vs : List (List ℕ)) (us : List (L
     → IsNumber number → Accepted Clause hi true x vs us ts
     → Accepted Clause hi false x vs us (codes "final" ∷ codes "(" ∷ number ∷ codes ")" ∷ ts)
 final_accepted hi x vs us number ts h later =
-    one Clause hi false x vs us (codes "final") (codes "(" ∷ number ∷ codes ")" ∷ ts) (final_fits hi vs us)
-    (one FinalOpens hi false x vs us (codes "(") (number ∷ codes ")" ∷ ts) refl
-    (one FinalNumber hi false x vs us number (codes ")" ∷ ts) h (one FinalCloses hi true x vs us (codes ")") ts refl later)))
+    accepts_one_more Clause hi false x vs us (codes "final") (codes "(" ∷ number ∷ codes ")" ∷ ts) (final_fits hi vs us)
+    (accepts_one_more FinalOpens hi false x vs us (codes "(") (number ∷ codes ")" ∷ ts) refl
+    (accepts_one_more FinalNumber hi false x vs us number (codes ")" ∷ ts) h (accepts_one_more FinalCloses hi true x vs us (codes ")") ts refl later)))
 
 abbrev if_weight : LoopClause → ℕ
 if_weight clause = cond (is_if clause) 1 0
@@ -160,7 +160,7 @@ clauses_accepted : (clauses : List LoopClause) (hi hf : Bool) (x : List ℕ) (vs
     → cond hi 1 0 + count_by is_if clauses ≤ 1 → cond hf 1 0 + count_by is_final clauses ≤ 1
     → Accepted Statement false false x vs (vs ∷ us) ts
     → Accepted Clause hi hf x vs us (flat_map clause_texts clauses ++ codes "{" ∷ ts)
-clauses_accepted [] hi hf x vs us ts forms one_if one_final later = one Clause hi hf x vs us (codes "{") ts refl later
+clauses_accepted [] hi hf x vs us ts forms one_if one_final later = accepts_one_more Clause hi hf x vs us (codes "{") ts refl later
 clauses_accepted (IfClause number ∷ clauses) true hf x vs us ts forms one_if one_final later = absurd (omega (arith, one_if, sum_by-cons if_weight (IfClause number) clauses))
 clauses_accepted (IfClause number ∷ clauses) false hf x vs us ts forms one_if one_final later =
     let ifs : cond true 1 0 + count_by is_if clauses ≤ 1 = omega (arith, one_if, sum_by-cons if_weight (IfClause number) clauses) in
@@ -211,30 +211,30 @@ pieces_accepted [] x vs [] forms = none_accepted x vs
 pieces_accepted [] x vs (outer ∷ us) forms = absurd forms
 pieces_accepted (WorkPiece number ∷ pieces) x vs us forms =
     let later = pieces_accepted pieces x vs us forms.1 in
-    one Statement false false x vs us (codes "work") (number ∷ flat_map piece_texts pieces) (first_fits vs us (codes "work") refl refl)
-    (one WorkNumber false false x vs us number (flat_map piece_texts pieces) forms.0 later)
+    accepts_one_more Statement false false x vs us (codes "work") (number ∷ flat_map piece_texts pieces) (first_fits vs us (codes "work") refl refl)
+    (accepts_one_more WorkNumber false false x vs us number (flat_map piece_texts pieces) forms.0 later)
 pieces_accepted (TaskPiece clauses ∷ pieces) x vs us forms =
     let later = pieces_accepted pieces x vs (vs ∷ us) forms.1 in
     let rest = flat_map piece_texts pieces in
     let inside = clauses_accepted clauses false false x vs us rest forms.0.0 (omega (arith, forms.0.1)) (omega (arith, forms.0.2)) later in
     subst (λ (texts : List (List ℕ)). Accepted Statement false false x vs us (codes "task" ∷ texts)) (sym (append_assoc (flat_map clause_texts clauses) (codes "{" ∷ []) rest))
-    (one Statement false false x vs us (codes "task") _ (first_fits vs us (codes "task") refl refl) inside)
+    (accepts_one_more Statement false false x vs us (codes "task") _ (first_fits vs us (codes "task") refl refl) inside)
 pieces_accepted (WaitPiece ∷ pieces) x vs us forms =
-    one Statement false false x vs us (codes "taskwait") (flat_map piece_texts pieces) (first_fits vs us (codes "taskwait") refl refl) (pieces_accepted pieces x vs us forms)
+    accepts_one_more Statement false false x vs us (codes "taskwait") (flat_map piece_texts pieces) (first_fits vs us (codes "taskwait") refl refl) (pieces_accepted pieces x vs us forms)
 pieces_accepted (GroupPiece ∷ pieces) x vs us forms =
-    one Statement false false x vs us (codes "taskgroup") (codes "{" ∷ flat_map piece_texts pieces) (first_fits vs us (codes "taskgroup") refl refl)
-    (one GroupBrace false false x vs us (codes "{") (flat_map piece_texts pieces) refl (pieces_accepted pieces x vs (vs ∷ us) forms))
+    accepts_one_more Statement false false x vs us (codes "taskgroup") (codes "{" ∷ flat_map piece_texts pieces) (first_fits vs us (codes "taskgroup") refl refl)
+    (accepts_one_more GroupBrace false false x vs us (codes "{") (flat_map piece_texts pieces) refl (pieces_accepted pieces x vs (vs ∷ us) forms))
 pieces_accepted (ForPiece variable first last ∷ pieces) x vs us forms =
     let later = pieces_accepted pieces [] (variable ∷ vs) (vs ∷ us) forms.3 in
     let rest = flat_map piece_texts pieces in
-    one Statement false false x vs us (codes "for") (variable ∷ first ∷ last ∷ codes "{" ∷ rest) (first_fits vs us (codes "for") refl refl)
-    (one ForVariable false false x vs us variable (first ∷ last ∷ codes "{" ∷ rest) (new_fits (is_word variable) (list_any (bytes_eq variable) vs) forms.0.0 forms.0.1)
-    (one ForFrom false false variable vs us first (last ∷ codes "{" ∷ rest) forms.1
-    (one ForTo false false variable vs us last (codes "{" ∷ rest) forms.2
-    (one ForBrace false false variable vs us (codes "{") rest refl later))))
+    accepts_one_more Statement false false x vs us (codes "for") (variable ∷ first ∷ last ∷ codes "{" ∷ rest) (first_fits vs us (codes "for") refl refl)
+    (accepts_one_more ForVariable false false x vs us variable (first ∷ last ∷ codes "{" ∷ rest) (new_fits (is_word variable) (list_any (bytes_eq variable) vs) forms.0.0 forms.0.1)
+    (accepts_one_more ForFrom false false variable vs us first (last ∷ codes "{" ∷ rest) forms.1
+    (accepts_one_more ForTo false false variable vs us last (codes "{" ∷ rest) forms.2
+    (accepts_one_more ForBrace false false variable vs us (codes "{") rest refl later))))
 pieces_accepted (EndPiece ∷ pieces) x vs [] forms = absurd forms
 pieces_accepted (EndPiece ∷ pieces) x vs (outer ∷ us) forms =
-    one Statement false false x vs (outer ∷ us) (codes "}") (flat_map piece_texts pieces) refl (pieces_accepted pieces x outer us forms)
+    accepts_one_more Statement false false x vs (outer ∷ us) (codes "}") (flat_map piece_texts pieces) refl (pieces_accepted pieces x outer us forms)
 
 -- each sentence is accepted from the start
 pub sentence_accepted : (texts : List (List ℕ)) → IsLoopSentence texts → Accepted Statement false false [] [] [] texts

@@ -19,16 +19,16 @@ use Rattle.task_program.specs.LoopViablePrefix.{IsLoopSentence, IsLoopViable}
 use Rattle.task_program.proofs.Keeping.{bool_cases}
 use Rattle.task_program.proofs.Found.{same_text, is_true}
 use Rattle.task_program.proofs.Tallies.{other_text}
-use Rattle.task_program.proofs.LoopShapes.{is_loop_end, clause_depend, LoopShape, shape_at, closes_none, allowed_at, fits, lead_end, lead_at, lead, Follows, steps_back, continued}
+use Rattle.task_program.proofs.LoopShapes.{is_loop_end, clause_depend, LoopShape, shape_at, closes_none, allowed_at, fits, lead_end, lead_at, lead, Follows, steps_back, may_continue}
 use Rattle.task_program.proofs.LoopAccepting.{accepts, accepts_next}
 
 -- for each open block the variables of the loops around it
-abbrev pub arounds : List LoopBlock → List (List (List ℕ))
-arounds [] = []
-arounds (block ∷ others) = variables_of others ∷ arounds others
+abbrev pub variables_of_each : List LoopBlock → List (List (List ℕ))
+variables_of_each [] = []
+variables_of_each (block ∷ others) = variables_of others ∷ variables_of_each others
 
 abbrev pub shape_of : State → LoopShape
-shape_of state = shape_at state.place state.head.has_if state.head.has_final state.bounds.variable (variables_of state.tree.blocks) (arounds state.tree.blocks)
+shape_of state = shape_at state.place state.head.has_if state.head.has_final state.bounds.variable (variables_of state.tree.blocks) (variables_of_each state.tree.blocks)
 
 abbrev at : State → LoopPlace → State
 at state place = record state { place = place }
@@ -38,13 +38,13 @@ at state place = record state { place = place }
 abbrev LeadsSo : State → LoopPlace → List ℕ → ℕ → Type 0
 LeadsSo state place text line =
     shape_of (after_at place (at state place) text line)
-    ≡ lead_at place state.head.has_if state.head.has_final state.bounds.variable (variables_of state.tree.blocks) (arounds state.tree.blocks) text
+    ≡ lead_at place state.head.has_if state.head.has_final state.bounds.variable (variables_of state.tree.blocks) (variables_of_each state.tree.blocks) text
 
 abbrev shape_with : State → List LoopBlock → LoopShape
-shape_with state open_now = shape_at Statement state.head.has_if state.head.has_final state.bounds.variable (variables_of open_now) (arounds open_now)
+shape_with state open_now = shape_at Statement state.head.has_if state.head.has_final state.bounds.variable (variables_of open_now) (variables_of_each open_now)
 
 end_leads : (state : State) (open_now : List LoopBlock) (statements : Tree)
-    → shape_with state (blocks.closed_by open_now statements).blocks ≡ lead_end state.head.has_if state.head.has_final state.bounds.variable (variables_of open_now) (arounds open_now)
+    → shape_with state (blocks.after_end_of open_now statements).blocks ≡ lead_end state.head.has_if state.head.has_final state.bounds.variable (variables_of open_now) (variables_of_each open_now)
 unfolding variables_of
 end_leads state [] statements = refl
 end_leads state (block ∷ others) statements = refl
@@ -116,7 +116,7 @@ place_leads _ state text line = refl
 -- ---- which tokens are allowed
 
 pub closes_same : (place : LoopPlace) (open_now : List LoopBlock) (text : List ℕ)
-    → closes_nothing place open_now text ≡ closes_none place (arounds open_now) text
+    → closes_nothing place open_now text ≡ closes_none place (variables_of_each open_now) text
 closes_same Statement [] text = refl
 closes_same Statement (block ∷ others) text = refl
 closes_same _ open_now text = refl
@@ -170,17 +170,17 @@ none_allowed other true known h s = absurd cc
 pub fits_of : (state : State) (text : List ℕ) → closes_nothing state.place state.tree.blocks text ≡ false
     → is_allowed state.place state.head state.tree.blocks text ≡ true → fits (shape_of state) text ≡ true
 fits_of state text unopened allowed =
-    both_tests (closes_nothing state.place state.tree.blocks text) (closes_none state.place (arounds state.tree.blocks) text) (is_allowed state.place state.head state.tree.blocks text)
+    both_tests (closes_nothing state.place state.tree.blocks text) (closes_none state.place (variables_of_each state.tree.blocks) text) (is_allowed state.place state.head state.tree.blocks text)
     (allowed_at state.place state.head.has_if state.head.has_final (variables_of state.tree.blocks) text)
     unopened (closes_same state.place state.tree.blocks text) allowed (allowed_same state.place state text)
 
 pub unfit_close : (state : State) (text : List ℕ) → closes_nothing state.place state.tree.blocks text ≡ true
     → fits (shape_of state) text ≡ false
-unfit_close state text closes = no_close (closes_nothing state.place state.tree.blocks text) (closes_none state.place (arounds state.tree.blocks) text) _ closes (closes_same state.place state.tree.blocks text)
+unfit_close state text closes = no_close (closes_nothing state.place state.tree.blocks text) (closes_none state.place (variables_of_each state.tree.blocks) text) _ closes (closes_same state.place state.tree.blocks text)
 
 pub unfit_word : (state : State) (text : List ℕ)
     → not (is_allowed state.place state.head state.tree.blocks text) ≡ true → fits (shape_of state) text ≡ false
-unfit_word state text bad = none_allowed (closes_none state.place (arounds state.tree.blocks) text) (is_allowed state.place state.head state.tree.blocks text) _ bad (allowed_same state.place state text)
+unfit_word state text bad = none_allowed (closes_none state.place (variables_of_each state.tree.blocks) text) (is_allowed state.place state.head state.tree.blocks text) _ bad (allowed_same state.place state text)
 
 -- ---- what is known where these tokens were read
 
@@ -193,9 +193,9 @@ pub record LoopBegan (before : List Token) (state : State) : Type 0 where
   pub braces_are : open_braces before ≡ brace_lines state.tree.blocks
 
 -- a token that the grammar does not have
-pub unviable : (before : List Token) (state : State) (text : List ℕ) → LoopBegan before state
+pub is_not_viable : (before : List Token) (state : State) (text : List ℕ) → LoopBegan before state
     → fits (shape_of state) text ≡ false → IsLoopViable (texts before ++ text ∷ []) → ⊥
-unviable before state text b wrong_here v =
+is_not_viable before state text b wrong_here v =
     let sentence : IsLoopSentence (texts before ++ text ∷ v.0) = subst IsLoopSentence (append_assoc (texts before) (text ∷ []) v.0) v.1 in
     let fits_so : fits (shape_of state) text ≡ true = (accepts_next (shape_of state) text v.0 (b.accepted (text ∷ v.0) sentence)).0 in
     absurd (let wrong : true ≡ false = sym fits_so ∙ wrong_here in cc)
@@ -206,7 +206,7 @@ pub viable_next : (before : List Token) (state : State) (text : List ℕ) → Lo
 viable_next before state text b fits_so =
     let s = shape_of state in
     let next = lead s text in
-    let c = continued next.place next.has_if next.has_final next.variable next.variables next.around in
+    let c = may_continue next.place next.has_if next.has_final next.variable next.variables next.around in
     let back = steps_back s.place s.has_if s.has_final s.variable s.variables s.around text c.0 fits_so c.1 in
     (c.0, subst IsLoopSentence (sym (append_assoc (texts before) (text ∷ []) c.0)) (b.follows (text ∷ c.0) back))
 
@@ -237,7 +237,7 @@ either_blocks true one other open_now h g = h
 either_blocks false one other open_now h g = g
 
 end_braces : (open_now : List LoopBlock) (statements : Tree) (line : ℕ)
-    → braces_after (brace_lines open_now) (token_so (codes "}") line) ≡ brace_lines (blocks.closed_by open_now statements).blocks
+    → braces_after (brace_lines open_now) (token_so (codes "}") line) ≡ brace_lines (blocks.after_end_of open_now statements).blocks
 end_braces [] statements line = refl
 end_braces (block ∷ others) statements line = refl
 
@@ -308,10 +308,10 @@ row_passed : (b : Bool) (kind : ReadKind) (others : Option ReadKind) → cond b 
 row_passed true kind others h = absurd cc
 row_passed false kind others h = (refl, h)
 
-abbrev ok : State → Result State ReadFault
-ok state = Ok state
+abbrev ok_state : State → Result State ReadFault
+ok_state state = Ok state
 
-ok_is : (one other : State) → ok one ≡ ok other → one ≡ other
+ok_is : (one other : State) → ok_state one ≡ ok_state other → one ≡ other
 ok_is one other e = cc
 
 pub record Passed (state next : State) (token : Token) : Type 0 where
@@ -320,9 +320,9 @@ pub record Passed (state next : State) (token : Token) : Type 0 where
   pub allowed : is_allowed state.place state.head state.tree.blocks token.text ≡ true
   pub next_is : after_at state.place state token.text token.line ≡ next
 
-pub passed : (state next : State) (token : Token) → step state token ≡ Ok next → Passed state next token
+pub step_passes : (state next : State) (token : Token) → step state token ≡ Ok next → Passed state next token
 unfolding step
-passed state next token h =
+step_passes state next token h =
     unless_cases (form_fault token.text) token.line _ next h
     (λ form h1. unless_cases (place_fault state token.text) token.line _ next h1
     (λ place h2.
@@ -336,7 +336,7 @@ texts_more before token = map_push (λ (t : Token). t.text) before token
 pub step_begins : (before : List Token) (state next : State) (token : Token) → LoopBegan before state
     → step state token ≡ Ok next → LoopBegan (before ++ token ∷ []) next
 step_begins before state next token b h =
-    let p = passed state next token h in
+    let p = step_passes state next token h in
     let s = shape_of state in
     let fits_so : fits s token.text ≡ true = fits_of state token.text p.unopened p.allowed in
     let leads : shape_of next ≡ lead s token.text = sym (ap (λ (t : State). shape_of t) p.next_is) ∙ place_leads state.place state token.text token.line in

@@ -16,8 +16,8 @@ use Rattle.task_program.specs.TokenCounts.{open_braces}
 use Rattle.task_program.specs.Words.{is_text, is_number, value_of}
 use Rattle.task_program.specs.Loops.{Tree}
 use Rattle.task_program.specs.OpenBlocks.{variables_of, brace_of}
-use Rattle.task_program.specs.ProgramText.{ProgramText}
-use Rattle.task_program.specs.FirstPass.{State, is_allowed, closes_nothing, is_number_too_large, nests_too_deep, form_fault, place_fault, unless_fault, step, end_at, ended, go_on, first_pass, after_header}
+use Rattle.task_program.specs.ProgramMarks.{ProgramMarks}
+use Rattle.task_program.specs.FirstPass.{State, is_allowed, closes_nothing, is_number_too_large, nests_too_deep, form_fault, place_fault, unless_fault, step, end_at, tree_or_fault, go_on, first_pass, after_header}
 use Rattle.task_program.specs.ReadInVersion.{begins_version_two, then_second, two_passes, program_of}
 use Rattle.task_program.specs.LoopViablePrefix.{IsLoopSentence, IsLoopViable}
 use Rattle.task_program.specs.FirstLoopFault.{IsLoopWrong, AreInPlace, EndsInLoops, IsFirstLoopFault, body_of, HasLoopFault, IsToldInLoops, LoopFaultIsFirst}
@@ -31,11 +31,11 @@ use Rattle.task_program.specs.FirstLoopFault.HasLoopFault.{TextTooLong, OfTokens
 use Rattle.task_program.proofs.Keeping.{bool_cases}
 use Rattle.task_program.proofs.Found.{same_text, is_true}
 use Rattle.task_program.proofs.ReadWhole.{of_two, went_through}
-use Rattle.task_program.proofs.Shapes.{and_left, and_right}
+use Rattle.task_program.proofs.Shapes.{left_is_true, right_is_true}
 use Rattle.task_program.proofs.Begun.{row_cases}
 use Rattle.task_program.proofs.LoopShapes.{closes_none, fits_at, FollowsAt, nothing_follows}
 use Rattle.task_program.proofs.LoopAccepting.{is_whole, accepts_none, sentence_accepted}
-use Rattle.task_program.proofs.LoopBegun.{arounds, shape_of, brace_lines, LoopBegan, closes_same, fits_of, unfit_close, unfit_word, unviable, viable_next, passed, step_begins}
+use Rattle.task_program.proofs.LoopBegun.{variables_of_each, shape_of, brace_lines, LoopBegan, closes_same, fits_of, unfit_close, unfit_word, is_not_viable, viable_next, step_passes, step_begins}
 
 record Counts (before : List Token) (state : State) : Type 0 where
   began : LoopBegan before state
@@ -44,7 +44,7 @@ record Counts (before : List Token) (state : State) : Type 0 where
 counts_more : (before : List Token) (state next : State) (token : Token) → Counts before state
     → step state token ≡ Ok next → Counts (before ++ token ∷ []) next
 counts_more before state next token c h =
-    let p = passed state next token h in
+    let p = step_passes state next token h in
     record {
       began = step_begins before state next token c.began h;
       in_place = More before token c.in_place p.formed (viable_next before state token.text c.began (fits_of state token.text p.unopened p.allowed));
@@ -69,7 +69,7 @@ whole_closes Statement (outer ∷ us) text h text_is = absurd cc
 whole_closes _ us text h text_is = absurd cc
 
 whole_now : (before : List Token) (state : State) → LoopBegan before state → IsLoopSentence (texts before)
-    → is_whole state.place (arounds state.tree.blocks) ≡ true
+    → is_whole state.place (variables_of_each state.tree.blocks) ≡ true
 whole_now before state b s = accepts_none (shape_of state) (b.accepted [] (subst IsLoopSentence (sym (append-nil (texts before))) s))
 
 abbrev LargeHere : List ℕ → Type 0
@@ -92,7 +92,7 @@ deep_block : (place : LoopPlace) (head : LoopHead) (open_now : List LoopBlock) (
 deep_block GroupBrace head open_now text deep allowed = (same_text text (codes "{") allowed, leb-true MOST_NESTING (length open_now) deep)
 deep_block ForBrace head open_now text deep allowed = (same_text text (codes "{") allowed, leb-true MOST_NESTING (length open_now) deep)
 deep_block Clause head open_now text deep allowed =
-    (same_text text (codes "{") (and_left (is_text text (codes "{")) _ deep), leb-true MOST_NESTING (length open_now) (and_right (is_text text (codes "{")) _ deep))
+    (same_text text (codes "{") (left_is_true (is_text text (codes "{")) _ deep), leb-true MOST_NESTING (length open_now) (right_is_true (is_text text (codes "{")) _ deep))
 deep_block _ head open_now text deep allowed = absurd cc
 
 -- the fault of a token that is one by itself
@@ -106,12 +106,12 @@ at_place before state text kind c formed h =
     (λ closes same.
     let whole = closes_at s.place s.has_if s.has_final s.variable s.variables s.around text (sym closes_so ∙ closes) in
     let sentence : IsLoopSentence (texts before) = subst IsLoopSentence (append-nil (texts before)) (b.follows [] whole.1) in
-    subst (IsLoopWrong before text) same (Misplaced before text Unopened formed (unviable before state text b (unfit_close state text closes)) (AfterWhole (texts before) text sentence whole.0)))
+    subst (IsLoopWrong before text) same (Misplaced before text Unopened formed (is_not_viable before state text b (unfit_close state text closes)) (AfterWhole (texts before) text sentence whole.0)))
     (λ unopened h1. row_cases (not (is_allowed state.place state.head state.tree.blocks text)) BadWord kind _ h1
     (λ bad same.
     let no_whole : IsLoopSentence (texts before) → text ≡ codes "}" → ⊥ =
     λ sentence text_is. absurd (let wrong : true ≡ false = sym (whole_closes s.place s.around text (whole_now before state b sentence) text_is) ∙ sym closes_so ∙ unopened in cc) in
-    subst (IsLoopWrong before text) same (Misplaced before text BadWord formed (unviable before state text b (unfit_word state text bad)) (Elsewhere (texts before) text no_whole)))
+    subst (IsLoopWrong before text) same (Misplaced before text BadWord formed (is_not_viable before state text b (unfit_word state text bad)) (Elsewhere (texts before) text no_whole)))
     (λ allowed h2.
     let allowed_so : is_allowed state.place state.head state.tree.blocks text ≡ true = is_true _ allowed in
     let viable : IsLoopViable (texts before ++ text ∷ []) = viable_next before state text b (fits_of state text unopened allowed_so) in
@@ -149,8 +149,8 @@ token_fault before later state token end_line fault c h =
 
 end_by : (all : List Token) (place : LoopPlace) (hi hf : Bool) (vs : List (List ℕ)) (open_now : List LoopBlock) (end_line : ℕ) (fault : ReadFault)
     → open_braces all ≡ brace_lines open_now
-    → (fits_at place hi hf vs (arounds open_now) (codes "}") ≡ true → IsLoopViable (texts all ++ codes "}" ∷ []))
-    → (fits_at place hi hf vs (arounds open_now) (codes "}") ≡ false → IsLoopViable (texts all ++ codes "}" ∷ []) → ⊥)
+    → (fits_at place hi hf vs (variables_of_each open_now) (codes "}") ≡ true → IsLoopViable (texts all ++ codes "}" ∷ []))
+    → (fits_at place hi hf vs (variables_of_each open_now) (codes "}") ≡ false → IsLoopViable (texts all ++ codes "}" ∷ []) → ⊥)
     → end_at place open_now end_line ≡ Some fault → EndsInLoops all end_line fault
 end_by all Statement hi hf vs [] end_line fault braces can cannot h = absurd cc
 end_by all Statement hi hf vs (block ∷ others) end_line fault braces can cannot h =
@@ -158,18 +158,18 @@ end_by all Statement hi hf vs (block ∷ others) end_line fault braces can canno
 end_by all _ hi hf vs open_now end_line fault braces can cannot h = let same : fault_so BadWord end_line ≡ fault = cc in subst (EndsInLoops all end_line) same (Inside all end_line (cannot refl))
 
 whole_ends : (place : LoopPlace) (open_now : List LoopBlock) (line : ℕ) (fault : ReadFault)
-    → is_whole place (arounds open_now) ≡ true → end_at place open_now line ≡ Some fault → ⊥
+    → is_whole place (variables_of_each open_now) ≡ true → end_at place open_now line ≡ Some fault → ⊥
 whole_ends Statement [] line fault h g = absurd cc
 whole_ends Statement (block ∷ others) line fault h g = absurd cc
 whole_ends _ open_now line fault h g = absurd cc
 
-ended_err : (found : Option ReadFault) (state : State) (fault : ReadFault) → ended found state ≡ Err fault
+ended_err : (found : Option ReadFault) (state : State) (fault : ReadFault) → tree_or_fault found state ≡ Err fault
     → found ≡ Some fault
 ended_err (Some other) state fault h = cc
 ended_err None state fault h = absurd cc
 
 ended_ok : (place : LoopPlace) (hi hf : Bool) (x : List ℕ) (vs : List (List ℕ)) (open_now : List LoopBlock) (line : ℕ) (state : State) (tree : Tree)
-    → ended (end_at place open_now line) state ≡ Ok tree → FollowsAt place hi hf x vs (arounds open_now) []
+    → tree_or_fault (end_at place open_now line) state ≡ Ok tree → FollowsAt place hi hf x vs (variables_of_each open_now) []
 ended_ok Statement hi hf x vs [] line state tree h = nothing_follows hi hf x vs
 ended_ok Statement hi hf x vs (block ∷ others) line state tree h = absurd cc
 ended_ok _ hi hf x vs open_now line state tree h = absurd cc
@@ -180,15 +180,15 @@ end_fault all state end_line fault c h =
     let b = c.began in
     let s = shape_of state in
     AtEnd all end_line fault c.in_place (λ sentence. whole_ends state.place state.tree.blocks end_line fault (whole_now all state b sentence) h)
-    (end_by all state.place s.has_if s.has_final s.variables state.tree.blocks end_line fault b.braces_are (viable_next all state (codes "}") b) (unviable all state (codes "}") b) h)
+    (end_by all state.place s.has_if s.has_final s.variables state.tree.blocks end_line fault b.braces_are (viable_next all state (codes "}") b) (is_not_viable all state (codes "}") b) h)
 
 -- ---- the whole
 
-stepped : {P : Type 0} (read : Result State ReadFault) (later : State → Result Tree ReadFault) (fault : ReadFault)
+by_next_or_fault : {P : Type 0} (read : Result State ReadFault) (later : State → Result Tree ReadFault) (fault : ReadFault)
     → go_on read later ≡ Err fault
     → ((next : State) → read ≡ Ok next → later next ≡ Err fault → P) → (read ≡ Err fault → P) → P
-stepped (Ok next) later fault h on stops = on next refl h
-stepped (Err other) later fault h on stops = stops cc
+by_next_or_fault (Ok next) later fault h on stops = on next refl h
+by_next_or_fault (Err other) later fault h on stops = stops cc
 
 step_on : (read : Result State ReadFault) (later : State → Result Tree ReadFault) (tree : Tree)
     → go_on read later ≡ Ok tree → (next : State) × (read ≡ Ok next) × (later next ≡ Ok tree)
@@ -201,7 +201,7 @@ unfolding first_pass
 fault_from [] before state end_line fault c h =
     subst (λ (ts : List Token). IsFirstLoopFault ts end_line fault) (sym (append-nil before)) (end_fault before state end_line fault c (ended_err (end_at state.place state.tree.blocks end_line) state fault h))
 fault_from (token ∷ tokens) before state end_line fault c h =
-    stepped (step state token) (λ next. first_pass tokens end_line next) fault h
+    by_next_or_fault (step state token) (λ next. first_pass tokens end_line next) fault h
     (λ next one later. subst (λ (ts : List Token). IsFirstLoopFault ts end_line fault) (append_assoc before (token ∷ []) tokens)
     (fault_from tokens (before ++ token ∷ []) next end_line fault (counts_more before state next token c one) later))
     (λ stops. token_fault before tokens state token end_line fault c stops)
@@ -231,7 +231,7 @@ at_start = record {
 too_long : (text : List ℕ) → nat_lt MOST_TEXT_BYTES (length text) ≡ true → program_of text ≡ Err (fault_so TooLong 1)
 too_long text long = rw long refl
 
-same_fault : (read : Result ProgramText ReadFault) (one other : ReadFault) → read ≡ Err one → read ≡ Err other
+same_fault : (read : Result ProgramMarks ReadFault) (one other : ReadFault) → read ≡ Err one → read ≡ Err other
     → one ≡ other
 same_fault read one other h g = cc
 

@@ -12,14 +12,14 @@ use Rattle.task_program.specs.declared.limits.TheConstants.{MOST_TOKEN_BYTES, MO
 use Rattle.task_program.specs.Marks.{Mark}
 use Rattle.task_program.specs.Marks.Mark.{Begins, Ends, Works, Waits, GroupBegins, GroupEnds}
 use Rattle.task_program.specs.Names.{with_name}
-use Rattle.task_program.specs.Canonical.{name_of, line_of, header_line, canonical, solid}
-use Rattle.task_program.specs.Programs.{IsNamed, FitsLimits, IsLocation, IsNameIn, IsProgram, mentioned}
-use Rattle.task_program.specs.ProgramText.{ProgramText}
+use Rattle.task_program.specs.Canonical.{name_of, line_of_mark, header_line, canonical_text, solid_bytes}
+use Rattle.task_program.specs.Programs.{IsNamed, FitsLimits, IsLocation, IsNameIn, IsProgram, names_of_mark}
+use Rattle.task_program.specs.ProgramMarks.{ProgramMarks}
 use Rattle.task_program.specs.Tokens.{Token, texts, tokens_of}
 use Rattle.task_program.specs.Faults.{Block}
 use Rattle.task_program.specs.Grammar.{IsShort}
-use Rattle.task_program.specs.SecondPass.{Expanded, nothing_expanded}
-use Rattle.task_program.specs.ExpandsTo.{expanded, program_expanded}
+use Rattle.task_program.specs.SecondPass.{ExpansionState, empty_expansion}
+use Rattle.task_program.specs.ExpandsTo.{state_after_tree, program_of_state}
 use Rattle.task_program.specs.LoopGrammar.{HasLoopTree}
 use Rattle.task_program.proofs.Nested.{nests}
 use Rattle.task_program.proofs.NamesOnce.{AreOnce, once_mentioned}
@@ -90,13 +90,13 @@ marks_short names (mark ∷ marks) all =
 
 -- ---- the whole text
 
-at_first : (whole : List (List ℕ)) → Prints whole [] nothing_expanded
+at_first : (whole : List (List ℕ)) → Prints whole [] empty_expansion
 at_first whole = record { marks_are = refl; names_are = refl; no_items = refl; no_turns = refl; bytes_are = omega arith }
 
-abbrev program_of : List Mark → List (List ℕ) → ProgramText
+abbrev program_of : List Mark → List (List ℕ) → ProgramMarks
 program_of marks names = record { version = Two; marks = marks; names = names }
 
-in_version : (program : ProgramText) → program.version ≡ Two → program ≡ program_of program.marks program.names
+in_version : (program : ProgramMarks) → program.version ≡ Two → program ≡ program_of program.marks program.names
 in_version program two = ap (λ (v : Version). record { version = v; marks = program.marks; names = program.names }) two
 
 texts_stay : (words : List (List ℕ)) (lines : ℕ → ℕ) → texts (with_lines words lines) ≡ words
@@ -109,24 +109,24 @@ front_apart : (words : List (List ℕ)) (lines : ℕ → ℕ) (tokens : List Tok
 unfolding with_lines
 front_apart words lines tokens h = sym h
 
-expands_to : (program : ProgramText) (state : Expanded) → program.version ≡ Two → IsProgram program → All (HasLocations program.names) program.marks → Goes program.names program.marks [] state
-    → (program ≡ program_expanded state) × (state.turns ≤ MOST_TURNS) × (state.bytes ≤ MOST_TOKEN_BYTES) × (length (canonical program) ≤ MOST_CANONICAL_BYTES)
+expands_to : (program : ProgramMarks) (state : ExpansionState) → program.version ≡ Two → IsProgram program → All (HasLocations program.names) program.marks → Goes program.names program.marks [] state
+    → (program ≡ program_of_state state) × (state.turns ≤ MOST_TURNS) × (state.bytes ≤ MOST_TOKEN_BYTES) × (length (canonical_text program) ≤ MOST_CANONICAL_BYTES)
 expands_to program state two fits located goes =
     let names : List (List ℕ) = program.names in
     let marks : List Mark = program.marks in
     let p = goes.prints in
     let words : List (List ℕ) = codes "omptasks" ∷ codes "2" ∷ flat_map (line_texts_by (spell false) names) marks in
-    let lines : List ℕ = flat_map (line_of names) marks in
-    let text_is : canonical program ≡ header_line Two ++ lines = ap (λ (v : Version). header_line v ++ lines) two in
+    let lines : List ℕ = flat_map (line_of_mark names) marks in
+    let text_is : canonical_text program ≡ header_line Two ++ lines = ap (λ (v : Version). header_line v ++ lines) two in
     let weighs = text_weighs names marks located in
-    let half : length (header_line Two ++ lines) ≤ 2 * solid (header_line Two ++ lines) = weighs.half in
-    let solid_is : solid (header_line Two ++ lines) ≡ sum_by length words = weighs.solid_is in
-    let tokens : sum_by length (texts (tokens_of (canonical program))) ≡ sum_by length words = ap (λ (ts : List (List ℕ)). sum_by length ts) (loops_spelled program two (marks_written names marks located)) in
-    let size : sum_by length (texts (tokens_of (canonical program))) ≤ MOST_TOKEN_BYTES = fits.size in
-    let apart : solid (header_line Two ++ lines) ≡ solid (header_line Two) + solid lines = sum_by-append _ (header_line Two) lines in
+    let half : length (header_line Two ++ lines) ≤ 2 * solid_bytes (header_line Two ++ lines) = weighs.half in
+    let solid_is : solid_bytes (header_line Two ++ lines) ≡ sum_by length words = weighs.solid_is in
+    let tokens : sum_by length (texts (tokens_of (canonical_text program))) ≡ sum_by length words = ap (λ (ts : List (List ℕ)). sum_by length ts) (loops_spelled program two (marks_written names marks located)) in
+    let size : sum_by length (texts (tokens_of (canonical_text program))) ≤ MOST_TOKEN_BYTES = fits.size in
+    let apart : solid_bytes (header_line Two ++ lines) ≡ solid_bytes (header_line Two) + solid_bytes lines = sum_by-append _ (header_line Two) lines in
     let none : length state.tree.blocks ≡ 0 = ap (λ (bs : List Block). length bs) goes.blocks_are in
-    let bytes_are : state.bytes ≡ (solid (header_line Two) + solid lines) + length state.tree.blocks = p.bytes_are in
-    let lengths : length (canonical program) ≡ length (header_line Two ++ lines) = ap (λ (t : List ℕ). length t) text_is in
+    let bytes_are : state.bytes ≡ (solid_bytes (header_line Two) + solid_bytes lines) + length state.tree.blocks = p.bytes_are in
+    let lengths : length (canonical_text program) ≡ length (header_line Two ++ lines) = ap (λ (t : List ℕ). length t) text_is in
     let turns : state.turns ≡ 0 = p.no_turns in (
       in_version program two ∙ ap (λ (ms : List Mark). program_of ms names) (sym p.marks_are) ∙ ap (λ (ns : List (List ℕ)). program_of state.tree.marks ns) (fits.ordered ∙ sym p.names_are),
       omega (arith, turns),
@@ -134,31 +134,31 @@ expands_to program state two fits located goes =
       omega (arith, lengths, half, solid_is, tokens, size),
     )
 
-pub canonical_loops : (program : ProgramText) → program.version ≡ Two → IsProgram program → HasLoopTree (canonical program) program × (length (canonical program) ≤ MOST_CANONICAL_BYTES)
+pub canonical_loops : (program : ProgramMarks) → program.version ≡ Two → IsProgram program → HasLoopTree (canonical_text program) program × (length (canonical_text program) ≤ MOST_CANONICAL_BYTES)
 canonical_loops program two fits =
     let names : List (List ℕ) = program.names in
     let marks : List Mark = program.marks in
     let words : List (List ℕ) = flat_map (line_texts_by (spell false) names) marks in
     let names_fit : All IsLocation names = subst (λ (v : Version). All (IsNameIn v) names) two fits.names_fit in
     let located : All (HasLocations names) marks = marks_located names marks names_fit fits.marks_fit in
-    let tokens_so : texts (tokens_of (canonical program)) ≡ codes "omptasks" ∷ codes "2" ∷ words = loops_spelled program two (marks_written names marks located) in
-    let lines = have_lines (tokens_of (canonical program)) in
-    let tokens_are : with_lines (codes "omptasks" ∷ codes "2" ∷ words) lines.0 ≡ tokens_of (canonical program) = ap (λ (ts : List (List ℕ)). with_lines ts lines.0) (sym tokens_so) ∙ lines.1 in
+    let tokens_so : texts (tokens_of (canonical_text program)) ≡ codes "omptasks" ∷ codes "2" ∷ words = loops_spelled program two (marks_written names marks located) in
+    let lines = have_lines (tokens_of (canonical_text program)) in
+    let tokens_are : with_lines (codes "omptasks" ∷ codes "2" ∷ words) lines.0 ≡ tokens_of (canonical_text program) = ap (λ (ts : List (List ℕ)). with_lines ts lines.0) (sym tokens_so) ∙ lines.1 in
     let body : List Token = with_lines words (λ i. lines.0 (suc (suc i))) in
     let h : HasMarks names MOST_NESTING body marks = lines_spelled names MOST_NESTING marks (nests program fits) located [] [] (λ i. lines.0 (suc (suc i))) (no_marks names MOST_NESTING) in
-    let once : AreOnce names = subst AreOnce (sym fits.ordered) (once_mentioned (flat_map (mentioned names) marks)) in
-    let all_names : names ≡ fold with_name [] (flat_map (mentioned names) ([] ++ (marks ++ []))) = fits.ordered ∙ ap (λ (ms : List Mark). fold with_name [] (flat_map (mentioned names) ms)) (sym (append-nil marks)) in
-    let goes : Goes names marks [] (expanded h.tree) = expands names once marks h.tree h.stands fits.marks_fit [] [] nothing_expanded all_names (at_first names) in
-    let e = expands_to program (expanded h.tree) two fits located goes in
+    let once : AreOnce names = subst AreOnce (sym fits.ordered) (once_mentioned (flat_map (names_of_mark names) marks)) in
+    let all_names : names ≡ fold with_name [] (flat_map (names_of_mark names) ([] ++ (marks ++ []))) = fits.ordered ∙ ap (λ (ms : List Mark). fold with_name [] (flat_map (names_of_mark names) ms)) (sym (append-nil marks)) in
+    let goes : Goes names marks [] (state_after_tree h.tree) = expands names once marks h.tree h.stands fits.marks_fit [] [] empty_expansion all_names (at_first names) in
+    let e = expands_to program (state_after_tree h.tree) two fits located goes in
     let short_words : AllShort words = lines_short (spell false) names marks (marks_short names marks located) in
-    let long : length (canonical program) ≤ MOST_CANONICAL_BYTES = e.3 in (
+    let long : length (canonical_text program) ≤ MOST_CANONICAL_BYTES = e.3 in (
       record {
         in_version = two;
         word = record { text = codes "omptasks"; line = lines.0 0 };
         version = record { text = codes "2"; line = lines.0 1 };
         body = body;
         tree = h.tree;
-        tokens_are = front_apart words lines.0 (tokens_of (canonical program)) tokens_are;
+        tokens_are = front_apart words lines.0 (tokens_of (canonical_text program)) tokens_are;
         header = refl;
         version_is_two = (refl, refl);
         spelled = h.spelled;

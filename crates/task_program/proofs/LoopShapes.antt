@@ -21,7 +21,7 @@ use Rattle.task_program.proofs.Keeping.{bool_cases}
 use Rattle.task_program.proofs.Found.{same_text, type_is, or_nil, or_true_right}
 use Rattle.task_program.specs.Tokens.{is_run_byte}
 use Rattle.task_program.proofs.ReadPieces.{not_none}
-use Rattle.task_program.proofs.Shapes.{and_left, and_right}
+use Rattle.task_program.proofs.Shapes.{left_is_true, right_is_true}
 
 -- the place, the clauses that the task has, the variable of the `for` that is read, those of the loops around, and for each
 -- open block those of the loops around it
@@ -204,7 +204,7 @@ Follows s texts = FollowsAt s.place s.has_if s.has_final s.variable s.variables 
 
 allowed_of : (place : LoopPlace) (hi hf : Bool) (vs : List (List ℕ)) (us : List (List (List ℕ))) (text : List ℕ)
     → fits_at place hi hf vs us text ≡ true → allowed_at place hi hf vs text ≡ true
-allowed_of place hi hf vs us text h = and_right (not (closes_none place us text)) _ h
+allowed_of place hi hf vs us text h = right_is_true (not (closes_none place us text)) _ h
 
 abbrev StepsBack : LoopPlace → Bool → Bool → List ℕ → List (List ℕ) → List (List (List ℕ)) → List ℕ → List (List ℕ)
     → Type 0
@@ -260,7 +260,7 @@ statement_back hi hf x vs us text ts h =
     (λ loop. rw (no_work, no_task, no_wait, no_group, loop) (λ f. rw (same_text text (codes "for") loop) f))
     (λ no_for. rw (no_work, no_task, no_wait, no_group, no_for) (λ f.
     let text_is = is_loop_end text (allowed_of Statement hi hf vs us text h) no_work no_task no_wait no_group no_for in
-    let some : not (closes_none Statement us (codes "}")) ≡ true = subst (λ (t : List ℕ). not (closes_none Statement us t) ≡ true) text_is (and_left (not (closes_none Statement us text)) _ h) in
+    let some : not (closes_none Statement us (codes "}")) ≡ true = subst (λ (t : List ℕ). not (closes_none Statement us t) ≡ true) text_is (left_is_true (not (closes_none Statement us text)) _ h) in
     rw text_is (end_rest hi hf x vs us ts some f)))))))
 
 not_true : (b : Bool) → not b ≡ true → b ≡ false
@@ -269,7 +269,7 @@ not_true false h = refl
 
 new_variable : (vs : List (List ℕ)) (text : List ℕ) → (is_word text && not (list_any (bytes_eq text) vs)) ≡ true
     → IsNewVariable vs text
-new_variable vs text h = (and_left (is_word text) _ h, not_true _ (and_right (is_word text) _ h))
+new_variable vs text h = (left_is_true (is_word text) _ h, not_true _ (right_is_true (is_word text) _ h))
 
 if_clause : (hf : Bool) (vs : List (List ℕ)) (us : List (List (List ℕ))) (number : List ℕ) (ts : List (List ℕ))
     → IsNumber number → ClausesRest true hf vs us ts
@@ -421,7 +421,7 @@ start_variable : (vs : List (List ℕ)) (text : List ℕ)
     → is_number text ≡ false → is_text text (codes "-") ≡ false → IsVariable vs text
 start_variable vs text h no_number no_minus =
     let both : (is_word text && list_any (bytes_eq text) vs) ≡ true = or_true_right (is_text text (codes "-")) _ (or_true_right (is_number text) _ h no_number) no_minus in
-    (and_left (is_word text) _ both, and_right (is_word text) _ both)
+    (left_is_true (is_word text) _ both, right_is_true (is_word text) _ both)
 
 start_back : (kind : DependKind) (hi hf : Bool) (x : List ℕ) (vs : List (List ℕ)) (us : List (List (List ℕ))) (text : List ℕ) (ts : List (List ℕ))
     → StepsBack (IndexStart kind) hi hf x vs us text ts
@@ -594,29 +594,29 @@ for_variable_continued : (hi hf : Bool) (x : List ℕ) (vs : List (List ℕ)) (u
 for_variable_continued hi hf x vs us = let word = new_word vs in let later = for_from_continued hi hf word.0 vs us in (word.0 ∷ later.0, later.1 word.1)
 
 -- the words that may close a text from here on
-pub continued : (place : LoopPlace) (hi hf : Bool) (x : List ℕ) (vs : List (List ℕ)) (us : List (List (List ℕ)))
+pub may_continue : (place : LoopPlace) (hi hf : Bool) (x : List ℕ) (vs : List (List ℕ)) (us : List (List (List ℕ)))
     → Continued place hi hf x vs us
-continued Statement hi hf x vs us = statement_continued vs us
-continued WorkNumber hi hf x vs us = let later = statement_continued vs us in (codes "0" ∷ later.0, piece_rest vs us vs us (WorkPiece (codes "0")) later.0 (λ pieces forms. (refl, forms)) later.1)
-continued GroupBrace hi hf x vs us = let later = statement_continued vs (vs ∷ us) in (codes "{" ∷ later.0, piece_rest vs us vs (vs ∷ us) GroupPiece later.0 (λ pieces forms. forms) later.1)
-continued ForVariable hi hf x vs us = for_variable_continued hi hf x vs us
-continued ForFrom hi hf x vs us = for_from_continued hi hf x vs us
-continued ForTo hi hf x vs us = for_to_continued hi hf x vs us
-continued ForBrace hi hf x vs us = for_brace_continued hi hf x vs us
-continued Clause hi hf x vs us = clause_continued hi hf vs us
-continued IfOpens hi hf x vs us = let later = if_number_continued hi hf x vs us in (codes "(" ∷ later.0, later.1)
-continued IfNumber hi hf x vs us = if_number_continued hi hf x vs us
-continued IfCloses hi hf x vs us = if_closes_continued hi hf x vs us
-continued FinalOpens hi hf x vs us = let later = final_number_continued hi hf x vs us in (codes "(" ∷ later.0, later.1)
-continued FinalNumber hi hf x vs us = final_number_continued hi hf x vs us
-continued FinalCloses hi hf x vs us = final_closes_continued hi hf x vs us
-continued DependOpens hi hf x vs us = let later = type_continued hi hf x vs us in (codes "(" ∷ later.0, later.1)
-continued DependType hi hf x vs us = type_continued hi hf x vs us
-continued (DependColon kind) hi hf x vs us = colon_continued kind hi hf x vs us
-continued (DependName kind) hi hf x vs us = name_continued kind hi hf x vs us
-continued (Subscript kind) hi hf x vs us = subscript_continued kind hi hf x vs us
-continued (IndexStart kind) hi hf x vs us = let later = closes_continued kind hi hf x vs us in (codes "0" ∷ later.0, λ name word. later.1 name word (NumberIndex (codes "0")) refl)
-continued (IndexNumber kind) hi hf x vs us = let later = closes_continued kind hi hf x vs us in (codes "0" ∷ later.0, number_back kind hi hf x vs us (codes "0") later.0 refl later.1)
-continued (IndexSign kind) hi hf x vs us = let later = more_continued kind hi hf x vs us in (codes "]" ∷ later.0, λ name word variable known. later.1 (IndexedItem name (VariableIndex variable)) (word, known))
-continued (IndexCloses kind) hi hf x vs us = closes_continued kind hi hf x vs us
-continued (DependMore kind) hi hf x vs us = more_continued kind hi hf x vs us
+may_continue Statement hi hf x vs us = statement_continued vs us
+may_continue WorkNumber hi hf x vs us = let later = statement_continued vs us in (codes "0" ∷ later.0, piece_rest vs us vs us (WorkPiece (codes "0")) later.0 (λ pieces forms. (refl, forms)) later.1)
+may_continue GroupBrace hi hf x vs us = let later = statement_continued vs (vs ∷ us) in (codes "{" ∷ later.0, piece_rest vs us vs (vs ∷ us) GroupPiece later.0 (λ pieces forms. forms) later.1)
+may_continue ForVariable hi hf x vs us = for_variable_continued hi hf x vs us
+may_continue ForFrom hi hf x vs us = for_from_continued hi hf x vs us
+may_continue ForTo hi hf x vs us = for_to_continued hi hf x vs us
+may_continue ForBrace hi hf x vs us = for_brace_continued hi hf x vs us
+may_continue Clause hi hf x vs us = clause_continued hi hf vs us
+may_continue IfOpens hi hf x vs us = let later = if_number_continued hi hf x vs us in (codes "(" ∷ later.0, later.1)
+may_continue IfNumber hi hf x vs us = if_number_continued hi hf x vs us
+may_continue IfCloses hi hf x vs us = if_closes_continued hi hf x vs us
+may_continue FinalOpens hi hf x vs us = let later = final_number_continued hi hf x vs us in (codes "(" ∷ later.0, later.1)
+may_continue FinalNumber hi hf x vs us = final_number_continued hi hf x vs us
+may_continue FinalCloses hi hf x vs us = final_closes_continued hi hf x vs us
+may_continue DependOpens hi hf x vs us = let later = type_continued hi hf x vs us in (codes "(" ∷ later.0, later.1)
+may_continue DependType hi hf x vs us = type_continued hi hf x vs us
+may_continue (DependColon kind) hi hf x vs us = colon_continued kind hi hf x vs us
+may_continue (DependName kind) hi hf x vs us = name_continued kind hi hf x vs us
+may_continue (Subscript kind) hi hf x vs us = subscript_continued kind hi hf x vs us
+may_continue (IndexStart kind) hi hf x vs us = let later = closes_continued kind hi hf x vs us in (codes "0" ∷ later.0, λ name word. later.1 name word (NumberIndex (codes "0")) refl)
+may_continue (IndexNumber kind) hi hf x vs us = let later = closes_continued kind hi hf x vs us in (codes "0" ∷ later.0, number_back kind hi hf x vs us (codes "0") later.0 refl later.1)
+may_continue (IndexSign kind) hi hf x vs us = let later = more_continued kind hi hf x vs us in (codes "]" ∷ later.0, λ name word variable known. later.1 (IndexedItem name (VariableIndex variable)) (word, known))
+may_continue (IndexCloses kind) hi hf x vs us = closes_continued kind hi hf x vs us
+may_continue (DependMore kind) hi hf x vs us = more_continued kind hi hf x vs us

@@ -3,13 +3,13 @@ use Rattle.std.proofs.Common.{◌≡◌, Bool, true, false, ◌&&◌, ◌==◌, 
 use Rattle.std.specs.List.{list_all, list_any}
 use Rattle.std.proofs.lemmas.Bool.{ne_eqb}
 use Rattle.std.proofs.Common.{ℕ, suc, ◌<◌, inl, inr, length, get_or, arith}
-use Rattle.task_program.specs.Conflict.{conflict, items_conflict, kind_conflict}
+use Rattle.task_program.specs.Conflict.{conflicts_with, items_conflict, kinds_conflict}
 use Rattle.task_program.specs.Quick.{AreApart, is_in, is_read}
 use Rattle.task_program.specs.declared.statement.DependKind.{DependKind}
 use Rattle.task_program.specs.declared.statement.DependKind.TheVariants.{DependIn, DependOut, DependInOut, DependInOutSet}
 use Rattle.task_program.specs.declared.statement.Item.{Item}
 
-both_read : (one other : DependKind) → is_in one ≡ true → is_in other ≡ true → kind_conflict one other ≡ false
+both_read : (one other : DependKind) → is_in one ≡ true → is_in other ≡ true → kinds_conflict one other ≡ false
 both_read DependIn DependIn h g = refl
 both_read DependIn DependOut h g = absurd cc
 both_read DependIn DependInOut h g = absurd cc
@@ -22,11 +22,11 @@ and_no : (b : Bool) → (b && false) ≡ false
 and_no true = refl
 and_no false = refl
 
-no_pair : (one other : Item) → is_read one ≡ true → is_read other ≡ true → conflict one other ≡ false
+no_pair : (one other : Item) → is_read one ≡ true → is_read other ≡ true → conflicts_with one other ≡ false
 no_pair one other h g = let e = both_read one.kind other.kind h g in rw e (and_no (one.name == other.name))
 
 none_with : (one : Item) (others : List Item) → is_read one ≡ true → list_all is_read others ≡ true
-    → list_any (conflict one) others ≡ false
+    → list_any (conflicts_with one) others ≡ false
 none_with one [] h all = refl
 none_with one (other ∷ others) h all =
     let first : is_read other ≡ true = search rules in
@@ -44,11 +44,11 @@ reads_apart (one ∷ earlier) later all others =
 
 -- ---- names apart
 
-apart_pair : (one other : Item) → (one.name ≡ other.name → ⊥) → conflict one other ≡ false
+apart_pair : (one other : Item) → (one.name ≡ other.name → ⊥) → conflicts_with one other ≡ false
 apart_pair one other apart = let e = ne_eqb one.name other.name apart in rw e refl
 
 apart_with : (one : Item) (others : List Item) → ((k : ℕ) (d : Item) → k < length others → one.name ≡ (get_or others k d).name → ⊥)
-    → list_any (conflict one) others ≡ false
+    → list_any (conflicts_with one) others ≡ false
 apart_with one [] apart = refl
 apart_with one (other ∷ others) apart =
     let first = apart_pair one other (apart 0 other (omega arith)) in

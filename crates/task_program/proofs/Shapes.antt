@@ -139,26 +139,26 @@ Follows shape texts = FollowsAt shape.place shape.has_if shape.depth texts
 
 -- ---- a token that is allowed goes in front
 
-pub and_left : (a b : Bool) → (a && b) ≡ true → a ≡ true
-and_left true b h = refl
-and_left false b h = h
+pub left_is_true : (a b : Bool) → (a && b) ≡ true → a ≡ true
+left_is_true true b h = refl
+left_is_true false b h = h
 
-pub and_right : (a b : Bool) → (a && b) ≡ true → b ≡ true
-and_right true b h = h
-and_right false b h = absurd cc
+pub right_is_true : (a b : Bool) → (a && b) ≡ true → b ≡ true
+right_is_true true b h = h
+right_is_true false b h = absurd cc
 
 -- the three tests of `fits_at`
 header_of : (place : Place) (has_if : Bool) (depth : ℕ) (text : List ℕ) → fits_at place has_if depth text ≡ true
     → is_header place text ≡ true
-header_of place has_if depth text h = and_left (is_header place text) _ h
+header_of place has_if depth text h = left_is_true (is_header place text) _ h
 
 allowed_of : (place : Place) (has_if : Bool) (depth : ℕ) (text : List ℕ) → fits_at place has_if depth text ≡ true
     → is_allowed place has_if text ≡ true
-allowed_of place has_if depth text h = and_right (not (closes_none place depth text)) _ (and_right (is_header place text) _ h)
+allowed_of place has_if depth text h = right_is_true (not (closes_none place depth text)) _ (right_is_true (is_header place text) _ h)
 
 unclosed_of : (place : Place) (has_if : Bool) (depth : ℕ) (text : List ℕ) → fits_at place has_if depth text ≡ true
     → not (closes_none place depth text) ≡ true
-unclosed_of place has_if depth text h = and_left (not (closes_none place depth text)) _ (and_right (is_header place text) _ h)
+unclosed_of place has_if depth text h = left_is_true (not (closes_none place depth text)) _ (right_is_true (is_header place text) _ h)
 
 piece_rest : (depth after : ℕ) (piece : Written) (texts : List (List ℕ)) → HasForm piece
     → ((pieces : List Written) → EndBlocks pieces after → EndBlocks (piece ∷ pieces) depth)
@@ -298,7 +298,7 @@ version_back : (depth : ℕ) (text : List ℕ) (texts : List (List ℕ)) → (is
 version_back zero text texts h r = record {
   version = text;
   written = r.written;
-  version_is_one = (and_left _ _ h, eqb-true _ _ (and_right (is_number text) _ h));
+  version_is_one = (left_is_true _ _ h, eqb-true _ _ (right_is_true (is_number text) _ h));
   spelled = ap (λ (ts : List (List ℕ)). codes "omptasks" ∷ text ∷ ts) r.texts_are;
   forms = r.forms;
   nested = r.nested;
@@ -367,20 +367,20 @@ version_continued : (has_if : Bool) (depth : ℕ) → Continued Version has_if d
 version_continued has_if depth = let later = statement_continued has_if depth in (codes "1" ∷ later.0, version_back depth (codes "1") later.0 refl later.1)
 
 -- the words that may close a text from here on
-pub continued : (place : Place) (has_if : Bool) (depth : ℕ) → Continued place has_if depth
-continued Header has_if depth = let later = version_continued has_if depth in (codes "omptasks" ∷ later.0, later.1)
-continued Version has_if depth = version_continued has_if depth
-continued Statement has_if depth = statement_continued has_if depth
-continued WorkNumber has_if depth =
+pub may_continue : (place : Place) (has_if : Bool) (depth : ℕ) → Continued place has_if depth
+may_continue Header has_if depth = let later = version_continued has_if depth in (codes "omptasks" ∷ later.0, later.1)
+may_continue Version has_if depth = version_continued has_if depth
+may_continue Statement has_if depth = statement_continued has_if depth
+may_continue WorkNumber has_if depth =
     let later = statement_continued has_if depth in (codes "0" ∷ later.0, piece_rest depth depth (WorkWritten (codes "0")) later.0 refl (λ pieces nested. nested) later.1)
-continued GroupBrace has_if depth =
+may_continue GroupBrace has_if depth =
     let later = statement_continued has_if (suc depth) in (codes "{" ∷ later.0, piece_rest depth (suc depth) GroupWritten later.0 tt (λ pieces nested. nested) later.1)
-continued Clause has_if depth = clause_continued has_if depth
-continued IfOpens has_if depth = if_opens_continued has_if depth
-continued IfNumber has_if depth = if_number_continued has_if depth
-continued IfCloses has_if depth = closes_continued has_if depth
-continued DependOpens has_if depth = depend_continued has_if depth
-continued DependType has_if depth = type_continued has_if depth
-continued (DependColon kind) has_if depth = colon_continued kind has_if depth
-continued (DependName kind) has_if depth = name_continued kind has_if depth
-continued (DependMore kind) has_if depth = more_continued kind has_if depth
+may_continue Clause has_if depth = clause_continued has_if depth
+may_continue IfOpens has_if depth = if_opens_continued has_if depth
+may_continue IfNumber has_if depth = if_number_continued has_if depth
+may_continue IfCloses has_if depth = closes_continued has_if depth
+may_continue DependOpens has_if depth = depend_continued has_if depth
+may_continue DependType has_if depth = type_continued has_if depth
+may_continue (DependColon kind) has_if depth = colon_continued kind has_if depth
+may_continue (DependName kind) has_if depth = name_continued kind has_if depth
+may_continue (DependMore kind) has_if depth = more_continued kind has_if depth

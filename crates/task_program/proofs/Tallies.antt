@@ -15,15 +15,15 @@ use Rattle.task_program.specs.Marks.{Mark}
 use Rattle.task_program.specs.Marks.Mark.{Begins, Ends, Works, Waits, GroupBegins, GroupEnds}
 use Rattle.task_program.specs.Limits.{tasks_begun, segments_opened, work_done, tasks_of, segments_of, work_of}
 use Rattle.task_program.specs.declared.limits.TheConstants.{MOST_TASKS, MOST_SEGMENTS, MOST_NESTING, MOST_ITEMS, MOST_WORK}
-use Rattle.task_program.specs.Names.{number_of}
+use Rattle.task_program.specs.Names.{number_of_name}
 use Rattle.task_program.specs.Tokens.{Token, texts}
 use Rattle.task_program.specs.Words.{is_text, is_run, begins_with_digit, is_word, is_number, value_of, type_word}
 use Rattle.task_program.specs.Within.{pending_tasks, pending_segments}
-use Rattle.task_program.specs.Faults.{State, Block, is_header, is_allowed, is_number_too_large, nests_too_deep, is_task_too_many, are_segments_too_many, is_item_too_many, is_work_too_large, type_of, after_at, closed_by, line_of}
+use Rattle.task_program.specs.Faults.{State, Block, is_header, is_allowed, is_number_too_large, nests_too_deep, is_task_too_many, are_segments_too_many, is_item_too_many, is_work_too_large, type_of, after_at, after_end_of, line_of_block}
 use Rattle.task_program.specs.Faults.Block.{TaskBlock, GroupBlock}
 use Rattle.task_program.specs.TokenCounts.{inside_after, is_inside, outside_from, outside, tasks_by, is_waiting, is_value_too_large, is_too_deep, is_task_past, is_segment_past, is_work_past, segments_by, work_by, tasks_in, segments_in, work_in, items_after, items_in, braces_after, open_braces, limit_by, limit_fault_after}
 use Rattle.task_program.proofs.Keeping.{at, bool_cases, with_one}
-use Rattle.task_program.proofs.Shapes.{and_left, and_right}
+use Rattle.task_program.proofs.Shapes.{left_is_true, right_is_true}
 use Rattle.task_program.proofs.Found.{same_text, type_is, is_depend, is_end, or_true_right}
 
 -- ---- one token more
@@ -107,7 +107,7 @@ item_coming _ = 0
 abbrev pub tally_at : Place → State → Tally
 tally_at place state =
     tally_so (is_inside_at place) (tasks_of state.tree.marks + pending_tasks place) (segments_of state.tree.marks + pending_segments place) (work_of state.tree.marks)
-    (length state.head.items + item_coming place) (map line_of state.tree.blocks)
+    (length state.head.items + item_coming place) (map line_of_block state.tree.blocks)
 
 -- where no task is begun
 abbrev pub NoItems : Place → List Item → Type 0
@@ -177,7 +177,7 @@ braces_stay braces text line n = rw (n.brace, n.end) refl
 -- ---- the places
 
 end_tallies : (state : State) (blocks : List Block) (marks : List Mark) (line : ℕ)
-    → tally_after (tally_at Statement (record state { tree = record { blocks = blocks; marks = marks } })) (token_so (codes "}") line) ≡ tally_at Statement (record state { tree = closed_by blocks marks })
+    → tally_after (tally_at Statement (record state { tree = record { blocks = blocks; marks = marks } })) (token_so (codes "}") line) ≡ tally_at Statement (record state { tree = after_end_of blocks marks })
 end_tallies state [] marks line = same_tally _ _ _ _ _ _ _ _ _ _ _ _ refl (omega arith) (omega arith) (omega arith) (omega arith) refl
 end_tallies state (TaskBlock brace ∷ blocks) marks line =
     same_tally _ _ _ _ _ _ _ _ _ _ _ _ refl (omega (arith, with_one tasks_begun marks Ends)) (omega (arith, with_one segments_opened marks Ends)) (omega (arith, with_one work_done marks Ends)) (omega arith) refl
@@ -252,7 +252,7 @@ name_tallies : (state : State) (kind : DependKind) (text : List ℕ) (line : ℕ
     → Tallies (DependName kind) state text line
 name_tallies state kind text line word =
     let n = no_sign_word text word in
-    let item : Item = record { kind = kind; name = number_of state.names text } in
+    let item : Item = record { kind = kind; name = number_of_name state.names text } in
     let items_are : length (state.head.items ++ item ∷ []) ≡ length state.head.items + 1 = length-append state.head.items (item ∷ []) in
     same_tally _ _ _ _ _ _ _ _ _ _ _ _ (inside_stays true text n) (omega arith) (omega arith) (omega arith) (items_stay _ text n ∙ omega (arith, items_are)) (braces_stay _ text line n)
 
@@ -309,14 +309,14 @@ limit_of t text = limit_by t.inside t.tasks t.segments t.work t.items (length t.
 
 -- each row by itself
 limit_at : (place : Place) (state : State) (text : List ℕ) (a b c d e f : Bool)
-    → is_value_too_large (is_inside_at place) text ≡ a → is_too_deep (length (map line_of state.tree.blocks)) text ≡ b
+    → is_value_too_large (is_inside_at place) text ≡ a → is_too_deep (length (map line_of_block state.tree.blocks)) text ≡ b
     → is_task_past (is_inside_at place) (tasks_of state.tree.marks + pending_tasks place) text ≡ c
     → is_segment_past (is_inside_at place) (segments_of state.tree.marks + pending_segments place) text ≡ d
     → nat_lt MOST_ITEMS (length state.head.items + item_coming place) ≡ e
     → is_work_past (is_inside_at place) (work_of state.tree.marks) text ≡ f
     → limit_of (tally_at place state) text ≡ table a b c d e f
 limit_at place state text a b c d e f h1 h2 h3 h4 h5 h6 =
-    same_table (is_value_too_large (is_inside_at place) text) (is_too_deep (length (map line_of state.tree.blocks)) text)
+    same_table (is_value_too_large (is_inside_at place) text) (is_too_deep (length (map line_of_block state.tree.blocks)) text)
     (is_task_past (is_inside_at place) (tasks_of state.tree.marks + pending_tasks place) text)
     (is_segment_past (is_inside_at place) (segments_of state.tree.marks + pending_segments place) text)
     (nat_lt MOST_ITEMS (length state.head.items + item_coming place)) (is_work_past (is_inside_at place) (work_of state.tree.marks) text)
@@ -340,13 +340,13 @@ few_items : (place : Place) (state : State) → item_coming place ≡ 0 → leng
 few_items place state none few = le-ltb MOST_ITEMS (length state.head.items + item_coming place) (omega (arith, none, few))
 
 -- a token that passes no limit
-quiet : (place : Place) (state : State) (text : List ℕ) → item_coming place ≡ 0 → length state.head.items ≤ MOST_ITEMS
+passes_no_limit : (place : Place) (state : State) (text : List ℕ) → item_coming place ≡ 0 → length state.head.items ≤ MOST_ITEMS
     → is_number text ≡ false → is_text text (codes "{") ≡ false
     → is_task_past (is_inside_at place) (tasks_of state.tree.marks + pending_tasks place) text ≡ false
     → is_segment_past (is_inside_at place) (segments_of state.tree.marks + pending_segments place) text ≡ false
     → limit_of (tally_at place state) text ≡ None
-quiet place state text none few number brace task segment =
-    limit_at place state text false false false false false false (value_off (is_inside_at place) text number) (deep_off (length (map line_of state.tree.blocks)) text brace) task segment
+passes_no_limit place state text none few number brace task segment =
+    limit_at place state text false false false false false false (value_off (is_inside_at place) text number) (deep_off (length (map line_of_block state.tree.blocks)) text brace) task segment
     (few_items place state none few) (work_off (is_inside_at place) (work_of state.tree.marks) text number)
 
 abbrev LimitsSame : Place → State → List ℕ → Type 0
@@ -394,7 +394,7 @@ brace_limits : (place : Place) (state : State) → length state.head.items ≤ M
     → limits (at state place) (codes "{") ≡ table false (nat_le MOST_NESTING (length state.tree.blocks)) false false false false
     → LimitsSame place state (codes "{")
 brace_limits place state few none outside_so same =
-    let deep : nat_le MOST_NESTING (length (map line_of state.tree.blocks)) ≡ nat_le MOST_NESTING (length state.tree.blocks) = ap (λ (n : ℕ). nat_le MOST_NESTING n) (length-map state.tree.blocks line_of) in
+    let deep : nat_le MOST_NESTING (length (map line_of_block state.tree.blocks)) ≡ nat_le MOST_NESTING (length state.tree.blocks) = ap (λ (n : ℕ). nat_le MOST_NESTING n) (length-map state.tree.blocks line_of_block) in
     limit_at place state (codes "{") false (nat_le MOST_NESTING (length state.tree.blocks)) false false false false (value_off (is_inside_at place) (codes "{") refl) deep (rw outside_so refl) (rw outside_so refl)
     (few_items place state none few) (work_off (is_inside_at place) (work_of state.tree.marks) (codes "{") refl)
     ∙ sym same
@@ -405,8 +405,8 @@ clause_limits state text few allowed =
     bool_cases (is_text text (codes "{"))
     (λ brace. rw (same_text text (codes "{") brace) (brace_limits Clause state few refl refl refl))
     (λ no_brace. bool_cases (is_text text (codes "if"))
-    (λ if_word. rw (same_text text (codes "if") if_word) (quiet Clause state (codes "if") refl few refl refl refl refl))
-    (λ no_if. rw (is_depend text state.head.has_if allowed no_brace no_if) (quiet Clause state (codes "depend") refl few refl refl refl refl)))
+    (λ if_word. rw (same_text text (codes "if") if_word) (passes_no_limit Clause state (codes "if") refl few refl refl refl refl))
+    (λ no_if. rw (is_depend text state.head.has_if allowed no_brace no_if) (passes_no_limit Clause state (codes "depend") refl few refl refl refl refl)))
 
 if_number_limits : (state : State) (text : List ℕ) → length state.head.items ≤ MOST_ITEMS → is_number text ≡ true
     → LimitsSame IfNumber state text
@@ -416,10 +416,10 @@ if_number_limits state text few number =
 
 type_limits : (state : State) (kind : DependKind) → length state.head.items ≤ MOST_ITEMS
     → LimitsSame DependType state (type_word kind)
-type_limits state DependIn few = quiet DependType state (codes "in") refl few refl refl refl refl
-type_limits state DependOut few = quiet DependType state (codes "out") refl few refl refl refl refl
-type_limits state DependInOut few = quiet DependType state (codes "inout") refl few refl refl refl refl
-type_limits state DependInOutSet few = quiet DependType state (codes "inoutset") refl few refl refl refl refl
+type_limits state DependIn few = passes_no_limit DependType state (codes "in") refl few refl refl refl refl
+type_limits state DependOut few = passes_no_limit DependType state (codes "out") refl few refl refl refl refl
+type_limits state DependInOut few = passes_no_limit DependType state (codes "inout") refl few refl refl refl refl
+type_limits state DependInOutSet few = passes_no_limit DependType state (codes "inoutset") refl few refl refl refl refl
 
 pub no_digit : (run digit digits : Bool) → (run && not digit) ≡ true → (digit && digits) ≡ false
 no_digit run false digits h = refl
@@ -443,8 +443,8 @@ more_limits : (state : State) (kind : DependKind) (text : List ℕ) → length s
     → is_allowed (DependMore kind) state.head.has_if text ≡ true → LimitsSame (DependMore kind) state text
 more_limits state kind text few allowed =
     bool_cases (is_text text (codes ","))
-    (λ comma. rw (same_text text (codes ",") comma) (quiet (DependMore kind) state (codes ",") refl few refl refl refl refl))
-    (λ other. rw (same_text text (codes ")") (or_true_right (is_text text (codes ",")) (is_text text (codes ")")) allowed other)) (quiet (DependMore kind) state (codes ")") refl few refl refl refl refl))
+    (λ comma. rw (same_text text (codes ",") comma) (passes_no_limit (DependMore kind) state (codes ",") refl few refl refl refl refl))
+    (λ other. rw (same_text text (codes ")") (or_true_right (is_text text (codes ",")) (is_text text (codes ")")) allowed other)) (passes_no_limit (DependMore kind) state (codes ")") refl few refl refl refl refl))
 
 pub place_limits : (place : Place) (state : State) (text : List ℕ) → is_past_header place ≡ true
     → length state.head.items ≤ MOST_ITEMS → is_allowed place state.head.has_if text ≡ true
@@ -455,12 +455,12 @@ place_limits Statement state text past few allowed = statement_limits state text
 place_limits WorkNumber state text past few allowed = work_limits state text few allowed
 place_limits GroupBrace state text past few allowed = rw (same_text text (codes "{") allowed) (brace_limits GroupBrace state few refl refl refl)
 place_limits Clause state text past few allowed = clause_limits state text few allowed
-place_limits IfOpens state text past few allowed = rw (same_text text (codes "(") allowed) (quiet IfOpens state (codes "(") refl few refl refl refl refl)
+place_limits IfOpens state text past few allowed = rw (same_text text (codes "(") allowed) (passes_no_limit IfOpens state (codes "(") refl few refl refl refl refl)
 place_limits IfNumber state text past few allowed = if_number_limits state text few allowed
-place_limits IfCloses state text past few allowed = rw (same_text text (codes ")") allowed) (quiet IfCloses state (codes ")") refl few refl refl refl refl)
-place_limits DependOpens state text past few allowed = rw (same_text text (codes "(") allowed) (quiet DependOpens state (codes "(") refl few refl refl refl refl)
+place_limits IfCloses state text past few allowed = rw (same_text text (codes ")") allowed) (passes_no_limit IfCloses state (codes ")") refl few refl refl refl refl)
+place_limits DependOpens state text past few allowed = rw (same_text text (codes "(") allowed) (passes_no_limit DependOpens state (codes "(") refl few refl refl refl refl)
 place_limits DependType state text past few allowed = subst (λ (t : List ℕ). LimitsSame DependType state t) (sym (type_is text allowed)) (type_limits state (type_of text) few)
-place_limits (DependColon kind) state text past few allowed = rw (same_text text (codes ":") allowed) (quiet (DependColon kind) state (codes ":") refl few refl refl refl refl)
+place_limits (DependColon kind) state text past few allowed = rw (same_text text (codes ":") allowed) (passes_no_limit (DependColon kind) state (codes ":") refl few refl refl refl refl)
 place_limits (DependName kind) state text past few allowed = name_limits state kind text allowed
 place_limits (DependMore kind) state text past few allowed = more_limits state kind text few allowed
 
@@ -491,5 +491,5 @@ pub header_limits : (place : Place) (text : List ℕ) → is_past_header place �
     → limit_fault_after [] text ≡ None
 header_limits Header text past header = ap (λ (t : Tally). limit_of t text) nothing_counted ∙ rw (same_text text (codes "omptasks") header) refl
 header_limits Version text past header =
-    ap (λ (t : Tally). limit_of t text) nothing_counted ∙ version_limits text (and_left (is_number text) _ header) (eqb-true _ _ (and_right (is_number text) _ header))
+    ap (λ (t : Tally). limit_of t text) nothing_counted ∙ version_limits text (left_is_true (is_number text) _ header) (eqb-true _ _ (right_is_true (is_number text) _ header))
 header_limits _ text past header = absurd cc

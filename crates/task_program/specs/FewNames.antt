@@ -2,8 +2,8 @@
 use Rattle.std.specs.Prelude.{◌+◌, ◌*◌, ◌≤◌, length}
 use Rattle.task_program.specs.Limits.{tasks_of}
 use Rattle.task_program.specs.declared.limits.TheConstants.{MOST_ITEMS}
-use Rattle.task_program.specs.SecondPass.{Expanded}
+use Rattle.task_program.specs.SecondPass.{ExpansionState}
 
-pub record HasFewNames (state : Expanded) : Type 0 where
+pub record HasFewNames (state : ExpansionState) : Type 0 where
   pub items : length state.items ≤ MOST_ITEMS
   pub names : length state.names ≤ (MOST_ITEMS * tasks_of state.tree.marks) + length state.items

@@ -7,7 +7,7 @@ use Rattle.task_program.specs.declared.limits.TheConstants.{MOST_TEXT_BYTES}
 use Rattle.task_program.specs.Tokens.{Token, texts, tokens_of, line_at_end}
 use Rattle.task_program.specs.TokenCounts.{open_braces, limit_fault_after}
 use Rattle.task_program.specs.Faults.{form_fault}
-use Rattle.task_program.specs.ProgramText.{ProgramText}
+use Rattle.task_program.specs.ProgramMarks.{ProgramMarks}
 use Rattle.task_program.specs.ReadInVersion.{begins_version_two, program_of}
 use Rattle.task_program.specs.ViablePrefix.{IsSentence, IsViable}
 
@@ -74,7 +74,7 @@ pub record IsRightWhole (text : List ℕ) : Type 0 where
 -- What is read is a sentence within the limits, each token right, and each such text is read. What is refused has this
 -- fault, and no other.
 pub record IsToldApart (text : List ℕ) : Type 0 where
-  pub read : ((program : ProgramText) × (program_of text ≡ Ok program)) ↔ IsRightWhole text
+  pub read : ((program : ProgramMarks) × (program_of text ≡ Ok program)) ↔ IsRightWhole text
   pub refused : (fault : ReadFault) → (program_of text ≡ Err fault) ↔ HasFault text fault
 
 -- the header is not that of version 2

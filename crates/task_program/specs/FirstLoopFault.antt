@@ -9,7 +9,7 @@ use Rattle.task_program.specs.Words.{is_number, value_of}
 use Rattle.task_program.specs.TokenCounts.{open_braces}
 use Rattle.task_program.specs.Loops.{Tree}
 use Rattle.task_program.specs.FirstPass.{form_fault, first_pass, after_header}
-use Rattle.task_program.specs.ProgramText.{ProgramText}
+use Rattle.task_program.specs.ProgramMarks.{ProgramMarks}
 use Rattle.task_program.specs.ReadInVersion.{begins_version_two, second_pass, program_of}
 use Rattle.task_program.specs.LoopViablePrefix.{IsLoopSentence, IsLoopViable}
 
@@ -66,7 +66,7 @@ pub data HasLoopFault : List ℕ → ReadFault → Type 0 where
 
 -- what is read is a sentence, and what is refused has its fault so
 pub record IsToldInLoops (text : List ℕ) : Type 0 where
-  pub read : (program : ProgramText) → program_of text ≡ Ok program → IsLoopSentence (texts (body_of text))
+  pub read : (program : ProgramMarks) → program_of text ≡ Ok program → IsLoopSentence (texts (body_of text))
   pub refused : (fault : ReadFault) → program_of text ≡ Err fault → HasLoopFault text fault
 
 -- the header is that of version 2

@@ -14,7 +14,7 @@ use Rattle.task_segments.specs.Precedence.Descends.{Itself}
 use Rattle.task_segments.specs.Programs.{IsProgramTable}
 use Rattle.task_segments.specs.Table.{Table, Task, segment, task, no_segment, no_task}
 use Rattle.task_segments.proofs.Children.{IsNumbered, numbered_program}
-use Rattle.task_segments.proofs.InPlace.{created, first_follows, follows_one, last_followed, last_of_one}
+use Rattle.task_segments.proofs.InPlace.{closing_creates, first_follows, follows_one, last_followed, last_of_one}
 use Rattle.task_segments.proofs.Order.{OpensAfter, one_branch}
 use Rattle.task_segments.proofs.Programs.{nested_program}
 use Rattle.task_segments.proofs.Same.{same_segment, same_facts, same_row}
@@ -105,7 +105,7 @@ generated_inside table h u t o g (inl next) = absurd (last_followed table h u t 
 generated_inside table h u t o g (inr (inl r)) =
     absurd (first_follows table h r.child o.0 r.is_child (subst (λ (n : ℕ). Continues table o.0 n) (sym r.first) o.2))
 generated_inside table h u t o g (inr (inr (inl r))) =
-    absurd (let k = closing_of_one table h t r.creator (Creates r.child) o r.resumes (created table h r.creator r.child r.is_child r.is_creator) in cc)
+    absurd (let k = closing_of_one table h t r.creator (Creates r.child) o r.resumes (closing_creates table h r.creator r.child r.is_child r.is_creator) in cc)
 generated_inside table h u t o g (inr (inr (inr (inl r)))) =
     absurd (first_follows table h r.later o.0 r.is_later (subst (λ (n : ℕ). Continues table o.0 n) (sym r.first) o.2))
 generated_inside table h u t o g (inr (inr (inr (inr (inl r))))) =

@@ -23,9 +23,9 @@ next_is_nearest table nested s t other next is_other of_task after =
     ]
 
 -- a segment that is not its task's last has a next
-pub continued : (table : Table) → IsNestedTable table → (s : ℕ) → IsSegment table s
+pub has_next : (table : Table) → IsNestedTable table → (s : ℕ) → IsSegment table s
     → s < (task table (segment table s).task).last → (t : ℕ) × Continues table s t
-continued table nested s is_s less = by_closing (segment table s).closing refl
+has_next table nested s is_s less = by_closing (segment table s).closing refl
   where
     by_closing : (closing : Closing) → (segment table s).closing ≡ closing → (t : ℕ) × Continues table s t
     by_closing (Creates u) e = ((task table u).last + 1, after_created table nested s u is_s e)
@@ -38,22 +38,22 @@ pub is_owner : (table : Table) → IsNestedTable table → (u s : ℕ) → IsOf 
 is_owner table nested u s a = subst (λ n. IsTask table n) a.of_task (nested.tasks s a.is_segment)
 
 -- a chain leads along a task from one of its segments to a later one
-pub along : (fuel : ℕ) (table : Table) → IsNestedTable table → (s t u : ℕ) → IsOf table u s → IsOf table u t → s ≤ t
+pub reaches_along_task : (fuel : ℕ) (table : Table) → IsNestedTable table → (s t u : ℕ) → IsOf table u s → IsOf table u t → s ≤ t
     → t - s ≤ fuel → Reaches (Continues table) s t
-along zero table nested s t u a b h bound =
+reaches_along_task zero table nested s t u a b h bound =
     let same : s ≡ t = omega arith in subst (Reaches (Continues table) s) same Stays
-along (suc fuel) table nested s t u a b h bound =
+reaches_along_task (suc fuel) table nested s t u a b h bound =
     elim (cases_lt s t) [
       | inr none ↦ let same : s ≡ t = omega arith in subst (Reaches (Continues table) s) same Stays
       | inl less ↦
           let between = (nested.segments u (is_owner table nested u s a)).between t b.is_segment b.of_task in
           let within = between.1 in
           let last = ap (λ n. (task table n).last) a.of_task in
-          let next = continued table nested s a.is_segment (omega arith) in
+          let next = has_next table nested s a.is_segment (omega arith) in
           let larger = continues_up table nested s next.0 next.1 in
           let nearest =
           next_is_nearest table nested s next.0 t next.1 b.is_segment (b.of_task ∙ sym a.of_task) less in
-          Goes next.1 (along fuel table nested next.0 t u (record { is_segment = next.1.is_to; of_task = next.1.same_task ∙ a.of_task }) b nearest (omega arith))
+          Goes next.1 (reaches_along_task fuel table nested next.0 t u (record { is_segment = next.1.is_to; of_task = next.1.same_task ∙ a.of_task }) b nearest (omega arith))
     ]
 
 -- the last segment of a task is of it
@@ -69,7 +69,7 @@ along_to_last table nested s u a =
     let is_u = is_owner table nested u s a in
     let between = (nested.segments u is_u).between s a.is_segment a.of_task in
     let bound = between.1 in
-    along ((task table u).last - s) table nested s (task table u).last u a (is_last table nested u is_u) (omega arith) (omega arith)
+    reaches_along_task ((task table u).last - s) table nested s (task table u).last u a (is_last table nested u is_u) (omega arith) (omega arith)
 
 -- from the first segment of a task to its last
 pub along_task : (table : Table) → IsNestedTable table → (u : ℕ) → IsTask table u

@@ -11,9 +11,9 @@ use Rattle.task_segments.specs.Table.{Table, segment, task, table_at}
 use Rattle.task_segments.specs.Precedence.{IsSegment, IsTask, Continues, IsEarlierChild}
 use Rattle.task_segments.specs.Programs.{IsProgramTable}
 use Rattle.task_program.proofs.Nested.{is_nested}
-use Rattle.task_segments.proofs.Steps.{count-cons, begun, running_below, tasks_begins, beginning_of-old, beginning_of-new}
+use Rattle.task_segments.proofs.Steps.{count-cons, task_has_begun, running_below, tasks_begins, beginning_of-old, beginning_of-new}
 use Rattle.task_segments.proofs.Places.{after_end}
-use Rattle.task_segments.proofs.Grouping.{IsGrouped, before_task, innermost, no_group, counted, closes_with, past}
+use Rattle.task_segments.proofs.Grouping.{IsGrouped, before_task, innermost_of, no_group, children_are_counted, closes_with, groups_at_later_moment}
 use Rattle.task_segments.proofs.Facts.{IsLast, nested, row, segment-at, segments-at, tasks-at, owner-at, continues, nothing_before, beginning_within}
 use Rattle.task_segments.proofs.Order.{OpensAfter, not_root}
 use Rattle.task_segments.proofs.Groups.{child}
@@ -124,7 +124,7 @@ before_within e u v before a l is = ap (drop 1) (beginning_within e u v a l) ∙
 -- the root has no siblings
 root_siblings : (e : List Mark) → IsProper e → 0 < tasks_so_far e → (task (table_at e) 0).siblings_before ≡ 0
 root_siblings e p l =
-    let b = begun e p 0 l in
+    let b = task_has_begun e p 0 l in
     let none : b.earlier ≡ [] = nothing_before b.earlier b.proper (sym b.number) in
     ap (λ r. r.siblings_before) (row e 0 l b) ∙ ap (λ (xs : List Mark). children_of (running_task xs) xs) none
 
@@ -158,7 +158,7 @@ siblings_ascend e h u v a l same =
     let earlier = child e h u above (omega arith) in
     let parent : running_task earlier.before ≡ running_task later.before =
     same_Some _ _ (sym earlier.parent ∙ same ∙ later.parent) in
-    let since = past later.before later.proper later.grouped u above (omega (arith, later.number)) in
+    let since = groups_at_later_moment later.before later.proper later.grouped u above (omega (arith, later.number)) in
     let at : before_task u later.before ≡ earlier.before =
     sym (before_within e u v later.before a l later.is_before) ∙ earlier.is_before in
     let more = subst (λ (xs : List Mark). children_of (running_task xs) xs < children_of (running_task xs) later.before) at since.more in
@@ -197,7 +197,7 @@ begun_by_opening (m ∷ e) t u l = elim (cases_Bool (opens m && eqb (segments_so
 ]
 
 -- of the open groups the innermost counts
-innermost_count : (groups : List OpenGroup) → innermost_children_before groups ≡ (innermost groups).children_before
+innermost_count : (groups : List OpenGroup) → innermost_children_before groups ≡ (innermost_of groups).children_before
 innermost_count [] = refl
 innermost_count (g ∷ groups) = refl
 
@@ -230,7 +230,7 @@ child_before_end e h t k u before l o found =
     let here = child_from before e (running_task before) k u at whole.0 found in
     let is = row_of_child e h (running_task before) k u here in
     let c = child e h u here.above here.has_begun in
-    let b = begun before proper.1 u found.has_begun in
+    let b = task_has_begun before proper.1 u found.has_begun in
     let first : segments_so_far c.before ≡ segments_so_far b.earlier =
     ap segments_so_far (sym c.is_before) ∙ ap segments_so_far at
     ∙ ap (λ (xs : List Mark). segments_so_far (drop 1 xs)) b.begins in
@@ -254,7 +254,7 @@ group_children : (e : List Mark) (t k : ℕ) (before : List Mark) → IsGrouped 
 group_children e t k before g o less =
     let grouped = grouped_opening e t (GroupEnds ∷ before) g o in
     let own = ap (λ (q : ℕ). children_of q before) grouped.1.1 in
-    omega (arith, counted before 0 no_group grouped.1.0, innermost_count (open_groups before))
+    omega (arith, children_are_counted before 0 no_group grouped.1.0, innermost_count (open_groups before))
 
 -- each number that a segment counts is that of a child generated before it
 children_at : (e : List Mark) → IsLast e → (t k : ℕ) → t < segments_so_far e
@@ -273,8 +273,8 @@ children_at e h t k l less =
         let found = nth_child before (running_task before) k (group_children e t k before h.grouped o few) in
         child_before_end e h t k found.0 before l o found.1
 
-numbered : (e : List Mark) → IsLast e → IsNumbered (table_at e)
-numbered e h = record {
+is_numbered : (e : List Mark) → IsLast e → IsNumbered (table_at e)
+is_numbered e h = record {
   siblings = λ u k l. siblings_at e h u k (omega (arith, tasks-at e));
   ascend = λ u v a l. siblings_ascend e h u v a (omega (arith, tasks-at e));
   children = λ t k l. children_at e h t k (omega (arith, segments-at e));
@@ -283,4 +283,4 @@ numbered e h = record {
 pub numbered_program : (table : Table) → IsProgramTable table → IsNumbered table
 numbered_program table h =
     let last = last_of_nested h.program.marks (is_nested h.program h.is_program) in
-    subst (λ (t : Table). IsNumbered t) (sym h.is) (numbered (last_moment h.program.marks) last)
+    subst (λ (t : Table). IsNumbered t) (sym h.is) (is_numbered (last_moment h.program.marks) last)

@@ -9,9 +9,9 @@ use Rattle.task_segments.specs.Precedence.{IsSegment, IsTask, Continues, Creatio
 use Rattle.task_segments.specs.Schedule.{IsJoined}
 use Rattle.task_segments.specs.Nesting.{IsChild, IsNestedTable, IsGroupedTable, HasInnermost}
 use Rattle.task_segments.specs.InPlace.{EndsBefore, IsOf, IsCreated, Opens, IsReadInPlace}
-use Rattle.task_segments.proofs.Reaches.{joined}
-use Rattle.task_segments.proofs.Along.{along, continued, next_is_nearest, is_owner, is_last}
-use Rattle.task_segments.proofs.Order.{after_child, after_created, continues_up, creator_within, last_of_all, next_is, none_next, not_root, not_root_made, one_next, reached, same_place, siblings_apart}
+use Rattle.task_segments.proofs.Reaches.{reached_is_joined}
+use Rattle.task_segments.proofs.Along.{reaches_along_task, has_next, next_is_nearest, is_owner, is_last}
+use Rattle.task_segments.proofs.Order.{after_child, after_created, continues_up, creator_within, last_of_all, next_is, none_next, not_root, not_root_made, one_next, continues_or_is_created, same_place, siblings_apart}
 use Rattle.std.proofs.lemmas.List.{get_or_past}
 
 pub with_parent : (table : Table) (u p : ℕ) → (task table u).parent ≡ Some p → IsTask table u
@@ -111,33 +111,33 @@ first_follows table h u s i x =
     let from = from_first table h u s (record { is_segment = x.is_from; of_task = sym x.same_task ∙ (first_of table h u i).of_task }) in
     omega arith
 
-pub nearest : (table : Table) → IsNestedTable table → (s t other : ℕ) → Continues table s t
+pub next_is_least : (table : Table) → IsNestedTable table → (s t other : ℕ) → Continues table s t
     → IsOf table (segment table s).task other → s < other → t ≤ other
-nearest table h s t other x o l = next_is_nearest table h s t other x o.is_segment o.of_task l
+next_is_least table h s t other x o l = next_is_nearest table h s t other x o.is_segment o.of_task l
 
-pub between : (table : Table) → IsNestedTable table → (u a b : ℕ) → IsOf table u a → IsOf table u b → a < b
+pub is_joined_within_task : (table : Table) → IsNestedTable table → (u a b : ℕ) → IsOf table u a → IsOf table u b → a < b
     → IsJoined (Continues table) a b
-between table h u a b i j l = joined (along (b - a) table h a b u i j (omega arith) (omega arith))
+is_joined_within_task table h u a b i j l = reached_is_joined (reaches_along_task (b - a) table h a b u i j (omega arith) (omega arith))
 
 -- what a creator tells of a task
 record Made (table : Table) (u s : ℕ) : Type 0 where
   child : IsChild table u
   creator : child.creator ≡ s
 
-made : (table : Table) → IsNestedTable table → (u s : ℕ) → IsTask table u → (task table u).creator ≡ Some s
+creator_makes : (table : Table) → IsNestedTable table → (u s : ℕ) → IsTask table u → (task table u).creator ≡ Some s
     → Made table u s
-made table h u s i e =
+creator_makes table h u s i e =
     let k = h.children u (not_root_made table h u s e) i in
     record { child = k; creator = same_Some _ _ (sym k.is_creator ∙ e) }
 
 pub after_task : (table : Table) → IsNestedTable table → (u s : ℕ) → IsTask table u → (task table u).creator ≡ Some s
     → Continues table s ((task table u).last + 1)
 after_task table h u s i e =
-    let m = made table h u s i e in subst (λ n. Continues table n ((task table u).last + 1)) m.creator m.child.resumes
+    let m = creator_makes table h u s i e in subst (λ n. Continues table n ((task table u).last + 1)) m.creator m.child.resumes
 
 pub first_created : (table : Table) → IsNestedTable table → (u s : ℕ) → IsTask table u
     → (task table u).creator ≡ Some s → (task table u).first ≡ s + 1
-first_created table h u s i e = let m = made table h u s i e in m.child.first ∙ ap (λ (n : ℕ). n + 1) m.creator
+first_created table h u s i e = let m = creator_makes table h u s i e in m.child.first ∙ ap (λ (n : ℕ). n + 1) m.creator
 
 pub created_before : (table : Table) → IsNestedTable table → (u s : ℕ) → IsTask table u
     → (task table u).creator ≡ Some s → s < (task table u).last
@@ -165,7 +165,7 @@ has_creator table h u p i e = let k = h.children u (not_root table h u p e) i in
 pub creator_of : (table : Table) → IsNestedTable table → (u p s : ℕ) → IsTask table u → (task table u).parent ≡ Some p
     → (task table u).creator ≡ Some s → IsOf table p s
 creator_of table h u p s i e f =
-    let m = made table h u s i f in
+    let m = creator_makes table h u s i f in
     let same : m.child.parent ≡ p = same_Some _ _ (sym m.child.is_parent ∙ e) in
     record {
       is_segment = creator_within table h u s i f;
@@ -198,9 +198,9 @@ next_other table h u s i e next =
     omega arith
 
 -- the creator of a task closes by creating it
-pub created : (table : Table) → IsNestedTable table → (s child : ℕ) → IsTask table child
+pub closing_creates : (table : Table) → IsNestedTable table → (s child : ℕ) → IsTask table child
     → (task table child).creator ≡ Some s → (segment table s).closing ≡ Creates child
-created table h s child i e = by_closing (segment table s).closing refl
+closing_creates table h s child i e = by_closing (segment table s).closing refl
   where
     is_s : IsSegment table s
     is_s = creator_within table h child s i e
@@ -219,7 +219,7 @@ created table h s child i e = by_closing (segment table s).closing refl
 pub children : (table : Table) → IsNestedTable table → (u p s t : ℕ) → (task table u).parent ≡ Some p
     → (task table u).creator ≡ Some s → IsOf table p t → s < t → (task table u).last < t
 children table h u p s t e f o l =
-    let m = made table h u s (with_parent table u p e) f in
+    let m = creator_makes table h u s (with_parent table u p e) f in
     let same : m.child.parent ≡ p = same_Some _ _ (sym m.child.is_parent ∙ e) in
     let c = m.creator in
     after_child table h u m.child t (o.of_task ∙ sym same) (omega arith)
@@ -243,14 +243,14 @@ next_ended : (table : Table) → IsNestedTable table → (child before t : ℕ) 
 next_ended table h child before t generated after next =
     ended_before table h child before (subst (λ n. IsEarlierChild table child n) (next_is table h before t after next) generated) next
 
-pub waited : (table : Table) → IsNestedTable table → (child before t : ℕ) → IsEarlierChild table child t
+pub child_ends_before_wait : (table : Table) → IsNestedTable table → (child before t : ℕ) → IsEarlierChild table child t
     → Continues table before t → (segment table before).closing ≡ Waits → (task table child).last < before
-waited table h child before t generated after waits =
+child_ends_before_wait table h child before t generated after waits =
     next_ended table h child before t generated after (h.after_wait before after.is_from waits)
 
-pub enclosed : (table : Table) → IsNestedTable table → (child t : ℕ) → (encloses : Encloses table t child)
+pub child_ends_before_group : (table : Table) → IsNestedTable table → (child t : ℕ) → (encloses : Encloses table t child)
     → (task table child).last < encloses.before
-enclosed table h child t e =
+child_ends_before_group table h child t e =
     next_ended table h child e.before t e.generated e.opens (h.after_group e.before e.opens.is_from e.ends_group)
 
 -- the end of a task's innermost group, which comes after the task
@@ -271,7 +271,7 @@ own_group table h u t g e =
     let c = g.encloses in
     subst (λ n. EndsAfter table u n) same (record {
       ends = record { before = c.before; is_before = c.opens.is_from; ends_group = c.ends_group; after = c.opens };
-      later = enclosed table h u g.group c;
+      later = child_ends_before_group table h u g.group c;
     })
 
 group_from : (fuel : ℕ) (table : Table) → IsNestedTable table → IsGroupedTable table → (u t : ℕ) → u < fuel
@@ -330,9 +330,9 @@ read_in_place table h g = record {
   first_follows = first_follows table h;
   last_followed = last_followed table h;
   follows_later = continues_up table h;
-  nearest = nearest table h;
-  between = between table h;
-  followed = continued table h;
+  nearest = next_is_least table h;
+  between = is_joined_within_task table h;
+  followed = has_next table h;
   after_wait = h.after_wait;
   after_group = h.after_group;
   after_task = after_task table h;
@@ -342,12 +342,12 @@ read_in_place table h g = record {
   first_created = first_created table h;
   created_before = created_before table h;
   creates = h.creates;
-  created = λ s child i e. (creator_within table h child s i e, created table h s child i e);
-  opens = reached table h;
+  created = λ s child i e. (creator_within table h child s i e, closing_creates table h s child i e);
+  opens = continues_or_is_created table h;
   opens_once = opens_once table h;
   siblings = siblings_apart table h;
   children = children table h;
-  waited = waited table h;
-  enclosed = enclosed table h;
+  waited = child_ends_before_wait table h;
+  enclosed = child_ends_before_group table h;
   group = group table h g;
 }

@@ -8,7 +8,7 @@ use Rattle.task_program.specs.Marks.{Mark}
 use Rattle.task_program.specs.Marks.Mark.{Begins, Ends, Works, Waits, GroupBegins, GroupEnds}
 use Rattle.task_program.specs.Nested.{IsNested}
 use Rattle.task_program.specs.Nested.IsNested.{Nothing, Work, Wait, Task, Group}
-use Rattle.task_program.specs.ProgramText.{ProgramText}
+use Rattle.task_program.specs.ProgramMarks.{ProgramMarks}
 use Rattle.task_program.specs.Programs.{IsProgram}
 use Rattle.task_program.proofs.Nested.{is_nested}
 use Rattle.task_segments.specs.Moments.{begins_task, opens}
@@ -57,7 +57,7 @@ unfolding opens_count
 segments_counted marks h =
     let same : sum_by segments_opened marks ≡ count_by opens marks = segments_same marks h in omega arith
 
-pub reading : (program : ProgramText) → IsProgram program → IsReading program.marks
+pub reading : (program : ProgramMarks) → IsProgram program → IsReading program.marks
 reading program h =
     let n = is_nested program h in
     record {

@@ -22,11 +22,11 @@ use Rattle.task_segments.specs.contracts.copies.TaskFactsPartialEq.TheImpl as fa
 use Rattle.task_segments.specs.Copies.{facts_of}
 use denote.Enum.Bare.{same_true}
 
-pub through : {P Q : Type 0} (b : Bool) → (P → Q) → (Q → P) → Decides b P → Decides b Q
-through b to from (p, q) = (λ e. to (p e), λ x. q (from x))
+pub decides_equivalent : {P Q : Type 0} (b : Bool) → (P → Q) → (Q → P) → Decides b P → Decides b Q
+decides_equivalent b to from (p, q) = (λ e. to (p e), λ x. q (from x))
 
 closing_decides : (a b : Closing) → Decides (closing_eq.ghosts.eq a b) (a ≡ b)
-closing_decides (Creates t) (Creates u) = through (eqb t u) (λ e. ap Creates e) (λ e. cc) (Decides-eqb t u)
+closing_decides (Creates t) (Creates u) = decides_equivalent (eqb t u) (λ e. ap Creates e) (λ e. cc) (Decides-eqb t u)
 closing_decides (Creates t) Waits = (λ e. cc, λ e. cc)
 closing_decides (Creates t) EndsGroup = (λ e. cc, λ e. cc)
 closing_decides (Creates t) EndsTask = (λ e. cc, λ e. cc)
@@ -59,7 +59,7 @@ fields_of a b e = (ap (λ (r : Segment). r.task) e, (ap (λ (r : Segment). r.ind
 
 pub segment_decides : (a b : Segment) → Decides (segment_eq.ghosts.eq a b) (a ≡ b)
 segment_decides a b =
-    through (segment_eq.ghosts.eq a b) (same_segment a b) (fields_of a b)
+    decides_equivalent (segment_eq.ghosts.eq a b) (same_segment a b) (fields_of a b)
     (Decides-and (eqb a.task b.task) _ (Decides-eqb a.task b.task)
     (Decides-and (eqb a.index b.index) _ (Decides-eqb a.index b.index)
     (Decides-and (eqb a.cost b.cost) _ (Decides-eqb a.cost b.cost)
@@ -79,14 +79,14 @@ same_item a b (k, n) = ap (λ (v : DependKind). record a { kind = v }) k ∙ ap 
 
 pub item_decides : (a b : Item) → Decides (item_eq.ghosts.eq a b) (a ≡ b)
 item_decides a b =
-    through (item_eq.ghosts.eq a b) (same_item a b) (λ e. (ap (λ (i : Item). i.kind) e, ap (λ (i : Item). i.name) e))
+    decides_equivalent (item_eq.ghosts.eq a b) (same_item a b) (λ e. (ap (λ (i : Item). i.kind) e, ap (λ (i : Item). i.name) e))
     (Decides-and (kind_eq.ghosts.eq a.kind b.kind) _ (kind_decides a.kind b.kind) (Decides-eqb a.name b.name))
 
 pub option_decides : (a b : Option ℕ) → Decides (option_eq eqb a b) (a ≡ b)
 option_decides None None = (λ e. refl, λ e. refl)
 option_decides None (Some y) = (λ e. cc, λ e. cc)
 option_decides (Some x) None = (λ e. cc, λ e. cc)
-option_decides (Some x) (Some y) = through (eqb x y) (λ e. ap Some e) (λ e. cc) (Decides-eqb x y)
+option_decides (Some x) (Some y) = decides_equivalent (eqb x y) (λ e. ap Some e) (λ e. cc) (Decides-eqb x y)
 
 abbrev HaveSameFacts : TaskFacts → TaskFacts → Type 0
 HaveSameFacts a b = (a.parent ≡ b.parent) × ((a.creator ≡ b.creator) × ((a.undeferred ≡ b.undeferred) × ((a.first ≡ b.first) × ((a.last ≡ b.last) × ((a.innermost_group ≡ b.innermost_group) × (a.siblings_before ≡ b.siblings_before))))))
@@ -106,7 +106,7 @@ parts_of a b e = (ap (λ (r : TaskFacts). r.parent) e, (ap (λ (r : TaskFacts). 
 
 facts_decide : (a b : TaskFacts) → Decides (facts_eq.ghosts.eq a b) (a ≡ b)
 facts_decide a b =
-    through (facts_eq.ghosts.eq a b) (same_facts a b) (parts_of a b)
+    decides_equivalent (facts_eq.ghosts.eq a b) (same_facts a b) (parts_of a b)
     (Decides-and (option_eq eqb a.parent b.parent) _ (option_decides a.parent b.parent)
     (Decides-and (option_eq eqb a.creator b.creator) _ (option_decides a.creator b.creator)
     (Decides-and (beq a.undeferred b.undeferred) _ (booleans_Decides a.undeferred b.undeferred)
@@ -124,4 +124,4 @@ pub same_task : (a b : Task) (p q : TaskFacts) (xs ys : List Item) (r : Bool) �
     → true ≡ facts_eq.ghosts.eq p q → xs ≡ a.items → ys ≡ b.items → Decides r (xs ≡ ys) → Decides r (a ≡ b)
 same_task a b p q xs ys r u v e x y d =
     let facts : facts_of a ≡ facts_of b = sym u ∙ (facts_decide p q).0 (sym e) ∙ v in
-    through r (λ i. same_row a b facts (sym x ∙ i ∙ y)) (λ i. x ∙ ap (λ (t : Task). t.items) i ∙ sym y) d
+    decides_equivalent r (λ i. same_row a b facts (sym x ∙ i ∙ y)) (λ i. x ∙ ap (λ (t : Task). t.items) i ∙ sym y) d

@@ -3,7 +3,7 @@
 use Rattle.std.proofs.Common.{ℕ, suc, ◌+◌, ◌<◌, ◌≤◌, ◌≡◌, ◌↔◌, List, [], ◌∷◌, length, refl, sym, subst, arith}
 use Rattle.std.proofs.lemmas.List.Sums.{sum_by-cons}
 use Rattle.task_segments.specs.Schedule.{IsChain, IsJoined, IsLegal, at, chain_sum, AreSegments, IsSpan, IsLeastEnd, IsLeastStart, IsSlack}
-use Rattle.task_segments.proofs.Reaches.{Reaches, one, reach_map, joined, reaches, waits_along}
+use Rattle.task_segments.proofs.Reaches.{Reaches, reaches_by_one, reach_map, reached_is_joined, reaches, waits_along}
 use Rattle.task_segments.proofs.Reaches.Reaches.{Stays, Goes}
 use Rattle.task_segments.proofs.Schedules.{AreSegments-cons}
 
@@ -83,7 +83,7 @@ module _ (R Q : ℕ → ℕ → Type 0) (forward : (s t : ℕ) → R s t → s <
   inner_forward s t edge = forward s t (within s t edge)
 
   pub same_joined : (s t : ℕ) → IsJoined R s t ↔ IsJoined Q s t
-  same_joined s t = (λ j. joined (reach_map ways (reaches j)), λ j. joined (reach_map (λ a b e. one (within a b e)) (reaches j)))
+  same_joined s t = (λ j. reached_is_joined (reach_map ways (reaches j)), λ j. reached_is_joined (reach_map (λ a b e. reaches_by_one (within a b e)) (reaches j)))
 
   pub legal_within : (costs starts : List ℕ) → IsLegal costs R starts → IsLegal costs Q starts
   legal_within costs starts legal = record { each = legal.each; kept = λ s t inside edge. legal.kept s t inside (within s t edge) }

@@ -93,16 +93,16 @@ tail-fits costs R tails other end ascending tailed legal ends s inside =
     tail-above costs R tails other end ascending tailed legal ends (length costs) s (omega arith) inside
 
 -- the latest start of each segment: its tail just fits before the end
-abbrev pub latest : List ℕ → List ℕ → ℕ → ℕ → ℕ
-latest costs tails end s = end - (at costs s + at tails s)
+abbrev pub latest_start : List ℕ → List ℕ → ℕ → ℕ → ℕ
+latest_start costs tails end s = end - (at costs s + at tails s)
 
 -- the schedule of latest starts is legal and ends where the earliest one does
 pub latest_legal : (costs : List ℕ) (R : ℕ → ℕ → Type 0) (starts tails : List ℕ) → IsAscending R
     → IsEarliest costs R starts → IsTails costs R tails
-    → IsLegal costs R (by_rule (latest costs tails (end_of costs starts)) (length costs))
+    → IsLegal costs R (by_rule (latest_start costs tails (end_of costs starts)) (length costs))
 latest_legal costs R starts tails ascending earliest tailed =
     let end : ℕ = end_of costs starts in
-    IsLegal-by_rule costs R ascending (latest costs tails end) (λ s t s_in t_in r.
+    IsLegal-by_rule costs R ascending (latest_start costs tails end) (λ s t s_in t_in r.
     let fits : at starts s + at costs s + at tails s ≤ end =
     tail-fits costs R tails starts end ascending tailed earliest.legal (omega arith) s s_in in
     let covers : at costs t + at tails t ≤ at tails s = tailed.covers s t t_in r in
@@ -110,12 +110,12 @@ latest_legal costs R starts tails ascending earliest tailed =
 
 pub latest_end : (costs : List ℕ) (R : ℕ → ℕ → Type 0) (starts tails : List ℕ) → IsAscending R
     → IsEarliest costs R starts → IsTails costs R tails
-    → end_of costs (by_rule (latest costs tails (end_of costs starts)) (length costs)) ≡ end_of costs starts
+    → end_of costs (by_rule (latest_start costs tails (end_of costs starts)) (length costs)) ≡ end_of costs starts
 latest_end costs R starts tails ascending earliest tailed =
     let end : ℕ = end_of costs starts in
-    let late : List ℕ = by_rule (latest costs tails end) (length costs) in
+    let late : List ℕ = by_rule (latest_start costs tails end) (length costs) in
     let no_sooner : end ≤ end_of costs late = earliest-ends costs R starts late ascending earliest (latest_legal costs R starts tails ascending earliest tailed) in
-    let no_later : end_of costs late ≤ end = end_of-by_rule costs (latest costs tails end) end (λ s inside.
+    let no_later : end_of costs late ≤ end = end_of-by_rule costs (latest_start costs tails end) end (λ s inside.
     let fits : at starts s + at costs s + at tails s ≤ end =
     tail-fits costs R tails starts end ascending tailed earliest.legal (omega arith) s inside in
     omega arith) in
@@ -130,11 +130,11 @@ IsSlack-room costs R starts tails ascending earliest tailed s slack inside room 
   is_least_end = IsLeastEnd-earliest costs R starts ascending earliest;
   start = at starts s;
   is_least_start = IsLeastStart-earliest costs R starts ascending earliest s inside;
-  starts = by_rule (latest costs tails (end_of costs starts)) (length costs);
+  starts = by_rule (latest_start costs tails (end_of costs starts)) (length costs);
   legal = latest_legal costs R starts tails ascending earliest tailed;
   ends = latest_end costs R starts tails ascending earliest tailed;
   delayed =
-      let is : at (by_rule (latest costs tails (end_of costs starts)) (length costs)) s ≡ latest costs tails (end_of costs starts) s = at-by_rule (latest costs tails (end_of costs starts)) (length costs) s inside in
+      let is : at (by_rule (latest_start costs tails (end_of costs starts)) (length costs)) s ≡ latest_start costs tails (end_of costs starts) s = at-by_rule (latest_start costs tails (end_of costs starts)) (length costs) s inside in
       omega arith;
   greatest = λ other legal ends.
       let fits : at other s + at costs s + at tails s ≤ end_of costs starts =

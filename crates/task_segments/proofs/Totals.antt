@@ -5,7 +5,7 @@ use Rattle.std.proofs.lemmas.List.Sums.{sum_by-cons}
 use Rattle.task_program.specs.Limits.{segments_opened}
 use Rattle.task_program.specs.Marks.{Mark}
 use Rattle.task_program.specs.Marks.Mark.{Begins, Ends, Works, Waits, GroupBegins, GroupEnds}
-use Rattle.task_program.specs.ProgramText.{ProgramText}
+use Rattle.task_program.specs.ProgramMarks.{ProgramMarks}
 use Rattle.task_program.specs.Programs.{IsProgram}
 use Rattle.task_program.proofs.Nested.{is_nested}
 use Rattle.task_segments.specs.Moments.{begins_task, begins_group, opens, last_moment}
@@ -32,7 +32,7 @@ opened_in [] = refl
 opened_in (m ∷ marks) = omega (arith, sum_by-cons segments_opened m marks, opened_in marks, one_more m marks)
 
 -- the table of a program has all of it
-pub has_all : (program : ProgramText) → IsProgram program → HasAllOf program.marks (table_of program.marks)
+pub has_all : (program : ProgramMarks) → IsProgram program → HasAllOf program.marks (table_of program.marks)
 has_all program h =
     let e = last_moment program.marks in
     record {

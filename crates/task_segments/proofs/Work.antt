@@ -8,7 +8,7 @@ use Rattle.std.proofs.lemmas.List.Sums.{sum_by-cons, sum-map}
 use Rattle.task_program.specs.Limits.{work_done, work_of}
 use Rattle.task_program.specs.Marks.{Mark}
 use Rattle.task_program.specs.Marks.Mark.{Begins, Ends, Works, Waits, GroupBegins, GroupEnds}
-use Rattle.task_program.specs.ProgramText.{ProgramText}
+use Rattle.task_program.specs.ProgramMarks.{ProgramMarks}
 use Rattle.task_program.specs.Programs.{IsProgram}
 use Rattle.task_program.proofs.Nested.{is_nested}
 use Rattle.task_segments.specs.declared.table.Segment.{Segment}
@@ -140,7 +140,7 @@ little_work table h =
     omega (arith, k, sum-map (λ (row : Segment). row.cost) (table_at e).segments, total_is e (segments_so_far e), sums e (segments_so_far e), work_read (Begins false [] ∷ []) h.program.marks, h.is_program.work)
 
 -- a table has all work of its program
-pub all_work : (program : ProgramText) → IsProgram program
+pub all_work : (program : ProgramMarks) → IsProgram program
     → sum (costs_of (table_of program.marks)) ≡ work_of program.marks
 all_work program h =
     let e = last_moment program.marks in

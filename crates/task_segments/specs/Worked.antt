@@ -44,8 +44,8 @@ empty_table = record {
 }
 
 -- the worked program
-abbrev pub worked : List Mark
-worked = Works 5 ∷ Begins false [] ∷ Works 3 ∷ Ends ∷ Works 2 ∷ Waits ∷ Works 1 ∷ []
+abbrev pub worked_program : List Mark
+worked_program = Works 5 ∷ Begins false [] ∷ Works 3 ∷ Ends ∷ Works 2 ∷ Waits ∷ Works 1 ∷ []
 
 abbrev pub worked_table : Table
 worked_table = record {
@@ -55,8 +55,8 @@ worked_table = record {
 }
 
 -- the worked program without its wait
-abbrev pub unwaited : List Mark
-unwaited = Works 5 ∷ Begins false [] ∷ Works 3 ∷ Ends ∷ Works 2 ∷ Works 1 ∷ []
+abbrev pub worked_without_wait : List Mark
+worked_without_wait = Works 5 ∷ Begins false [] ∷ Works 3 ∷ Ends ∷ Works 2 ∷ Works 1 ∷ []
 
 abbrev pub unwaited_table : Table
 unwaited_table = record {
@@ -212,8 +212,8 @@ nested_groups_table = record {
 
 pub record AreCutSo : Type 0 where
   pub empty_is : table_of empty ≡ empty_table
-  pub worked_is : table_of worked ≡ worked_table
-  pub unwaited_is : table_of unwaited ≡ unwaited_table
+  pub worked_is : table_of worked_program ≡ worked_table
+  pub unwaited_is : table_of worked_without_wait ≡ unwaited_table
   pub group_then_wait_is : table_of group_then_wait ≡ group_then_wait_table
   pub siblings_is : table_of siblings ≡ siblings_table
   pub read_and_set_is : table_of read_and_set ≡ read_and_set_table

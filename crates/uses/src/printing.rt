@@ -1,7 +1,7 @@
 //! Reading a program, and printing it.
 ghost use Rattle.std.specs.Prelude.{IfOk, ◌≡◌};
-ghost use Rattle.task_program.specs.Canonical.{canonical};
-ghost use Rattle.task_program.specs.ProgramText.{ProgramText};
+ghost use Rattle.task_program.specs.Canonical.{canonical_text};
+ghost use Rattle.task_program.specs.ProgramMarks.{ProgramMarks};
 ghost use Rattle.task_program.specs.Trees.{HasTree};
 
 use std::alloc::Global;
@@ -11,9 +11,9 @@ use task_program::read::read_program;
 
 /// The canonical text of a program, from any text of it. Both texts have one tree.
 pub fn reprint(alloc: Global, text: &[u8]) -> Result<Vec<u8>, ReadFault>
-    ensures same { IfOk result (λ printed. (program : ProgramText)
+    ensures same { IfOk result (λ printed. (program : ProgramMarks)
         × HasTree text.now program × HasTree printed.items program
-        × (printed.items ≡ canonical program)) }
+        × (printed.items ≡ canonical_text program)) }
 {
     let program = read_program(alloc, text)?;
     let printed = print_program(alloc, &program)?;

@@ -3,7 +3,7 @@ ghost use Rattle.std.specs.Prelude.{IfErr, IfOk, MatchOption, OnOk};
 ghost use Rattle.depend_table.specs.Kept.{IsKeptEdge};
 ghost use Rattle.depend_table.specs.Lists.{Lists};
 ghost use Rattle.dispatch_core.specs.Replays.{RefusesReplay};
-ghost use Rattle.dispatch_core.specs.Run.{IsLegal, IsOpen};
+ghost use Rattle.dispatch_core.specs.Run.{IsLegalRun, IsOpen};
 
 use dispatch_core::dispatch::Core;
 use dispatch_core::event::Event;
@@ -20,7 +20,7 @@ pub fn record_of(
     events: &[Event],
     segment: u32,
 ) -> Result<Option<Vec<u32>>, ReplayFault>
-    ensures legal { OnOk result (IsLegal table events.now) }
+    ensures legal { OnOk result (IsLegalRun table events.now) }
     ensures record { IfOk result (λ found. MatchOption found
         (¬ IsOpen table events.now segment)
         (λ preds. Lists (λ before. IsKeptEdge table before segment) preds.items)) }

@@ -33,7 +33,7 @@ fn failing_readers(rt: HostRuntime) -> Result<(), Fail> {
             } else {
                 ErrorKind::WouldBlock
             };
-            let reader = slow_source(input.as_bytes(), 1, Faults::failing(call, kind));
+            let reader = slow_source(input.as_bytes(), 1, Faults::fail_call(call, kind));
             let (status, reader, writer) = run_on(&rt, words, reader, sink(rt.alloc()))?;
             assert!(rt;
                 status == Status::Fault && writer.flushes == 1,
@@ -56,7 +56,7 @@ fn failing_writers(rt: HostRuntime) -> Result<(), Fail> {
             } else {
                 ErrorKind::WouldBlock
             };
-            let writer = slow_sink(rt.alloc(), 1, Faults::failing(call, kind));
+            let writer = slow_sink(rt.alloc(), 1, Faults::fail_call(call, kind));
             let (status, _, writer) = run_on(&rt, words, source(input.as_bytes()), writer)?;
             assert!(rt;
                 status == Status::Fault && writer.flushes == 0,
@@ -112,8 +112,8 @@ fn interruptions(rt: HostRuntime) -> Result<(), Fail> {
             (0, 0, 1001, Status::Fault, ""),
             (0, 600, 401, Status::Fault, ""),
         ] {
-            let reader = slow_source(input.as_bytes(), 16, Faults::interrupted(before, reads));
-            let writer = slow_sink(rt.alloc(), 8, Faults::interrupted(before, writes));
+            let reader = slow_source(input.as_bytes(), 16, Faults::interrupt_calls(before, reads));
+            let writer = slow_sink(rt.alloc(), 8, Faults::interrupt_calls(before, writes));
             let (got, _, writer) = run_on(&rt, words, reader, writer)?;
             assert!(rt; got == status, "{before} {reads} {writes} {text}");
             assert!(rt;

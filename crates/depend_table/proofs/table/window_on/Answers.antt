@@ -14,14 +14,14 @@ use Rattle.depend_table.proofs.table.window_on.Goals as goal
 abbrev no_item : Item
 no_item = record { kind = DependIn; name = 0 }
 
-pub with-window-requires-clause-ascending : goal.with-window-requires-clause-ascending
-with-window-requires-clause-ascending c =
+pub with_places-window-requires-clause-ascending : goal.with_places-window-requires-clause-ascending
+with_places-window-requires-clause-ascending c =
     let items = c.args.items.now in
     let item = get_or items c.loop-item.item-index no_item in
     subst IsStrictlyIncreasing (sym c.predecessors_at.ensures) (predecessors_in_order c.args.names.now c.args.calls.now item.name (sharing_at item.name items) c.requires)
 
-pub with-window-requires-clause-few : goal.with-window-requires-clause-few
-with-window-requires-clause-few c = λ k d h.
+pub with_places-window-requires-clause-few : goal.with_places-window-requires-clause-few
+with_places-window-requires-clause-few c = λ k d h.
     let calls = c.args.calls.now in
     let items = c.args.items.now in
     let item = get_or items c.loop-item.item-index no_item in
@@ -38,15 +38,15 @@ loop-item-preserved c =
     let i = c.loop-item.item-index in
     let item = get_or items i no_item in
     let old = c.loop-item.window in
-    let new = c.with-window.result in
+    let new = c.with_places-window.result in
     let places = c.predecessors_at.result.now in
     let below = subst (λ (xs : List ℕ). All (λ place. place < length calls) xs) (sym c.predecessors_at.ensures) (predecessors_below names calls item.name (sharing_at item.name items) c.requires) in
     let earlier = All-weaker (λ (one : Item). AreWithin old.first old.end (predecessors_for names items one)) (λ (one : Item). AreWithin new.first new.end (predecessors_for names items one))
-    (λ one inside. within_wider old.first old.end new.first new.end (predecessors_for names items one) c.with-window.ensures.wider.0 c.with-window.ensures.wider.1 inside)
+    (λ one inside. within_wider old.first old.end new.first new.end (predecessors_for names items one) c.with_places-window.ensures.wider.0 c.with_places-window.ensures.wider.1 inside)
     (take i items) c.loop-item.invariant.all in
-    let latest : AreWithin new.first new.end (predecessors_for names items item) = subst (AreWithin new.first new.end) c.predecessors_at.ensures c.with-window.ensures.all in
+    let latest : AreWithin new.first new.end (predecessors_for names items item) = subst (AreWithin new.first new.end) c.predecessors_at.ensures c.with_places-window.ensures.all in
     record {
-      within = c.with-window.ensures.within (length calls) c.loop-item.invariant.within below;
+      within = c.with_places-window.ensures.within (length calls) c.loop-item.invariant.within below;
       all = subst (λ (xs : List Item). All (λ one. AreWithin new.first new.end (predecessors_for names items one)) xs) (sym (take_more items i no_item c.loop-item-test.true))
           (All-push (λ (one : Item). AreWithin new.first new.end (predecessors_for names items one)) (take i items) item earlier latest);
     }

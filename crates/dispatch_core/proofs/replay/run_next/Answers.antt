@@ -10,7 +10,7 @@ use Rattle.dispatch_core.proofs.replay.run_next.Goals as goal
 
 pub unreachable-requires : goal.unreachable-requires
 unreachable-requires c =
-    never_refused c.args.core.now.table c.args.core.now.history c.args.segment c.in-Err.field-0 (subst (λ (t : Table). IsSoundTable t) c.table.ensures c.sound.ensures) c.requires.next c.requires.known c.in-Err.ensures.refused
+    never_refused c.args.core.now.table c.args.core.now.history c.args.segment c.in-Err.field-0 (subst (λ (t : Table). IsSoundTable t) c.table.ensures c.serves_runs.ensures) c.requires.next c.requires.known c.in-Err.ensures.refused
 
 pub unreachable-requires-in-None : goal.unreachable-requires-in-None
 unreachable-requires-in-None c =

@@ -1,8 +1,8 @@
 use Rattle.std.proofs.Common.{ℕ, ◌↔◌}
 use Rattle.task_segments.specs.Precedence.{MustPrecede}
-use Rattle.task_segments.proofs.Reaches.{one, joined, reaches, reach_map}
+use Rattle.task_segments.proofs.Reaches.{reaches_by_one, reached_is_joined, reaches, reach_map}
 use Rattle.depend_table.specs.Kept.{IsKeptEdge}
-use Rattle.dispatch_core.specs.Recorded.{Precedes}
+use Rattle.dispatch_core.specs.RecordedGraph.{Precedes}
 use Rattle.greedy_sim.proofs.EverySchedule.{ends_by, near_best}
 use Rattle.greedy_sim.proofs.SameGreedy.{same_greedy, same_run}
 use Rattle.greedy_sim.proofs.laws.of_program.Goals as goal
@@ -14,8 +14,8 @@ returns-clause-greedy c graph p starts of =
     λ s t. c.same_schedules.ensures.edges graph s t of in
     same_greedy graph.costs (MustPrecede table) (Precedes graph) c.goes_up.ensures
     (λ s t pair. c.same_chains.ensures.within s t ((edges s t).0 pair))
-    (λ s t pair. reach_map (λ a b kept. one ((edges a b).1 kept))
-    (reaches ((c.same_chains.ensures.joined s t).0 (joined (one pair)))))
+    (λ s t pair. reach_map (λ a b kept. reaches_by_one ((edges a b).1 kept))
+    (reaches ((c.same_chains.ensures.joined s t).0 (reached_is_joined (reaches_by_one pair)))))
     (λ other. c.same_schedules.ensures.legal graph other of)
     p starts
 
@@ -26,8 +26,8 @@ returns-clause-run c graph p starts threads of =
     λ s t. c.same_schedules.ensures.edges graph s t of in
     same_run graph.costs (MustPrecede table) (Precedes graph) c.goes_up.ensures
     (λ s t pair. c.same_chains.ensures.within s t ((edges s t).0 pair))
-    (λ s t pair. reach_map (λ a b kept. one ((edges a b).1 kept))
-    (reaches ((c.same_chains.ensures.joined s t).0 (joined (one pair)))))
+    (λ s t pair. reach_map (λ a b kept. reaches_by_one ((edges a b).1 kept))
+    (reaches ((c.same_chains.ensures.joined s t).0 (reached_is_joined (reaches_by_one pair)))))
     (λ other. c.same_schedules.ensures.legal graph other of)
     p starts threads
 

@@ -1,4 +1,4 @@
-use Rattle.dispatch_core.specs.Recorded.{Precedes}
+use Rattle.dispatch_core.specs.RecordedGraph.{Precedes}
 use Rattle.spanprof_command.proofs.ChainPlaces.{chain_ascends}
 use Rattle.spanprof_command.proofs.slacks.tell_slacks.Goals as goal
 

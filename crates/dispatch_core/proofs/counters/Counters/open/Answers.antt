@@ -3,7 +3,7 @@ use Rattle.std.specs.Prelude.{slice_set, Contains}
 use Rattle.std.specs.Vec.{with_item}
 use Rattle.dispatch_core.specs.declared.counters.Counters.{Counters}
 use Rattle.dispatch_core.specs.declared.opening.Opening.{Opening}
-use Rattle.dispatch_core.specs.Counters.{unfinished}
+use Rattle.dispatch_core.specs.Counters.{unfinished_count}
 use Rattle.dispatch_core.specs.Entry.{entry}
 use Rattle.dispatch_core.specs.Listed.{items_of, ArePushed}
 use Rattle.dispatch_core.specs.Openings.{CanOpen, AddsOpen, IsOpened, IsRoomToOpen}
@@ -26,7 +26,7 @@ returns-clause-opened c =
     } in
     let adds : AddsOpen c.args.values.now c.in-Some.opened c.args.self.now after = record {
       preds = items_set c.args.self.now.preds.items t c.in-Some.opened.preds;
-      counts = ap (λ (n : ℕ). slice_set c.args.self.now.counts.items t n) (c.count_unfinished-count.ensures ∙ ap (λ (l : List ℕ). unfinished c.args.values.now l) c.as_slice.ensures.value);
+      counts = ap (λ (n : ℕ). slice_set c.args.self.now.counts.items t n) (c.count_unfinished-count.ensures ∙ ap (λ (l : List ℕ). unfinished_count c.args.values.now l) c.as_slice.ensures.value);
       successors = subst (λ (l : List ℕ). ArePushed t (λ p. Contains l p × (entry c.args.values.now p ≡ None)) (items_of c.args.self.now.successors.items) (items_of c.push_on.new.lists.items)) c.as_slice-2.ensures.value c.push_on.ensures.pushed;
       room = λ count place room. c.push_on.ensures.fuller.one_less count place room;
       siblings = refl;

@@ -1,12 +1,12 @@
 use Rattle.std.proofs.Common.{◌*◌, ◌≤◌, length, subst, arith}
 use Rattle.std.specs.Prelude.{is_some}
 use Rattle.std.proofs.lemmas.List.Sums.{count_by-le-length}
-use Rattle.dispatch_core.specs.Run.{Run, IsLegal}
+use Rattle.dispatch_core.specs.Run.{Run, IsLegalRun}
 use Rattle.dispatch_core.proofs.dispatch.Core.history.Goals as goal
 
 pub returns-clause-legal : goal.returns-clause-legal
 returns-clause-legal g c =
-    let P : Run → Type 0 = λ run. IsLegal run.table run.history in
+    let P : Run → Type 0 = λ run. IsLegalRun run.table run.history in
     subst P c.self.view_is c.self.invariant.legal
 
 pub returns-clause-short : goal.returns-clause-short

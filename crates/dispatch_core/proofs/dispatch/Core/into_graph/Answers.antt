@@ -2,7 +2,7 @@ use Rattle.std.proofs.Common.{ℕ, sym, subst}
 use Rattle.std.specs.Prelude.{Vec}
 use Rattle.std.specs.declared.alloc.Global.{Global}
 use Rattle.dispatch_core.specs.Run.{Run, IsFinished}
-use Rattle.dispatch_core.specs.Recorded.{Recorded}
+use Rattle.dispatch_core.specs.RecordedGraph.{RecordedGraph}
 use Rattle.dispatch_core.specs.Graph.{IsGraphOf}
 use Rattle.dispatch_core.specs.Listed.{items_of}
 use Rattle.dispatch_core.proofs.Ends.{graph_at_end, graph_of_program}
@@ -23,7 +23,7 @@ returns g c =
     let F : Run → Type 0 = λ run. IsFinished run.table run.history in
     let finished = subst F (sym c.self.view_is) (c.is_finished.ensures.0 c.if-not-is_finished.false) in
     let P : Run → Type 0 = λ run. IsGraphOf run.table c.make_graph.result in
-    let Q : Recorded → Type 0 = λ graph. IsGraphOf c.self.inside.table graph in
+    let Q : RecordedGraph → Type 0 = λ graph. IsGraphOf c.self.inside.table graph in
     let G : Vec (Vec ℕ Global) Global → Type 0 = λ lists. IsGraphOf c.self.inside.table (record { costs = c.self.inside.costs.items; predecessors = items_of lists.items }) in
     record {
       ok = subst P c.self.view_is (subst Q (sym c.make_graph.ensures) (subst G (sym c.into_preds.ensures)

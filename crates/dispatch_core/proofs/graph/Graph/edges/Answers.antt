@@ -1,6 +1,6 @@
 use Rattle.std.proofs.Common.{ℕ, ◌≡◌, List, Vec, Global, ap, ◌∙◌, sym, arith, length, map, sum_by}
 use Rattle.dispatch_core.proofs.PlaceLemmas.{sum_by-of_map}
-use Rattle.dispatch_core.specs.Recorded.{Recorded}
+use Rattle.dispatch_core.specs.RecordedGraph.{RecordedGraph}
 use Rattle.dispatch_core.proofs.Ends.{few_edges}
 use Rattle.dispatch_core.proofs.graph.Graph.edges.Goals as goal
 
@@ -17,4 +17,4 @@ returns c =
     let lists = c.self.inside.predecessors.items in
     c.edge_count.ensures ∙ ap (λ (l : List (Vec ℕ Global)). sum_by (λ (v : Vec ℕ Global). length v.items) l) c.as_slice.ensures.value
     ∙ sym (sum_by-of_map (λ (list : List ℕ). length list) (λ (v : Vec ℕ Global). v.items) lists)
-    ∙ ap (λ (graph : Recorded). sum_by (λ (list : List ℕ). length list) graph.predecessors) c.self.view_is
+    ∙ ap (λ (graph : RecordedGraph). sum_by (λ (list : List ℕ). length list) graph.predecessors) c.self.view_is

@@ -1,11 +1,11 @@
 use Rattle.std.proofs.Common.{ap, sym, ◌∙◌}
 use Rattle.std.proofs.lemmas.Slice.Eq.{slice_eq-Decides}
 use Rattle.task_segments.specs.Table.{Table}
-use Rattle.task_segments.proofs.Same.{segment_decides, through}
+use Rattle.task_segments.proofs.Same.{segment_decides, decides_equivalent}
 use Rattle.task_segments.proofs.table.SegTable.same_segments.Goals as goal
 
 pub returns : goal.returns
 returns c =
     let a = ap (λ (t : Table). t.segments) c.self.view_is in
     let b = ap (λ (t : Table). t.segments) c.other.view_is in
-    through c.eq.result (λ e. sym a ∙ e ∙ b) (λ e. a ∙ e ∙ sym b) (slice_eq-Decides segment_decides c.self.inside.segments.items c.other.inside.segments.items c.eq.result c.eq.ensures)
+    decides_equivalent c.eq.result (λ e. sym a ∙ e ∙ b) (λ e. a ∙ e ∙ sym b) (slice_eq-Decides segment_decides c.self.inside.segments.items c.other.inside.segments.items c.eq.result c.eq.ensures)

@@ -1,7 +1,7 @@
 use Rattle.task_segments.specs.Precedence.{MustPrecede}
-use Rattle.task_segments.proofs.Reaches.{one, joined}
+use Rattle.task_segments.proofs.Reaches.{reaches_by_one, reached_is_joined}
 use Rattle.dispatch_core.proofs.Within.{within_table}
-use Rattle.dispatch_core.proofs.facts.sound.Goals as goal
+use Rattle.dispatch_core.proofs.facts.serves_runs.Goals as goal
 
 pub returns : goal.returns
 returns c = record {
@@ -16,7 +16,7 @@ returns c = record {
   };
   chains = record {
     within = c.same_chains.ensures.within;
-    joined = λ s t edge. (c.same_chains.ensures.joined s t).0 (joined {R = MustPrecede c.args.table.now} (one edge));
+    joined = λ s t edge. (c.same_chains.ensures.joined s t).0 (reached_is_joined {R = MustPrecede c.args.table.now} (reaches_by_one edge));
   };
   in_place = c.reads_in_place.ensures;
 }

@@ -1,6 +1,6 @@
 use Rattle.std.proofs.Common.{ℕ, ◌≡◌, sym, ap, ◌∙◌, inl, inr}
 use Rattle.task_segments.specs.Table.{Table, segment, task}
-use Rattle.dispatch_core.proofs.continuing.previous.Goals as goal
+use Rattle.dispatch_core.proofs.continuing.previous_segment.Goals as goal
 
 pub returns : goal.returns
 returns c s =
