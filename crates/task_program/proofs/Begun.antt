@@ -13,7 +13,7 @@ use Rattle.task_program.specs.Words.{is_text}
 use Rattle.task_program.specs.Faults.{State, Block, form_fault, place_fault, is_header, closes_nothing, is_allowed, step, after_at, after_end_of}
 use Rattle.task_program.specs.ViablePrefix.{IsSentence, IsViable}
 use Rattle.task_program.proofs.Keeping.{at, passes, bool_cases, unless_ok, ok_is}
-use Rattle.task_program.proofs.Found.{same_text}
+use Rattle.task_program.proofs.FoundPlaces.{same_text}
 use Rattle.task_program.proofs.FoundWhole.{bytes_stay}
 use Rattle.task_program.proofs.Shapes.{Shape, shape_at, one_less, closes_none, fits, lead_at, lead, Follows, FollowsAt, steps_back, nothing_follows, may_continue}
 use Rattle.task_program.proofs.Accepting.{accepts, is_whole, accepts_next, accepts_none}

@@ -25,7 +25,7 @@ use Rattle.task_program.specs.FirstFault.EndsEarly.{InHeader, BlockOpen, Inside}
 use Rattle.task_program.specs.FirstFault.IsFirstFault.{AtToken, AtEnd}
 use Rattle.task_program.specs.FirstFault.HasFault.{TextTooLong, OfTokens}
 use Rattle.task_program.proofs.Keeping.{at, passes, bool_cases, unless_ok, ok_is, step_keeps}
-use Rattle.task_program.proofs.Found.{is_true}
+use Rattle.task_program.proofs.FoundPlaces.{is_true}
 use Rattle.task_program.proofs.FoundWhole.{step_went}
 use Rattle.task_program.proofs.ReadWhole.{of_one}
 use Rattle.task_program.proofs.Shapes.{closes_none, fits_at, FollowsAt, nothing_follows}

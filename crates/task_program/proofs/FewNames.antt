@@ -15,7 +15,7 @@ use Rattle.task_program.specs.SecondPass.{ExpansionState, fault_of, after_piece,
 use Rattle.task_program.specs.FewNames.{HasFewNames}
 use Rattle.task_program.proofs.Allowed.{below_piece, weighs}
 use Rattle.task_program.proofs.Keeping.{bool_cases, with_one}
-use Rattle.task_program.proofs.Kept.{take_pieces_first, at_end, not_first, is_fault}
+use Rattle.task_program.proofs.KeptNames.{take_pieces_first, at_end, not_first, is_fault}
 
 one_name_more : (names : List (List ℕ)) (name : List ℕ) → length (with_name names name) ≤ length names + 1
 one_name_more names name =

@@ -24,9 +24,9 @@ use Rattle.task_program.specs.Expansion.{Piece, subscript_of, item_comes, task_p
 use Rattle.task_program.specs.Expansion.Piece.{TaskComes, TaskOpens, GroupComes, GroupOpens, BlockEnds, WorkIs, WaitIs}
 use Rattle.task_program.specs.SecondPass.{ExpansionState, after_piece, bytes_after}
 use Rattle.task_program.specs.ExpandsTo.{HasIndexInRange, after_pieces}
-use Rattle.task_program.proofs.Found.{own_number}
+use Rattle.task_program.proofs.FoundPlaces.{own_number}
 use Rattle.task_program.proofs.Sound.{fits_more, kept_names}
-use Rattle.task_program.proofs.Kept.{line_stays}
+use Rattle.task_program.proofs.KeptNames.{line_stays}
 use Rattle.task_program.proofs.NamesOnce.{AreOnce, number_is, names_stay}
 use Rattle.task_program.proofs.LinesSpelled as lines
 use Rattle.task_program.proofs.LinesSpelled.{IsItemOf, Stands}

@@ -19,7 +19,8 @@ use Rattle.task_program.specs.LoopViablePrefix.LoopPiece.{WorkPiece, TaskPiece, 
 use Rattle.task_program.proofs.ReadPieces.{is_type_word, type_of_word}
 use Rattle.task_program.proofs.Shapes.{left_is_true, right_is_true}
 use Rattle.task_program.proofs.Tallies.{other_text, no_digit}
-use Rattle.task_program.proofs.LoopShapes.{LoopShape, shape_at, fits_at, fits, lead_at, lead, lead_item, depend_texts}
+use Rattle.task_program.proofs.LoopContinued.{depend_texts}
+use Rattle.task_program.proofs.LoopShapes.{LoopShape, shape_at, fits_at, fits, lead_at, lead, lead_item}
 
 abbrev pub is_whole : LoopPlace → List (List (List ℕ)) → Bool
 is_whole Statement [] = true

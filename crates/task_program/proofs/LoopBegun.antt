@@ -17,9 +17,10 @@ use Rattle.task_program.specs.OpenBlocks.{variables_of, brace_of}
 use Rattle.task_program.specs.FirstPass.{State, is_allowed, closes_nothing, form_fault, place_fault, unless_fault, step, after_at}
 use Rattle.task_program.specs.LoopViablePrefix.{IsLoopSentence, IsLoopViable}
 use Rattle.task_program.proofs.Keeping.{bool_cases}
-use Rattle.task_program.proofs.Found.{same_text, is_true}
+use Rattle.task_program.proofs.FoundPlaces.{same_text, is_true}
 use Rattle.task_program.proofs.Tallies.{other_text}
-use Rattle.task_program.proofs.LoopShapes.{is_loop_end, clause_depend, LoopShape, shape_at, closes_none, allowed_at, fits, lead_end, lead_at, lead, Follows, steps_back, may_continue}
+use Rattle.task_program.proofs.LoopContinued.{steps_back, may_continue}
+use Rattle.task_program.proofs.LoopShapes.{is_loop_end, clause_depend, LoopShape, shape_at, closes_none, allowed_at, fits, lead_end, lead_at, lead, Follows}
 use Rattle.task_program.proofs.LoopAccepting.{accepts, accepts_next}
 
 -- for each open block the variables of the loops around it

@@ -29,11 +29,12 @@ use Rattle.task_program.specs.FirstLoopFault.EndsInLoops.{BlockOpen, Inside}
 use Rattle.task_program.specs.FirstLoopFault.IsFirstLoopFault.{AtToken, AtEnd}
 use Rattle.task_program.specs.FirstLoopFault.HasLoopFault.{TextTooLong, OfTokens, OfExpansion}
 use Rattle.task_program.proofs.Keeping.{bool_cases}
-use Rattle.task_program.proofs.Found.{same_text, is_true}
+use Rattle.task_program.proofs.FoundPlaces.{same_text, is_true}
 use Rattle.task_program.proofs.ReadWhole.{of_two, went_through}
 use Rattle.task_program.proofs.Shapes.{left_is_true, right_is_true}
 use Rattle.task_program.proofs.Begun.{row_cases}
-use Rattle.task_program.proofs.LoopShapes.{closes_none, fits_at, FollowsAt, nothing_follows}
+use Rattle.task_program.proofs.LoopContinued.{nothing_follows}
+use Rattle.task_program.proofs.LoopShapes.{closes_none, fits_at, FollowsAt}
 use Rattle.task_program.proofs.LoopAccepting.{is_whole, accepts_none, sentence_accepted}
 use Rattle.task_program.proofs.LoopBegun.{variables_of_each, shape_of, brace_lines, LoopBegan, closes_same, fits_of, unfit_close, unfit_word, is_not_viable, viable_next, step_passes, step_begins}
 

@@ -18,7 +18,8 @@ use Rattle.task_program.specs.Grammar.Clause.{IfClause, DependClause}
 use Rattle.task_program.specs.Grammar.Written.{WorkWritten, TaskWritten, WaitWritten, GroupWritten, EndWritten}
 use Rattle.task_program.specs.ViablePrefix.{IsWord, HasClauseForm, HasForm, EndBlocks, IsSentence}
 use Rattle.task_program.proofs.Keeping.{bool_cases}
-use Rattle.task_program.proofs.Found.{same_text, type_is, first_if, is_depend, is_end, or_true_right}
+use Rattle.task_program.proofs.FoundPlaces.{same_text, or_true_right}
+use Rattle.task_program.proofs.Found.{type_is, first_if, is_depend, is_end}
 
 pub record Shape : Type 0 where
   pub place : Place

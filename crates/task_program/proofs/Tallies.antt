@@ -24,7 +24,8 @@ use Rattle.task_program.specs.Faults.Block.{TaskBlock, GroupBlock}
 use Rattle.task_program.specs.TokenCounts.{inside_after, is_inside, outside_from, outside, tasks_by, is_waiting, is_value_too_large, is_too_deep, is_task_past, is_segment_past, is_work_past, segments_by, work_by, tasks_in, segments_in, work_in, items_after, items_in, braces_after, open_braces, limit_by, limit_fault_after}
 use Rattle.task_program.proofs.Keeping.{at, bool_cases, with_one}
 use Rattle.task_program.proofs.Shapes.{left_is_true, right_is_true}
-use Rattle.task_program.proofs.Found.{same_text, type_is, is_depend, is_end, or_true_right}
+use Rattle.task_program.proofs.FoundPlaces.{same_text, or_true_right}
+use Rattle.task_program.proofs.Found.{type_is, is_depend, is_end}
 
 -- ---- one token more
 
