@@ -3,7 +3,7 @@ use Rattle.std.proofs.Common.{ℕ, zero, suc, ◌+◌, ◌<◌, ◌≤◌, ◌�
 use Rattle.std.proofs.lemmas.Bool.{cases_eq, cases_lt}
 use Rattle.std.proofs.lemmas.Option.{same_Some, none-some}
 use Rattle.task_program.specs.Conflict.{items_conflict}
-use Rattle.task_program.specs.declared.statement.Item.{Item}
+use Rattle.program_text.specs.declared.statement.Item.{Item}
 use Rattle.task_segments.specs.InPlace.{IsReadInPlace}
 use Rattle.task_segments.specs.Precedence.{Continues, Creation, Dependence, Descends, GroupEnd, IsEarlierChild, IsSegment, IsTask, MustPrecede, Resumption, Wait}
 use Rattle.task_segments.specs.Precedence.Descends.{Below, Itself}

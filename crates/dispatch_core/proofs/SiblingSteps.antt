@@ -8,7 +8,7 @@ use Rattle.task_segments.specs.Table.{Table, segment, task}
 use Rattle.task_segments.specs.declared.table.Closing.TheVariants.{Creates}
 use Rattle.task_segments.specs.Precedence.{IsSegment, IsTask}
 use Rattle.task_segments.specs.InPlace.{IsReadInPlace, IsOf}
-use Rattle.task_program.specs.declared.statement.Item.{Item}
+use Rattle.program_text.specs.declared.statement.Item.{Item}
 use Rattle.depend_table.specs.Siblings.{Sibling, IsKept}
 use Rattle.depend_table.specs.Lists.{Lists}
 use Rattle.depend_table.specs.Kept.{children_below, is_some_of}

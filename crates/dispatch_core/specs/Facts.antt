@@ -1,6 +1,6 @@
 -- What holds of every table, as the steps of a run ask for it.
 use Rattle.std.specs.Prelude.{ℕ, ◌+◌, ◌<◌, ◌≤◌, length, sum}
-use Rattle.task_program.specs.declared.limits.TheConstants.{MOST_SEGMENTS, MOST_TASKS, MOST_WORK}
+use Rattle.program_text.specs.declared.limits.TheConstants.{MOST_SEGMENTS, MOST_TASKS, MOST_WORK}
 use Rattle.task_segments.specs.Table.{Table, costs_of}
 use Rattle.task_segments.specs.InPlace.{IsReadInPlace}
 use Rattle.dispatch_core.specs.Counters.{GoesUp, KeepsChains}

@@ -1,7 +1,7 @@
 -- What opens at the finish of a segment, and how it is entered.
 use Rattle.std.specs.Prelude.{ℕ, ◌+◌, ◌<◌, ◌≤◌, ◌≡◌, ◌≢◌, ◌↔◌, ◌++◌, ◌∷◌, [], List, Option, Some, None, Vec, length, slice_get, slice_set, Contains, AllPairs, vec_len, vec_capacity}
 use Rattle.std.specs.declared.alloc.Global.{Global}
-use Rattle.task_program.specs.declared.limits.TheConstants.{MOST_SEGMENTS}
+use Rattle.program_text.specs.declared.limits.TheConstants.{MOST_SEGMENTS}
 use Rattle.task_segments.specs.Table.{Table}
 use Rattle.task_segments.specs.Precedence.{Continues, Creation}
 use Rattle.depend_table.specs.Kept.{IsKeptEdge}

@@ -1,6 +1,6 @@
 //! How far each segment is from being ready: its kept predecessors, once it is open, and how many of them are not finished.
 ghost use Rattle.std.specs.Prelude.{ℕ, Option, Some, None, ◌≡◌, ◌<◌, ◌≤◌, ◌+◌, ◌↔◌, ◌++◌, ◌∷◌, [], List, length, replicate, slice_get, slice_set, vec_len, vec_capacity, Contains, AllPairs, ◌≢◌, IsTrue, IfOk, OnOk, OnErr, ◌==◌, if◌then◌else◌};
-ghost use Rattle.task_program.specs.declared.limits.TheConstants.{MOST_SEGMENTS};
+ghost use Rattle.program_text.specs.declared.limits.TheConstants.{MOST_SEGMENTS};
 ghost use Rattle.task_segments.specs.Precedence.{IsSegment};
 ghost use Rattle.task_segments.specs.Table.{Table, segment};
 ghost use Rattle.task_segments.specs.InPlace.{IsOf};

@@ -1,6 +1,6 @@
 //! Recorded graphs: segments with costs, each with its predecessors.
 ghost use Rattle.std.specs.Prelude.{ℕ, List, ◌≡◌, ◌<◌, ◌≤◌, ◌^◌, length, sum, sum_by, slice_index_or, map};
-ghost use Rattle.task_program.specs.declared.limits.TheConstants.{MOST_WORK};
+ghost use Rattle.program_text.specs.declared.limits.TheConstants.{MOST_WORK};
 ghost use Rattle.dispatch_core.specs.RecordedGraph.{RecordedGraph, IsGraph, predecessors_of};
 
 use std::marker::Model;

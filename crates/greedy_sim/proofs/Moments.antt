@@ -3,7 +3,7 @@ use Rattle.std.proofs.Common.{◌≡◌, ℕ, ◌+◌, ◌-◌, ◌<◌, ◌≤�
 use Rattle.std.proofs.lemmas.Bool.{cases_lt, lt-ltb, le-ltb}
 use Rattle.std.proofs.lemmas.List.{get_or_default, get_or_past, get_or-replicate, length-replicate}
 use Rattle.std.proofs.lemmas.List.Sums.{sum_by-cons, get_or-le-sum_by, count_by-le-length}
-use Rattle.task_program.specs.declared.limits.TheConstants.{MOST_WORK}
+use Rattle.program_text.specs.declared.limits.TheConstants.{MOST_WORK}
 use Rattle.task_segments.specs.Schedule.{at, end_of}
 use Rattle.greedy_sim.specs.Greedy.{running_count, ReadyBy, IsGreedyRun}
 use Rattle.task_segments.specs.StartsAndTails.{IsAscending}

@@ -11,7 +11,7 @@ use Rattle.task_program.specs.PlainWords.{all_steps, step_by, words_of}
 use Rattle.task_program.specs.ProgramMarks.{ProgramMarks}
 use Rattle.task_program.specs.ReadInVersion.{program_of}
 use Rattle.task_program.specs.Trees.{HasTree}
-use Rattle.task_program.specs.declared.fault.ReadFault.{ReadFault}
+use Rattle.program_text.specs.declared.fault.ReadFault.{ReadFault}
 use Rattle.task_segments.specs.Precedence.{IsSegment, MustPrecede}
 use Rattle.task_segments.specs.Schedule.{AreSegments, IsChain, at, chain_sum, end_of}
 use Rattle.task_segments.specs.Table.{Table, costs_of, table_of}

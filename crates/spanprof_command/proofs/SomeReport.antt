@@ -14,8 +14,8 @@ use Rattle.task_program.specs.Document.{program_part, rest_part}
 use Rattle.task_program.specs.ProgramMarks.{ProgramMarks}
 use Rattle.task_program.specs.ReadInVersion.{program_of}
 use Rattle.task_program.specs.Trees.{HasTree}
-use Rattle.task_program.specs.declared.fault.ReadFault.{ReadFault}
-use Rattle.task_program.specs.declared.limits.TheConstants.{MOST_WORK}
+use Rattle.program_text.specs.declared.fault.ReadFault.{ReadFault}
+use Rattle.program_text.specs.declared.limits.TheConstants.{MOST_WORK}
 use Rattle.task_segments.proofs.SameSchedules.{same_span}
 use Rattle.task_segments.proofs.StartsAndTails.{IsSpan-earliest}
 use Rattle.task_segments.specs.Precedence.{MustPrecede}

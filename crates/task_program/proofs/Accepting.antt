@@ -6,9 +6,8 @@ use Rattle.std.proofs.lemmas.List.Elements.{All-head, All-tail}
 use Rattle.std.proofs.lemmas.List.Sums.{sum_by-cons}
 use Rattle.task_program.specs.declared.place.Place.{Place}
 use Rattle.task_program.specs.declared.place.Place.TheVariants.{Header, Version, Statement, WorkNumber, GroupBrace, Clause, IfOpens, IfNumber, IfCloses, DependOpens, DependType, DependColon, DependName, DependMore}
-use Rattle.task_program.specs.declared.statement.DependKind.{DependKind}
-use Rattle.task_program.specs.Words.{is_text, is_number, value_of, type_word}
-use Rattle.task_program.specs.Faults.{is_statement_word}
+use Rattle.program_text.specs.declared.statement.DependKind.{DependKind}
+use Rattle.program_text.specs.Words.{is_text, is_number, value_of, type_word, is_statement_word}
 use Rattle.task_program.specs.Grammar as grammar
 use Rattle.task_program.specs.Grammar.{Written, name_and_comma, clause_texts, texts_of, is_if}
 use Rattle.task_program.specs.Grammar.Clause.{IfClause, DependClause}

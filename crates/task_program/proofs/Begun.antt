@@ -3,13 +3,13 @@ use Rattle.std.proofs.Common.{◌≡◌, ℕ, zero, suc, ◌+◌, ◌<◌, ◌�
 use Rattle.std.specs.Prelude.{sum_by}
 use Rattle.std.proofs.lemmas.List.{append-nil}
 use Rattle.std.proofs.lemmas.List.Sums.{sum_by-append}
-use Rattle.task_program.specs.declared.fault.ReadKind.{ReadKind}
+use Rattle.program_text.specs.declared.fault.ReadKind.{ReadKind}
 use Rattle.task_program.specs.declared.place.Place.{Place}
 use Rattle.task_program.specs.declared.place.Place.TheVariants.{Header, Version, Statement, WorkNumber, GroupBrace, Clause, IfOpens, IfNumber, IfCloses, DependOpens, DependType, DependColon, DependName, DependMore}
-use Rattle.task_program.specs.declared.statement.DependKind.{DependKind}
-use Rattle.task_program.specs.Marks.{Mark}
-use Rattle.task_program.specs.Tokens.{Token}
-use Rattle.task_program.specs.Words.{is_text}
+use Rattle.program_text.specs.declared.statement.DependKind.{DependKind}
+use Rattle.program_text.specs.Marks.{Mark}
+use Rattle.program_text.specs.Tokens.{Token}
+use Rattle.program_text.specs.Words.{is_text}
 use Rattle.task_program.specs.Faults.{State, Block, form_fault, place_fault, is_header, closes_nothing, is_allowed, step, after_at, after_end_of}
 use Rattle.task_program.specs.ViablePrefix.{IsSentence, IsViable}
 use Rattle.task_program.proofs.Keeping.{at, passes, bool_cases, unless_ok, ok_is}

@@ -6,19 +6,19 @@ use Rattle.std.specs.Char.{is_ascii_digit}
 use Rattle.std.specs.Fmt.{decimal}
 use Rattle.std.proofs.lemmas.List.Elements.{All-head, All-tail}
 use Rattle.std.proofs.lemmas.List.Sums.{sum_by-append, sum_by-cons}
-use Rattle.task_program.specs.declared.statement.DependKind.{DependKind}
-use Rattle.task_program.specs.declared.statement.DependKind.TheVariants.{DependIn, DependOut, DependInOut, DependInOutSet}
-use Rattle.task_program.specs.declared.statement.Item.{Item}
+use Rattle.program_text.specs.declared.statement.DependKind.{DependKind}
+use Rattle.program_text.specs.declared.statement.DependKind.TheVariants.{DependIn, DependOut, DependInOut, DependInOutSet}
+use Rattle.program_text.specs.declared.statement.Item.{Item}
 use Rattle.task_program.specs.declared.version.Version.TheVariants.{Two}
-use Rattle.task_program.specs.Marks.{Mark}
-use Rattle.task_program.specs.Marks.Mark.{Begins, Ends, Works, Waits, GroupBegins, GroupEnds}
+use Rattle.program_text.specs.Marks.{Mark}
+use Rattle.program_text.specs.Marks.Mark.{Begins, Ends, Works, Waits, GroupBegins, GroupEnds}
 use Rattle.task_program.specs.Canonical.{same_kind, name_of, item_separator, items_after, depend_clauses, line_of_mark, header_line, solid_bytes}
 use Rattle.task_program.specs.Programs.{IsLocation}
 use Rattle.task_program.specs.Programs.IsLocation.{Plain, Indexed}
 use Rattle.task_program.specs.Subscripts.{subscript}
-use Rattle.task_program.specs.declared.limits.TheConstants.{LARGEST_INDEX}
-use Rattle.task_program.specs.Tokens.{is_blank, is_run_byte}
-use Rattle.task_program.specs.Words.{is_run, is_word, begins_with_digit, type_word, is_number}
+use Rattle.program_text.specs.declared.limits.TheConstants.{LARGEST_INDEX}
+use Rattle.program_text.specs.Tokens.{is_blank, is_run_byte}
+use Rattle.program_text.specs.Words.{is_run, is_word, begins_with_digit, type_word, is_number}
 use Rattle.task_program.proofs.Keeping.{bool_cases}
 use Rattle.task_program.proofs.Kept.{solid_more}
 use Rattle.task_program.proofs.ReadPieces.{digits_run}

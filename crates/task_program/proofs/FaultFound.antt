@@ -3,15 +3,15 @@ use Rattle.std.proofs.Common.{◌≡◌, ℕ, ◌<◌, ◌+◌, ◌≤◌, Bool,
 use Rattle.std.specs.Prelude.{sum_by, nat_lt, drop, map}
 use Rattle.std.proofs.lemmas.Bool.{ltb-false, ltb-true}
 use Rattle.std.proofs.lemmas.List.{append-nil, map_push, length-map, drop-append-le}
-use Rattle.task_program.specs.declared.fault.ReadKind.{ReadKind}
-use Rattle.task_program.specs.declared.fault.ReadKind.TheVariants.{TooLong, BadHeader, BadWord, Unclosed, Unopened}
-use Rattle.task_program.specs.declared.fault.ReadFault.{ReadFault}
+use Rattle.program_text.specs.declared.fault.ReadKind.{ReadKind}
+use Rattle.program_text.specs.declared.fault.ReadKind.TheVariants.{TooLong, BadHeader, BadWord, Unclosed, Unopened}
+use Rattle.program_text.specs.declared.fault.ReadFault.{ReadFault}
 use Rattle.task_program.specs.declared.place.Place.{Place}
 use Rattle.task_program.specs.declared.place.Place.TheVariants.{Header, Version, Statement, WorkNumber, GroupBrace, Clause, DependMore}
-use Rattle.task_program.specs.declared.limits.TheConstants.{MOST_TEXT_BYTES}
-use Rattle.task_program.specs.Tokens.{Token, texts, tokens_of, line_at_end}
+use Rattle.program_text.specs.declared.limits.TheConstants.{MOST_TEXT_BYTES}
+use Rattle.program_text.specs.Tokens.{Token, texts, tokens_of, line_at_end}
 use Rattle.task_program.specs.TokenCounts.{open_braces, limit_fault_after}
-use Rattle.task_program.specs.Words.{is_text}
+use Rattle.program_text.specs.Words.{is_text}
 use Rattle.task_program.specs.Within.{IsWithin}
 use Rattle.task_program.specs.ProgramMarks.{ProgramMarks}
 use Rattle.task_program.specs.Faults.{State, Block, form_fault, place_fault, is_header, closes_nothing, is_allowed, unless_fault, step, after_at, line_of_block, end_at, program_or_fault, go_on, read_tokens, start, one_pass}

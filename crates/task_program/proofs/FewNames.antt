@@ -4,10 +4,10 @@ use Rattle.std.specs.Prelude.{nat_le}
 use Rattle.std.specs.List.{list_any}
 use Rattle.std.specs.Str.{bytes_eq}
 use Rattle.std.proofs.lemmas.Bool.{leb-false}
-use Rattle.task_program.specs.declared.statement.Item.{Item}
-use Rattle.task_program.specs.Marks.Mark.{Begins}
-use Rattle.task_program.specs.Limits.{tasks_begun}
-use Rattle.task_program.specs.declared.limits.TheConstants.{MOST_ITEMS}
+use Rattle.program_text.specs.declared.statement.Item.{Item}
+use Rattle.program_text.specs.Marks.Mark.{Begins}
+use Rattle.program_text.specs.Limits.{tasks_begun}
+use Rattle.program_text.specs.declared.limits.TheConstants.{MOST_ITEMS}
 use Rattle.task_program.specs.Names.{number_of_name, with_name}
 use Rattle.task_program.specs.Expansion.{Piece}
 use Rattle.task_program.specs.Expansion.Piece.{TurnBegins, TaskComes, ItemComes, TaskOpens, GroupComes, GroupOpens, BlockEnds, WorkIs, WaitIs}

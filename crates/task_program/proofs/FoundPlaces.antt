@@ -11,12 +11,12 @@ use Rattle.std.proofs.lemmas.List.Concat.{flat_map-append}
 use Rattle.std.proofs.lemmas.List.Elements.{All-push}
 use Rattle.task_program.specs.declared.place.Place.{Place}
 use Rattle.task_program.specs.declared.place.Place.TheVariants.{Header, Version, Statement, WorkNumber, GroupBrace, Clause, IfOpens, IfNumber, IfCloses, DependOpens, DependType, DependColon, DependName, DependMore}
-use Rattle.task_program.specs.declared.statement.DependKind.{DependKind}
-use Rattle.task_program.specs.declared.statement.Item.{Item}
-use Rattle.task_program.specs.Marks.{Mark}
-use Rattle.task_program.specs.Marks.Mark.{Begins, Works, GroupBegins}
+use Rattle.program_text.specs.declared.statement.DependKind.{DependKind}
+use Rattle.program_text.specs.declared.statement.Item.{Item}
+use Rattle.program_text.specs.Marks.{Mark}
+use Rattle.program_text.specs.Marks.Mark.{Begins, Works, GroupBegins}
 use Rattle.task_program.specs.Names.{number_of_name, with_name}
-use Rattle.task_program.specs.Words.{is_text, is_word, is_number, value_of, type_word}
+use Rattle.program_text.specs.Words.{is_text, is_word, is_number, value_of, type_word}
 use Rattle.task_program.specs.Grammar as grammar
 use Rattle.task_program.specs.Grammar.{Written, name_and_comma, clause_texts, texts_of, named_items, is_if, makes_undeferred, IsClause, IsItem, Means, names_of_piece}
 use Rattle.task_program.specs.Grammar.Clause.{IfClause, DependClause}

@@ -9,18 +9,18 @@ use Rattle.std.proofs.Math.ListN.{get_or-append}
 use Rattle.std.proofs.lemmas.List.Sums.{sum_by-append}
 use Rattle.std.proofs.lemmas.List.Concat.{flat_map-append}
 use Rattle.std.proofs.lemmas.List.Elements.{All-head, All-tail, All-push}
-use Rattle.task_program.specs.declared.fault.ReadKind.{ReadKind}
-use Rattle.task_program.specs.declared.fault.ReadFault.{ReadFault}
-use Rattle.task_program.specs.declared.statement.DependKind.{DependKind}
-use Rattle.task_program.specs.declared.statement.Item.{Item}
+use Rattle.program_text.specs.declared.fault.ReadKind.{ReadKind}
+use Rattle.program_text.specs.declared.fault.ReadFault.{ReadFault}
+use Rattle.program_text.specs.declared.statement.DependKind.{DependKind}
+use Rattle.program_text.specs.declared.statement.Item.{Item}
 use Rattle.task_program.specs.declared.version.Version.TheVariants.{Two}
-use Rattle.task_program.specs.declared.loops.Index.{Index}
-use Rattle.task_program.specs.Marks.{Mark}
-use Rattle.task_program.specs.Marks.Mark.{Begins, Ends, Works, Waits, GroupBegins, GroupEnds}
-use Rattle.task_program.specs.Limits.{tasks_begun, segments_opened, work_done, tasks_of, segments_of, work_of}
-use Rattle.task_program.specs.declared.limits.TheConstants.{MOST_TOKEN_BYTES, MOST_TASKS, MOST_SEGMENTS, MOST_ITEMS, MOST_WORK, LARGEST_INDEX}
+use Rattle.loop_text.specs.declared.loops.Index.{Index}
+use Rattle.program_text.specs.Marks.{Mark}
+use Rattle.program_text.specs.Marks.Mark.{Begins, Ends, Works, Waits, GroupBegins, GroupEnds}
+use Rattle.program_text.specs.Limits.{tasks_begun, segments_opened, work_done, tasks_of, segments_of, work_of}
+use Rattle.program_text.specs.declared.limits.TheConstants.{MOST_TOKEN_BYTES, MOST_TASKS, MOST_SEGMENTS, MOST_ITEMS, MOST_WORK, LARGEST_INDEX}
 use Rattle.task_program.specs.Names.{with_name}
-use Rattle.task_program.specs.Words.{type_word}
+use Rattle.program_text.specs.Words.{type_word}
 use Rattle.task_program.specs.Canonical.{name_of, item_separator, items_after, depend_clauses, line_of_mark, header_line, solid_bytes}
 use Rattle.task_program.specs.Programs.{open_after_mark, open_blocks, IsNamed, FitsLimits, IsName, IsLocation, names_of_mark}
 use Rattle.task_program.specs.Programs.IsLocation.{Plain, Indexed}

@@ -7,19 +7,19 @@ use Rattle.std.proofs.lemmas.Option.{slice_get-get_or, slice_get_within}
 use Rattle.std.proofs.lemmas.List.Sums.{fold-append, sum_by-append}
 use Rattle.std.proofs.lemmas.List.Concat.{flat_map-append}
 use Rattle.std.proofs.lemmas.List.Elements.{All-head, All-tail, All-nil, All-cons, All-append}
-use Rattle.task_program.specs.declared.statement.DependKind.{DependKind}
-use Rattle.task_program.specs.declared.statement.Item.{Item}
-use Rattle.task_program.specs.declared.loops.LoopItem.{LoopItem}
-use Rattle.task_program.specs.declared.loops.LoopTask.{LoopTask}
+use Rattle.program_text.specs.declared.statement.DependKind.{DependKind}
+use Rattle.program_text.specs.declared.statement.Item.{Item}
+use Rattle.loop_text.specs.declared.loops.LoopItem.{LoopItem}
+use Rattle.loop_text.specs.declared.loops.LoopTask.{LoopTask}
 use Rattle.task_program.specs.declared.version.Version.TheVariants.{Two}
-use Rattle.task_program.specs.Marks.{Mark}
-use Rattle.task_program.specs.Marks.Mark.{Begins, Ends, Works, Waits, GroupBegins, GroupEnds}
+use Rattle.program_text.specs.Marks.{Mark}
+use Rattle.program_text.specs.Marks.Mark.{Begins, Ends, Works, Waits, GroupBegins, GroupEnds}
 use Rattle.task_program.specs.Names.{number_of_name, with_name}
 use Rattle.task_program.specs.Canonical.{name_of, line_of_mark, header_line, solid_bytes}
 use Rattle.task_program.specs.Programs.{IsNamed, FitsLimits, names_of_mark}
 use Rattle.task_program.specs.Faults.{Block, after_end_of, end_mark_of}
 use Rattle.task_program.specs.Faults.Block.{TaskBlock, GroupBlock}
-use Rattle.task_program.specs.Loops as loops
+use Rattle.loop_text.specs.Loops as loops
 use Rattle.task_program.specs.Expansion.{Piece, subscript_of, item_comes, task_pieces, expansion}
 use Rattle.task_program.specs.Expansion.Piece.{TaskComes, TaskOpens, GroupComes, GroupOpens, BlockEnds, WorkIs, WaitIs}
 use Rattle.task_program.specs.SecondPass.{ExpansionState, after_piece, bytes_after}

@@ -6,24 +6,23 @@ use Rattle.std.specs.Fmt.{decimal}
 use Rattle.std.proofs.lemmas.List.{append-nil}
 use Rattle.std.proofs.lemmas.List.Concat.{flat_map-append}
 use Rattle.std.proofs.lemmas.List.Elements.{All-head, All-tail, All-nil, All-cons}
-use Rattle.task_program.specs.declared.statement.DependKind.{DependKind}
-use Rattle.task_program.specs.declared.statement.DependKind.TheVariants.{DependIn, DependOut, DependInOut, DependInOutSet}
-use Rattle.task_program.specs.declared.statement.Item.{Item}
-use Rattle.task_program.specs.declared.loops.LoopItem.{LoopItem}
-use Rattle.task_program.specs.declared.loops.LoopTask.{LoopTask}
-use Rattle.task_program.specs.declared.loop_reader.LoopHead.{LoopHead}
-use Rattle.task_program.specs.declared.open_loops.LoopOpening.TheVariants.{TaskOpening, GroupOpening}
-use Rattle.task_program.specs.declared.limits.TheConstants.{LARGEST_COST}
-use Rattle.task_program.specs.Marks.{Mark}
-use Rattle.task_program.specs.Marks.Mark.{Begins, Ends, Works, Waits, GroupBegins, GroupEnds}
+use Rattle.program_text.specs.declared.statement.DependKind.{DependKind}
+use Rattle.program_text.specs.declared.statement.DependKind.TheVariants.{DependIn, DependOut, DependInOut, DependInOutSet}
+use Rattle.program_text.specs.declared.statement.Item.{Item}
+use Rattle.loop_text.specs.declared.loops.LoopItem.{LoopItem}
+use Rattle.loop_text.specs.declared.loops.LoopTask.{LoopTask}
+use Rattle.loop_text.specs.declared.loop_reader.LoopHead.{LoopHead}
+use Rattle.loop_text.specs.declared.open_loops.LoopOpening.TheVariants.{TaskOpening, GroupOpening}
+use Rattle.program_text.specs.declared.limits.TheConstants.{LARGEST_COST}
+use Rattle.program_text.specs.Marks.{Mark}
+use Rattle.program_text.specs.Marks.Mark.{Begins, Ends, Works, Waits, GroupBegins, GroupEnds}
 use Rattle.task_program.specs.Canonical.{same_kind, name_of}
 use Rattle.task_program.specs.Programs.{IsLocation}
-use Rattle.task_program.specs.Tokens.{Token}
-use Rattle.task_program.specs.Words.{type_word, is_type, value_of}
-use Rattle.task_program.specs.Faults.{type_of}
-use Rattle.task_program.specs.FirstPass.{no_clauses}
-use Rattle.task_program.specs.Loops.{Tree}
-use Rattle.task_program.specs.Loops.Tree.{NoStatement, ThenWork, ThenWait, ThenGroup, ThenTask}
+use Rattle.program_text.specs.Tokens.{Token}
+use Rattle.program_text.specs.Words.{type_word, is_type, value_of, type_of}
+use Rattle.loop_text.specs.FirstPass.{no_clauses}
+use Rattle.loop_text.specs.Loops.{Tree}
+use Rattle.loop_text.specs.Loops.Tree.{NoStatement, ThenWork, ThenWait, ThenGroup, ThenTask}
 use Rattle.task_program.specs.LoopGrammar as grammar
 use Rattle.task_program.specs.LoopGrammar.{ItemsSpelled, ClausesSpelled, OpeningSpelled, Spelled, task_of}
 use Rattle.task_program.proofs.Keeping.{bool_cases}

@@ -4,16 +4,16 @@ use Rattle.std.specs.Prelude.{nat_lt, min}
 use Rattle.std.specs.Fmt.{decimal}
 use Rattle.std.proofs.lemmas.Bool.{le-leb, lt-ltb}
 use Rattle.std.proofs.lemmas.List.{append-nil}
-use Rattle.task_program.specs.declared.statement.DependKind.{DependKind}
-use Rattle.task_program.specs.declared.loops.LoopItem.{LoopItem}
+use Rattle.program_text.specs.declared.statement.DependKind.{DependKind}
+use Rattle.loop_text.specs.declared.loops.LoopItem.{LoopItem}
 use Rattle.task_program.specs.Programs.{IsLocation}
 use Rattle.task_program.specs.Programs.IsLocation.{Plain, Indexed}
 use Rattle.task_program.specs.Subscripts.{subscript}
-use Rattle.task_program.specs.declared.limits.TheConstants.{LARGEST_INDEX, LARGEST_STEP}
-use Rattle.task_program.specs.Tokens.{Token, texts, starts_with_run_byte}
-use Rattle.task_program.specs.Words.{is_word}
+use Rattle.program_text.specs.declared.limits.TheConstants.{LARGEST_INDEX, LARGEST_STEP}
+use Rattle.program_text.specs.Tokens.{Token, texts, starts_with_run_byte}
+use Rattle.program_text.specs.Words.{is_word}
 use Rattle.task_program.specs.Expansion.{subscript_of, index_fits}
-use Rattle.task_program.specs.FirstPass.{step_of}
+use Rattle.loop_text.specs.FirstPass.{step_of}
 use Rattle.task_program.specs.LoopGrammar as grammar
 use Rattle.task_program.specs.LoopGrammar.{index_of, IndexSpelled, ItemSpelled}
 use Rattle.task_program.proofs.Spelled.{spell, word_then, number_then, decimal_value, decimal_number, IsWritten}

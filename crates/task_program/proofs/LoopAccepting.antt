@@ -5,12 +5,11 @@ use Rattle.std.specs.List.{flat_map, list_any}
 use Rattle.std.specs.Str.{bytes_eq}
 use Rattle.std.proofs.lemmas.List.Elements.{All-head, All-tail}
 use Rattle.std.proofs.lemmas.List.Sums.{sum_by-cons}
-use Rattle.task_program.specs.declared.loop_place.LoopPlace.{LoopPlace}
-use Rattle.task_program.specs.declared.loop_place.LoopPlace.TheVariants.{Statement, WorkNumber, GroupBrace, ForVariable, ForFrom, ForTo, ForBrace, Clause, IfOpens, IfNumber, IfCloses, FinalOpens, FinalNumber, FinalCloses, DependOpens, DependType, DependColon, DependName, Subscript, IndexStart, IndexNumber, IndexSign, IndexCloses, DependMore}
-use Rattle.task_program.specs.declared.statement.DependKind.{DependKind}
-use Rattle.task_program.specs.Words.{is_text, is_run, begins_with_digit, is_word, is_number, type_word}
-use Rattle.task_program.specs.Faults.{is_statement_word}
-use Rattle.task_program.specs.FirstPass.{is_plus_or_minus, ends_item}
+use Rattle.loop_text.specs.declared.loop_place.LoopPlace.{LoopPlace}
+use Rattle.loop_text.specs.declared.loop_place.LoopPlace.TheVariants.{Statement, WorkNumber, GroupBrace, ForVariable, ForFrom, ForTo, ForBrace, Clause, IfOpens, IfNumber, IfCloses, FinalOpens, FinalNumber, FinalCloses, DependOpens, DependType, DependColon, DependName, Subscript, IndexStart, IndexNumber, IndexSign, IndexCloses, DependMore}
+use Rattle.program_text.specs.declared.statement.DependKind.{DependKind}
+use Rattle.program_text.specs.Words.{is_text, is_run, begins_with_digit, is_word, is_number, type_word, is_statement_word}
+use Rattle.loop_text.specs.FirstPass.{is_plus_or_minus, ends_item}
 use Rattle.task_program.specs.LoopViablePrefix.{IndexWritten, ItemWritten, LoopClause, LoopPiece, index_texts, item_texts, item_and_comma, clause_texts, piece_texts, IsNumber, IsVariable, HasIndexForm, HasItemForm, HasLoopClauseForm, is_if, is_final, HaveLoopForms, IsLoopSentence}
 use Rattle.task_program.specs.LoopViablePrefix.IndexWritten.{NumberIndex, MinusIndex, VariableIndex, SignIndex}
 use Rattle.task_program.specs.LoopViablePrefix.ItemWritten.{PlainItem, IndexedItem}

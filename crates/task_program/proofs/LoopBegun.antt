@@ -2,19 +2,19 @@
 use Rattle.std.proofs.Common.{◌≡◌, ℕ, Bool, true, false, not, ◌&&◌, cond, List, [], ◌∷◌, ◌++◌, map, append_assoc, Option, Some, None, Result, Ok, refl, sym, ap, subst, ◌∙◌, codes}
 use Rattle.std.proofs.lemmas.List.{map_push}
 use Rattle.std.proofs.lemmas.List.Sums.{fold-append}
-use Rattle.task_program.specs.declared.fault.ReadKind.{ReadKind}
-use Rattle.task_program.specs.declared.fault.ReadFault.{ReadFault}
-use Rattle.task_program.specs.declared.loop_place.LoopPlace.{LoopPlace}
-use Rattle.task_program.specs.declared.loop_place.LoopPlace.TheVariants.{Statement, WorkNumber, GroupBrace, ForVariable, ForFrom, ForTo, ForBrace, Clause, IfOpens, IfNumber, IfCloses, FinalOpens, FinalNumber, FinalCloses, DependOpens, DependType, DependColon, DependName, Subscript, IndexStart, IndexNumber, IndexSign, IndexCloses, DependMore}
-use Rattle.task_program.specs.declared.open_loops.LoopBlock.{LoopBlock}
-use Rattle.task_program.specs.declared.statement.DependKind.{DependKind}
-use Rattle.task_program.specs.Tokens.{Token, texts}
+use Rattle.program_text.specs.declared.fault.ReadKind.{ReadKind}
+use Rattle.program_text.specs.declared.fault.ReadFault.{ReadFault}
+use Rattle.loop_text.specs.declared.loop_place.LoopPlace.{LoopPlace}
+use Rattle.loop_text.specs.declared.loop_place.LoopPlace.TheVariants.{Statement, WorkNumber, GroupBrace, ForVariable, ForFrom, ForTo, ForBrace, Clause, IfOpens, IfNumber, IfCloses, FinalOpens, FinalNumber, FinalCloses, DependOpens, DependType, DependColon, DependName, Subscript, IndexStart, IndexNumber, IndexSign, IndexCloses, DependMore}
+use Rattle.loop_text.specs.declared.open_loops.LoopBlock.{LoopBlock}
+use Rattle.program_text.specs.declared.statement.DependKind.{DependKind}
+use Rattle.program_text.specs.Tokens.{Token, texts}
 use Rattle.task_program.specs.TokenCounts.{braces_after, open_braces}
-use Rattle.task_program.specs.Words.{is_text, is_number}
-use Rattle.task_program.specs.Loops.{Tree}
-use Rattle.task_program.specs.OpenBlocks as blocks
-use Rattle.task_program.specs.OpenBlocks.{variables_of, brace_of}
-use Rattle.task_program.specs.FirstPass.{State, is_allowed, closes_nothing, form_fault, place_fault, unless_fault, step, after_at}
+use Rattle.program_text.specs.Words.{is_text, is_number}
+use Rattle.loop_text.specs.Loops.{Tree}
+use Rattle.loop_text.specs.OpenBlocks as blocks
+use Rattle.loop_text.specs.OpenBlocks.{variables_of, brace_of}
+use Rattle.loop_text.specs.FirstPass.{State, is_allowed, closes_nothing, form_fault, place_fault, unless_fault, step, after_at}
 use Rattle.task_program.specs.LoopViablePrefix.{IsLoopSentence, IsLoopViable}
 use Rattle.task_program.proofs.Keeping.{bool_cases}
 use Rattle.task_program.proofs.FoundPlaces.{same_text, is_true}

@@ -5,12 +5,12 @@ use Rattle.std.specs.List.{flat_map, list_any, list_all}
 use Rattle.std.specs.Str.{bytes_eq}
 use Rattle.std.proofs.lemmas.List.Elements.{All-nil, All-cons}
 use Rattle.std.proofs.lemmas.List.Sums.{sum_by-cons}
-use Rattle.task_program.specs.declared.loop_place.LoopPlace.{LoopPlace}
-use Rattle.task_program.specs.declared.loop_place.LoopPlace.TheVariants.{Statement, WorkNumber, GroupBrace, ForVariable, ForFrom, ForTo, ForBrace, Clause, IfOpens, IfNumber, IfCloses, FinalOpens, FinalNumber, FinalCloses, DependOpens, DependType, DependColon, DependName, Subscript, IndexStart, IndexNumber, IndexSign, IndexCloses, DependMore}
-use Rattle.task_program.specs.declared.statement.DependKind.{DependKind}
-use Rattle.task_program.specs.declared.statement.DependKind.TheVariants.{DependIn}
-use Rattle.task_program.specs.Words.{is_text, is_word, is_number, type_word}
-use Rattle.task_program.specs.FirstPass.{is_plus_or_minus, ends_item}
+use Rattle.loop_text.specs.declared.loop_place.LoopPlace.{LoopPlace}
+use Rattle.loop_text.specs.declared.loop_place.LoopPlace.TheVariants.{Statement, WorkNumber, GroupBrace, ForVariable, ForFrom, ForTo, ForBrace, Clause, IfOpens, IfNumber, IfCloses, FinalOpens, FinalNumber, FinalCloses, DependOpens, DependType, DependColon, DependName, Subscript, IndexStart, IndexNumber, IndexSign, IndexCloses, DependMore}
+use Rattle.program_text.specs.declared.statement.DependKind.{DependKind}
+use Rattle.program_text.specs.declared.statement.DependKind.TheVariants.{DependIn}
+use Rattle.program_text.specs.Words.{is_text, is_word, is_number, type_word}
+use Rattle.loop_text.specs.FirstPass.{is_plus_or_minus, ends_item}
 use Rattle.task_program.specs.LoopViablePrefix.{ItemWritten, LoopClause, index_texts, item_texts, item_and_comma, clause_texts, IsNumber, IsWord, IsVariable, IsNewVariable, HasItemForm, HasLoopClauseForm, is_if, is_final}
 use Rattle.task_program.specs.LoopViablePrefix.IndexWritten.{NumberIndex, MinusIndex, VariableIndex, SignIndex}
 use Rattle.task_program.specs.LoopViablePrefix.ItemWritten.{PlainItem, IndexedItem}
@@ -19,7 +19,7 @@ use Rattle.task_program.specs.LoopViablePrefix.LoopPiece.{WorkPiece, GroupPiece,
 use Rattle.task_program.proofs.Keeping.{bool_cases}
 use Rattle.task_program.proofs.FoundPlaces.{same_text, or_true_right}
 use Rattle.task_program.proofs.Found.{type_is}
-use Rattle.task_program.specs.Tokens.{is_run_byte}
+use Rattle.program_text.specs.Tokens.{is_run_byte}
 use Rattle.task_program.proofs.ReadPieces.{not_none}
 use Rattle.task_program.proofs.Shapes.{left_is_true, right_is_true}
 use Rattle.task_program.proofs.LoopShapes.{lead_item, Rest, ClausesRest, ItemsRest, OpenIndex, FollowsAt, Follows, allowed_of, StepsBack, piece_rest, statement_back, new_variable, if_back, final_back, brace_back, clause_back}

@@ -3,21 +3,21 @@ use Rattle.std.proofs.Common.{◌≡◌, ℕ, ◌<◌, ◌≤◌, Bool, true, fa
 use Rattle.std.specs.Prelude.{nat_lt}
 use Rattle.std.proofs.lemmas.Bool.{leb-true, ltb-true, ltb-false}
 use Rattle.std.proofs.lemmas.List.{append-nil, length-map}
-use Rattle.task_program.specs.declared.fault.ReadKind.{ReadKind}
-use Rattle.task_program.specs.declared.fault.ReadKind.TheVariants.{TooLong, BadWord, BadNumber, Unclosed, Unopened, TooDeep}
-use Rattle.task_program.specs.declared.fault.ReadFault.{ReadFault}
-use Rattle.task_program.specs.declared.loop_place.LoopPlace.{LoopPlace}
-use Rattle.task_program.specs.declared.loop_place.LoopPlace.TheVariants.{Statement, WorkNumber, GroupBrace, ForFrom, ForTo, ForBrace, Clause, IfNumber, FinalNumber}
-use Rattle.task_program.specs.declared.loop_reader.LoopHead.{LoopHead}
-use Rattle.task_program.specs.declared.open_loops.LoopBlock.{LoopBlock}
-use Rattle.task_program.specs.declared.limits.TheConstants.{MOST_TEXT_BYTES, MOST_NESTING, LARGEST_COST, LARGEST_BOUND}
-use Rattle.task_program.specs.Tokens.{Token, texts, tokens_of, line_at_end}
+use Rattle.program_text.specs.declared.fault.ReadKind.{ReadKind}
+use Rattle.program_text.specs.declared.fault.ReadKind.TheVariants.{TooLong, BadWord, BadNumber, Unclosed, Unopened, TooDeep}
+use Rattle.program_text.specs.declared.fault.ReadFault.{ReadFault}
+use Rattle.loop_text.specs.declared.loop_place.LoopPlace.{LoopPlace}
+use Rattle.loop_text.specs.declared.loop_place.LoopPlace.TheVariants.{Statement, WorkNumber, GroupBrace, ForFrom, ForTo, ForBrace, Clause, IfNumber, FinalNumber}
+use Rattle.loop_text.specs.declared.loop_reader.LoopHead.{LoopHead}
+use Rattle.loop_text.specs.declared.open_loops.LoopBlock.{LoopBlock}
+use Rattle.program_text.specs.declared.limits.TheConstants.{MOST_TEXT_BYTES, MOST_NESTING, LARGEST_COST, LARGEST_BOUND}
+use Rattle.program_text.specs.Tokens.{Token, texts, tokens_of, line_at_end}
 use Rattle.task_program.specs.TokenCounts.{open_braces}
-use Rattle.task_program.specs.Words.{is_text, is_number, value_of}
-use Rattle.task_program.specs.Loops.{Tree}
-use Rattle.task_program.specs.OpenBlocks.{variables_of, brace_of}
+use Rattle.program_text.specs.Words.{is_text, is_number, value_of}
+use Rattle.loop_text.specs.Loops.{Tree}
+use Rattle.loop_text.specs.OpenBlocks.{variables_of, brace_of}
 use Rattle.task_program.specs.ProgramMarks.{ProgramMarks}
-use Rattle.task_program.specs.FirstPass.{State, is_allowed, closes_nothing, is_number_too_large, nests_too_deep, form_fault, place_fault, unless_fault, step, end_at, tree_or_fault, go_on, first_pass, after_header}
+use Rattle.loop_text.specs.FirstPass.{State, is_allowed, closes_nothing, is_number_too_large, nests_too_deep, form_fault, place_fault, unless_fault, step, end_at, tree_or_fault, go_on, first_pass, after_header}
 use Rattle.task_program.specs.ReadInVersion.{begins_version_two, then_second, two_passes, program_of}
 use Rattle.task_program.specs.LoopViablePrefix.{IsLoopSentence, IsLoopViable}
 use Rattle.task_program.specs.FirstLoopFault.{IsLoopWrong, AreInPlace, EndsInLoops, IsFirstLoopFault, body_of, HasLoopFault, IsToldInLoops, LoopFaultIsFirst}

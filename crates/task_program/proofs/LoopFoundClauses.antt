@@ -4,21 +4,20 @@ use Rattle.std.specs.Prelude.{nat_lt}
 use Rattle.std.specs.List.{list_any}
 use Rattle.std.specs.Str.{bytes_eq}
 use Rattle.std.proofs.lemmas.Bool.{ltb-false}
-use Rattle.task_program.specs.declared.loop_place.LoopPlace.{LoopPlace}
-use Rattle.task_program.specs.declared.loop_place.LoopPlace.TheVariants.{Statement, WorkNumber, GroupBrace, ForVariable, ForFrom, ForTo, ForBrace, Clause, IfOpens, IfNumber, IfCloses, FinalOpens, FinalNumber, FinalCloses, DependOpens}
-use Rattle.task_program.specs.declared.loop_reader.LoopHead.{LoopHead}
-use Rattle.task_program.specs.declared.loop_reader.Pending.{Pending}
-use Rattle.task_program.specs.declared.loop_reader.Bounds.{Bounds}
-use Rattle.task_program.specs.declared.open_loops.LoopOpening.TheVariants.{TaskOpening, GroupOpening, ForOpening}
-use Rattle.task_program.specs.declared.open_loops.LoopBlock.{LoopBlock}
-use Rattle.task_program.specs.declared.limits.TheConstants.{LARGEST_COST, LARGEST_BOUND}
-use Rattle.task_program.specs.Tokens.{Token}
-use Rattle.task_program.specs.Words.{is_text, is_word, is_number, value_of}
-use Rattle.task_program.specs.Faults.{is_statement_word}
-use Rattle.task_program.specs.Loops.{Tree}
-use Rattle.task_program.specs.Loops.Tree.{ThenWork, ThenWait}
-use Rattle.task_program.specs.OpenBlocks.{variables_of}
-use Rattle.task_program.specs.FirstPass.{no_clauses, is_allowed, is_variable, after_at, no_bounds}
+use Rattle.loop_text.specs.declared.loop_place.LoopPlace.{LoopPlace}
+use Rattle.loop_text.specs.declared.loop_place.LoopPlace.TheVariants.{Statement, WorkNumber, GroupBrace, ForVariable, ForFrom, ForTo, ForBrace, Clause, IfOpens, IfNumber, IfCloses, FinalOpens, FinalNumber, FinalCloses, DependOpens}
+use Rattle.loop_text.specs.declared.loop_reader.LoopHead.{LoopHead}
+use Rattle.loop_text.specs.declared.loop_reader.Pending.{Pending}
+use Rattle.loop_text.specs.declared.loop_reader.Bounds.{Bounds}
+use Rattle.loop_text.specs.declared.open_loops.LoopOpening.TheVariants.{TaskOpening, GroupOpening, ForOpening}
+use Rattle.loop_text.specs.declared.open_loops.LoopBlock.{LoopBlock}
+use Rattle.program_text.specs.declared.limits.TheConstants.{LARGEST_COST, LARGEST_BOUND}
+use Rattle.program_text.specs.Tokens.{Token}
+use Rattle.program_text.specs.Words.{is_text, is_word, is_number, value_of, is_statement_word}
+use Rattle.loop_text.specs.Loops.{Tree}
+use Rattle.loop_text.specs.Loops.Tree.{ThenWork, ThenWait}
+use Rattle.loop_text.specs.OpenBlocks.{variables_of}
+use Rattle.loop_text.specs.FirstPass.{no_clauses, is_allowed, is_variable, after_at, no_bounds}
 use Rattle.task_program.specs.LoopGrammar.{IsNumber, task_of}
 use Rattle.task_program.specs.LoopGrammar.ClausesSpelled.{NoClause, If, Final}
 use Rattle.task_program.specs.LoopGrammar.OpeningSpelled.{Group, Task, For}

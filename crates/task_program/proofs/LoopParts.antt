@@ -5,25 +5,24 @@ use Rattle.std.specs.List.{list_any}
 use Rattle.std.specs.Str.{bytes_eq}
 use Rattle.std.proofs.lemmas.Bool.{leb-false}
 use Rattle.std.proofs.lemmas.List.{append-nil}
-use Rattle.task_program.specs.declared.fault.ReadKind.{ReadKind}
-use Rattle.task_program.specs.declared.loop_place.LoopPlace.{LoopPlace}
-use Rattle.task_program.specs.declared.loop_place.LoopPlace.TheVariants.{Statement, WorkNumber, GroupBrace, ForVariable, ForFrom, ForTo, ForBrace, Clause, IfOpens, IfNumber, IfCloses, FinalOpens, FinalNumber, FinalCloses, DependOpens, DependType, DependColon, DependName, Subscript, IndexStart, IndexNumber, IndexSign, IndexCloses, DependMore}
-use Rattle.task_program.specs.declared.statement.DependKind.{DependKind}
-use Rattle.task_program.specs.declared.loops.Index.{Index}
-use Rattle.task_program.specs.declared.loops.LoopItem.{LoopItem}
-use Rattle.task_program.specs.declared.loop_reader.LoopHead.{LoopHead}
-use Rattle.task_program.specs.declared.loop_reader.Pending.{Pending}
-use Rattle.task_program.specs.declared.loop_reader.Bounds.{Bounds}
-use Rattle.task_program.specs.declared.open_loops.LoopOpening.{LoopOpening}
-use Rattle.task_program.specs.declared.open_loops.LoopBlock.{LoopBlock}
-use Rattle.task_program.specs.declared.limits.TheConstants.{MOST_NESTING, LARGEST_BOUND}
-use Rattle.task_program.specs.Tokens.{Token}
-use Rattle.task_program.specs.Words.{is_text, is_word, is_type, value_of}
-use Rattle.task_program.specs.Faults.{type_of}
-use Rattle.task_program.specs.Loops.{Tree}
-use Rattle.task_program.specs.Loops.Tree.{NoStatement}
-use Rattle.task_program.specs.OpenBlocks.{variables_of, variables_around}
-use Rattle.task_program.specs.FirstPass.{State, no_clauses, no_index, place_fault, closes_nothing, is_allowed, is_number_too_large, nests_too_deep, after_closing}
+use Rattle.program_text.specs.declared.fault.ReadKind.{ReadKind}
+use Rattle.loop_text.specs.declared.loop_place.LoopPlace.{LoopPlace}
+use Rattle.loop_text.specs.declared.loop_place.LoopPlace.TheVariants.{Statement, WorkNumber, GroupBrace, ForVariable, ForFrom, ForTo, ForBrace, Clause, IfOpens, IfNumber, IfCloses, FinalOpens, FinalNumber, FinalCloses, DependOpens, DependType, DependColon, DependName, Subscript, IndexStart, IndexNumber, IndexSign, IndexCloses, DependMore}
+use Rattle.program_text.specs.declared.statement.DependKind.{DependKind}
+use Rattle.loop_text.specs.declared.loops.Index.{Index}
+use Rattle.loop_text.specs.declared.loops.LoopItem.{LoopItem}
+use Rattle.loop_text.specs.declared.loop_reader.LoopHead.{LoopHead}
+use Rattle.loop_text.specs.declared.loop_reader.Pending.{Pending}
+use Rattle.loop_text.specs.declared.loop_reader.Bounds.{Bounds}
+use Rattle.loop_text.specs.declared.open_loops.LoopOpening.{LoopOpening}
+use Rattle.loop_text.specs.declared.open_loops.LoopBlock.{LoopBlock}
+use Rattle.program_text.specs.declared.limits.TheConstants.{MOST_NESTING, LARGEST_BOUND}
+use Rattle.program_text.specs.Tokens.{Token}
+use Rattle.program_text.specs.Words.{is_text, is_word, is_type, value_of, type_of}
+use Rattle.loop_text.specs.Loops.{Tree}
+use Rattle.loop_text.specs.Loops.Tree.{NoStatement}
+use Rattle.loop_text.specs.OpenBlocks.{variables_of, variables_around}
+use Rattle.loop_text.specs.FirstPass.{State, no_clauses, no_index, place_fault, closes_nothing, is_allowed, is_number_too_large, nests_too_deep, after_closing}
 use Rattle.task_program.specs.LoopGrammar.{IsNumber, index_of, IsVariable, IndexSpelled, ItemsSpelled, ClausesSpelled, OpeningSpelled, Spelled}
 use Rattle.task_program.specs.LoopGrammar.Spelled.{Nothing, Block}
 

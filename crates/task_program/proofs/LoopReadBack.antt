@@ -5,17 +5,17 @@ use Rattle.std.specs.List.{flat_map}
 use Rattle.std.proofs.lemmas.List.{append-nil}
 use Rattle.std.proofs.lemmas.List.Sums.{sum_by-append}
 use Rattle.std.proofs.lemmas.List.Elements.{All-head, All-tail, All-nil, All-cons}
-use Rattle.task_program.specs.declared.statement.Item.{Item}
+use Rattle.program_text.specs.declared.statement.Item.{Item}
 use Rattle.task_program.specs.declared.version.Version.{Version}
 use Rattle.task_program.specs.declared.version.Version.TheVariants.{Two}
-use Rattle.task_program.specs.declared.limits.TheConstants.{MOST_TOKEN_BYTES, MOST_NESTING, MOST_CANONICAL_BYTES, MOST_TURNS}
-use Rattle.task_program.specs.Marks.{Mark}
-use Rattle.task_program.specs.Marks.Mark.{Begins, Ends, Works, Waits, GroupBegins, GroupEnds}
+use Rattle.program_text.specs.declared.limits.TheConstants.{MOST_TOKEN_BYTES, MOST_NESTING, MOST_CANONICAL_BYTES, MOST_TURNS}
+use Rattle.program_text.specs.Marks.{Mark}
+use Rattle.program_text.specs.Marks.Mark.{Begins, Ends, Works, Waits, GroupBegins, GroupEnds}
 use Rattle.task_program.specs.Names.{with_name}
 use Rattle.task_program.specs.Canonical.{name_of, line_of_mark, header_line, canonical_text, solid_bytes}
 use Rattle.task_program.specs.Programs.{IsNamed, FitsLimits, IsLocation, IsNameIn, IsProgram, names_of_mark}
 use Rattle.task_program.specs.ProgramMarks.{ProgramMarks}
-use Rattle.task_program.specs.Tokens.{Token, texts, tokens_of}
+use Rattle.program_text.specs.Tokens.{Token, texts, tokens_of}
 use Rattle.task_program.specs.Faults.{Block}
 use Rattle.task_program.specs.Grammar.{IsShort}
 use Rattle.task_program.specs.SecondPass.{ExpansionState, empty_expansion}

@@ -4,22 +4,22 @@ use Rattle.std.specs.Prelude.{fold, sum_by, nat_lt, nat_le}
 use Rattle.std.proofs.lemmas.Bool.{le-ltb, lt-ltb, leb-true, leb-false, eqb-true}
 use Rattle.std.proofs.lemmas.List.{map_push, length-map}
 use Rattle.std.proofs.lemmas.List.Sums.{fold-append, sum_by-append}
-use Rattle.task_program.specs.declared.fault.ReadKind.{ReadKind}
-use Rattle.task_program.specs.declared.fault.ReadKind.TheVariants.{BadNumber, TooDeep, TooManyTasks, TooManySegments, TooManyItems, WorkTooLarge}
+use Rattle.program_text.specs.declared.fault.ReadKind.{ReadKind}
+use Rattle.program_text.specs.declared.fault.ReadKind.TheVariants.{BadNumber, TooDeep, TooManyTasks, TooManySegments, TooManyItems, WorkTooLarge}
 use Rattle.task_program.specs.declared.place.Place.{Place}
 use Rattle.task_program.specs.declared.place.Place.TheVariants.{Header, Version, Statement, WorkNumber, GroupBrace, Clause, IfOpens, IfNumber, IfCloses, DependOpens, DependType, DependColon, DependName, DependMore}
-use Rattle.task_program.specs.declared.statement.DependKind.{DependKind}
-use Rattle.task_program.specs.declared.statement.DependKind.TheVariants.{DependIn, DependOut, DependInOut, DependInOutSet}
-use Rattle.task_program.specs.declared.statement.Item.{Item}
-use Rattle.task_program.specs.Marks.{Mark}
-use Rattle.task_program.specs.Marks.Mark.{Begins, Ends, Works, Waits, GroupBegins, GroupEnds}
-use Rattle.task_program.specs.Limits.{tasks_begun, segments_opened, work_done, tasks_of, segments_of, work_of}
-use Rattle.task_program.specs.declared.limits.TheConstants.{MOST_TASKS, MOST_SEGMENTS, MOST_NESTING, MOST_ITEMS, MOST_WORK}
+use Rattle.program_text.specs.declared.statement.DependKind.{DependKind}
+use Rattle.program_text.specs.declared.statement.DependKind.TheVariants.{DependIn, DependOut, DependInOut, DependInOutSet}
+use Rattle.program_text.specs.declared.statement.Item.{Item}
+use Rattle.program_text.specs.Marks.{Mark}
+use Rattle.program_text.specs.Marks.Mark.{Begins, Ends, Works, Waits, GroupBegins, GroupEnds}
+use Rattle.program_text.specs.Limits.{tasks_begun, segments_opened, work_done, tasks_of, segments_of, work_of}
+use Rattle.program_text.specs.declared.limits.TheConstants.{MOST_TASKS, MOST_SEGMENTS, MOST_NESTING, MOST_ITEMS, MOST_WORK}
 use Rattle.task_program.specs.Names.{number_of_name}
-use Rattle.task_program.specs.Tokens.{Token, texts}
-use Rattle.task_program.specs.Words.{is_text, is_run, begins_with_digit, is_word, is_number, value_of, type_word}
+use Rattle.program_text.specs.Tokens.{Token, texts}
+use Rattle.program_text.specs.Words.{is_text, is_run, begins_with_digit, is_word, is_number, value_of, type_word, type_of}
 use Rattle.task_program.specs.Within.{pending_tasks, pending_segments}
-use Rattle.task_program.specs.Faults.{State, Block, is_header, is_allowed, is_number_too_large, nests_too_deep, is_task_too_many, are_segments_too_many, is_item_too_many, is_work_too_large, type_of, after_at, after_end_of, line_of_block}
+use Rattle.task_program.specs.Faults.{State, Block, is_header, is_allowed, is_number_too_large, nests_too_deep, is_task_too_many, are_segments_too_many, is_item_too_many, is_work_too_large, after_at, after_end_of, line_of_block}
 use Rattle.task_program.specs.Faults.Block.{TaskBlock, GroupBlock}
 use Rattle.task_program.specs.TokenCounts.{inside_after, is_inside, outside_from, outside, tasks_by, is_waiting, is_value_too_large, is_too_deep, is_task_past, is_segment_past, is_work_past, segments_by, work_by, tasks_in, segments_in, work_in, items_after, items_in, braces_after, open_braces, limit_by, limit_fault_after}
 use Rattle.task_program.proofs.Keeping.{at, bool_cases, with_one}

@@ -1,7 +1,7 @@
 -- How many names an expansion has: a task mentions so many at most.
 use Rattle.std.specs.Prelude.{◌+◌, ◌*◌, ◌≤◌, length}
-use Rattle.task_program.specs.Limits.{tasks_of}
-use Rattle.task_program.specs.declared.limits.TheConstants.{MOST_ITEMS}
+use Rattle.program_text.specs.Limits.{tasks_of}
+use Rattle.program_text.specs.declared.limits.TheConstants.{MOST_ITEMS}
 use Rattle.task_program.specs.SecondPass.{ExpansionState}
 
 pub record HasFewNames (state : ExpansionState) : Type 0 where

@@ -1,10 +1,10 @@
 -- The fault of a text of version 1, apart from any reading: the first token at which something is wrong, and what it is.
 use Rattle.std.specs.Prelude.{◌≡◌, ℕ, ◌<◌, ◌≤◌, ◌↔◌, false, List, [], ◌∷◌, ◌++◌, length, drop, sum_by, Option, Some, None, Ok, Err, codes}
-use Rattle.task_program.specs.declared.fault.ReadKind.{ReadKind}
-use Rattle.task_program.specs.declared.fault.ReadKind.TheVariants.{TooLong, BadHeader, BadWord, Unclosed, Unopened}
-use Rattle.task_program.specs.declared.fault.ReadFault.{ReadFault}
-use Rattle.task_program.specs.declared.limits.TheConstants.{MOST_TEXT_BYTES}
-use Rattle.task_program.specs.Tokens.{Token, texts, tokens_of, line_at_end}
+use Rattle.program_text.specs.declared.fault.ReadKind.{ReadKind}
+use Rattle.program_text.specs.declared.fault.ReadKind.TheVariants.{TooLong, BadHeader, BadWord, Unclosed, Unopened}
+use Rattle.program_text.specs.declared.fault.ReadFault.{ReadFault}
+use Rattle.program_text.specs.declared.limits.TheConstants.{MOST_TEXT_BYTES}
+use Rattle.program_text.specs.Tokens.{Token, texts, tokens_of, line_at_end}
 use Rattle.task_program.specs.TokenCounts.{open_braces, limit_fault_after}
 use Rattle.task_program.specs.Faults.{form_fault}
 use Rattle.task_program.specs.ProgramMarks.{ProgramMarks}

@@ -1,14 +1,14 @@
 -- The fault of a text of version 2, as far as it lies in the tokens after its header: the first that is wrong.
 use Rattle.std.specs.Prelude.{◌≡◌, ℕ, ◌<◌, ◌≤◌, true, List, [], ◌∷◌, ◌++◌, length, drop, Some, None, Ok, Err, codes}
-use Rattle.task_program.specs.declared.fault.ReadKind.{ReadKind}
-use Rattle.task_program.specs.declared.fault.ReadKind.TheVariants.{TooLong, BadWord, BadNumber, Unclosed, Unopened, TooDeep}
-use Rattle.task_program.specs.declared.fault.ReadFault.{ReadFault}
-use Rattle.task_program.specs.declared.limits.TheConstants.{MOST_TEXT_BYTES, MOST_NESTING}
-use Rattle.task_program.specs.Tokens.{Token, texts, tokens_of, line_at_end}
-use Rattle.task_program.specs.Words.{is_number, value_of}
+use Rattle.program_text.specs.declared.fault.ReadKind.{ReadKind}
+use Rattle.program_text.specs.declared.fault.ReadKind.TheVariants.{TooLong, BadWord, BadNumber, Unclosed, Unopened, TooDeep}
+use Rattle.program_text.specs.declared.fault.ReadFault.{ReadFault}
+use Rattle.program_text.specs.declared.limits.TheConstants.{MOST_TEXT_BYTES, MOST_NESTING}
+use Rattle.program_text.specs.Tokens.{Token, texts, tokens_of, line_at_end}
+use Rattle.program_text.specs.Words.{is_number, value_of}
 use Rattle.task_program.specs.TokenCounts.{open_braces}
-use Rattle.task_program.specs.Loops.{Tree}
-use Rattle.task_program.specs.FirstPass.{form_fault, first_pass, after_header}
+use Rattle.loop_text.specs.Loops.{Tree}
+use Rattle.loop_text.specs.FirstPass.{form_fault, first_pass, after_header}
 use Rattle.task_program.specs.ProgramMarks.{ProgramMarks}
 use Rattle.task_program.specs.ReadInVersion.{begins_version_two, second_pass, program_of}
 use Rattle.task_program.specs.LoopViablePrefix.{IsLoopSentence, IsLoopViable}

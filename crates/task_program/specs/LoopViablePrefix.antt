@@ -2,9 +2,9 @@
 use Rattle.std.specs.Prelude.{◌≡◌, ℕ, ◌≤◌, Bool, true, false, List, [], ◌∷◌, ◌++◌, All, count_by, codes}
 use Rattle.std.specs.List.{flat_map, list_any}
 use Rattle.std.specs.Str.{bytes_eq}
-use Rattle.task_program.specs.declared.statement.DependKind.{DependKind}
-use Rattle.task_program.specs.FirstPass.{is_plus_or_minus}
-use Rattle.task_program.specs.Words.{is_word, is_number, type_word}
+use Rattle.program_text.specs.declared.statement.DependKind.{DependKind}
+use Rattle.loop_text.specs.FirstPass.{is_plus_or_minus}
+use Rattle.program_text.specs.Words.{is_word, is_number, type_word}
 
 -- ---- how a text is written
 

@@ -1,11 +1,11 @@
 -- What the tokens after the header amount to, counted on the tokens alone, and which limit one token more passes. A text
 -- of version 1 has parentheses in its clauses only, and one `:` or `,` before each depend item.
 use Rattle.std.specs.Prelude.{ℕ, ◌+◌, Bool, true, false, not, ◌&&◌, ◌||◌, nat_lt, nat_le, if◌then◌else◌, List, [], ◌∷◌, length, drop, fold, sum_by, Option, Some, None, codes}
-use Rattle.task_program.specs.declared.fault.ReadKind.{ReadKind}
-use Rattle.task_program.specs.declared.fault.ReadKind.TheVariants.{BadNumber, TooDeep, TooManyTasks, TooManySegments, TooManyItems, WorkTooLarge}
-use Rattle.task_program.specs.declared.limits.TheConstants.{MOST_TASKS, MOST_SEGMENTS, MOST_NESTING, MOST_ITEMS, LARGEST_COST, MOST_WORK}
-use Rattle.task_program.specs.Tokens.{Token, texts}
-use Rattle.task_program.specs.Words.{is_text, is_number, value_of}
+use Rattle.program_text.specs.declared.fault.ReadKind.{ReadKind}
+use Rattle.program_text.specs.declared.fault.ReadKind.TheVariants.{BadNumber, TooDeep, TooManyTasks, TooManySegments, TooManyItems, WorkTooLarge}
+use Rattle.program_text.specs.declared.limits.TheConstants.{MOST_TASKS, MOST_SEGMENTS, MOST_NESTING, MOST_ITEMS, LARGEST_COST, MOST_WORK}
+use Rattle.program_text.specs.Tokens.{Token, texts}
+use Rattle.program_text.specs.Words.{is_text, is_number, value_of}
 
 -- ---- parentheses
 

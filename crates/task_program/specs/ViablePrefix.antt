@@ -4,7 +4,7 @@ use Rattle.std.specs.List.{flat_map}
 use Rattle.task_program.specs.Grammar.{Clause, Written, texts_of, is_if}
 use Rattle.task_program.specs.Grammar.Clause.{IfClause, DependClause}
 use Rattle.task_program.specs.Grammar.Written.{WorkWritten, TaskWritten, WaitWritten, GroupWritten, EndWritten}
-use Rattle.task_program.specs.Words.{is_word, is_number, value_of}
+use Rattle.program_text.specs.Words.{is_word, is_number, value_of}
 
 abbrev pub IsWord : List ℕ → Type 0
 IsWord text = is_word text ≡ true

@@ -5,12 +5,12 @@ use Rattle.std.specs.Cmp.{booleans_Decides}
 use mathlib.Core.Bool.{beq}
 use Rattle.std.specs.Bool.{Decides}
 use Rattle.std.proofs.lemmas.Bool.Decides.{Decides-and, Decides-eqb}
-use Rattle.task_program.specs.declared.statement.DependKind.{DependKind}
-use Rattle.task_program.specs.declared.statement.DependKind.TheVariants.{DependIn, DependOut, DependInOut, DependInOutSet}
-use Rattle.task_program.specs.declared.statement.Item.{Item}
-use Rattle.task_program.specs.contracts.statement.DependKind as kinds
-use Rattle.task_program.specs.contracts.statement.DependKindPartialEq.TheImpl as kind_eq
-use Rattle.task_program.specs.contracts.statement.ItemPartialEq.TheImpl as item_eq
+use Rattle.program_text.specs.declared.statement.DependKind.{DependKind}
+use Rattle.program_text.specs.declared.statement.DependKind.TheVariants.{DependIn, DependOut, DependInOut, DependInOutSet}
+use Rattle.program_text.specs.declared.statement.Item.{Item}
+use Rattle.program_text.specs.contracts.statement.DependKind as kinds
+use Rattle.program_text.specs.contracts.statement.DependKindPartialEq.TheImpl as kind_eq
+use Rattle.program_text.specs.contracts.statement.ItemPartialEq.TheImpl as item_eq
 use Rattle.task_segments.specs.declared.table.Closing.{Closing}
 use Rattle.task_segments.specs.declared.table.Closing.TheVariants.{Creates, Waits, EndsGroup, EndsTask}
 use Rattle.task_segments.specs.declared.table.Segment.{Segment}

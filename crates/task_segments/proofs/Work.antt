@@ -19,7 +19,7 @@ use Rattle.task_segments.proofs.Facts.{begun_some_segment}
 use Rattle.task_segments.proofs.Programs.{last_of_nested}
 use Rattle.task_segments.proofs.Rows.{cost_none}
 use Rattle.task_segments.proofs.Steps.{open_below, segments_opens}
-use Rattle.task_program.specs.declared.limits.TheConstants.{MOST_WORK}
+use Rattle.program_text.specs.declared.limits.TheConstants.{MOST_WORK}
 
 -- the costs of the first segments together
 total : List Mark → ℕ → ℕ

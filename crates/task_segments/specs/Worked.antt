@@ -2,9 +2,9 @@
 use Rattle.std.specs.Prelude.{◌≡◌, ℕ, Bool, true, false, List, [], ◌∷◌, Option, Some, None}
 use Rattle.task_program.specs.Marks.{Mark}
 use Rattle.task_program.specs.Marks.Mark.{Begins, Ends, Works, Waits, GroupBegins, GroupEnds}
-use Rattle.task_program.specs.declared.statement.DependKind.{DependKind}
-use Rattle.task_program.specs.declared.statement.DependKind.TheVariants.{DependIn, DependOut, DependInOutSet}
-use Rattle.task_program.specs.declared.statement.Item.{Item}
+use Rattle.program_text.specs.declared.statement.DependKind.{DependKind}
+use Rattle.program_text.specs.declared.statement.DependKind.TheVariants.{DependIn, DependOut, DependInOutSet}
+use Rattle.program_text.specs.declared.statement.Item.{Item}
 use Rattle.task_segments.specs.declared.table.Closing.{Closing}
 use Rattle.task_segments.specs.declared.table.Closing.TheVariants.{Creates, EndsGroup, EndsTask}
 use Rattle.task_segments.specs.declared.table.Closing.TheVariants as closings

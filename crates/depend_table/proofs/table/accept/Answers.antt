@@ -1,6 +1,6 @@
 use Rattle.std.proofs.Common.{ℕ, ◌≡◌, ◌<◌, List, length, Contains, ap, ◌∙◌, sym, subst, rules}
 use Rattle.std.proofs.lemmas.List.Elements.{All-contains}
-use Rattle.task_program.specs.declared.statement.Item.{Item}
+use Rattle.program_text.specs.declared.statement.Item.{Item}
 use Rattle.depend_table.specs.declared.table.Call.{Call}
 use Rattle.depend_table.specs.Siblings.{Sibling}
 use Rattle.depend_table.specs.Entries.{Entry, entry_at, entry_after, newest_first, IsTableOf}

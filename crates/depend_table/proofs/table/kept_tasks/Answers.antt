@@ -3,8 +3,8 @@ use Rattle.std.specs.List.{flat_map}
 use Rattle.std.proofs.lemmas.Result.{IfOk-weaker}
 use Rattle.std.proofs.lemmas.List.{take_more, append-nil}
 use Rattle.std.proofs.lemmas.Grind.{flat_map-append}
-use Rattle.task_program.specs.declared.statement.DependKind.TheVariants.{DependIn}
-use Rattle.task_program.specs.declared.statement.Item.{Item}
+use Rattle.program_text.specs.declared.statement.DependKind.TheVariants.{DependIn}
+use Rattle.program_text.specs.declared.statement.Item.{Item}
 use Rattle.depend_table.specs.Lists.{Lists}
 use Rattle.depend_table.specs.Siblings.{IsKept}
 use Rattle.depend_table.specs.Entries.{newest_first, tasks_of, predecessors_for}

@@ -2,8 +2,8 @@ use Rattle.std.proofs.Common.{ℕ, ◌<◌, ◌≤◌, ◌^◌, List, length, ge
 use Rattle.std.specs.List.Sorted.{IsStrictlyIncreasing}
 use Rattle.std.proofs.lemmas.List.{take_more}
 use Rattle.std.proofs.lemmas.List.Elements.{All-push, All-weaker}
-use Rattle.task_program.specs.declared.statement.DependKind.TheVariants.{DependIn}
-use Rattle.task_program.specs.declared.statement.Item.{Item}
+use Rattle.program_text.specs.declared.statement.DependKind.TheVariants.{DependIn}
+use Rattle.program_text.specs.declared.statement.Item.{Item}
 use Rattle.depend_table.specs.Entries.{predecessors_for}
 use Rattle.depend_table.specs.Generations.{sharing_at}
 use Rattle.depend_table.specs.Marks.{AreWithin}

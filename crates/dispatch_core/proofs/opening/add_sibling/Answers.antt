@@ -4,7 +4,7 @@ use Rattle.std.proofs.lemmas.Option.{none-some, same_Some, slice_get_within}
 use Rattle.task_segments.specs.Table.{Table, task}
 use Rattle.depend_table.specs.Kept.{children_below}
 use Rattle.depend_table.specs.Siblings.{Sibling}
-use Rattle.task_program.specs.declared.statement.Item.{Item}
+use Rattle.program_text.specs.declared.statement.Item.{Item}
 use Rattle.dispatch_core.proofs.Children.{children_small}
 use Rattle.dispatch_core.proofs.SiblingSteps.{stands_at}
 use Rattle.dispatch_core.proofs.opening.add_sibling.Goals as goal

@@ -1,0 +1,7 @@
+pub mod Scanning
+pub mod Runs
+pub mod Numbers
+pub mod Splitting
+pub mod PlainReading
+pub mod Quick
+pub mod FaultRows

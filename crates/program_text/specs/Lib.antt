@@ -1,0 +1,12 @@
+pub mod Marks
+pub mod Statements
+pub mod Conflict
+pub mod Quick
+pub mod Shrinking
+pub mod Tokens
+pub mod ScannerSeen
+pub mod Words
+pub mod Limits
+pub mod Answers
+pub mod Document
+pub mod PlainWords

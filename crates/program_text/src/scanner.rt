@@ -1,0 +1,140 @@
+//! The tokens of a text, one after another.
+ghost use Rattle.std.specs.Prelude.{◌≡◌, ◌+◌, ◌<◌, ◌≤◌, ◌^◌, ◌∷◌, [], length, true, false, count_by};
+ghost use Rattle.std.specs.List.{prefix_len};
+ghost use Rattle.program_text.specs.Tokens.{is_gap, in_comment_after, is_blank, is_run_byte, tokens_from, line_at_end, line_after, is_line_feed, StandsAtToken};
+
+use crate::fault::{ReadFault, ReadKind};
+
+/// A token: its bytes, and the line of the first.
+#[derive(Clone, Copy, Debug)]
+pub struct Token<'a> {
+    pub text: &'a [u8],
+    pub line: u32,
+}
+
+impl<'a> Token<'a> {
+    ghost use Rattle.program_text.specs.Words.{is_text};
+
+    /// Whether it is this text.
+    pub fn is(self, word: &[u8]) -> bool
+        ensures { result ≡ is_text self.entry.text.now word.now }
+    {
+        self.text == word
+    }
+
+    /// This fault, on the line of the token.
+    pub fn fault(self, kind: ReadKind) -> ReadFault
+        ensures { result ≡ record { kind = kind; line = self.entry.line } }
+    {
+        ReadFault {
+            kind,
+            line: self.line,
+        }
+    }
+}
+
+/// What is left of a text, and the line on which it begins.
+#[derive(Clone, Copy)]
+pub struct Scanner<'a> {
+    pub(crate) rest: &'a [u8],
+    pub line: u32,
+    ghost lines_fit: { line + length rest.now < 2 ^ 32 },
+}
+
+impl<'a> Scanner<'a> {
+    ghost use Rattle.std.specs.Prelude.{MatchOption};
+    ghost use Rattle.program_text.specs.ScannerSeen.{tokens_left, end_line, token_seen};
+
+    /// The whole of a text.
+    pub fn new(text: &'a [u8]) -> Scanner<'a>
+        requires { length text.now + 1 < 2 ^ 32 }
+        ensures rest { result.rest.now ≡ text.now }
+        ensures line { result.line ≡ 1 }
+    {
+        Scanner {
+            rest: text,
+            line: 1,
+        }
+    }
+
+    /// The next token, and the scanner goes past it.
+    pub fn next_token(&mut self) -> Option<Token<'a>>
+        ensures first { MatchOption result (tokens_left self.old ≡ [])
+            (λ token. tokens_left self.old ≡ token_seen token ∷ tokens_left self.new) }
+        ensures line { end_line self.new ≡ end_line self.old }
+        ensures at_end { MatchOption result (self.new.line ≡ end_line self.old) (λ token. length self.new.rest.now < length self.old.rest.now) }
+    {
+        self.skip_gap();
+        if self.rest.is_empty() {
+            return None;
+        }
+        let length = run_length(self.rest).max(1);
+        let (text, rest) = self.rest.split_at(length);
+        self.rest = rest;
+        Some(Token {
+            text,
+            line: self.line,
+        })
+    }
+
+    /// Goes past blanks and comments.
+    fn skip_gap(&mut self)
+        ensures same { tokens_left self.new ≡ tokens_left self.old }
+        ensures line { end_line self.new ≡ end_line self.old }
+        ensures stops { StandsAtToken self.new.rest.now }
+        ensures shrinks { length self.new.rest.now ≤ length self.old.rest.now }
+    {
+        let mut in_comment = false;
+        'gap: while let [byte, rest @ ..] = self.rest {
+            if !is_gap(in_comment, *byte) {
+                return;
+            }
+            in_comment = in_comment_after(in_comment, *byte);
+            self.line = line_after(*byte, self.line);
+            self.rest = rest;
+        }
+    }
+}
+
+/// How many run bytes stand in front.
+fn run_length(bytes: &[u8]) -> usize
+    ensures { result ≡ prefix_len is_run_byte bytes.now }
+{
+    bytes.iter().take_while(|byte| is_run_byte(**byte)).count()
+}
+
+fn is_gap(in_comment: bool, byte: u8) -> bool
+    ensures { result ≡ is_gap in_comment byte }
+{
+    in_comment || is_blank(byte) || byte == b'#'
+}
+
+fn in_comment_after(in_comment: bool, byte: u8) -> bool
+    ensures { result ≡ in_comment_after in_comment byte }
+{
+    if in_comment {
+        byte != b'\n'
+    } else {
+        byte == b'#'
+    }
+}
+
+fn line_after(byte: u8, line: u32) -> u32
+    requires { line + 1 < 2 ^ 32 }
+    ensures { result ≡ line_after byte line }
+{
+    if byte == b'\n' { line + 1 } else { line }
+}
+
+/// Space, tab, CR and LF.
+pub fn is_blank(byte: u8) -> bool
+    ensures { result ≡ is_blank byte }
+{
+    byte == b' ' || byte == b'\t' || byte == b'\r' || byte == b'\n'
+}
+
+pub(crate) fn is_run_byte(byte: u8) -> bool
+    ensures { result ≡ is_run_byte byte }
+{
+    byte.is_ascii_alphanumeric() || byte == b'_'
+}

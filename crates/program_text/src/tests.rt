@@ -1,0 +1,2 @@
+//! Documents and plain words.
+mod documents;

@@ -1,0 +1,27 @@
+//! What is wrong with a token of version 1 by itself.
+ghost use Rattle.std.specs.Prelude.{◌≡◌, ◌≤◌};
+ghost use Rattle.program_text.specs.declared.limits.TheConstants.{MOST_TOKEN_BYTES};
+ghost use Rattle.task_program.specs.Faults.{form_fault};
+
+use program_text::fault::ReadKind;
+use program_text::limits::{MOST_TOKEN_BYTES, MOST_WORD_BYTES};
+use program_text::scanner::Token;
+use program_text::words::{begins_with_digit, is_number, is_run, is_sign, is_word};
+
+/// What is wrong with a token by itself, after so many bytes of tokens.
+pub(crate) fn form_fault(bytes: usize, token: Token<'_>) -> Option<ReadKind>
+    requires { bytes ≤ MOST_TOKEN_BYTES }
+    ensures { result ≡ form_fault bytes token.entry.text.now }
+{
+    if !(is_run(token.text) || is_sign(token)) {
+        Some(ReadKind::BadByte)
+    } else if begins_with_digit(token.text) && !is_number(token.text) {
+        Some(ReadKind::BadNumber)
+    } else if token.text.len() > MOST_WORD_BYTES && is_word(token.text) {
+        Some(ReadKind::BadWord)
+    } else if token.text.len() > MOST_TOKEN_BYTES - bytes {
+        Some(ReadKind::TooLong)
+    } else {
+        None
+    }
+}
