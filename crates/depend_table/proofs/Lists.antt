@@ -1,19 +1,24 @@
 -- Ascending lists of sets of numbers.
-use Rattle.std.proofs.Common.{ℕ, ◌+◌, ◌<◌, ◌≡◌, ◌⊎◌, List, [], ◌∷◌, ◌++◌, length, get_or, Contains, sym, ◌∙◌, ap, subst, inl, inr, arith}
+use Rattle.std.proofs.Common.{ℕ, ◌+◌, ◌<◌, ◌≡◌, ◌⊎◌, List, [], ◌∷◌, ◌++◌, length, get_or, Contains}
+use Rattle.std.proofs.Common.{sym, ◌∙◌, ap, subst, inl, inr, arith}
 use Rattle.std.specs.List.Sorted.{IsStrictlyIncreasing}
 use Rattle.std.proofs.lemmas.Bool.{cases_lt}
 use Rattle.std.proofs.lemmas.List.{length_push, get_or_append_left}
-use Rattle.std.proofs.lemmas.List.Elements.{Contains-get_or, Contains-push, Contains-append_left, Contains-push_cases}
+use Rattle.std.proofs.lemmas.List.Elements.{Contains-get_or, Contains-push, Contains-append_left}
+use Rattle.std.proofs.lemmas.List.Elements.{Contains-push_cases}
 use Rattle.std.proofs.Math.Seq.{get_or-append_seam}
 use Rattle.depend_table.specs.Lists.{Lists}
 
 -- one more number, above all of them
-pub increasing_push : (xs : List ℕ) (n : ℕ) → IsStrictlyIncreasing xs → ((m : ℕ) → Contains xs m → m < n)
+pub increasing_push : (xs : List ℕ) (n : ℕ)
+    → IsStrictlyIncreasing xs
+    → ((m : ℕ) → Contains xs m → m < n)
     → IsStrictlyIncreasing (xs ++ n ∷ [])
 increasing_push xs n up below k h =
     let len : length (xs ++ n ∷ []) ≡ length xs + 1 = length_push xs n in
     let within : k < length xs = omega arith in
-    let here : get_or (xs ++ n ∷ []) k 0 ≡ get_or xs k 0 = get_or_append_left xs (n ∷ []) 0 k within in
+    let here : get_or (xs ++ n ∷ []) k 0 ≡ get_or xs k 0 =
+    get_or_append_left xs (n ∷ []) 0 k within in
     elim (cases_lt (k + 1) (length xs)) [
       | inl inside ↦
           let there : get_or (xs ++ n ∷ []) (k + 1) 0 ≡ get_or xs (k + 1) 0 =
@@ -34,13 +39,20 @@ pub lists_push : (P Q : ℕ → Type 0) (xs : List ℕ) (n : ℕ) → Lists P xs
 lists_push P Q xs n lists above widened new cases = record {
   ascending = increasing_push xs n lists.ascending (λ m c. above m ((lists.each m).0 c));
   each = λ m. (
-    (λ c. elim (Contains-push_cases xs n m c) [ inl old ↦ widened m ((lists.each m).0 old) | inr same ↦ subst Q same new ]),
-    (λ q. elim (cases m q) [ inl old ↦ Contains-append_left xs (n ∷ []) m ((lists.each m).1 old) | inr same ↦ subst (λ k. Contains (xs ++ n ∷ []) k) same (Contains-push xs n) ]),
+    (λ c. elim (Contains-push_cases xs n m c) [
+      | inl old ↦ widened m ((lists.each m).0 old)
+      | inr same ↦ subst Q same new
+    ]),
+    (λ q. elim (cases m q) [
+      | inl old ↦ Contains-append_left xs (n ∷ []) m ((lists.each m).1 old)
+      | inr same ↦ subst (λ k. Contains (xs ++ n ∷ []) k) same (Contains-push xs n)
+    ]),
   );
 }
 
 -- the same numbers by another property
-pub lists_same : (P Q : ℕ → Type 0) (xs : List ℕ) → Lists P xs → ((m : ℕ) → P m → Q m) → ((m : ℕ) → Q m → P m)
+pub lists_same : (P Q : ℕ → Type 0) (xs : List ℕ) → Lists P xs → ((m : ℕ) → P m → Q m)
+    → ((m : ℕ) → Q m → P m)
     → Lists Q xs
 lists_same P Q xs lists there back = record {
   ascending = lists.ascending;

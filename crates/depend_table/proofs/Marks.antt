@@ -1,10 +1,15 @@
 -- What one more mark does, the numbers at marked places, and the window that the places stand in.
-use Rattle.std.proofs.Common.{ℕ, ◌+◌, ◌<◌, ◌≡◌, ◌↔◌, ◌⊎◌, Bool, false, List, [], ◌∷◌, ◌++◌, length, get_or, set, take, drop, Contains, true, ◌-◌, ◌≤◌, sym, ◌∙◌, ap, subst, inl, inr, arith}
+use Rattle.std.proofs.Common.{ℕ, ◌+◌, ◌<◌, ◌≡◌, ◌↔◌, ◌⊎◌, Bool, false, List, [], ◌∷◌, ◌++◌, length}
+use Rattle.std.proofs.Common.{get_or, set, take, drop, Contains, true, ◌-◌, ◌≤◌, sym, ◌∙◌, ap}
+use Rattle.std.proofs.Common.{subst, inl, inr, arith}
 use Rattle.std.specs.List.Sorted.{IsStrictlyIncreasing}
 use Rattle.std.proofs.Math.Seq.{take-append_seam}
 use Rattle.std.proofs.lemmas.Bool.{cases_eq, cases_lt, false≢true}
-use Rattle.std.proofs.lemmas.List.{get_or-set_same, get_or-set_other, get_or_default, get_or_past, length-set}
-use Rattle.std.proofs.lemmas.List.Elements.{Contains-append_left, Contains-append_right, Contains-append_cases, Contains-push, Contains-push_cases}
+use Rattle.std.proofs.lemmas.List.{get_or-set_same, get_or-set_other, get_or_default, get_or_past}
+use Rattle.std.proofs.lemmas.List.{length-set}
+use Rattle.std.proofs.lemmas.List.Elements.{Contains-append_left, Contains-append_right}
+use Rattle.std.proofs.lemmas.List.Elements.{Contains-append_cases, Contains-push}
+use Rattle.std.proofs.lemmas.List.Elements.{Contains-push_cases}
 use Rattle.std.proofs.lemmas.List.Kept.{AllPairs-from_increasing}
 use Rattle.depend_table.specs.Lists.{Lists}
 use Rattle.depend_table.specs.Marks.{AreWithin, IsMarked, AreMarkedToo, IsMarkedNumber}
@@ -22,8 +27,13 @@ mark_one first old marks done place from within so_far = record {
     still : (p : ℕ) → IsMarked first marks p → IsMarked first (set marks (place - first) true) p
     still p m =
         elim (cases_eq (p - first) (place - first)) [
-          | inl same ↦ (m.0, ap (λ k. get_or (set marks (place - first) true) k false) same ∙ get_or-set_same marks (place - first) true false within)
-          | inr other ↦ (m.0, get_or-set_other marks (place - first) (p - first) true false other ∙ m.1)
+          | inl same ↦ (
+            m.0,
+            ap (λ k. get_or (set marks (place - first) true) k false) same
+                ∙ get_or-set_same marks (place - first) true false within,
+          )
+          | inr other ↦
+              (m.0, get_or-set_other marks (place - first) (p - first) true false other ∙ m.1)
         ]
 
     there : (p : ℕ) → IsMarked first (set marks (place - first) true) p
@@ -31,9 +41,13 @@ mark_one first old marks done place from within so_far = record {
     there p m =
         let above = m.0 in
         elim (cases_eq (p - first) (place - first)) [
-          | inl same ↦ let here : place ≡ p = omega arith in inr (subst (λ k. Contains (done ++ place ∷ []) k) here (Contains-push done place))
+          | inl same ↦ let here : place ≡ p = omega arith in
+              inr (subst (λ k. Contains (done ++ place ∷ []) k) here (Contains-push done place))
           | inr other ↦
-              elim ((so_far.each p).0 (m.0, sym (get_or-set_other marks (place - first) (p - first) true false other) ∙ m.1)) [
+              elim ((so_far.each p).0 (
+                m.0,
+                sym (get_or-set_other marks (place - first) (p - first) true false other) ∙ m.1,
+              )) [
                 | inl before ↦ inl before
                 | inr listed ↦ inr (Contains-append_left done (place ∷ []) p listed)
               ]
@@ -45,16 +59,25 @@ mark_one first old marks done place from within so_far = record {
     back p (inr listed) =
         elim (Contains-push_cases done place p listed) [
           | inl earlier ↦ still p ((so_far.each p).1 (inr earlier))
-          | inr same ↦ subst (λ k. IsMarked first (set marks (place - first) true) k) same (from, get_or-set_same marks (place - first) true false within)
+          | inr same ↦ subst (λ k. IsMarked first (set marks (place - first) true) k) same
+              (from, get_or-set_same marks (place - first) true false within)
         ]
 
 -- the marks of two lists of places, in turn
 pub marked_in_turn : (first : ℕ) (old marks : List Bool) (before after : List ℕ)
-    → ((place : ℕ) → IsMarked first old place ↔ Contains before place) → AreMarkedToo first old marks after
-    → (place : ℕ) → IsMarked first marks place ↔ Contains (before ++ after) place
+    → ((place : ℕ) → IsMarked first old place ↔ Contains before place)
+    → AreMarkedToo first old marks after
+    → (place : ℕ)
+    → IsMarked first marks place ↔ Contains (before ++ after) place
 marked_in_turn first old marks before after so_far more place = (
-  (λ m. elim ((more.each place).0 m) [ inl earlier ↦ Contains-append_left before after place ((so_far place).0 earlier) | inr new ↦ Contains-append_right before after place new ]),
-  (λ c. elim (Contains-append_cases before after place c) [ inl earlier ↦ (more.each place).1 (inl ((so_far place).1 earlier)) | inr new ↦ (more.each place).1 (inr new) ]),
+  (λ m. elim ((more.each place).0 m) [
+    | inl earlier ↦ Contains-append_left before after place ((so_far place).0 earlier)
+    | inr new ↦ Contains-append_right before after place new
+  ]),
+  (λ c. elim (Contains-append_cases before after place c) [
+    | inl earlier ↦ (more.each place).1 (inl ((so_far place).1 earlier))
+    | inr new ↦ (more.each place).1 (inr new)
+  ]),
 )
 
 -- past the marks nothing is marked
@@ -64,39 +87,66 @@ marked_within first marks place marked =
     let from = marked.0 in
     elim (cases_lt (place - first) (length marks)) [
       | inl less ↦ omega arith
-      | inr past ↦ absurd (false≢true (sym (get_or_past marks (place - first) false (omega arith)) ∙ marked.1))
+      | inr past ↦ absurd
+          (false≢true (sym (get_or_past marks (place - first) false (omega arith)) ∙ marked.1))
     ]
 
 -- marks that are written back over as many
 pub written_back : (n : ℕ) (old new : List Bool) → length new ≡ length old → n ≡ length old
     → take n (new ++ drop (length new) old) ≡ new
 written_back n old new same len =
-    ap (λ k. take k (new ++ drop (length new) old)) (len ∙ sym same) ∙ take-append_seam new (drop (length new) old)
+    ap (λ k. take k (new ++ drop (length new) old)) (len ∙ sym same)
+    ∙ take-append_seam new (drop (length new) old)
 
 -- the numbers at marked places, one place further on
 pub numbers_unmarked : (first : ℕ) (marks : List Bool) (numbers kept : List ℕ) (i : ℕ)
     → get_or marks (i - first) false ≡ false → Lists (IsMarkedNumber first marks numbers i) kept
     → Lists (IsMarkedNumber first marks numbers (i + 1)) kept
-numbers_unmarked first marks numbers kept i unmarked lists = lists_same (IsMarkedNumber first marks numbers i) (IsMarkedNumber first marks numbers (i + 1)) kept lists there back
+numbers_unmarked first marks numbers kept i unmarked lists =
+    lists_same (IsMarkedNumber first marks numbers i) (IsMarkedNumber first marks numbers (i + 1))
+    kept lists there back
   where
-    there : (m : ℕ) → IsMarkedNumber first marks numbers i m → IsMarkedNumber first marks numbers (i + 1) m
-    there m at_mark = let below = at_mark.below in record { place = at_mark.place; below = omega arith; marked = at_mark.marked; found = at_mark.found }
+    there : (m : ℕ)
+        → IsMarkedNumber first marks numbers i m
+        → IsMarkedNumber first marks numbers (i + 1) m
+    there m at_mark =
+        let below = at_mark.below in
+        record {
+          place = at_mark.place;
+          below = omega arith;
+          marked = at_mark.marked;
+          found = at_mark.found;
+        }
 
-    back : (m : ℕ) → IsMarkedNumber first marks numbers (i + 1) m → IsMarkedNumber first marks numbers i m
+    back : (m : ℕ)
+        → IsMarkedNumber first marks numbers (i + 1) m
+        → IsMarkedNumber first marks numbers i m
     back m at_mark =
         let below = at_mark.below in
         let marked = at_mark.marked in
         elim (cases_lt at_mark.place i) [
-          | inl less ↦ record { place = at_mark.place; below = less; marked = at_mark.marked; found = at_mark.found }
-          | inr not_less ↦ let same : at_mark.place ≡ i = omega arith in absurd (false≢true (sym unmarked ∙ subst (λ k. get_or marks (k - first) false ≡ true) same marked.1))
+          | inl less ↦ record {
+            place = at_mark.place;
+            below = less;
+            marked = at_mark.marked;
+            found = at_mark.found;
+          }
+          | inr not_less ↦ let same : at_mark.place ≡ i = omega arith in
+              absurd (false≢true
+              (sym unmarked ∙ subst (λ k. get_or marks (k - first) false ≡ true) same marked.1))
         ]
 
-pub numbers_marked : (first : ℕ) (marks : List Bool) (numbers kept : List ℕ) (i number : ℕ) → i < length numbers
-    → IsStrictlyIncreasing numbers → IsMarked first marks i → get_or numbers i 0 ≡ number
+pub numbers_marked : (first : ℕ) (marks : List Bool) (numbers kept : List ℕ) (i number : ℕ)
+    → i < length numbers
+    → IsStrictlyIncreasing numbers
+    → IsMarked first marks i
+    → get_or numbers i 0 ≡ number
     → Lists (IsMarkedNumber first marks numbers i) kept
     → Lists (IsMarkedNumber first marks numbers (i + 1)) (kept ++ number ∷ [])
 numbers_marked first marks numbers kept i number within up marked found lists =
-    lists_push (IsMarkedNumber first marks numbers i) (IsMarkedNumber first marks numbers (i + 1)) kept number lists above there (record { place = i; below = omega arith; marked = marked; found = found }) back
+    lists_push (IsMarkedNumber first marks numbers i) (IsMarkedNumber first marks numbers (i + 1))
+    kept number lists above there
+    (record { place = i; below = omega arith; marked = marked; found = found }) back
   where
     above : (m : ℕ) → IsMarkedNumber first marks numbers i m → m < number
     above m at_mark =
@@ -105,16 +155,31 @@ numbers_marked first marks numbers kept i number within up marked found lists =
         AllPairs-from_increasing numbers up at_mark.place i 0 at_mark.below within in
         omega arith
 
-    there : (m : ℕ) → IsMarkedNumber first marks numbers i m → IsMarkedNumber first marks numbers (i + 1) m
-    there m at_mark = let below = at_mark.below in record { place = at_mark.place; below = omega arith; marked = at_mark.marked; found = at_mark.found }
+    there : (m : ℕ)
+        → IsMarkedNumber first marks numbers i m
+        → IsMarkedNumber first marks numbers (i + 1) m
+    there m at_mark =
+        let below = at_mark.below in
+        record {
+          place = at_mark.place;
+          below = omega arith;
+          marked = at_mark.marked;
+          found = at_mark.found;
+        }
 
     back : (m : ℕ) → IsMarkedNumber first marks numbers (i + 1) m
         → IsMarkedNumber first marks numbers i m ⊎ (number ≡ m)
     back m at_mark =
         let below = at_mark.below in
         elim (cases_lt at_mark.place i) [
-          | inl less ↦ inl (record { place = at_mark.place; below = less; marked = at_mark.marked; found = at_mark.found })
-          | inr not_less ↦ let same : at_mark.place ≡ i = omega arith in inr (sym found ∙ sym (ap (λ k. get_or numbers k 0) same) ∙ at_mark.found)
+          | inl less ↦ inl (record {
+            place = at_mark.place;
+            below = less;
+            marked = at_mark.marked;
+            found = at_mark.found;
+          })
+          | inr not_less ↦ let same : at_mark.place ≡ i = omega arith in
+              inr (sym found ∙ sym (ap (λ k. get_or numbers k 0) same) ∙ at_mark.found)
         ]
 
 -- ascending places stand between the first of them and the last
@@ -122,19 +187,33 @@ pub between_ends : (places : List ℕ) → IsStrictlyIncreasing places → 0 < l
     → AreWithin (get_or places 0 0) (get_or places (length places - 1) 0 + 1) places
 between_ends places up some k d h =
     let low : get_or places 0 d ≡ get_or places 0 0 = get_or_default places 0 d 0 some in
-    let high : get_or places (length places - 1) d ≡ get_or places (length places - 1) 0 = get_or_default places (length places - 1) d 0 (omega arith) in (
+    let high : get_or places (length places - 1) d ≡ get_or places (length places - 1) 0 =
+    get_or_default places (length places - 1) d 0 (omega arith) in (
       (elim (cases_eq k 0) [
-        | inl same ↦ let here : get_or places k d ≡ get_or places 0 d = ap (λ i. get_or places i d) same in omega arith
-        | inr other ↦ let less : get_or places 0 d < get_or places k d = AllPairs-from_increasing places up 0 k d (omega arith) h in omega arith
+        | inl same ↦ let here : get_or places k d ≡ get_or places 0 d =
+            ap (λ i. get_or places i d) same in
+            omega arith
+        | inr other ↦ let less : get_or places 0 d < get_or places k d =
+            AllPairs-from_increasing places up 0 k d (omega arith) h in
+            omega arith
       ]),
       (elim (cases_eq k (length places - 1)) [
-        | inl same ↦ let here : get_or places k d ≡ get_or places (length places - 1) d = ap (λ i. get_or places i d) same in omega arith
-        | inr other ↦ let less : get_or places k d < get_or places (length places - 1) d = AllPairs-from_increasing places up k (length places - 1) d (omega arith) (omega arith) in omega arith
+        | inl same ↦ let here : get_or places k d ≡ get_or places (length places - 1) d =
+            ap (λ i. get_or places i d) same in
+            omega arith
+        | inr other ↦ let less : get_or places k d
+            < get_or places (length places - 1) d = AllPairs-from_increasing
+            places up k (length places - 1) d (omega arith) (omega arith) in
+            omega arith
       ]),
     )
 
 -- a wider window
-pub within_wider : (first end from to : ℕ) (places : List ℕ) → from ≤ first → end ≤ to → AreWithin first end places
+pub within_wider : (first end from to : ℕ) (places : List ℕ) → from ≤ first → end ≤ to
+    → AreWithin first end places
     → AreWithin from to places
 within_wider first end from to places lower higher within k d h =
-    let inside = within k d h in let low = inside.0 in let high = inside.1 in ((omega arith), (omega arith))
+    let inside = within k d h in
+    let low = inside.0 in
+    let high = inside.1 in
+    ((omega arith), (omega arith))

@@ -1,5 +1,7 @@
--- What is decided: it holds, or it does not. What holds of a number below a bound is found by looking.
-use Rattle.std.proofs.Common.{ℕ, zero, suc, ◌+◌, ◌<◌, ◌≤◌, ◌≡◌, ◌⊎◌, Bool, true, false, List, [], ◌∷◌, ◌++◌, Option, Some, None, refl, sym, ap, subst, arith, inl, inr}
+-- What is decided: it holds, or it does not. What holds of a number below a bound is found by
+-- looking.
+use Rattle.std.proofs.Common.{ℕ, zero, suc, ◌+◌, ◌<◌, ◌≤◌, ◌≡◌, ◌⊎◌, Bool, true, false, List, []}
+use Rattle.std.proofs.Common.{◌∷◌, ◌++◌, Option, Some, None, refl, sym, ap, subst, arith, inl, inr}
 use Rattle.std.proofs.lemmas.Bool.{cases_eq, cases_lt, both_ways}
 use Rattle.std.proofs.lemmas.Option.{same_Some, none-some}
 use Rattle.depend_table.specs.Lists.{Lists}
@@ -36,11 +38,17 @@ decide_same a b = elim (cases_eq a b) [ inl same ↦ inl same | inr apart ↦ in
 
 pub decide_less : (a b : ℕ) → IsDecided (a < b)
 decide_less a b =
-    elim (cases_lt a b) [ inl less ↦ inl less | inr more ↦ inr (λ less. absurd (omega (arith, less, more))) ]
+    elim (cases_lt a b) [
+      | inl less ↦ inl less
+      | inr more ↦ inr (λ less. absurd (omega (arith, less, more)))
+    ]
 
 pub decide_most : (a b : ℕ) → IsDecided (a ≤ b)
 decide_most a b =
-    elim (cases_lt b a) [ inl less ↦ inr (λ most. absurd (omega (arith, less, most))) | inr most ↦ inl most ]
+    elim (cases_lt b a) [
+      | inl less ↦ inr (λ most. absurd (omega (arith, less, most)))
+      | inr most ↦ inl most
+    ]
 
 pub decide_true : (b : Bool) → IsDecided (b ≡ true)
 decide_true true = inl refl
@@ -49,7 +57,8 @@ decide_true false = inr (λ e. both_ways false refl e)
 pub decide_some : (o : Option ℕ) (n : ℕ) → IsDecided (o ≡ Some n)
 decide_some None n = inr (λ e. none-some n e)
 decide_some (Some m) n =
-    decided_by_equivalent (m ≡ n) (Some m ≡ Some n) (λ e. ap (λ k. Some k) e) (λ e. same_Some m n e) (decide_same m n)
+    decided_by_equivalent (m ≡ n) (Some m ≡ Some n) (λ e. ap (λ k. Some k) e) (λ e. same_Some m n e)
+    (decide_same m n)
 
 pub decide_options : (a b : Option ℕ) → IsDecided (a ≡ b)
 decide_options a (Some n) = decide_some a n
@@ -66,7 +75,9 @@ decide_held (Some m) P each = elim (each m) [
 ]
 
 -- of some number below a bound
-pub decide_below : (P : ℕ → Type 0) (n : ℕ) → ((k : ℕ) → IsDecided (P k)) → IsDecided ((k : ℕ) × (k < n) × P k)
+pub decide_below : (P : ℕ → Type 0) (n : ℕ)
+    → ((k : ℕ) → IsDecided (P k))
+    → IsDecided ((k : ℕ) × (k < n) × P k)
 decide_below P zero each = inr (λ h. absurd (omega (arith, h.1)))
 decide_below P (suc n) each = elim (each n) [
   | inl here ↦ inl (n, omega arith, here)
@@ -80,7 +91,9 @@ decide_below P (suc n) each = elim (each n) [
 ]
 
 -- of each number below a bound
-pub decide_each : (P : ℕ → Type 0) (n : ℕ) → ((k : ℕ) → IsDecided (P k)) → IsDecided ((k : ℕ) → k < n → P k)
+pub decide_each : (P : ℕ → Type 0) (n : ℕ)
+    → ((k : ℕ) → IsDecided (P k))
+    → IsDecided ((k : ℕ) → k < n → P k)
 decide_each P zero each = inl (λ k less. absurd (omega (arith, less)))
 decide_each P (suc n) each = elim (each n) [
   | inr fails ↦ inr (λ all. fails (all n (omega arith)))
@@ -121,7 +134,9 @@ find_first P (suc n) each = elim (find_first P n each) [
 ]
 
 -- the numbers below a bound of which it holds, in a list
-list_below : (P : ℕ → Type 0) (n : ℕ) → ((k : ℕ) → IsDecided (P k)) → (list : List ℕ) × Lists (Below P n) list
+list_below : (P : ℕ → Type 0) (n : ℕ)
+    → ((k : ℕ) → IsDecided (P k))
+    → (list : List ℕ) × Lists (Below P n) list
 list_below P zero each = ([], Lists-none (Below P zero) (λ k h. absurd (omega (arith, h.0))))
 list_below P (suc n) each =
     let before : (list : List ℕ) × Lists (Below P n) list = list_below P n each in
@@ -132,7 +147,10 @@ list_below P (suc n) each =
         subst (λ m. Lists (Below P m) (before.0 ++ n ∷ [])) next
             (Lists-push P n before.0 here before.1),
       )
-      | inr fails ↦ (before.0, subst (λ m. Lists (Below P m) before.0) next (Lists-skip P n before.0 fails before.1))
+      | inr fails ↦ (
+        before.0,
+        subst (λ m. Lists (Below P m) before.0) next (Lists-skip P n before.0 fails before.1),
+      )
     ]
 
 pub some_list : (P : ℕ → Type 0) (n : ℕ) → ((k : ℕ) → IsDecided (P k)) → ((k : ℕ) → P k → k < n)

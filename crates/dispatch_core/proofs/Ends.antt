@@ -1,5 +1,7 @@
 -- A core at the start of a run, and the graph at its end.
-use Rattle.std.proofs.Common.{ℕ, ◌*◌, ◌<◌, ◌≤◌, ◌≡◌, ◌≢◌, ◌⊎◌, zero, suc, Bool, true, false, List, [], ◌∷◌, Option, Some, None, length, refl, sym, ap, ◌∙◌, subst, arith, inl, inr, sum, sum_by, cond, get_or}
+use Rattle.std.proofs.Common.{ℕ, ◌*◌, ◌<◌, ◌≤◌, ◌≡◌, ◌≢◌, ◌⊎◌, zero, suc, Bool, true, false, List}
+use Rattle.std.proofs.Common.{[], ◌∷◌, Option, Some, None, length, refl, sym, ap, ◌∙◌, subst, arith}
+use Rattle.std.proofs.Common.{inl, inr, sum, sum_by, cond, get_or}
 use Rattle.std.specs.Prelude.{All}
 use Rattle.std.proofs.lemmas.List.Sums.{sum_by-le}
 use Rattle.std.proofs.lemmas.Option.{slice_get-get_or}
@@ -20,7 +22,9 @@ use Rattle.dispatch_core.specs.Facts.{IsSoundTable}
 use Rattle.dispatch_core.specs.Entry.{entry}
 use Rattle.dispatch_core.specs.Sound.{IsSound}
 use Rattle.dispatch_core.specs.declared.counters.Counters.{Counters}
-use Rattle.dispatch_core.specs.Counters.{unfinished_count, AreCounts, AreKept, AreKeptOf, AreSiblings, AreSuccessors, GoesUp, HasValue, IsOpenBy, TellFinished}
+use Rattle.dispatch_core.specs.Counters.{unfinished_count, AreCounts, AreKept, AreKeptOf}
+use Rattle.dispatch_core.specs.Counters.{AreSiblings, AreSuccessors, GoesUp, HasValue, IsOpenBy}
+use Rattle.dispatch_core.specs.Counters.{TellFinished}
 use Rattle.depend_table.specs.Siblings.{Sibling}
 use Rattle.depend_table.specs.Kept.{IsKeptEdge}
 use Rattle.dispatch_core.proofs.ListLemmas.{Lists-none}
@@ -31,7 +35,9 @@ use Rattle.dispatch_core.proofs.KeptEnough.{kept_at, open_after}
 use Rattle.dispatch_core.specs.RecordedGraph.{RecordedGraph, IsGraph, Precedes, predecessors_of}
 use Rattle.dispatch_core.specs.Graph.{IsGraphOf}
 
-get-replicate : {A : Type 0} (n : ℕ) (x y : A) (i : ℕ) → slice_get (replicate n x) i ≡ Some y → x ≡ y
+get-replicate : {A : Type 0} (n : ℕ) (x y : A) (i : ℕ)
+    → slice_get (replicate n x) i ≡ Some y
+    → x ≡ y
 get-replicate zero x y i h = absurd (none-some y h)
 get-replicate (suc n) x y zero h = same_Some x y h
 get-replicate (suc n) x y (suc i) h = get-replicate n x y i h
@@ -54,62 +60,112 @@ nothing_valued : (n s : ℕ) → ¬ HasValue (replicate n None) s
 nothing_valued n s has = entry-replicate n has.value s has.is
 
 -- at the start of a run only the first segment is open, and it is kept after none
-first_list : (table : Table) (t : ℕ) → IsSoundTable table → AreKeptOf table (IsOpenBy table (replicate (length table.segments) None)) t []
+first_list : (table : Table) (t : ℕ)
+    → IsSoundTable table
+    → AreKeptOf table (IsOpenBy table (replicate (length table.segments) None)) t []
 first_list table t sound = elim (cases_eq t 0) [
-  | inl first ↦ inl (inl first, Lists-none (λ p. IsKeptEdge table p t) (λ p edge. let less = sound.goes_up.ascending p t (sound.chains.within p t edge) in absurd (omega (arith, less, first))))
-  | inr later ↦ inr (λ opened. elim opened [ inl first ↦ later first | inr by ↦ nothing_valued (length table.segments) by.0 by.2 ], refl)
+  | inl first ↦ inl (
+    inl first,
+    Lists-none (λ p. IsKeptEdge
+        table
+        p
+        t) (λ p edge. let less = sound.goes_up.ascending p t (sound.chains.within p t edge) in
+        absurd (omega (arith, less, first))),
+  )
+  | inr later ↦ inr (
+    λ opened. elim
+        opened [
+          | inl first ↦ later first
+          | inr by ↦ nothing_valued (length table.segments) by.0 by.2
+        ],
+    refl,
+  )
 ]
 
-kept_first : (table : Table) → IsSoundTable table → AreKept table (IsOpenBy table (replicate (length table.segments) None)) (replicate (length table.segments) [])
+kept_first : (table : Table)
+    → IsSoundTable table
+    → AreKept table (IsOpenBy table (replicate (length table.segments) None))
+    (replicate (length table.segments) [])
 kept_first table sound = record {
   each = length-replicate {A = List ℕ} (length table.segments) [];
-  lists = λ t list is. subst (λ (l : List ℕ). AreKeptOf table (IsOpenBy table (replicate (length table.segments) None)) t l) (get-replicate (length table.segments) [] list t is) (first_list table t sound);
+  lists = λ t list is. subst
+      (λ (l : List ℕ).
+      AreKeptOf table (IsOpenBy table (replicate (length table.segments) None)) t l)
+      (get-replicate (length table.segments) [] list t is) (first_list table t sound);
 }
 
-counts_first : (values : List (Option ℕ)) (n : ℕ) → AreCounts values (replicate n []) (replicate n 0)
+counts_first : (values : List (Option ℕ)) (n : ℕ)
+    → AreCounts values (replicate n []) (replicate n 0)
 counts_first values n = record {
   each = length-replicate {A = ℕ} n 0 ∙ sym (length-replicate {A = List ℕ} n []);
   counted = λ t list is.
-      let less : t < length (replicate {A = List ℕ} n []) = slice_get_within (replicate n []) t list is in
-      let within : t < length (replicate {A = ℕ} n 0) = omega (arith, less, length-replicate {A = List ℕ} n [], length-replicate {A = ℕ} n 0) in
+      let less : t < length (replicate {A = List ℕ} n []) =
+      slice_get_within (replicate n []) t list is in
+      let within : t < length (replicate {A = ℕ} n 0) =
+      omega (arith, less, length-replicate {A = List ℕ} n [], length-replicate {A = ℕ} n 0) in
       let there = slice_get-get_or (replicate n 0) t 0 within in
-      let zero_there : 0 ≡ get_or (replicate n 0) t 0 = get-replicate n 0 (get_or (replicate n 0) t 0) t there in
-      there ∙ ap (λ (k : ℕ). Some k) (sym zero_there) ∙ ap (λ (l : List ℕ). Some (unfinished_count values l)) (get-replicate n [] list t is);
+      let zero_there : 0 ≡ get_or (replicate n 0) t 0 =
+      get-replicate n 0 (get_or (replicate n 0) t 0) t there in
+      there
+      ∙ ap (λ (k : ℕ). Some k) (sym zero_there)
+      ∙ ap (λ (l : List ℕ). Some (unfinished_count values l)) (get-replicate n [] list t is);
 }
 
-successors_first : (values : List (Option ℕ)) (n : ℕ) → AreSuccessors values (replicate n []) (replicate n [])
+successors_first : (values : List (Option ℕ)) (n : ℕ)
+    → AreSuccessors values (replicate n []) (replicate n [])
 successors_first values n = record {
   each = refl;
   listed = λ s list is none t. (
-    λ h. let w = (subst (λ (l : List ℕ). Contains l t) (sym (get-replicate n [] list s is)) h).1 in absurd (omega (arith, w)),
-    λ h. let w = (subst (λ (l : List ℕ). Contains l s) (sym (get-replicate n [] h.list t h.is_list)) h.has).1 in absurd (omega (arith, w)),
+    λ h. let w = (subst (λ (l : List ℕ). Contains l t) (sym (get-replicate n [] list s is)) h).1 in
+        absurd (omega (arith, w)),
+    λ h. let w =
+        (subst (λ (l : List ℕ). Contains l s) (sym (get-replicate n [] h.list t h.is_list))
+        h.has).1 in
+        absurd (omega (arith, w)),
   );
-  once = λ s list is none. subst (λ (l : List ℕ). AllPairs (λ x y. x ≢ y) l) (get-replicate n [] list s is) (λ i j d less within. let w = within in absurd (omega (arith, w)));
+  once = λ s list is none. subst (λ (l : List ℕ). AllPairs (λ x y. x ≢ y) l)
+      (get-replicate n [] list s is)
+      (λ i j d less within. let w = within in absurd (omega (arith, w)));
 }
 
-pub up_to_date_first : (table : Table) (counters : Counters) → IsSoundTable table → items_of counters.preds.items ≡ replicate (length table.segments) []
-    → items_of counters.successors.items ≡ replicate (length table.segments) [] → counters.counts.items ≡ replicate (length table.segments) 0
-    → counters.siblings.items ≡ replicate (length table.tasks) [] → IsUpToDate table (replicate (length table.segments) None) counters
+pub up_to_date_first : (table : Table) (counters : Counters)
+    → IsSoundTable table
+    → items_of counters.preds.items ≡ replicate (length table.segments) []
+    → items_of counters.successors.items ≡ replicate (length table.segments) []
+    → counters.counts.items ≡ replicate (length table.segments) 0
+    → counters.siblings.items ≡ replicate (length table.tasks) []
+    → IsUpToDate table (replicate (length table.segments) None) counters
 up_to_date_first table counters sound preds successors counts siblings =
     let n : ℕ = length table.segments in
     let values : List (Option ℕ) = replicate n None in
     record {
-      kept = subst (λ (p : List (List ℕ)). AreKept table (IsOpenBy table values) p) (sym preds) (kept_first table sound);
-      counts = subst (λ (p : List (List ℕ)). AreCounts values p counters.counts.items) (sym preds) (subst (λ (k : List ℕ). AreCounts values (replicate n []) k) (sym counts) (counts_first values n));
-      successors = subst (λ (p : List (List ℕ)). AreSuccessors values p (items_of counters.successors.items)) (sym preds)
-          (subst (λ (l : List (List ℕ)). AreSuccessors values (replicate n []) l) (sym successors) (successors_first values n));
-      siblings = subst (λ (l : List (List Sibling)). AreSiblings table values l) (sym siblings) (siblings_first table (length table.tasks) values refl (λ s. nothing_valued n s));
+      kept = subst (λ (p : List (List ℕ)). AreKept table (IsOpenBy table values) p) (sym preds)
+          (kept_first table sound);
+      counts = subst (λ (p : List (List ℕ)). AreCounts values p counters.counts.items) (sym preds)
+          (subst (λ (k : List ℕ). AreCounts values (replicate n []) k) (sym counts)
+          (counts_first values n));
+      successors = subst
+          (λ (p : List (List ℕ)). AreSuccessors values p (items_of counters.successors.items))
+          (sym preds)
+          (subst (λ (l : List (List ℕ)). AreSuccessors values (replicate n []) l) (sym successors)
+          (successors_first values n));
+      siblings = subst (λ (l : List (List Sibling)). AreSiblings table values l) (sym siblings)
+          (siblings_first table (length table.tasks) values refl (λ s. nothing_valued n s));
     }
 
-pub sound_at_start : (value_of : ℕ → ℕ → ℕ → ℕ) (table : Table) (capacity : ℕ) (counters : Counters) → IsSoundTable table → 2 * length table.segments ≤ capacity
+pub sound_at_start : (value_of : ℕ → ℕ → ℕ → ℕ) (table : Table) (capacity : ℕ) (counters : Counters)
+    → IsSoundTable table
+    → 2 * length table.segments ≤ capacity
     → IsUpToDate table (replicate (length table.segments) None) counters
-    → IsSound value_of table [] capacity (replicate (length table.segments) false) (replicate MOST_WORKERS None) (replicate (length table.segments) None) counters (costs_of table)
+    → IsSound value_of table [] capacity (replicate (length table.segments) false)
+    (replicate MOST_WORKERS None) (replicate (length table.segments) None) counters (costs_of table)
 sound_at_start value_of table capacity counters sound room state = record {
   sound_table = sound;
   legal = λ k event h. absurd (none-some event h);
   are_started = record {
     each = length-replicate (length table.segments) false;
-    is_started = λ s h. absurd (both_ways false refl (get-replicate (length table.segments) false true s h));
+    is_started = λ s h.
+        absurd (both_ways false refl (get-replicate (length table.segments) false true s h));
     has_started = λ s h. absurd (nothing_started s h);
   };
   are_running = record {
@@ -127,88 +183,145 @@ sound_at_start value_of table capacity counters sound room state = record {
   };
   up_to_date = state;
   are_costs = refl;
-  counted = omega (arith, sum_by-replicate (λ (b : Bool). cond {A = ℕ} b 1 0) (length table.segments) false, sum_by-replicate (λ (o : Option ℕ). cond {A = ℕ} (is_some o) 1 0) (length table.segments) None);
+  counted = omega (
+    arith,
+    sum_by-replicate (λ (b : Bool). cond {A = ℕ} b 1 0) (length table.segments) false,
+    sum_by-replicate (λ (o : Option ℕ). cond {A = ℕ} (is_some o) 1 0) (length table.segments)
+        None,
+  );
   reserved = room;
 }
 
-pub sound_first : (value_of : ℕ → ℕ → ℕ → ℕ) (table : Table) (capacity : ℕ) (history : List Event) (started : List Bool) (running values : List (Option ℕ)) (counters : Counters) (costs : List ℕ)
-    → IsSoundTable table → 2 * length table.segments ≤ capacity → history ≡ [] → started ≡ replicate (length table.segments) false → running ≡ replicate MOST_WORKERS None
-    → values ≡ replicate (length table.segments) None → IsUpToDate table (replicate (length table.segments) None) counters → costs ≡ costs_of table
+pub sound_first : (value_of : ℕ → ℕ → ℕ → ℕ) (table : Table) (capacity : ℕ) (history : List Event)
+    (started : List Bool) (running values : List (Option ℕ)) (counters : Counters) (costs : List ℕ)
+    → IsSoundTable table
+    → 2 * length table.segments ≤ capacity
+    → history ≡ []
+    → started ≡ replicate (length table.segments) false
+    → running ≡ replicate MOST_WORKERS None
+    → values ≡ replicate (length table.segments) None
+    → IsUpToDate table (replicate (length table.segments) None) counters
+    → costs ≡ costs_of table
     → IsSound value_of table history capacity started running values counters costs
-sound_first value_of table capacity history started running values counters costs sound room h s r v state c =
-    subst (λ (x : List Event). IsSound value_of table x capacity started running values counters costs) (sym h)
-    (subst (λ (x : List Bool). IsSound value_of table [] capacity x running values counters costs) (sym s)
-    (subst (λ (x : List (Option ℕ)). IsSound value_of table [] capacity (replicate (length table.segments) false) x values counters costs) (sym r)
-    (subst (λ (x : List (Option ℕ)). IsSound value_of table [] capacity (replicate (length table.segments) false) (replicate MOST_WORKERS None) x counters costs) (sym v)
-    (subst (λ (x : List ℕ). IsSound value_of table [] capacity (replicate (length table.segments) false) (replicate MOST_WORKERS None) (replicate (length table.segments) None) counters x) (sym c)
+sound_first value_of table capacity history started running values counters costs sound room h s r v
+    state c =
+    subst
+    (λ (x : List Event). IsSound value_of table x capacity started running values counters costs)
+    (sym h)
+    (subst (λ (x : List Bool). IsSound value_of table [] capacity x running values counters costs)
+    (sym s)
+    (subst
+    (λ (x : List (Option ℕ)). IsSound value_of table [] capacity
+    (replicate (length table.segments) false) x values counters costs)
+    (sym r)
+    (subst
+    (λ (x : List (Option ℕ)). IsSound value_of table [] capacity
+    (replicate (length table.segments) false) (replicate MOST_WORKERS None) x counters costs)
+    (sym v)
+    (subst
+    (λ (x : List ℕ). IsSound value_of table [] capacity (replicate (length table.segments) false)
+    (replicate MOST_WORKERS None) (replicate (length table.segments) None) counters x)
+    (sym c)
     (sound_at_start value_of table capacity counters sound room state)))))
 
-pub precedes_of : (table : Table) (p s : ℕ) → Continues table p s ⊎ Creation table p s → MustPrecede table p s
+pub precedes_of : (table : Table) (p s : ℕ)
+    → Continues table p s ⊎ Creation table p s
+    → MustPrecede table p s
 precedes_of table p s (inl next) = inl next
 precedes_of table p s (inr created) = inr (inl created)
 
-pub open_known : (table : Table) (history : List Event) (s : ℕ) → IsSoundTable table → IsOpen table history s → s < length table.segments
+pub open_known : (table : Table) (history : List Event) (s : ℕ) → IsSoundTable table
+    → IsOpen table history s → s < length table.segments
 open_known table history s sound (inl first) = let some = sound.some_segment in omega arith
-open_known table history s sound (inr (p, edge, done)) = sound.goes_up.within p s (precedes_of table p s edge)
+open_known table history s sound (inr (p, edge, done)) =
+    sound.goes_up.within p s (precedes_of table p s edge)
 
 -- when every segment is finished, all are open
-pub graph_at_end : (table : Table) (history : List Event) (values : List (Option ℕ)) (counters : Counters) (costs : List ℕ) → GoesUp table → TellFinished (length table.segments) history values
-    → IsFinished table history → IsUpToDate table values counters → costs ≡ costs_of table → IsGraphOf table (record { costs = costs; predecessors = items_of counters.preds.items })
+pub graph_at_end : (table : Table) (history : List Event) (values : List (Option ℕ))
+    (counters : Counters) (costs : List ℕ)
+    → GoesUp table
+    → TellFinished (length table.segments) history values
+    → IsFinished table history
+    → IsUpToDate table values counters
+    → costs ≡ costs_of table
+    → IsGraphOf table (record { costs = costs; predecessors = items_of counters.preds.items })
 graph_at_end table history values counters costs up tell finished state same = record {
   costs = same;
   each = state.kept.each;
   predecessors = λ t known.
       let preds : List (List ℕ) = items_of counters.preds.items in
-      let there = slice_get-get_or preds t [] (let each = state.kept.each in omega (arith, known, each)) in
-      let opened = open_after table history values t up tell known (λ p edge. finished p (let less = up.ascending p t edge in omega (arith, less, known))) in
-      kept_at table (IsOpenBy table values) t (get_or preds t []) opened (state.kept.lists t (get_or preds t []) there);
+      let there =
+      slice_get-get_or preds t [] (let each = state.kept.each in omega (arith, known, each)) in
+      let opened = open_after table history values t up tell known
+      (λ p edge. finished p (let less = up.ascending p t edge in omega (arith, less, known))) in
+      kept_at table (IsOpenBy table values) t (get_or preds t []) opened
+      (state.kept.lists t (get_or preds t []) there);
 }
 
 -- a segment past the last has no predecessors
-pub no_more : (graph : RecordedGraph) (t s : ℕ) → length graph.predecessors ≤ t → ¬ Precedes graph s t
+pub no_more : (graph : RecordedGraph) (t s : ℕ)
+    → length graph.predecessors ≤ t
+    → ¬ Precedes graph s t
 no_more graph t s past member =
     let within : member.0 < length (predecessors_of graph t) = member.1 in
-    absurd (omega (arith, within, ap (λ (l : List ℕ). length l) (get_or_past graph.predecessors t [] past)))
+    absurd (omega
+    (arith, within, ap (λ (l : List ℕ). length l) (get_or_past graph.predecessors t [] past)))
 
-pub graph_of_program : (table : Table) (graph : RecordedGraph) → IsSoundTable table → IsGraphOf table graph → IsGraph graph
+pub graph_of_program : (table : Table) (graph : RecordedGraph) → IsSoundTable table
+    → IsGraphOf table graph → IsGraph graph
 graph_of_program table graph sound of =
-    let same : length graph.costs ≡ length table.segments = ap length of.costs ∙ length-map table.segments (λ (row : Segment). row.cost) in
+    let same : length graph.costs ≡ length table.segments =
+    ap length of.costs ∙ length-map table.segments (λ (row : Segment). row.cost) in
     record {
       each = of.each ∙ sym same;
       some = let some = sound.some_segment in omega arith;
       few = let few = sound.few_segments in omega arith;
       small = let little = sound.little_work in omega (arith, ap sum of.costs);
       smaller = λ s t member. elim (cases_lt t (length table.segments)) [
-        | inl known ↦ sound.goes_up.ascending s t (sound.chains.within s t (((of.predecessors t known).each s).0 member))
+        | inl known ↦ sound.goes_up.ascending s t
+            (sound.chains.within s t (((of.predecessors t known).each s).0 member))
         | inr past ↦ absurd (no_more graph t s (omega (arith, of.each, past)) member)
       ];
       ascending = λ t. elim (cases_lt t (length table.segments)) [
         | inl known ↦ (of.predecessors t known).ascending
         | inr past ↦ λ k h.
-            let none = ap (λ (l : List ℕ). length l) (get_or_past graph.predecessors t [] (omega (arith, of.each, past))) in
+            let none = ap (λ (l : List ℕ). length l)
+            (get_or_past graph.predecessors t [] (omega (arith, of.each, past))) in
             absurd (omega (arith, h, none))
       ];
       reached = λ t later known.
-          let edge : (s : ℕ) × (Continues table s t ⊎ Creation table s t) = sound.goes_up.reached t later (omega arith) in
-          let kept : IsKeptEdge table edge.0 t = elim edge.1 [ inl next ↦ inl next | inr created ↦ inr (inl created) ] in
-          let member : Contains (predecessors_of graph t) edge.0 = ((of.predecessors t (omega arith)).each edge.0).1 kept in
+          let edge : (s : ℕ) × (Continues table s t ⊎ Creation table s t) =
+          sound.goes_up.reached t later (omega arith) in
+          let kept : IsKeptEdge table edge.0 t =
+          elim edge.1 [ inl next ↦ inl next | inr created ↦ inr (inl created) ] in
+          let member : Contains (predecessors_of graph t) edge.0 =
+          ((of.predecessors t (omega arith)).each edge.0).1 kept in
           omega (arith, member.1);
     }
 
 -- how many pairs of a predecessor and a segment a graph has
-pub few_edges : (graph : RecordedGraph) → IsGraph graph → sum_by (λ (list : List ℕ). length list) graph.predecessors ≤ MOST_SEGMENTS * MOST_SEGMENTS
+pub few_edges : (graph : RecordedGraph)
+    → IsGraph graph
+    → sum_by (λ (list : List ℕ). length list) graph.predecessors ≤ MOST_SEGMENTS * MOST_SEGMENTS
 few_edges graph is_graph =
-    let each : All (λ (list : List ℕ). length list ≤ MOST_SEGMENTS) graph.predecessors = λ k d within.
-    let same : get_or graph.predecessors k d ≡ predecessors_of graph k = get_or_default graph.predecessors k d [] within in
-    let few = length_below k (predecessors_of graph k) (is_graph.ascending k) (λ p member. is_graph.smaller p k member) in
+    let each : All (λ (list : List ℕ). length list ≤ MOST_SEGMENTS)
+    graph.predecessors = λ k d within.
+    let same : get_or graph.predecessors k d ≡ predecessors_of graph k =
+    get_or_default graph.predecessors k d [] within in
+    let few = length_below k (predecessors_of graph k) (is_graph.ascending k)
+    (λ p member. is_graph.smaller p k member) in
     let all = is_graph.each in
     let limit = is_graph.few in
     omega (arith, few, all, limit, within, ap (λ (l : List ℕ). length l) same) in
     let total = sum_by-le (λ (list : List ℕ). length list) MOST_SEGMENTS graph.predecessors each in
-    let few : length graph.predecessors ≤ MOST_SEGMENTS = let all = is_graph.each in let limit = is_graph.few in omega arith in
+    let few : length graph.predecessors ≤ MOST_SEGMENTS =
+    let all = is_graph.each in let limit = is_graph.few in omega arith in
     omega arith
 
-same_lists : (xs ys : List (List ℕ)) → length xs ≡ length ys → ((t : ℕ) → t < length xs → get_or xs t [] ≡ get_or ys t []) → xs ≡ ys
+same_lists : (xs ys : List (List ℕ))
+    → length xs ≡ length ys
+    → ((t : ℕ) → t < length xs → get_or xs t [] ≡ get_or ys t [])
+    → xs ≡ ys
 same_lists [] [] each same = refl
 same_lists [] (y ∷ ys) each same = absurd (omega arith)
 same_lists (x ∷ xs) [] each same = absurd (omega arith)
@@ -217,11 +330,15 @@ same_lists (x ∷ xs) (y ∷ ys) each same =
     let tail : xs ≡ ys = same_lists xs ys (omega arith) (λ t within. same (suc t) (omega arith)) in
     cc
 
-pub one_graph : (table : Table) (one other : RecordedGraph) → IsGraphOf table one → IsGraphOf table other → one ≡ other
+pub one_graph : (table : Table) (one other : RecordedGraph) → IsGraphOf table one
+    → IsGraphOf table other → one ≡ other
 one_graph table one other of_one of_other =
     let costs : one.costs ≡ other.costs = of_one.costs ∙ sym of_other.costs in
-    let lists : one.predecessors ≡ other.predecessors = same_lists one.predecessors other.predecessors (of_one.each ∙ sym of_other.each)
+    let lists : one.predecessors ≡ other.predecessors =
+    same_lists one.predecessors other.predecessors (of_one.each ∙ sym of_other.each)
     (λ t within.
     let known : t < length table.segments = omega (arith, of_one.each) in
-    Lists-same (λ s. IsKeptEdge table s t) (predecessors_of one t) (predecessors_of other t) (of_one.predecessors t known) (of_other.predecessors t known)) in
-    ap (λ (c : List ℕ). record { costs = c; predecessors = one.predecessors }) costs ∙ ap (λ (p : List (List ℕ)). record { costs = other.costs; predecessors = p }) lists
+    Lists-same (λ s. IsKeptEdge table s t) (predecessors_of one t) (predecessors_of other t)
+    (of_one.predecessors t known) (of_other.predecessors t known)) in
+    ap (λ (c : List ℕ). record { costs = c; predecessors = one.predecessors }) costs
+    ∙ ap (λ (p : List (List ℕ)). record { costs = other.costs; predecessors = p }) lists

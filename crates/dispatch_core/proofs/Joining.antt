@@ -24,13 +24,19 @@ none_joins table from next waits groups =
     ])
 
 -- those that join, up to the segment before, and then that segment are all kept predecessors
-pub joins_then_before : (table : Table) (before next upto : ℕ) (joins all : List ℕ) → IsReadInPlace table
-    → Continues table before next → ((child : ℕ) → ¬ ((segment table before).closing ≡ Creates child))
-    → before ≤ upto → Lists (Below (λ p. Joins table p next) upto) joins → all ≡ joins ++ before ∷ []
+pub joins_then_before : (table : Table) (before next upto : ℕ) (joins all : List ℕ)
+    → IsReadInPlace table
+    → Continues table before next
+    → ((child : ℕ) → ¬ ((segment table before).closing ≡ Creates child))
+    → before ≤ upto
+    → Lists (Below (λ p. Joins table p next) upto) joins
+    → all ≡ joins ++ before ∷ []
     → Lists (λ p. IsKeptEdge table p next) all
 joins_then_before table before next upto joins all facts follows none passed lists are =
     let P : ℕ → Type 0 = λ p. Joins table p next in
     let earlier = Lists-all P upto joins
-    (λ p one. let less = join_before table p before next facts follows one in omega (arith, less, passed)) lists in
+    (λ p one.
+    let less = join_before table p before next facts follows one in omega (arith, less, passed))
+    lists in
     subst (λ (l : List ℕ). Lists (λ p. IsKeptEdge table p next) l) (sym are)
     (after_join table before next joins facts follows none earlier)

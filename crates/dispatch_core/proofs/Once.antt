@@ -9,16 +9,37 @@ use Rattle.dispatch_core.specs.declared.event.Event.TheVariants.{Start, Finish}
 use Rattle.dispatch_core.specs.Run.{IsLegalRun}
 use Rattle.dispatch_core.proofs.Histories.{Contains-into_take}
 
-abbrev at_place : (history : List Event) (i : ℕ) (event : Event) → slice_get history i ≡ Some event → Contains history event
-at_place history i event is = (i, slice_get_within history i event is, get_or_from_slice_get history i event event is)
+abbrev at_place : (history : List Event) (i : ℕ) (event : Event)
+    → slice_get history i ≡ Some event
+    → Contains history event
+at_place history i event is =
+    (i, slice_get_within history i event is, get_or_from_slice_get history i event event is)
 
-no_later_start : (table : Table) (history : List Event) (i j one other s : ℕ) → IsLegalRun table history → slice_get history i ≡ Some (Start one s) → slice_get history j ≡ Some (Start other s) → ¬ (i < j)
+no_later_start : (table : Table) (history : List Event) (i j one other s : ℕ)
+    → IsLegalRun table history
+    → slice_get history i ≡ Some (Start one s)
+    → slice_get history j ≡ Some (Start other s)
+    → ¬ (i < j)
 no_later_start table history i j one other s legal a b below =
-    (legal j (Start other s) b).ready.not_started (record { worker = one; started = Contains-into_take j history (Start one s) (at_place history i (Start one s) a) below })
+    (legal j (Start other s)
+    b).ready.not_started (record {
+      worker = one;
+      started =
+          Contains-into_take j history (Start one s) (at_place history i (Start one s) a) below;
+    })
 
-no_later_finish : (table : Table) (history : List Event) (i j one other s : ℕ) → IsLegalRun table history → slice_get history i ≡ Some (Finish one s) → slice_get history j ≡ Some (Finish other s) → ¬ (i < j)
+no_later_finish : (table : Table) (history : List Event) (i j one other s : ℕ)
+    → IsLegalRun table history
+    → slice_get history i ≡ Some (Finish one s)
+    → slice_get history j ≡ Some (Finish other s)
+    → ¬ (i < j)
 no_later_finish table history i j one other s legal a b below =
-    (legal j (Finish other s) b).unfinished (record { worker = one; finished = Contains-into_take j history (Finish one s) (at_place history i (Finish one s) a) below })
+    (legal j (Finish other s)
+    b).unfinished (record {
+      worker = one;
+      finished =
+          Contains-into_take j history (Finish one s) (at_place history i (Finish one s) a) below;
+    })
 
 same_place : (i j : ℕ) → ¬ (i < j) → ¬ (j < i) → i ≡ j
 same_place i j not_below not_above = elim (cases_lt i j) [
@@ -29,10 +50,20 @@ same_place i j not_below not_above = elim (cases_lt i j) [
   ]
 ]
 
-pub started_once : (table : Table) (history : List Event) (i j one other s : ℕ) → IsLegalRun table history → slice_get history i ≡ Some (Start one s) → slice_get history j ≡ Some (Start other s) → i ≡ j
+pub started_once : (table : Table) (history : List Event) (i j one other s : ℕ)
+    → IsLegalRun table history
+    → slice_get history i ≡ Some (Start one s)
+    → slice_get history j ≡ Some (Start other s)
+    → i ≡ j
 started_once table history i j one other s legal a b =
-    same_place i j (no_later_start table history i j one other s legal a b) (no_later_start table history j i other one s legal b a)
+    same_place i j (no_later_start table history i j one other s legal a b)
+    (no_later_start table history j i other one s legal b a)
 
-pub finished_once : (table : Table) (history : List Event) (i j one other s : ℕ) → IsLegalRun table history → slice_get history i ≡ Some (Finish one s) → slice_get history j ≡ Some (Finish other s) → i ≡ j
+pub finished_once : (table : Table) (history : List Event) (i j one other s : ℕ)
+    → IsLegalRun table history
+    → slice_get history i ≡ Some (Finish one s)
+    → slice_get history j ≡ Some (Finish other s)
+    → i ≡ j
 finished_once table history i j one other s legal a b =
-    same_place i j (no_later_finish table history i j one other s legal a b) (no_later_finish table history j i other one s legal b a)
+    same_place i j (no_later_finish table history i j one other s legal a b)
+    (no_later_finish table history j i other one s legal b a)

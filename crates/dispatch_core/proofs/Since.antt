@@ -1,5 +1,6 @@
 -- Where the children since a task's previous wait begin, and the tasks inside a group.
-use Rattle.std.proofs.Common.{ℕ, zero, suc, ◌<◌, ◌≤◌, ◌≡◌, ◌↔◌, Some, refl, sym, ap, ◌∙◌, subst, arith, inl, inr}
+use Rattle.std.proofs.Common.{ℕ, zero, suc, ◌<◌, ◌≤◌, ◌≡◌, ◌↔◌, Some, refl, sym, ap, ◌∙◌, subst}
+use Rattle.std.proofs.Common.{arith, inl, inr}
 use Rattle.std.proofs.lemmas.Bool.{cases_eq, cases_lt}
 use Rattle.std.proofs.lemmas.Option.{same_Some}
 use Rattle.task_segments.specs.Table.{Table, segment, task}
@@ -7,9 +8,11 @@ use Rattle.task_segments.specs.declared.table.Closing.{Closing}
 use Rattle.task_segments.specs.declared.table.Closing.TheVariants.{Waits, EndsGroup}
 use Rattle.task_segments.specs.InPlace.{IsOf, IsReadInPlace}
 use Rattle.task_segments.specs.Nesting.{IsNestedTable, IsGroupedTable}
-use Rattle.task_segments.specs.Precedence.{IsSegment, IsTask, Continues, IsEarlierChild, IsBranch, Encloses, GroupEnd, MustPrecede}
+use Rattle.task_segments.specs.Precedence.{IsSegment, IsTask, Continues, IsEarlierChild, IsBranch}
+use Rattle.task_segments.specs.Precedence.{Encloses, GroupEnd, MustPrecede}
 use Rattle.task_segments.specs.Precedence.Descends.{Itself, Below}
-use Rattle.task_segments.proofs.Order.{ancestor_lower, descendant_last, goes_up, not_root, siblings_apart}
+use Rattle.task_segments.proofs.Order.{ancestor_lower, descendant_last, goes_up, not_root}
+use Rattle.task_segments.proofs.Order.{siblings_apart}
 use Rattle.depend_table.specs.Kept.{KeptWait, KeptGroupEnd}
 use Rattle.depend_table.proofs.Groups.{innermost_encloses}
 use Rattle.dispatch_core.specs.Places.{Joins, EndsChild}
@@ -19,20 +22,29 @@ use Rattle.dispatch_core.proofs.Edges.{waits_not_creates}
 pub record Unwaited (table : Table) (from before : ℕ) : Type 0 where
   pub of_task : IsOf table (segment table before).task from
   pub up_to : from ≤ before
-  pub none : (w : ℕ) → IsOf table (segment table before).task w → (segment table w).closing ≡ Waits → from ≤ w
+  pub none : (w : ℕ)
+      → IsOf table (segment table before).task w
+      → (segment table w).closing ≡ Waits
+      → from ≤ w
       → before ≤ w
 
-task_before : (table : Table) (u earlier from : ℕ) → Continues table earlier from → IsOf table u from
+task_before : (table : Table) (u earlier from : ℕ)
+    → Continues table earlier from
+    → IsOf table u from
     → (segment table earlier).task ≡ u
 task_before table u earlier from follows of_task = sym follows.same_task ∙ of_task.of_task
 
 -- and not from the one before it on, which does not wait
-pub unwaited_step : (table : Table) (earlier from before : ℕ) → IsReadInPlace table
-    → Continues table earlier from → ¬ ((segment table earlier).closing ≡ Waits) → Unwaited table from before
+pub unwaited_step : (table : Table) (earlier from before : ℕ)
+    → IsReadInPlace table
+    → Continues table earlier from
+    → ¬ ((segment table earlier).closing ≡ Waits)
+    → Unwaited table from before
     → Unwaited table earlier before
 unwaited_step table earlier from before facts follows no_wait so_far =
     let u : ℕ = (segment table before).task in
-    let of_u : (segment table earlier).task ≡ u = task_before table u earlier from follows so_far.of_task in
+    let of_u : (segment table earlier).task ≡ u =
+    task_before table u earlier from follows so_far.of_task in
     let less = facts.follows_later earlier from follows in
     let up = so_far.up_to in
     record {
@@ -50,9 +62,14 @@ unwaited_step table earlier from before facts follows no_wait so_far =
     }
 
 -- the children that end from there on are waited for
-pub waited_since : (table : Table) (from before next child : ℕ) → IsReadInPlace table
-    → Continues table before next → (segment table before).closing ≡ Waits → Unwaited table from before
-    → IsEarlierChild table child next → from ≤ (task table child).last → KeptWait table (task table child).last next
+pub waited_since : (table : Table) (from before next child : ℕ)
+    → IsReadInPlace table
+    → Continues table before next
+    → (segment table before).closing ≡ Waits
+    → Unwaited table from before
+    → IsEarlierChild table child next
+    → from ≤ (task table child).last
+    → KeptWait table (task table child).last next
 waited_since table from before next child facts follows waits since generated above =
     let p : ℕ = (segment table next).task in
     let creator : ℕ = generated.creator in
@@ -60,13 +77,23 @@ waited_since table from before next child facts follows waits since generated ab
     let of_p : IsOf table p from =
     record { is_segment = since.of_task.is_segment; of_task = since.of_task.of_task ∙ sym same } in
     let upto : from ≤ creator = elim (cases_lt creator from) [
-      | inl below ↦ (let less = facts.children child p creator from generated.parent generated.is_creator of_p below in absurd (omega (arith, less, above)))
+      | inl below ↦ (let less =
+          facts.children child p creator from generated.parent generated.is_creator of_p below in
+          absurd (omega (arith, less, above)))
       | inr upto ↦ upto
     ] in
     record {
-      wait = record { before = before; waits = waits; opens = follows; child = child; generated = generated; last = refl };
+      wait = record {
+        before = before;
+        waits = waits;
+        opens = follows;
+        child = child;
+        generated = generated;
+        last = refl;
+      };
       none_between = λ w is_segment of_task is_wait after. since.none w
-          (record { is_segment = is_segment; of_task = of_task ∙ same }) is_wait (omega (arith, upto, after));
+          (record { is_segment = is_segment; of_task = of_task ∙ same }) is_wait
+          (omega (arith, upto, after));
     }
 
 -- the creator of a child that is waited for
@@ -74,12 +101,16 @@ record Created (table : Table) (before p : ℕ) (creator : ℕ) : Type 0 where
   of_task : IsOf table (segment table before).task creator
   earlier : creator < p
 
-creator_precedes : (table : Table) (before next p : ℕ) → IsReadInPlace table → Continues table before next
-    → (kept : KeptWait table p next) → Created table before p kept.wait.generated.creator
+creator_precedes : (table : Table) (before next p : ℕ)
+    → IsReadInPlace table
+    → Continues table before next
+    → (kept : KeptWait table p next)
+    → Created table before p kept.wait.generated.creator
 creator_precedes table before next p facts follows kept =
     let made = kept.wait.generated in
     let by =
-    facts.creator_of kept.wait.child (segment table next).task made.creator made.is_child made.parent made.is_creator in
+    facts.creator_of kept.wait.child (segment table next).task made.creator made.is_child
+    made.parent made.is_creator in
     let less = facts.created_before kept.wait.child made.creator made.is_child made.is_creator in
     record {
       of_task = record { is_segment = by.is_segment; of_task = by.of_task ∙ follows.same_task };
@@ -87,9 +118,13 @@ creator_precedes table before next p facts follows kept =
     }
 
 -- none of them ends before the first segment of the task
-pub since_first : (table : Table) (from before next p : ℕ) → IsReadInPlace table → Continues table before next
-    → IsOf table (segment table before).task from → ((e : ℕ) → ¬ Continues table e from)
-    → KeptWait table p next → from ≤ p
+pub since_first : (table : Table) (from before next p : ℕ)
+    → IsReadInPlace table
+    → Continues table before next
+    → IsOf table (segment table before).task from
+    → ((e : ℕ) → ¬ Continues table e from)
+    → KeptWait table p next
+    → from ≤ p
 since_first table from before next p facts follows of_task none kept =
     let u : ℕ = (segment table before).task in
     let made = creator_precedes table before next p facts follows kept in
@@ -103,7 +138,9 @@ since_first table from before next p facts follows of_task none kept =
             | inr creation ↦
                 let first = facts.first_of creation.child creation.is_child in
                 let same : creation.child ≡ u =
-                sym first.of_task ∙ ap (λ (n : ℕ). (segment table n).task) creation.first ∙ of_task.of_task in
+                sym first.of_task
+                ∙ ap (λ (n : ℕ). (segment table n).task) creation.first
+                ∙ of_task.of_task in
                 let at_first : (task table u).first ≡ from =
                 ap (λ (n : ℕ). (task table n).first) (sym same) ∙ creation.first in
                 let low = facts.from_first u kept.wait.generated.creator made.of_task in
@@ -112,7 +149,8 @@ since_first table from before next p facts follows of_task none kept =
     ]
 
 -- the task whose last segment it is
-pub ends_task : (table : Table) (u s : ℕ) → IsReadInPlace table → IsTask table u → (task table u).last ≡ s
+pub ends_task : (table : Table) (u s : ℕ) → IsReadInPlace table → IsTask table u
+    → (task table u).last ≡ s
     → (segment table s).task ≡ u
 ends_task table u s facts known last = ap (λ (n : ℕ). (segment table n).task) (sym last) ∙
     (facts.last_of u known).of_task
@@ -126,7 +164,8 @@ since_wait table earlier from before next p facts follows since previous waits k
     let wait = kept.wait in
     let creator : ℕ = wait.generated.creator in
     let made = creator_precedes table before next p facts follows kept in
-    let of_u : (segment table earlier).task ≡ u = task_before table u earlier from previous since.of_task in
+    let of_u : (segment table earlier).task ≡ u =
+    task_before table u earlier from previous since.of_task in
     let less = made.earlier in
     let later = facts.follows_later earlier from previous in
     let up = since.up_to in
@@ -136,19 +175,30 @@ since_wait table earlier from before next p facts follows since previous waits k
         | inl after ↦
             let past =
             facts.nearest earlier from creator previous
-            (record { is_segment = made.of_task.is_segment; of_task = made.of_task.of_task ∙ sym of_u }) after in
+            (record {
+              is_segment = made.of_task.is_segment;
+              of_task = made.of_task.of_task ∙ sym of_u;
+            })
+            after in
             absurd (omega (arith, past, less, below))
         | inr upto ↦ elim (cases_eq creator earlier) [
           | inl same ↦
               let creates =
-              (facts.created creator wait.child wait.generated.is_child wait.generated.is_creator).1 in
+              (facts.created creator wait.child wait.generated.is_child
+              wait.generated.is_creator).1 in
               absurd (waits_not_creates (segment table creator).closing wait.child
               (ap (λ (n : ℕ). (segment table n).closing) same ∙ waits) creates)
           | inr apart ↦
               let past =
               kept.none_between earlier previous.is_from (of_u ∙ sym follows.same_task) waits
               (omega (arith, apart, upto)) in
-              absurd (omega (arith, past, later, up, facts.follows_one wait.before before next wait.opens follows))
+              absurd (omega (
+                arith,
+                past,
+                later,
+                up,
+                facts.follows_one wait.before before next wait.opens follows,
+              ))
         ]
       ]
     ]
@@ -157,25 +207,36 @@ no_group : (closing : Closing) → closing ≡ Waits → closing ≡ EndsGroup �
 no_group closing waits ends = cc
 
 -- after a wait no group's end is recorded, and after the end of a group no wait
-pub wait_no_group : (table : Table) (before next s : ℕ) → IsReadInPlace table → Continues table before next
-    → (segment table before).closing ≡ Waits → ¬ KeptGroupEnd table s next
+pub wait_no_group : (table : Table) (before next s : ℕ)
+    → IsReadInPlace table
+    → Continues table before next
+    → (segment table before).closing ≡ Waits
+    → ¬ KeptGroupEnd table s next
 wait_no_group table before next s facts follows waits group =
     let ends = (facts.group group.inside next group.is_inside group.innermost).0 in
     no_group (segment table ends.before).closing
-    (ap (λ (n : ℕ). (segment table n).closing) (facts.follows_one ends.before before next ends.after follows)
+    (ap (λ (n : ℕ). (segment table n).closing)
+    (facts.follows_one ends.before before next ends.after follows)
     ∙ waits) ends.ends_group
 
-pub group_no_wait : (table : Table) (before next s : ℕ) → IsReadInPlace table → Continues table before next
-    → (segment table before).closing ≡ EndsGroup → ¬ KeptWait table s next
+pub group_no_wait : (table : Table) (before next s : ℕ)
+    → IsReadInPlace table
+    → Continues table before next
+    → (segment table before).closing ≡ EndsGroup
+    → ¬ KeptWait table s next
 group_no_wait table before next s facts follows ends kept =
     no_group (segment table kept.wait.before).closing kept.wait.waits
     (ap (λ (n : ℕ). (segment table n).closing)
     (facts.follows_one kept.wait.before before next kept.wait.opens follows) ∙ ends)
 
-pub wait_joins : (table : Table) (from before next s : ℕ) → IsReadInPlace table → Continues table before next
+pub wait_joins : (table : Table) (from before next s : ℕ)
+    → IsReadInPlace table
+    → Continues table before next
     → (segment table before).closing ≡ Waits
-    → ((c : ℕ) → IsEarlierChild table c next → from ≤ (task table c).last → KeptWait table (task table c).last next)
-    → from ≤ s → s < before
+    → ((c : ℕ) → IsEarlierChild table c next → from ≤ (task table c).last
+    → KeptWait table (task table c).last next)
+    → from ≤ s
+    → s < before
     → EndsChild table (segment table before).task s ↔ Joins table s next
 wait_joins table from before next s facts follows waits waited above below = (
   λ ends.
@@ -203,8 +264,11 @@ wait_joins table from before next s facts follows waits waited above below = (
   ],
 )
 
-pub group_joins : (table : Table) (before next s : ℕ) → IsReadInPlace table → Continues table before next
-    → (segment table before).closing ≡ EndsGroup → KeptGroupEnd table s next ↔ Joins table s next
+pub group_joins : (table : Table) (before next s : ℕ)
+    → IsReadInPlace table
+    → Continues table before next
+    → (segment table before).closing ≡ EndsGroup
+    → KeptGroupEnd table s next ↔ Joins table s next
 group_joins table before next s facts follows ends = (
   λ group. inr group,
   λ joins. elim joins [
@@ -214,8 +278,14 @@ group_joins table before next s facts follows ends = (
 )
 
 -- a task that begins while another one runs descends from a child of that one
-pub branch_of : (fuel : ℕ) (table : Table) → IsNestedTable table → (u v : ℕ) → v < fuel → u < v → IsTask table v
-    → (task table v).first ≤ (task table u).last → (child : ℕ) × IsBranch table v u child
+pub branch_of : (fuel : ℕ) (table : Table)
+    → IsNestedTable table
+    → (u v : ℕ)
+    → v < fuel
+    → u < v
+    → IsTask table v
+    → (task table v).first ≤ (task table u).last
+    → (child : ℕ) × IsBranch table v u child
 branch_of zero table nested u v bound less known within = absurd (omega arith)
 branch_of (suc fuel) table nested u v bound less known within =
     let made = nested.children v (omega arith) known in
@@ -237,15 +307,23 @@ branch_of (suc fuel) table nested u v bound less known within =
             let up = nested.created_in_order u v less known in
             let at_first = outer.first in
             let inside =
-            outer.inside made.creator (omega (arith, up, first, at_first)) (omega (arith, first, within)) in
+            outer.inside made.creator (omega (arith, up, first, at_first))
+            (omega (arith, first, within)) in
             absurd (omega (arith, inside, below, made.of_creator))
         | inr above ↦
             let up = nested.created_in_order made.parent v lower known in
             let further =
             branch_of fuel table nested u made.parent (omega (arith, lower, bound))
-            (omega (arith, apart, above)) (omega (arith, lower, known)) (omega (arith, up, within)) in
-            let branch = further.1 in
-            (further.0, record { is_child = branch.is_child; parent = branch.parent; descends = Below v made.parent further.0 known made.is_parent branch.descends })
+            (omega (arith, apart, above)) (omega (arith, lower, known))
+            (omega (arith, up, within)) in
+            let branch = further.1 in (
+              further.0,
+              record {
+                is_child = branch.is_child;
+                parent = branch.parent;
+                descends = Below v made.parent further.0 known made.is_parent branch.descends;
+              },
+            )
       ]
     ]
 
@@ -262,24 +340,36 @@ pub first_to_last : (table : Table) (u : ℕ) → IsReadInPlace table → IsTask
 first_to_last table u facts known = facts.from_first u (task table u).last (facts.last_of u known)
 
 -- a group holds each task that begins after one that it holds and before its end
-pub holds_on : (table : Table) (before next w v : ℕ) → IsReadInPlace table → IsNestedTable table
+pub holds_on : (table : Table) (before next w v : ℕ)
+    → IsReadInPlace table
+    → IsNestedTable table
     → IsGroupedTable table
     → ((t a b : ℕ) → Encloses table t a → a < b → IsEarlierChild table b t → Encloses table t b)
-    → Continues table before next → IsTask table w → (task table w).innermost_group ≡ Some next → w ≤ v
-    → IsTask table v → (task table v).first ≤ before → MustPrecede table (task table v).last next
+    → Continues table before next
+    → IsTask table w
+    → (task table w).innermost_group ≡ Some next
+    → w ≤ v
+    → IsTask table v
+    → (task table v).first ≤ before
+    → MustPrecede table (task table v).last next
 holds_on table before next w v facts nested grouped later follows is_w inside up is_v begun =
     let u : ℕ = (segment table next).task in
     let held = innermost_encloses (suc w) table nested grouped w next (omega arith) is_w inside in
     let child : ℕ = held.child in
     let generated = held.encloses.generated in
     let low = ancestor_lower table nested w child held.descends in
-    let by = facts.creator_of child u generated.creator generated.is_child generated.parent generated.is_creator in
-    let under = facts.below_root child (not_root table nested child u generated.parent) generated.is_child in
-    let same_parent : under.parent ≡ u = same_Some under.parent u (sym under.is_parent ∙ generated.parent) in
+    let by = facts.creator_of child u generated.creator generated.is_child generated.parent
+    generated.is_creator in
+    let under =
+    facts.below_root child (not_root table nested child u generated.parent) generated.is_child in
+    let same_parent : under.parent ≡ u =
+    same_Some under.parent u (sym under.is_parent ∙ generated.parent) in
     let lower = under.lower in
-    let last = facts.to_last u before (record { is_segment = follows.is_from; of_task = sym follows.same_task }) in
+    let last = facts.to_last u before
+    (record { is_segment = follows.is_from; of_task = sym follows.same_task }) in
     let branch =
-    branch_of (suc v) table nested u v (omega arith) (omega (arith, lower, same_parent, low, up)) is_v
+    branch_of (suc v) table nested u v (omega arith) (omega (arith, lower, same_parent, low, up))
+    is_v
     (omega (arith, begun, last)) in
     let other : ℕ = branch.0 in
     let of_branch = branch.1 in
@@ -288,25 +378,42 @@ holds_on table before next w v facts nested grouped later follows is_w inside up
           let creator = facts.has_creator other u of_branch.is_child of_branch.parent in
           let first = facts.first_created other creator.0 of_branch.is_child creator.1 in
           let early =
-          first_up_to table other v facts (ancestor_lower table nested v other of_branch.descends) is_v in
+          first_up_to table other v facts (ancestor_lower table nested v other of_branch.descends)
+          is_v in
           let after = facts.follows_later before next follows in
           later next child other held.encloses less
-          (record { is_child = of_branch.is_child; parent = of_branch.parent; creator = creator.0; is_creator = creator.1; earlier = omega (arith, first, early, begun, after) })
+          (record {
+            is_child = of_branch.is_child;
+            parent = of_branch.parent;
+            creator = creator.0;
+            is_creator = creator.1;
+            earlier = omega (arith, first, early, begun, after);
+          })
       | inr upto ↦ elim (cases_eq other child) [
         | inl same ↦ subst (λ (n : ℕ). Encloses table next n) (sym same) held.encloses
         | inr apart ↦
             let before_child =
             siblings_apart table nested other child u generated.creator
-            (omega (arith, apart, upto)) generated.is_child of_branch.parent generated.parent generated.is_creator in
-            let first = facts.first_created child generated.creator generated.is_child generated.is_creator in
+            (omega (arith, apart, upto)) generated.is_child of_branch.parent generated.parent
+            generated.is_creator in
+            let first =
+            facts.first_created child generated.creator generated.is_child generated.is_creator in
             let early = first_up_to table child v facts (omega (arith, low, up)) is_v in
-            let inner = descendant_last table nested v other of_branch.is_child of_branch.descends in
+            let inner =
+            descendant_last table nested v other of_branch.is_child of_branch.descends in
             let whole = first_to_last table v facts is_v in
             absurd (omega (arith, before_child, first, early, inner, whole))
       ]
     ] in
     let ended : GroupEnd table (task table v).last next =
-    record { child = other; encloses = on; descendant = v; is_descendant = is_v; descends = of_branch.descends; last = refl } in
+    record {
+      child = other;
+      encloses = on;
+      descendant = v;
+      is_descendant = is_v;
+      descends = of_branch.descends;
+      last = refl;
+    } in
     inr (inr (inr (inr (inr ended))))
 
 -- where the task and those after it are passed: the tasks of the group after it begin from there on
@@ -318,8 +425,13 @@ pub record IsPassed (table : Table) (before next v from : ℕ) : Type 0 where
       (task table w).first
 
 -- what must precede a segment is not the root's last
-pub above_root : (table : Table) (v last next : ℕ) → IsReadInPlace table → IsNestedTable table → IsSegment table next
-    → last ≡ (task table v).last → MustPrecede table last next → 0 < v
+pub above_root : (table : Table) (v last next : ℕ)
+    → IsReadInPlace table
+    → IsNestedTable table
+    → IsSegment table next
+    → last ≡ (task table v).last
+    → MustPrecede table last next
+    → 0 < v
 above_root table v last next facts nested known is_last must = elim (cases_eq v 0) [
   | inl same ↦
       let less = goes_up table nested last next must in
@@ -328,11 +440,17 @@ above_root table v last next facts nested known is_last must = elim (cases_eq v 
   | inr apart ↦ omega (arith, apart)
 ]
 
-pub passed_all : (table : Table) (before next v from s : ℕ) → IsReadInPlace table → IsNestedTable table
+pub passed_all : (table : Table) (before next v from s : ℕ)
+    → IsReadInPlace table
+    → IsNestedTable table
     → IsGroupedTable table
     → ((t a b : ℕ) → Encloses table t a → a < b → IsEarlierChild table b t → Encloses table t b)
-    → Continues table before next → IsPassed table before next v from → ¬ MustPrecede table
-    (task table v).last next → KeptGroupEnd table s next → from ≤ s
+    → Continues table before next
+    → IsPassed table before next v from
+    → ¬ MustPrecede table
+    (task table v).last next
+    → KeptGroupEnd table s next
+    → from ≤ s
 passed_all table before next v from s facts nested grouped later follows passed outside kept =
     let w : ℕ = kept.inside in
     elim (cases_lt v w) [
@@ -341,5 +459,6 @@ passed_all table before next v from s facts nested grouped later follows passed 
           let whole = first_to_last table w facts kept.is_inside in
           omega (arith, low, whole, kept.last)
       | inr upto ↦ absurd (outside
-          (holds_on table before next w v facts nested grouped later follows kept.is_inside kept.innermost upto passed.known passed.begun))
+          (holds_on table before next w v facts nested grouped later follows kept.is_inside
+          kept.innermost upto passed.known passed.begun))
     ]

@@ -1,5 +1,6 @@
 -- Each program has a graph, and each segment a value.
-use Rattle.std.proofs.Common.{ℕ, zero, suc, ◌<◌, ◌≤◌, ◌≡◌, ◌∙◌, ◌%◌, ◌^◌, List, [], ◌∷◌, ◌++◌, length, get_or, refl, sym, subst, arith, inl, inr, sum_by}
+use Rattle.std.proofs.Common.{ℕ, zero, suc, ◌<◌, ◌≤◌, ◌≡◌, ◌∙◌, ◌%◌, ◌^◌, List, [], ◌∷◌, ◌++◌}
+use Rattle.std.proofs.Common.{length, get_or, refl, sym, subst, arith, inl, inr, sum_by}
 use Rattle.std.proofs.lemmas.Bool.{cases_lt}
 use Rattle.std.proofs.lemmas.List.{get_or_append_left, get_or_push, length_push}
 use Rattle.task_program.specs.ProgramMarks.{ProgramMarks}
@@ -29,7 +30,8 @@ use Rattle.dispatch_core.specs.Values.IsValue.{Computes}
 use Rattle.dispatch_core.proofs.DecidedEdges.{decide_kept_edge}
 use Rattle.dispatch_core.proofs.Decisions.{some_list}
 
-fits_in : (version : Version) (text : List ℕ) (program : ProgramMarks) → HasTreeIn version text program
+fits_in : (version : Version) (text : List ℕ) (program : ProgramMarks)
+    → HasTreeIn version text program
     → IsProgram program
 fits_in One text program h = h.program_fits
 fits_in Two text program h = h.expanded.program_fits
@@ -46,7 +48,11 @@ pub record IsWhole (table : Table) : Type 0 where
 pub whole_table : (program : ProgramMarks) → IsProgram program → IsWhole (table_of program.marks)
 whole_table program is =
     let table : Table = table_of program.marks in
-    let of_program : IsProgramTable table = record { program = program; is_program = is; is = refl } in
+    let of_program : IsProgramTable table = record {
+      program = program;
+      is_program = is;
+      is = refl;
+    } in
     let nested : IsNestedTable table = nested_program table of_program in
     let grouped : IsGroupedTable table = grouped_program table of_program in
     let within : (s t : ℕ) → IsKeptEdge table s t → MustPrecede table s t =
@@ -89,8 +95,12 @@ record AreFirstRows (table : Table) (n : ℕ) (rows : List (List ℕ)) : Type 0 
   each : length rows ≡ n
   kept : (t : ℕ) → t < n → Lists (λ s. IsKeptEdge table s t) (get_or rows t [])
 
-first_rows : (table : Table) → IsSoundTable table → (n : ℕ) → (rows : List (List ℕ)) × AreFirstRows table n rows
-first_rows table sound zero = ([], record { each = refl; kept = λ t less. absurd (omega (arith, less)) })
+first_rows : (table : Table)
+    → IsSoundTable table
+    → (n : ℕ)
+    → (rows : List (List ℕ)) × AreFirstRows table n rows
+first_rows table sound zero =
+    ([], record { each = refl; kept = λ t less. absurd (omega (arith, less)) })
 first_rows table sound (suc n) =
     let before : (rows : List (List ℕ)) × AreFirstRows table n rows = first_rows table sound n in
     let next : (list : List ℕ) × Lists (λ s. IsKeptEdge table s n) list = kept_list table sound n in
@@ -102,19 +112,26 @@ first_rows table sound (suc n) =
           | inl below ↦
               let same : get_or (before.0 ++ next.0 ∷ []) t [] ≡ get_or before.0 t [] =
               get_or_append_left before.0 (next.0 ∷ []) [] t (omega (arith, below, each)) in
-              subst (λ (l : List ℕ). Lists (λ s. IsKeptEdge table s t) l) (sym same) (before.1.kept t below)
+              subst (λ (l : List ℕ). Lists (λ s. IsKeptEdge table s t) l) (sym same)
+              (before.1.kept t below)
           | inr last ↦
               let is : n ≡ t = omega (arith, less, last) in
-              let same : get_or (before.0 ++ next.0 ∷ []) n [] ≡ next.0 = get_or_push before.0 next.0 [] n each in
-              let P : ℕ → Type 0 = λ u. Lists (λ s. IsKeptEdge table s u) (get_or (before.0 ++ next.0 ∷ []) u []) in
-              subst P is (subst (λ (l : List ℕ). Lists (λ s. IsKeptEdge table s n) l) (sym same) next.1)
+              let same : get_or (before.0 ++ next.0 ∷ []) n [] ≡ next.0 =
+              get_or_push before.0 next.0 [] n each in
+              let P : ℕ → Type 0 = λ u.
+              Lists (λ s. IsKeptEdge table s u) (get_or (before.0 ++ next.0 ∷ []) u []) in
+              subst P is
+              (subst (λ (l : List ℕ). Lists (λ s. IsKeptEdge table s n) l) (sym same) next.1)
         ];
       },
     )
 
-pub some_graph : (table : Table) → IsSoundTable table → (graph : RecordedGraph) × IsGraphOf table graph
+pub some_graph : (table : Table)
+    → IsSoundTable table
+    → (graph : RecordedGraph) × IsGraphOf table graph
 some_graph table sound =
-    let rows : (rows : List (List ℕ)) × AreFirstRows table (length table.segments) rows = first_rows table sound
+    let rows : (rows : List (List ℕ)) × AreFirstRows table (length table.segments) rows =
+    first_rows table sound
     (length table.segments) in (
       record { costs = costs_of table; predecessors = rows.0 },
       record { costs = refl; each = rows.1.each; predecessors = λ t known. rows.1.kept t known },
@@ -123,7 +140,8 @@ some_graph table sound =
 -- ---- the values
 
 -- the values of the first n segments
-pub record AreFirstValues (table : Table) (value_of : ℕ → ℕ → ℕ → ℕ) (n : ℕ) (values : List ℕ) : Type 0 where
+pub record AreFirstValues (table : Table) (value_of : ℕ → ℕ → ℕ → ℕ) (n : ℕ) (values : List ℕ)
+    : Type 0 where
   pub each : length values ≡ n
   pub are : (s : ℕ) → s < n → IsValue table value_of s (get_or values s 0)
 
@@ -134,7 +152,8 @@ first_values table value_of sound zero all =
 first_values table value_of sound (suc n) all =
     let before : (values : List ℕ) × AreFirstValues table value_of n values =
     first_values table value_of sound n (omega (arith, all)) in
-    let preds : (list : List ℕ) × Lists (λ s. IsKeptEdge table s n) list = kept_list table sound n in
+    let preds : (list : List ℕ) × Lists (λ s. IsKeptEdge table s n) list =
+    kept_list table sound n in
     let earlier : ℕ → ℕ = λ s. get_or before.0 s 0 in
     let next : ℕ = value_of n (segment table n).cost (sum_by earlier preds.0 % 2 ^ 64) in
     let is_next : IsValue table value_of n next =
@@ -151,8 +170,10 @@ first_values table value_of sound (suc n) all =
               subst (λ (v : ℕ). IsValue table value_of s v) (sym same) (before.1.are s below)
           | inr last ↦
               let is : n ≡ s = omega (arith, less, last) in
-              let same : get_or (before.0 ++ next ∷ []) n 0 ≡ next = get_or_push before.0 next 0 n each in
-              let P : ℕ → Type 0 = λ u. IsValue table value_of u (get_or (before.0 ++ next ∷ []) u 0) in
+              let same : get_or (before.0 ++ next ∷ []) n 0 ≡ next =
+              get_or_push before.0 next 0 n each in
+              let P : ℕ → Type 0 = λ u.
+              IsValue table value_of u (get_or (before.0 ++ next ∷ []) u 0) in
               subst P is (subst (λ (v : ℕ). IsValue table value_of n v) (sym same) is_next)
         ];
       },
@@ -162,8 +183,11 @@ pub some_graph_of : (program : ProgramMarks) → IsProgram program
     → (graph : RecordedGraph) × IsGraphOf (table_of program.marks) graph
 some_graph_of program is = some_graph (table_of program.marks) (whole_table program is).sound
 
-pub some_value_of : (program : ProgramMarks) → IsProgram program → (value_of : ℕ → ℕ → ℕ → ℕ) (s : ℕ)
-    → IsSegment (table_of program.marks) s → (value : ℕ) × IsValue (table_of program.marks) value_of s value
+pub some_value_of : (program : ProgramMarks)
+    → IsProgram program
+    → (value_of : ℕ → ℕ → ℕ → ℕ) (s : ℕ)
+    → IsSegment (table_of program.marks) s
+    → (value : ℕ) × IsValue (table_of program.marks) value_of s value
 some_value_of program is value_of s known =
     let table : Table = table_of program.marks in
     let n : ℕ = length table.segments in

@@ -4,18 +4,21 @@ use Rattle.task_segments.specs.Table.{Table, task}
 use Rattle.task_segments.specs.Nesting.{IsNestedTable}
 use Rattle.task_segments.specs.Precedence.{IsSegment, IsTask, MustPrecede}
 
-first_within : (table : Table) (u t : ℕ) → IsNestedTable table → IsTask table u → (task table u).first ≡ t → IsSegment table t
+first_within : (table : Table) (u t : ℕ) → IsNestedTable table → IsTask table u
+    → (task table u).first ≡ t → IsSegment table t
 first_within table u t nested known is =
     let up = (nested.segments u known).in_order in
     let last = (nested.segments u known).is_last in
     omega (arith, up, last, is)
 
-pub within_table : (table : Table) (s t : ℕ) → IsNestedTable table → MustPrecede table s t → IsSegment table t
+pub within_table : (table : Table) (s t : ℕ) → IsNestedTable table → MustPrecede table s t
+    → IsSegment table t
 within_table table s t nested edge = elim edge [
   | inl continues ↦ continues.is_to
   | inr (inl creation) ↦ first_within table creation.child t nested creation.is_child creation.first
   | inr (inr (inl resumption)) ↦ resumption.resumes.is_to
-  | inr (inr (inr (inl dependence))) ↦ first_within table dependence.later t nested dependence.is_later dependence.first
+  | inr (inr (inr (inl dependence))) ↦
+      first_within table dependence.later t nested dependence.is_later dependence.first
   | inr (inr (inr (inr (inl wait)))) ↦ wait.opens.is_to
   | inr (inr (inr (inr (inr group)))) ↦ group.encloses.opens.is_to
 ]

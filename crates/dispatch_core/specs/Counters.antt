@@ -1,5 +1,7 @@
--- What is recorded of open segments: their kept predecessors and successors, counts of unfinished ones, and generated siblings.
-use Rattle.std.specs.Prelude.{ℕ, ◌+◌, ◌<◌, ◌≡◌, ◌≢◌, ◌⊎◌, ◌↔◌, List, [], Option, Some, None, length, slice_get, count_by, is_none, Contains, AllPairs}
+-- What is recorded of open segments: their kept predecessors and successors, counts of unfinished
+-- ones, and generated siblings.
+use Rattle.std.specs.Prelude.{ℕ, ◌+◌, ◌<◌, ◌≡◌, ◌≢◌, ◌⊎◌, ◌↔◌, List, [], Option, Some, None, length}
+use Rattle.std.specs.Prelude.{slice_get, count_by, is_none, Contains, AllPairs}
 use Rattle.task_segments.specs.Table.{Table, task}
 use Rattle.task_segments.specs.Precedence.{Continues, Creation, IsSegment, MustPrecede}
 use Rattle.task_segments.specs.Schedule.{IsJoined}
@@ -16,7 +18,8 @@ abbrev pub unfinished_count : List (Option ℕ) → List ℕ → ℕ
 unfinished_count values list = count_by (λ p. is_none (entry values p)) list
 
 -- each of as many segments has a value exactly where it is finished
-pub record TellFinished (segments : ℕ) (history : List Event) (values : List (Option ℕ)) : Type 0 where
+pub record TellFinished (segments : ℕ) (history : List Event) (values : List (Option ℕ)) : Type
+    0 where
   pub each : length values ≡ segments
   pub is_finished : (s value : ℕ) → entry values s ≡ Some value → HasFinished history s
   pub has_value : (s : ℕ) → HasFinished history s → (value : ℕ) × (entry values s ≡ Some value)
@@ -25,7 +28,10 @@ pub record TellFinished (segments : ℕ) (history : List Event) (values : List (
 pub record GoesUp (table : Table) : Type 0 where
   pub ascending : (s t : ℕ) → MustPrecede table s t → s < t
   pub within : (s t : ℕ) → MustPrecede table s t → IsSegment table t
-  pub reached : (t : ℕ) → 0 < t → IsSegment table t → (s : ℕ) × (Continues table s t ⊎ Creation table s t)
+  pub reached : (t : ℕ)
+      → 0 < t
+      → IsSegment table t
+      → (s : ℕ) × (Continues table s t ⊎ Creation table s t)
 
 -- the kept edges are pairs of the whole relation, with the same chains
 pub record KeepsChains (table : Table) : Type 0 where
@@ -39,41 +45,70 @@ pub record HasValue (values : List (Option ℕ)) (s : ℕ) : Type 0 where
 
 -- it is the first segment, or the one that opens it has a value
 abbrev pub IsOpenBy : Table → List (Option ℕ) → ℕ → Type 0
-IsOpenBy table values t = (t ≡ 0) ⊎ ((s : ℕ) × (Continues table s t ⊎ Creation table s t) × HasValue values s)
+IsOpenBy table values t =
+    (t ≡ 0) ⊎ ((s : ℕ) × (Continues table s t ⊎ Creation table s t) × HasValue values s)
 
 -- the kept predecessors of an open segment, and none of another
 abbrev pub AreKeptOf : Table → (ℕ → Type 0) → ℕ → List ℕ → Type 0
-AreKeptOf table is_open t list = (is_open t × Lists (λ p. IsKeptEdge table p t) list) ⊎ ((¬ is_open t) × (list ≡ []))
+AreKeptOf table is_open t list =
+    (is_open t × Lists (λ p. IsKeptEdge table p t) list) ⊎ ((¬ is_open t) × (list ≡ []))
 
 pub record AreKept (table : Table) (is_open : ℕ → Type 0) (preds : List (List ℕ)) : Type 0 where
   pub each : length preds ≡ length table.segments
-  pub lists : (t : ℕ) (list : List ℕ) → slice_get preds t ≡ Some list → AreKeptOf table is_open t list
+  pub lists : (t : ℕ) (list : List ℕ)
+      → slice_get preds t ≡ Some list
+      → AreKeptOf table is_open t list
 
 -- for each segment the number of its recorded predecessors that are not finished
-pub record AreCounts (values : List (Option ℕ)) (preds : List (List ℕ)) (counts : List ℕ) : Type 0 where
+pub record AreCounts (values : List (Option ℕ)) (preds : List (List ℕ)) (counts : List ℕ) : Type
+    0 where
   pub each : length counts ≡ length preds
-  pub counted : (t : ℕ) (list : List ℕ) → slice_get preds t ≡ Some list → slice_get counts t ≡ Some (unfinished_count values list)
+  pub counted : (t : ℕ) (list : List ℕ)
+      → slice_get preds t ≡ Some list
+      → slice_get counts t ≡ Some (unfinished_count values list)
 
 -- for each unfinished segment those that have it among their recorded predecessors, each once
-pub record AreSuccessors (values : List (Option ℕ)) (preds successors : List (List ℕ)) : Type 0 where
+pub record AreSuccessors (values : List (Option ℕ)) (preds successors : List (List ℕ)) : Type
+    0 where
   pub each : length successors ≡ length preds
-  pub listed : (s : ℕ) (list : List ℕ) → slice_get successors s ≡ Some list → entry values s ≡ None → (t : ℕ) → Contains list t ↔ IsListed preds t s
-  pub once : (s : ℕ) (list : List ℕ) → slice_get successors s ≡ Some list → entry values s ≡ None → AllPairs (λ x y. x ≢ y) list
+  pub listed : (s : ℕ) (list : List ℕ)
+      → slice_get successors s ≡ Some list
+      → entry values s ≡ None
+      → (t : ℕ)
+      → Contains list t ↔ IsListed preds t s
+  pub once : (s : ℕ) (list : List ℕ)
+      → slice_get successors s ≡ Some list
+      → entry values s ≡ None
+      → AllPairs (λ x y. x ≢ y) list
 
--- of the children of a task, those with a number below this one are generated: their creators are finished
+-- of the children of a task, those with a number below this one are generated: their creators are
+-- finished
 pub record AreGenerated (table : Table) (values : List (Option ℕ)) (parent below : ℕ) : Type 0 where
-  pub begun : (child s : ℕ) → (task table child).parent ≡ Some parent → (task table child).creator ≡ Some s → child < below → HasValue values s
-  pub finished : (child s : ℕ) → (task table child).parent ≡ Some parent → (task table child).creator ≡ Some s → HasValue values s → child < below
+  pub begun : (child s : ℕ)
+      → (task table child).parent ≡ Some parent
+      → (task table child).creator ≡ Some s
+      → child < below
+      → HasValue values s
+  pub finished : (child s : ℕ)
+      → (task table child).parent ≡ Some parent
+      → (task table child).creator ≡ Some s
+      → HasValue values s
+      → child < below
 
-pub record AreSiblingsOf (table : Table) (values : List (Option ℕ)) (parent : ℕ) (list : List Sibling) : Type 0 where
+pub record AreSiblingsOf (table : Table) (values : List (Option ℕ)) (parent : ℕ)
+    (list : List Sibling)
+    : Type 0 where
   pub below : ℕ
   pub are : list ≡ children_below table parent below
   pub generated : AreGenerated table values parent below
 
 -- for each task the children that it has generated, with their items, the newest first
-pub record AreSiblings (table : Table) (values : List (Option ℕ)) (siblings : List (List Sibling)) : Type 0 where
+pub record AreSiblings (table : Table) (values : List (Option ℕ)) (siblings : List (List Sibling))
+    : Type 0 where
   pub each : length siblings ≡ length table.tasks
-  pub lists : (parent : ℕ) (list : List Sibling) → slice_get siblings parent ≡ Some list → AreSiblingsOf table values parent list
+  pub lists : (parent : ℕ) (list : List Sibling)
+      → slice_get siblings parent ≡ Some list
+      → AreSiblingsOf table values parent list
 
 -- the segment's count is above 0
 pub record IsCounted (counts : List ℕ) (t : ℕ) : Type 0 where

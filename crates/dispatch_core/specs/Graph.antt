@@ -10,8 +10,11 @@ use Rattle.dispatch_core.specs.declared.graph.Graph.TheInside.{Inside}
 pub record IsGraphOf (table : Table) (graph : RecordedGraph) : Type 0 where
   pub costs : graph.costs ≡ costs_of table
   pub each : length graph.predecessors ≡ length table.segments
-  pub predecessors : (t : ℕ) → t < length table.segments → Lists (λ s. IsKeptEdge table s t) (predecessors_of graph t)
+  pub predecessors : (t : ℕ)
+      → t < length table.segments
+      → Lists (λ s. IsKeptEdge table s t) (predecessors_of graph t)
 
 -- the graph that a graph's fields stand for
 abbrev pub graph_of_fields : Inside → RecordedGraph
-graph_of_fields a = record { costs = a.costs.items; predecessors = map (λ v. v.items) a.predecessors.items }
+graph_of_fields
+    a = record { costs = a.costs.items; predecessors = map (λ v. v.items) a.predecessors.items }

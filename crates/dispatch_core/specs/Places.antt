@@ -16,7 +16,8 @@ pub record AreKeptSiblings (table : Table) (child : ℕ) (kept : List ℕ) : Typ
 abbrev pub last_segment : Table → ℕ → ℕ
 last_segment table u = (task table u).last
 
--- t opens after a wait or the end of a group, and s is one of the segments that it is recorded after for that
+-- t opens after a wait or the end of a group, and s is one of the segments that it is recorded
+-- after for that
 abbrev pub Joins : Table → ℕ → ℕ → Type 0
 Joins table s t = KeptWait table s t ⊎ KeptGroupEnd table s t
 

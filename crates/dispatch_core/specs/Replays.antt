@@ -19,20 +19,25 @@ pub record AreDone (history : List Event) (count : ℕ) : Type 0 where
 
 -- why the event may not be the next one
 abbrev pub RefusesNext : Table → List Event → Event → ReplayRefusal → Type 0
-RefusesNext table history (Start worker segment) (OfStart refusal) = RefusesStart table history worker segment refusal
+RefusesNext table history (Start worker segment) (OfStart refusal) =
+    RefusesStart table history worker segment refusal
 RefusesNext table history (Start worker segment) NotRunning = ⊥
 RefusesNext table history (Finish worker segment) (OfStart refusal) = ⊥
 RefusesNext table history (Finish worker segment) NotRunning = ¬ Runs history worker segment
 
 -- why the event was not made; memory is wanted only for a finish that may follow
 abbrev pub RefusesStep : Table → List Event → Event → StepFault → Type 0
-RefusesStep table history (Start worker segment) (Refused refusal) = RefusesNext table history (Start worker segment) refusal
-RefusesStep table history (Finish worker segment) (Refused refusal) = RefusesNext table history (Finish worker segment) refusal
+RefusesStep table history (Start worker segment) (Refused refusal) =
+    RefusesNext table history (Start worker segment) refusal
+RefusesStep table history (Finish worker segment) (Refused refusal) =
+    RefusesNext table history (Finish worker segment) refusal
 RefusesStep table history (Start worker segment) NoMemory = ⊥
 RefusesStep table history (Finish worker segment) NoMemory = Runs history worker segment
 
 -- the events before it are legal, and the event there is refused
-pub record IsFirstRefused (table : Table) (events : List Event) (index : ℕ) (refusal : ReplayRefusal) : Type 0 where
+pub record IsFirstRefused (table : Table) (events : List Event) (index : ℕ)
+    (refusal : ReplayRefusal)
+    : Type 0 where
   pub event : Event
   pub is_there : slice_get events index ≡ Some event
   pub legal : IsLegalRun table (take index events)

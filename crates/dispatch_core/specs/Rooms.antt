@@ -17,4 +17,5 @@ pub record IsRoomier (before after : List (Vec ℕ Global)) : Type 0 where
 -- room for one number less at these places, and no less room at the others
 pub record IsFuller (these : ℕ → Type 0) (before after : List (Vec ℕ Global)) : Type 0 where
   pub one_less : (count place : ℕ) → HasRoom before (count + 1) place → HasRoom after count place
-  pub others : (count place : ℕ) → ¬ these place → HasRoom before count place → HasRoom after count place
+  pub others : (count place : ℕ) → ¬ these place → HasRoom before count place
+      → HasRoom after count place

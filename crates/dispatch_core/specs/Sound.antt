@@ -1,5 +1,6 @@
 -- What a core keeps beside its history.
-use Rattle.std.specs.Prelude.{ℕ, ◌+◌, ◌*◌, ◌≤◌, ◌≡◌, Bool, true, List, Option, Some, length, slice_get, count_by, is_some}
+use Rattle.std.specs.Prelude.{ℕ, ◌+◌, ◌*◌, ◌≤◌, ◌≡◌, Bool, true, List, Option, Some, length}
+use Rattle.std.specs.Prelude.{slice_get, count_by, is_some}
 use Rattle.task_segments.specs.Table.{Table, costs_of}
 use Rattle.dispatch_core.specs.declared.event.TheConstants.{MOST_WORKERS}
 use Rattle.dispatch_core.specs.declared.event.Event.{Event}
@@ -24,12 +25,16 @@ pub record AreRunning (history : List Event) (running : List (Option ℕ)) : Typ
   pub runs : (worker s : ℕ) → Runs history worker s → entry running worker ≡ Some s
 
 -- for each segment its value, once it is finished
-pub record AreValues (table : Table) (history : List Event) (value_of : ℕ → ℕ → ℕ → ℕ) (values : List (Option ℕ)) : Type 0 where
+pub record AreValues (table : Table) (history : List Event) (value_of : ℕ → ℕ → ℕ → ℕ)
+    (values : List (Option ℕ))
+    : Type 0 where
   pub tell : TellFinished (length table.segments) history values
   pub is_value : (s value : ℕ) → entry values s ≡ Some value → IsValue table value_of s value
 
-pub record IsSound (value_of : ℕ → ℕ → ℕ → ℕ) (table : Table) (history : List Event) (capacity : ℕ) (started : List Bool)
-    (running : List (Option ℕ)) (values : List (Option ℕ)) (counters : Counters) (costs : List ℕ) : Type 0 where
+pub record IsSound (value_of : ℕ → ℕ → ℕ → ℕ) (table : Table) (history : List Event) (capacity : ℕ)
+    (started : List Bool)
+    (running : List (Option ℕ)) (values : List (Option ℕ)) (counters : Counters) (costs : List ℕ)
+    : Type 0 where
   pub sound_table : IsSoundTable table
   pub legal : IsLegalRun table history
   pub are_started : AreStarted table history started

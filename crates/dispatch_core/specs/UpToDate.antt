@@ -5,12 +5,15 @@ use Rattle.dispatch_core.specs.declared.counters.Counters.{Counters}
 use Rattle.dispatch_core.specs.Counters.{IsOpenBy, AreKept, AreCounts, AreSuccessors, AreSiblings}
 use Rattle.dispatch_core.specs.Listed.{IsListed, items_of}
 
-pub record IsUpToDate (table : Table) (values : List (Option ℕ)) (counters : Counters) : Type 0 where
+pub record IsUpToDate (table : Table) (values : List (Option ℕ)) (counters : Counters) : Type
+    0 where
   pub kept : AreKept table (IsOpenBy table values) (items_of counters.preds.items)
   pub counts : AreCounts values (items_of counters.preds.items) counters.counts.items
-  pub successors : AreSuccessors values (items_of counters.preds.items) (items_of counters.successors.items)
+  pub successors : AreSuccessors values (items_of counters.preds.items)
+      (items_of counters.successors.items)
   pub siblings : AreSiblings table values counters.siblings.items
 
 -- t is kept after s, and none of its kept predecessors is counted
 abbrev pub IsFreed : ℕ → Counters → ℕ → Type 0
-IsFreed s counters t = IsListed (items_of counters.preds.items) t s × (slice_get counters.counts.items t ≡ Some 0)
+IsFreed s counters t =
+    IsListed (items_of counters.preds.items) t s × (slice_get counters.counts.items t ≡ Some 0)

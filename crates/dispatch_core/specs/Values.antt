@@ -5,8 +5,8 @@ use Rattle.task_segments.specs.Precedence.{IsSegment}
 use Rattle.depend_table.specs.Kept.{IsKeptEdge}
 use Rattle.depend_table.specs.Lists.{Lists}
 
--- The kernel's value of a segment for its cost and its input, which is the sum of the values of its kept predecessors,
--- modulo 2^64.
+-- The kernel's value of a segment for its cost and its input, which is the sum of the values of its
+-- kept predecessors, modulo 2^64.
 pub data IsValue (table : Table) (value_of : ℕ → ℕ → ℕ → ℕ) : ℕ → ℕ → Type 0 where
   Computes : (s value : ℕ) → IsSegment table s
       → (preds : List ℕ) → Lists (λ p. IsKeptEdge table p s) preds

@@ -47,7 +47,8 @@ pub fn next_predecessors(
     }
 }
 
-/// After a segment that creates a task: that segment, and the task's last one if the task is undeferred.
+/// After a segment that creates a task: that segment, and the task's last one if the task is
+/// undeferred.
 fn after_task(
     alloc: Global,
     table: &SegTable,
@@ -70,7 +71,8 @@ fn after_task(
     Ok(preds)
 }
 
-/// After a wait: the last segments of the children since the task's previous wait, and then the one that waits.
+/// After a wait: the last segments of the children since the task's previous wait, and then the one
+/// that waits.
 fn after_wait(
     alloc: Global,
     table: &SegTable,
@@ -93,14 +95,15 @@ fn after_wait(
     Ok(preds)
 }
 
-/// The first segment of the task after its previous wait. The children that end from there on are those that the wait
-/// after `before` waits for.
+/// The first segment of the task after its previous wait. The children that end from there on are
+/// those that the wait after `before` waits for.
 fn wait_begin(table: &SegTable, before: u32, next: u32) -> u32
     requires follows { Continues table.now before next }
     requires waits { (segment table.now before).closing ≡ closings.Waits }
     ensures up_to { result ≤ before }
     ensures reached { (s : ℕ) → KeptWait table.now s next → result ≤ s }
-    ensures waited { (c : ℕ) → IsEarlierChild table.now c next → result ≤ (task table.now c).last → KeptWait table.now (task table.now c).last next }
+    ensures waited { (c : ℕ) → IsEarlierChild table.now c next → result ≤ (task table.now c).last
+        → KeptWait table.now (task table.now c).last next }
 {
     reads_in_place(table);
     let mut from = before;
@@ -138,7 +141,8 @@ fn ends_child(table: &SegTable, segment: u32, parent: u32) -> bool
     table.parent(task) == Some(parent)
 }
 
-/// After the end of a group: the last segments of the tasks whose innermost group it is, and then the one that ends it.
+/// After the end of a group: the last segments of the tasks whose innermost group it is, and then
+/// the one that ends it.
 fn after_group(
     alloc: Global,
     table: &SegTable,
@@ -159,7 +163,8 @@ fn after_group(
     Ok(preds)
 }
 
-/// The first segment of the first task inside the group that `before` ends; `before`, where there is none.
+/// The first segment of the first task inside the group that `before` ends; `before`, where there
+/// is none.
 fn group_begin(table: &SegTable, before: u32, next: u32) -> u32
     requires follows { Continues table.now before next }
     requires ends { (segment table.now before).closing ≡ closings.EndsGroup }
@@ -183,7 +188,8 @@ fn group_begin(table: &SegTable, before: u32, next: u32) -> u32
 fn latest_task(table: &SegTable, segment: u32) -> u32
     ensures known { IsTask table.now result }
     ensures begun { (task table.now result).first ≤ segment }
-    ensures latest { (u : ℕ) → IsTask table.now u → (task table.now u).first ≤ segment → u ≤ result }
+    ensures latest { (u : ℕ) → IsTask table.now u → (task table.now u).first ≤ segment
+        → u ≤ result }
 {
     reads_in_place(table);
     let mut begun = 0;
@@ -199,7 +205,8 @@ fn latest_task(table: &SegTable, segment: u32) -> u32
     begun
 }
 
-/// Whether a segment is the last one of a task whose innermost group is the one that ends before `group`.
+/// Whether a segment is the last one of a task whose innermost group is the one that ends before
+/// `group`.
 fn ends_inside(table: &SegTable, segment: u32, group: u32) -> bool
     requires { IsSegment table.now segment }
     ensures { IsTrue result ↔ KeptGroupEnd table.now segment group }

@@ -1,5 +1,9 @@
-//! How far each segment is from being ready: its kept predecessors, once it is open, and how many of them are not finished.
-ghost use Rattle.std.specs.Prelude.{ℕ, Option, Some, None, ◌≡◌, ◌<◌, ◌≤◌, ◌+◌, ◌↔◌, ◌++◌, ◌∷◌, [], List, length, replicate, slice_get, slice_set, vec_len, vec_capacity, Contains, AllPairs, ◌≢◌, IsTrue, IfOk, OnOk, OnErr, ◌==◌, if◌then◌else◌};
+//! How far each segment is from being ready: its kept predecessors, once it is open, and how many
+//! of them are not finished.
+ghost use Rattle.std.specs.Prelude.{ℕ, Option, Some, None, ◌≡◌, ◌<◌, ◌≤◌, ◌+◌, ◌↔◌, ◌++◌, ◌∷◌, []};
+ghost use Rattle.std.specs.Prelude.{List, length, replicate, slice_get, slice_set, vec_len};
+ghost use Rattle.std.specs.Prelude.{vec_capacity, Contains, AllPairs, ◌≢◌, IsTrue, IfOk, OnOk};
+ghost use Rattle.std.specs.Prelude.{OnErr, ◌==◌, if◌then◌else◌};
 ghost use Rattle.program_text.specs.declared.limits.TheConstants.{MOST_SEGMENTS};
 ghost use Rattle.task_segments.specs.Precedence.{IsSegment};
 ghost use Rattle.task_segments.specs.Table.{Table, segment};
@@ -33,7 +37,8 @@ pub struct Counters {
     siblings: Vec<SiblingTable>,
 }
 
-/// All that a finish takes memory for: what it opens, and the list of what becomes ready, with room for that.
+/// All that a finish takes memory for: what it opens, and the list of what becomes ready, with room
+/// for that.
 #[derive(Drop)]
 struct Growths {
     ready: Vec<u32>,
@@ -79,9 +84,10 @@ impl Counters {
         preds
     }
 
-    /// Finishes a segment with its value: opens the next of its task and the first one of a task that it creates. Answers
-    /// those that it is kept before and that have no unfinished kept predecessor then, ascending. It is refused only when
-    /// memory runs out, and then what is recorded stays.
+    /// Finishes a segment with its value: opens the next of its task and the first one of a task
+    /// that it creates. Answers those that it is kept before and that have no unfinished kept
+    /// predecessor then, ascending. It is refused only when memory runs out, and then what is
+    /// recorded stays.
     pub fn finish(
         &mut self,
         alloc: Global,
@@ -93,10 +99,12 @@ impl Counters {
         requires known { IsSegment table.now finished }
         requires each { length values.old.items ≡ length table.now.segments }
         requires unfinished { entry values.old.items finished ≡ None }
-        requires earlier { (s : ℕ) → IsOf table.now (segment table.now finished).task s → s < finished → HasValue values.old.items s }
+        requires earlier { (s : ℕ) → IsOf table.now (segment table.now finished).task s
+            → s < finished → HasValue values.old.items s }
         requires up_to_date { IsUpToDate table.now values.old.items self.old }
         ensures up_to_date { IsUpToDate table.now values.new.items self.new }
-        ensures valued { OnOk result (values.new.items ≡ slice_set values.old.items finished (Some value)) }
+        ensures valued { OnOk result (values.new.items
+            ≡ slice_set values.old.items finished (Some value)) }
         ensures refused { OnErr result (values.new.items ≡ values.old.items) }
         ensures ready { IfOk result (λ ready. Lists (IsFreed finished self.new) ready.items) }
     {
@@ -122,11 +130,13 @@ impl Counters {
         requires known { IsSegment table.now finished }
         requires each { length values.now ≡ length table.now.segments }
         requires unfinished { entry values.now finished ≡ None }
-        requires earlier { (s : ℕ) → IsOf table.now (segment table.now finished).task s → s < finished → HasValue values.now s }
+        requires earlier { (s : ℕ) → IsOf table.now (segment table.now finished).task s
+            → s < finished → HasValue values.now s }
         requires up_to_date { IsUpToDate table.now values.now self.old }
         ensures preds { self.new.preds ≡ self.old.preds }
         ensures counts { self.new.counts ≡ self.old.counts }
-        ensures successors { items_of self.new.successors.items ≡ items_of self.old.successors.items }
+        ensures successors { items_of self.new.successors.items
+            ≡ items_of self.old.successors.items }
         ensures refused { OnErr result (self.new.siblings.items ≡ self.old.siblings.items) }
         ensures grown { IfOk result (IsGrown table.now values.now finished self.new) }
     {
@@ -150,9 +160,15 @@ impl Counters {
     /// Counts a segment as finished at each that it is kept before.
     fn lower(&mut self, finished: u32)
         requires known { finished < length self.old.successors.items }
-        requires once { (list : List ℕ) → slice_get (items_of self.old.successors.items) finished ≡ Some list → AllPairs (λ x y. x ≢ y) list }
-        requires counted { (list : List ℕ) (t : ℕ) → slice_get (items_of self.old.successors.items) finished ≡ Some list → Contains list t → IsCounted self.old.counts.items t }
-        ensures lowered { (list : List ℕ) → slice_get (items_of self.old.successors.items) finished ≡ Some list → AreLowered self.old.counts.items (Contains list) self.new.counts.items }
+        requires once { (list : List ℕ)
+            → slice_get (items_of self.old.successors.items) finished ≡ Some list
+            → AllPairs (λ x y. x ≢ y) list }
+        requires counted { (list : List ℕ) (t : ℕ)
+            → slice_get (items_of self.old.successors.items) finished ≡ Some list → Contains list t
+            → IsCounted self.old.counts.items t }
+        ensures lowered { (list : List ℕ)
+            → slice_get (items_of self.old.successors.items) finished ≡ Some list
+            → AreLowered self.old.counts.items (Contains list) self.new.counts.items }
         ensures others { self.new ≡ record self.old { counts = self.new.counts } }
     {
         lower(
@@ -161,7 +177,8 @@ impl Counters {
         );
     }
 
-    /// Opens a segment, if there is one, and adds it to the list of ready ones if no kept predecessor of it is unfinished.
+    /// Opens a segment, if there is one, and adds it to the list of ready ones if no kept
+    /// predecessor of it is unfinished.
     fn open(&mut self, values: &[Option<u64>], opening: Option<Opening>, ready: &mut Vec<u32>)
         requires room { IsRoomToOpen values.now self.old opening ready.old }
         ensures opened { IsOpened values.now opening self.old self.new }
@@ -188,7 +205,8 @@ impl Counters {
 fn with_one(alloc: Global, counts: &[u32], segments: &[u32]) -> Result<Vec<u32>, AllocFault>
     requires known { (t : ℕ) → Contains segments.now t → t < length counts.now }
     requires once { AllPairs (λ x y. x ≢ y) segments.now }
-    ensures each { IfOk result (λ ready. (t : ℕ) → Contains ready.items t ↔ (Contains segments.now t × (slice_get counts.now t ≡ Some 1))) }
+    ensures each { IfOk result (λ ready. (t : ℕ)
+        → Contains ready.items t ↔ (Contains segments.now t × (slice_get counts.now t ≡ Some 1))) }
     ensures once { IfOk result (λ ready. AllPairs (λ x y. x ≢ y) ready.items) }
 {
     let mut ready = Vec::new(alloc);

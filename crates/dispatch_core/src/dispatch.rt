@@ -1,14 +1,18 @@
 //! The core: starts and finishes are accepted exactly where they are legal, and the record is kept.
-ghost use Rattle.std.specs.Prelude.{ℕ, Bool, Option, List, Some, None, ◌≡◌, ◌<◌, ◌≤◌, ◌↔◌, ◌++◌, ◌∷◌, ◌*◌, [], length, IsTrue, IsSome, IsNone, IfOk, IfErr, OnErr, OnOk, IsOk, IfSome, MatchOption, MatchResult};
+ghost use Rattle.std.specs.Prelude.{ℕ, Bool, Option, List, Some, None, ◌≡◌, ◌<◌, ◌≤◌, ◌↔◌, ◌++◌};
+ghost use Rattle.std.specs.Prelude.{◌∷◌, ◌*◌, [], length, IsTrue, IsSome, IsNone, IfOk, IfErr};
+ghost use Rattle.std.specs.Prelude.{OnErr, OnOk, IsOk, IfSome, MatchOption, MatchResult};
 ghost use Rattle.task_segments.specs.Table.{Table};
 ghost use Rattle.task_segments.specs.Precedence.{MustPrecede};
 ghost use Rattle.depend_table.specs.Kept.{IsKeptEdge};
 ghost use Rattle.depend_table.specs.Lists.{Lists};
-ghost use Rattle.dispatch_core.specs.Run.{Run, HasStarted, HasFinished, Runs, MayStart, MayFollow, IsLegalRun, IsFinished, IsOpen, IsReady};
+ghost use Rattle.dispatch_core.specs.Run.{Run, HasStarted, HasFinished, Runs, MayStart, MayFollow};
+ghost use Rattle.dispatch_core.specs.Run.{IsLegalRun, IsFinished, IsOpen, IsReady};
 ghost use Rattle.dispatch_core.specs.Values.{IsValue, IsInput};
 ghost use Rattle.std.specs.Prelude.{◌≢◌};
 ghost use Rattle.dispatch_core.specs.Run.{BecomesReady};
-ghost use Rattle.dispatch_core.specs.Refusals.{RefusesStart, RefusesFinish, MayFinish, IsCost, IsFirstUnfinished};
+ghost use Rattle.dispatch_core.specs.Refusals.{RefusesStart, RefusesFinish, MayFinish, IsCost};
+ghost use Rattle.dispatch_core.specs.Refusals.{IsFirstUnfinished};
 ghost use Rattle.dispatch_core.specs.Graph.{IsGraphOf};
 
 use crate::counters::Counters;
@@ -23,9 +27,10 @@ use std::marker::{Model, PhantomData};
 use task_program::AllocFault;
 use task_segments::table::SegTable;
 
-/// A run of a program's segments by workers, with kernel K: which segments have started and finished, what each
-/// computed, and the record of it. Contracts see the program's table and the history, the accepted events in order.
-/// An event is accepted exactly where it may follow those before it.
+/// A run of a program's segments by workers, with kernel K: which segments have started and
+/// finished, what each computed, and the record of it. Contracts see the program's table and the
+/// history, the accepted events in order. An event is accepted exactly where it may follow those
+/// before it.
 #[derive(Drop)]
 pub struct Core<K: Kernel> {
     alloc: Global,
@@ -48,12 +53,13 @@ impl<K: Kernel> Model for Core<K> {
 
     ghost view = { λ a. record { table = a.table; history = a.history.items } };
 
-    ghost invariant = { λ a. IsSound K.value_of a.table a.history.items (vec_capacity a.history) a.started.items a.running.items a.values.items a.counters a.costs.items };
+    ghost invariant = { λ a. IsSound K.value_of a.table a.history.items (vec_capacity a.history)
+        a.started.items a.running.items a.values.items a.counters a.costs.items };
 }
 
 impl<K: Kernel> Core<K> {
-    /// A core at the start of a run, with room for the whole history, which is two events for each segment. It is
-    /// refused only when memory runs out, and then the table comes back.
+    /// A core at the start of a run, with room for the whole history, which is two events for each
+    /// segment. It is refused only when memory runs out, and then the table comes back.
     pub fn new(alloc: Global, table: SegTable) -> Result<Core<K>, NewFault>
         ensures ok { IfOk result (λ core. core ≡ record { table = table; history = [] }) }
         ensures err { IfErr result (λ fault. fault.table ≡ table) }
@@ -84,7 +90,8 @@ impl<K: Kernel> Core<K> {
         &self.table
     }
 
-    /// The accepted events, in order. Its other clauses tell callers that they are legal, and at most two for each segment.
+    /// The accepted events, in order. Its other clauses tell callers that they are legal, and at
+    /// most two for each segment.
     pub fn history(&self) -> &[Event]
         ensures events { result.now ≡ self.now.history }
         ensures legal { IsLegalRun self.now.table self.now.history }
@@ -93,8 +100,8 @@ impl<K: Kernel> Core<K> {
         self.history.as_slice()
     }
 
-    /// The segment that the worker runs, if any: one that it has started and that is not finished. Any number may be
-    /// asked for.
+    /// The segment that the worker runs, if any: one that it has started and that is not finished.
+    /// Any number may be asked for.
     pub fn running(&self, worker: u32) -> Option<u32>
         ensures { (segment : ℕ) → (result ≡ Some segment) ↔ Runs self.now.history worker segment }
     {
@@ -109,10 +116,13 @@ impl<K: Kernel> Core<K> {
         self.history.len() == 2 * self.table.len() as usize
     }
 
-    /// The kept predecessors of a segment, ascending, once it is open: where it is the first of all, or the one before
-    /// it in its task, or the one that creates its task, is finished. Any number may be asked for.
+    /// The kept predecessors of a segment, ascending, once it is open: where it is the first of
+    /// all, or the one before it in its task, or the one that creates its task, is finished. Any
+    /// number may be asked for.
     pub fn preds_of(&self, segment: u32) -> Option<&[u32]>
-        ensures { MatchOption result (¬ IsOpen self.now.table self.now.history segment) (λ preds. IsOpen self.now.table self.now.history segment × Lists (λ p. IsKeptEdge self.now.table p segment) preds.now) }
+        ensures { MatchOption result (¬ IsOpen self.now.table self.now.history segment)
+            (λ preds. IsOpen self.now.table self.now.history segment
+            × Lists (λ p. IsKeptEdge self.now.table p segment) preds.now) }
     {
         if segment >= self.table.len() {
             return None;
@@ -133,8 +143,8 @@ impl<K: Kernel> Core<K> {
         }
     }
 
-    /// The program's graph, its costs and kept edges, exactly where every segment is finished. If not, the core comes
-    /// back.
+    /// The program's graph, its costs and kept edges, exactly where every segment is finished. If
+    /// not, the core comes back.
     pub fn into_graph(self) -> Result<Graph, Unfinished<K>>
         ensures ok { IfOk result (IsGraphOf self.table) }
         ensures finished { OnOk result (IsFinished self.table self.history) }
@@ -154,10 +164,13 @@ impl<K: Kernel> Core<K> {
         self.table
     }
 
-    /// The segment's value, once it is finished: what the kernel gives for it, its cost and its input. Any number may
-    /// be asked for.
+    /// The segment's value, once it is finished: what the kernel gives for it, its cost and its
+    /// input. Any number may be asked for.
     pub fn value(&self, segment: u32) -> Option<u64>
-        ensures { MatchOption result (¬ HasFinished self.now.history segment) (λ value. HasFinished self.now.history segment × IsValue self.now.table K.value_of segment value) }
+        ensures { MatchOption result (¬ HasFinished self.now.history segment)
+            (λ value.
+            HasFinished self.now.history segment
+            × IsValue self.now.table K.value_of segment value) }
     {
         value_entry(self.values.as_slice(), segment)
     }
@@ -179,7 +192,10 @@ impl<K: Kernel> Core<K> {
 
     /// The cost and the input of the segment that the worker runs, if it runs this one.
     pub(crate) fn task_of(&self, worker: u32, segment: u32) -> Option<(u64, u64)>
-        ensures { MatchOption result (¬ Runs self.now.history worker segment) (λ task. Runs self.now.history worker segment × IsCost self.now.table segment task.0 × IsInput self.now.table K.value_of segment task.1) }
+        ensures { MatchOption result (¬ Runs self.now.history worker segment)
+            (λ task. Runs self.now.history worker segment
+            × IsCost self.now.table segment task.0
+            × IsInput self.now.table K.value_of segment task.1) }
     {
         if !self.runs(worker, segment) {
             return None;
@@ -200,13 +216,20 @@ impl<K: Kernel> Core<K> {
         value_entry(self.values.as_slice(), segment).is_some()
     }
 
-    /// Starts a segment on a worker, both any numbers, and answers the segment's input: the sum of the values of its
-    /// kept predecessors, modulo 2^64. A refusal is the first reason that holds, and then nothing is changed.
+    /// Starts a segment on a worker, both any numbers, and answers the segment's input: the sum of
+    /// the values of its kept predecessors, modulo 2^64. A refusal is the first reason that holds,
+    /// and then nothing is changed.
     pub fn start(&mut self, worker: u32, segment: u32) -> Result<u64, StartRefusal>
-        ensures legal { OnOk result (MayFollow self.old.table self.old.history (Event.Start worker segment)) }
+        ensures legal { OnOk result (MayFollow self.old.table self.old.history
+            (Event.Start worker segment)) }
         ensures input { IfOk result (λ input. IsInput self.old.table K.value_of segment input) }
-        ensures next { OnOk result (self.new ≡ record { table = self.old.table; history = self.old.history ++ Event.Start worker segment ∷ [] }) }
-        ensures refused { IfErr result (RefusesStart self.old.table self.old.history worker segment) }
+        ensures next { OnOk result (self.new
+            ≡ record {
+              table = self.old.table;
+              history = self.old.history ++ Event.Start worker segment ∷ [];
+            }) }
+        ensures refused { IfErr result (RefusesStart self.old.table self.old.history worker
+            segment) }
         ensures same { OnErr result (self.new ≡ self.old) }
     {
         self.may_start(worker, segment)?;
@@ -217,7 +240,9 @@ impl<K: Kernel> Core<K> {
 
     /// Whether the worker may start the segment, or why not.
     fn may_start(&self, worker: u32, segment: u32) -> Result<(), StartRefusal>
-        ensures { MatchResult result (λ _. MayStart self.now.table self.now.history worker segment) (RefusesStart self.now.table self.now.history worker segment) }
+        ensures { MatchResult result
+            (λ _. MayStart self.now.table self.now.history worker segment)
+            (RefusesStart self.now.table self.now.history worker segment) }
     {
         if worker >= MOST_WORKERS {
             return Err(StartRefusal::UnknownWorker);
@@ -240,7 +265,10 @@ impl<K: Kernel> Core<K> {
     /// The smallest segment that must precede this one and is not finished.
     fn first_unfinished(&self, segment: u32) -> Option<u32>
         requires { segment < length self.now.table.segments }
-        ensures { MatchOption result ((pred : ℕ) → MustPrecede self.now.table pred segment → HasFinished self.now.history pred) (IsFirstUnfinished self.now.table self.now.history segment) }
+        ensures { MatchOption result
+            ((pred : ℕ) → MustPrecede self.now.table pred segment
+            → HasFinished self.now.history pred)
+            (IsFirstUnfinished self.now.table self.now.history segment) }
     {
         if self.is_free(segment) {
             return None;
@@ -253,10 +281,13 @@ impl<K: Kernel> Core<K> {
         None
     }
 
-    /// Whether all that must precede the segment is finished: then it is open, and none of its kept predecessors is counted.
+    /// Whether all that must precede the segment is finished: then it is open, and none of its kept
+    /// predecessors is counted.
     fn is_free(&self, segment: u32) -> bool
         requires { segment < length self.now.table.segments }
-        ensures { IsTrue result ↔ ((pred : ℕ) → MustPrecede self.now.table pred segment → HasFinished self.now.history pred) }
+        ensures { IsTrue result
+            ↔ ((pred : ℕ) → MustPrecede self.now.table pred segment
+            → HasFinished self.now.history pred) }
     {
         if self.counters.count(segment) > 0 {
             return false;
@@ -267,7 +298,8 @@ impl<K: Kernel> Core<K> {
     /// The sum of the values of the segment's kept predecessors.
     fn input_of(&self, segment: u32) -> u64
         requires known { segment < length self.now.table.segments }
-        requires after { (pred : ℕ) → MustPrecede self.now.table pred segment → HasFinished self.now.history pred }
+        requires after { (pred : ℕ) → MustPrecede self.now.table pred segment
+            → HasFinished self.now.history pred }
         ensures { IsInput self.now.table K.value_of segment result }
     {
         sum_at(self.counters.preds(segment), self.values.as_slice())
@@ -275,17 +307,22 @@ impl<K: Kernel> Core<K> {
 
     fn enter_start(&mut self, worker: u32, segment: u32)
         requires { MayStart self.old.table self.old.history worker segment }
-        ensures { self.new ≡ record { table = self.old.table; history = self.old.history ++ Event.Start worker segment ∷ [] } }
+        ensures { self.new
+            ≡ record {
+              table = self.old.table;
+              history = self.old.history ++ Event.Start worker segment ∷ [];
+            } }
     {
         self.running[worker as usize] = Some(segment);
         self.started[segment as usize] = true;
         push_event(&mut self.history, Event::Start { worker, segment });
     }
 
-    /// The segments that are not started and of which all that must precede them are finished, ascending. It is refused
-    /// only when memory runs out.
+    /// The segments that are not started and of which all that must precede them are finished,
+    /// ascending. It is refused only when memory runs out.
     pub fn ready(&self) -> Result<Vec<u32>, AllocFault>
-        ensures { IfOk result (λ ready. Lists (IsReady self.now.table self.now.history) ready.items) }
+        ensures { IfOk result (λ ready.
+            Lists (IsReady self.now.table self.now.history) ready.items) }
     {
         let mut ready = Vec::new(self.alloc);
         for segment in 0..self.table.len() {
@@ -304,17 +341,25 @@ impl<K: Kernel> Core<K> {
         self.is_free(segment)
     }
 
-    /// Finishes the segment that the worker runs, with its result, and answers the segments that become ready by it,
-    /// ascending. A refusal is the first reason that holds; then nothing is changed, and the result comes back.
+    /// Finishes the segment that the worker runs, with its result, and answers the segments that
+    /// become ready by it, ascending. A refusal is the first reason that holds; then nothing is
+    /// changed, and the result comes back.
     pub fn finish(
         &mut self,
         worker: u32,
         outcome: SegResult<K>,
     ) -> Result<Vec<u32>, FinishRefusal<K>>
-        ensures legal { OnOk result (MayFinish self.old.table self.old.history K.value_of worker outcome) }
-        ensures next { OnOk result (self.new ≡ record { table = self.old.table; history = self.old.history ++ Event.Finish worker outcome.segment ∷ [] }) }
-        ensures ready { IfOk result (λ ready. Lists (BecomesReady self.old.table self.old.history self.new.history) ready.items) }
-        ensures refused { IfErr result (λ refusal. RefusesFinish self.old.table self.old.history K.value_of worker outcome refusal.kind) }
+        ensures legal { OnOk result (MayFinish self.old.table self.old.history K.value_of worker
+            outcome) }
+        ensures next { OnOk result (self.new
+            ≡ record {
+              table = self.old.table;
+              history = self.old.history ++ Event.Finish worker outcome.segment ∷ [];
+            }) }
+        ensures ready { IfOk result (λ ready.
+            Lists (BecomesReady self.old.table self.old.history self.new.history) ready.items) }
+        ensures refused { IfErr result (λ refusal.
+            RefusesFinish self.old.table self.old.history K.value_of worker outcome refusal.kind) }
         ensures back { IfErr result (λ refusal. refusal.result ≡ outcome) }
         ensures same { OnErr result (self.new ≡ self.old) }
     {
@@ -335,7 +380,9 @@ impl<K: Kernel> Core<K> {
 
     /// Whether the worker may finish with this result, or why not.
     fn may_finish(&self, worker: u32, outcome: &SegResult<K>) -> Result<(), FinishKind>
-        ensures { MatchResult result (λ _. MayFinish self.now.table self.now.history K.value_of worker outcome.now) (RefusesFinish self.now.table self.now.history K.value_of worker outcome.now) }
+        ensures { MatchResult result
+            (λ _. MayFinish self.now.table self.now.history K.value_of worker outcome.now)
+            (RefusesFinish self.now.table self.now.history K.value_of worker outcome.now) }
     {
         let segment = outcome.segment();
         if !self.runs(worker, segment) {
@@ -350,11 +397,19 @@ impl<K: Kernel> Core<K> {
         Ok(())
     }
 
-    /// Enters a finish, and answers the segments that become ready by it. All growths come before the first change.
+    /// Enters a finish, and answers the segments that become ready by it. All growths come before
+    /// the first change.
     fn enter_finish(&mut self, worker: u32, outcome: &SegResult<K>) -> Result<Vec<u32>, AllocFault>
         requires { MayFinish self.old.table self.old.history K.value_of worker outcome.now }
-        ensures next { OnOk result (self.new ≡ record { table = self.old.table; history = self.old.history ++ Event.Finish worker outcome.now.segment ∷ [] }) }
-        ensures ready { IfOk result (λ ready. Lists (BecomesReady self.old.table self.old.history (self.old.history ++ Event.Finish worker outcome.now.segment ∷ [])) ready.items) }
+        ensures next { OnOk result (self.new
+            ≡ record {
+              table = self.old.table;
+              history = self.old.history ++ Event.Finish worker outcome.now.segment ∷ [];
+            }) }
+        ensures ready { IfOk result (λ ready. Lists
+            (BecomesReady self.old.table self.old.history (self.old.history
+            ++ Event.Finish worker outcome.now.segment ∷ []))
+            ready.items) }
         ensures same { OnErr result (self.new ≡ self.old) }
     {
         let segment = outcome.segment();

@@ -1,12 +1,13 @@
 //! Recorded graphs: segments with costs, each with its predecessors.
-ghost use Rattle.std.specs.Prelude.{ℕ, List, ◌≡◌, ◌<◌, ◌≤◌, ◌^◌, length, sum, sum_by, slice_index_or, map};
+ghost use Rattle.std.specs.Prelude.{ℕ, List, ◌≡◌, ◌<◌, ◌≤◌, ◌^◌, length, sum, sum_by};
+ghost use Rattle.std.specs.Prelude.{slice_index_or, map};
 ghost use Rattle.program_text.specs.declared.limits.TheConstants.{MOST_WORK};
 ghost use Rattle.dispatch_core.specs.RecordedGraph.{RecordedGraph, IsGraph, predecessors_of};
 
 use std::marker::Model;
 
-/// A recorded graph: for each segment, by its number from 0, its cost and the numbers of its predecessors.
-/// Contracts see these two lists.
+/// A recorded graph: for each segment, by its number from 0, its cost and the numbers of its
+/// predecessors. Contracts see these two lists.
 #[derive(Drop)]
 pub struct Graph {
     costs: Vec<u64>,
@@ -26,8 +27,12 @@ impl Model for Graph {
 
 /// The graph with these costs and predecessors.
 pub(crate) fn make_graph(costs: Vec<u64>, predecessors: Vec<Vec<u32>>) -> Graph
-    requires { IsGraph (record { costs = costs.items; predecessors = map (λ v. v.items) predecessors.items }) }
-    ensures { result ≡ record { costs = costs.items; predecessors = map (λ v. v.items) predecessors.items } }
+    requires { IsGraph (record {
+      costs = costs.items;
+      predecessors = map (λ v. v.items) predecessors.items;
+    }) }
+    ensures { result
+        ≡ record { costs = costs.items; predecessors = map (λ v. v.items) predecessors.items } }
 {
     Graph {
         costs,

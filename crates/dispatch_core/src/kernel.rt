@@ -28,8 +28,8 @@ pub trait Kernel: Send + Sync {
 /// The mixing kernel makes at most so many turns, however great the cost.
 pub const MOST_MIX_TURNS: u64 = 4096;
 
-/// A kernel that begins with segment + input and makes a turn of x = 5 * x + 1 for each unit of the cost, up to
-/// [`MOST_MIX_TURNS`], all modulo 2^64. It never faults.
+/// A kernel that begins with segment + input and makes a turn of x = 5 * x + 1 for each unit of the
+/// cost, up to [`MOST_MIX_TURNS`], all modulo 2^64. It never faults.
 #[derive(Clone, Copy, Debug, PartialEq, Eq)]
 pub struct MixKernel;
 
@@ -50,8 +50,8 @@ impl Kernel for MixKernel {
     }
 }
 
-/// What kernel K computed for a segment: the value is K's for the segment, the cost and the input. Contracts see these
-/// four numbers.
+/// What kernel K computed for a segment: the value is K's for the segment, the cost and the input.
+/// Contracts see these four numbers.
 #[derive(Drop)]
 pub struct SegResult<K: Kernel> {
     segment: u32,
@@ -67,7 +67,12 @@ impl<K: Kernel> Model for SegResult<K> {
 
     ghost Value = { Computation };
 
-    ghost view = { λ a. record { segment = a.segment; cost = a.cost; input = a.input; value = a.value } };
+    ghost view = { λ a. record {
+      segment = a.segment;
+      cost = a.cost;
+      input = a.input;
+      value = a.value;
+    } };
 
     ghost invariant = { λ a. a.value ≡ K.value_of a.segment a.cost a.input };
 }
@@ -80,7 +85,13 @@ impl<K: Kernel> SegResult<K> {
         cost: u64,
         input: u64,
     ) -> Result<SegResult<K>, KernelFault>
-        ensures ok { IfOk result (λ r. r ≡ record { segment = segment; cost = cost; input = input; value = K.value_of segment cost input }) }
+        ensures ok { IfOk result (λ r. r
+            ≡ record {
+              segment = segment;
+              cost = cost;
+              input = input;
+              value = K.value_of segment cost input;
+            }) }
         ensures err { OnErr result (IsTrue (K.may_fault segment cost input)) }
     {
         let value = kernel.run(segment, cost, input)?;

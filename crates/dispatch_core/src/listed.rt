@@ -1,5 +1,7 @@
 //! Lists of numbers with a place for each number.
-ghost use Rattle.std.specs.Prelude.{ℕ, ◌≡◌, ◌≢◌, ◌<◌, ◌≤◌, ◌+◌, ◌++◌, ◌∷◌, [], List, None, length, replicate, vec_len, vec_capacity, Contains, AllPairs, IfOk, OnOk};
+ghost use Rattle.std.specs.Prelude.{ℕ, ◌≡◌, ◌≢◌, ◌<◌, ◌≤◌, ◌+◌, ◌++◌, ◌∷◌, [], List, None, length};
+ghost use Rattle.std.specs.Prelude.{replicate, vec_len, vec_capacity, Contains, AllPairs, IfOk};
+ghost use Rattle.std.specs.Prelude.{OnOk};
 ghost use Rattle.dispatch_core.specs.Entry.{entry};
 ghost use Rattle.dispatch_core.specs.Listed.{items_of, ArePushed};
 ghost use Rattle.dispatch_core.specs.Rooms.{HasRoom, IsRoomier, IsFuller};
@@ -27,7 +29,8 @@ pub fn make_room(
 ) -> Result<(), AllocFault>
     requires { (place : ℕ) → Contains places.now place → place < length lists.old.items }
     ensures roomier { IsRoomier lists.old.items lists.new.items }
-    ensures room { OnOk result ((place : ℕ) → Contains places.now place → entry values.now place ≡ None → HasRoom lists.new.items 2 place) }
+    ensures room { OnOk result ((place : ℕ) → Contains places.now place
+        → entry values.now place ≡ None → HasRoom lists.new.items 2 place) }
 {
     for place in places {
         make_room_at(lists, values, *place)?;
@@ -55,8 +58,11 @@ fn make_room_at(
 /// Puts the number at the end of the lists at those of these places that have no value.
 pub fn push_on(lists: &mut Vec<Vec<u32>>, values: &[Option<u64>], places: &[u32], number: u32)
     requires once { AllPairs (λ x y. x ≢ y) places.now }
-    requires room { (place : ℕ) → Contains places.now place → entry values.now place ≡ None → HasRoom lists.old.items 1 place }
-    ensures pushed { ArePushed number (λ place. Contains places.now place × (entry values.now place ≡ None)) (items_of lists.old.items) (items_of lists.new.items) }
+    requires room { (place : ℕ) → Contains places.now place → entry values.now place ≡ None
+        → HasRoom lists.old.items 1 place }
+    ensures pushed { ArePushed number
+        (λ place. Contains places.now place × (entry values.now place ≡ None))
+        (items_of lists.old.items) (items_of lists.new.items) }
     ensures fuller { IsFuller (Contains places.now) lists.old.items lists.new.items }
 {
     for place in places {
@@ -67,7 +73,8 @@ pub fn push_on(lists: &mut Vec<Vec<u32>>, values: &[Option<u64>], places: &[u32]
 /// Puts the number at the end of the list at the place, if it has no value.
 fn push_at(lists: &mut Vec<Vec<u32>>, values: &[Option<u64>], place: u32, number: u32)
     requires { entry values.now place ≡ None → HasRoom lists.old.items 1 place }
-    ensures pushed { ArePushed number (λ other. (other ≡ place) × (entry values.now other ≡ None)) (items_of lists.old.items) (items_of lists.new.items) }
+    ensures pushed { ArePushed number (λ other. (other ≡ place) × (entry values.now other ≡ None))
+        (items_of lists.old.items) (items_of lists.new.items) }
     ensures fuller { IsFuller (λ other. other ≡ place) lists.old.items lists.new.items }
 {
     if value_entry(values, place).is_some() {

@@ -5,11 +5,12 @@ ghost use Rattle.task_segments.specs.Precedence.{Continues, Creation, IsSegment}
 use task_segments::laws::{opens_after_another, reads_in_place};
 use task_segments::table::{Closing, SegTable};
 
-/// The segment by whose finish a segment opens: the one before it in its task, or the one that creates its task. The
-/// first segment of the program has none.
+/// The segment by whose finish a segment opens: the one before it in its task, or the one that
+/// creates its task. The first segment of the program has none.
 pub fn opener(table: &SegTable, segment: u32) -> Option<u32>
     requires { IsSegment table.now segment }
-    ensures some { (s : ℕ) → (result ≡ Some s) ↔ (Continues table.now s segment ⊎ Creation table.now s segment) }
+    ensures some { (s : ℕ)
+        → (result ≡ Some s) ↔ (Continues table.now s segment ⊎ Creation table.now s segment) }
     ensures none { (result ≡ None) ↔ (segment ≡ 0) }
 {
     reads_in_place(table);

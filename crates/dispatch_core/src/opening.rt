@@ -1,5 +1,6 @@
 //! The segments that open when another finishes, each with its kept predecessors.
-ghost use Rattle.std.specs.Prelude.{ℕ, ◌≡◌, ◌<◌, ◌∷◌, [], Some, None, length, replicate, slice_get, slice_set, vec_len, vec_capacity, IfOk, OnOk, OnErr};
+ghost use Rattle.std.specs.Prelude.{ℕ, ◌≡◌, ◌<◌, ◌∷◌, [], Some, None, length, replicate, slice_get};
+ghost use Rattle.std.specs.Prelude.{slice_set, vec_len, vec_capacity, IfOk, OnOk, OnErr};
 ghost use Rattle.task_segments.specs.Table.{Table, segment, task};
 ghost use Rattle.task_segments.specs.Precedence.{IsSegment, IsTask, Continues, Creation};
 ghost use Rattle.task_segments.specs.InPlace.{IsOf};
@@ -39,7 +40,8 @@ pub fn no_siblings(alloc: Global, count: u32) -> Result<Vec<SiblingTable>, Alloc
     Ok(siblings)
 }
 
-/// What the finish of a segment opens in its task, with room in the successors of what it is kept after.
+/// What the finish of a segment opens in its task, with room in the successors of what it is kept
+/// after.
 pub fn next_opening(
     alloc: Global,
     table: &SegTable,
@@ -80,11 +82,13 @@ pub fn first_opening(
     requires each { length successors.old.items ≡ length table.now.segments }
     requires values { length values.now ≡ length table.now.segments }
     requires unfinished { entry values.now finished ≡ None }
-    requires earlier { (s : ℕ) → IsOf table.now (segment table.now finished).task s → s < finished → HasValue values.now s }
+    requires earlier { (s : ℕ) → IsOf table.now (segment table.now finished).task s → s < finished
+        → HasValue values.now s }
     requires so_far { AreSiblings table.now values.now siblings.old.items }
     ensures roomier { IsRoomier successors.old.items successors.new.items }
     ensures refused { OnErr result (siblings.new.items ≡ siblings.old.items) }
-    ensures entered { OnOk result ((value : ℕ) → AreSiblings table.now (slice_set values.now finished (Some value)) siblings.new.items) }
+    ensures entered { OnOk result ((value : ℕ)
+        → AreSiblings table.now (slice_set values.now finished (Some value)) siblings.new.items) }
     ensures first { IfOk result (IsOpening table.now (Creation table.now finished)) }
     ensures room { IfOk result (IsRoomFor values.now finished successors.new.items) }
 {

@@ -1,6 +1,7 @@
 //! Lists with a place for each segment or worker.
 ghost use Rattle.std.specs.Prelude.{◌≤◌, ◌++◌, ◌∷◌, [], vec_len, vec_capacity, OnOk, if◌then◌else◌};
-ghost use Rattle.std.specs.Prelude.{ℕ, Some, ◌≡◌, ◌<◌, ◌%◌, ◌^◌, length, slice_get, slice_set, sum_by, unwrap_or};
+ghost use Rattle.std.specs.Prelude.{ℕ, Some, ◌≡◌, ◌<◌, ◌%◌, ◌^◌, length, slice_get, slice_set};
+ghost use Rattle.std.specs.Prelude.{sum_by, unwrap_or};
 ghost use Rattle.dispatch_core.specs.Entry.{entry};
 ghost use Rattle.task_segments.specs.Table.{costs_of};
 ghost use Rattle.std.specs.Prelude.{List, IfOk, map, replicate};
@@ -26,7 +27,8 @@ pub fn push_event(history: &mut Vec<Event>, event: Event)
 
 /// Adds a number to a list, if it is to be kept.
 pub fn push_if(list: &mut Vec<u32>, number: u32, keep: bool) -> Result<(), AllocFault>
-    ensures { OnOk result (list.new.items ≡ (if keep then list.old.items ++ number ∷ [] else list.old.items)) }
+    ensures { OnOk result (list.new.items
+        ≡ (if keep then list.old.items ++ number ∷ [] else list.old.items)) }
 {
     if keep {
         list.push(number)?;

@@ -1,5 +1,6 @@
 //! The kept predecessors of a segment, as it opens.
-ghost use Rattle.std.specs.Prelude.{ℕ, ◌≡◌, ◌<◌, ◌≤◌, ◌++◌, ◌∷◌, [], map, vec_len, vec_capacity, Contains};
+ghost use Rattle.std.specs.Prelude.{ℕ, ◌≡◌, ◌<◌, ◌≤◌, ◌++◌, ◌∷◌, [], map, vec_len, vec_capacity};
+ghost use Rattle.std.specs.Prelude.{Contains};
 ghost use Rattle.task_segments.specs.Table.{task};
 ghost use Rattle.task_segments.specs.Precedence.{IsTask};
 ghost use Rattle.depend_table.specs.Kept.{IsKeptEdge};
@@ -10,7 +11,8 @@ use crate::listed::push_in_room;
 use task_segments::laws::reads_in_place;
 use task_segments::table::SegTable;
 
-/// The kept predecessors of a child's first segment: the last segments of its kept siblings, and then its creator.
+/// The kept predecessors of a child's first segment: the last segments of its kept siblings, and
+/// then its creator.
 pub fn first_predecessors(table: &SegTable, child: u32, kept: Vec<u32>) -> Vec<u32>
     requires kept { AreKeptSiblings table.now child kept.items }
     requires room { vec_len kept < vec_capacity kept }

@@ -1,5 +1,6 @@
 //! Runs that are given: every segment in order, or a list of events.
-ghost use Rattle.std.specs.Prelude.{ℕ, Some, ◌≡◌, ◌<◌, ◌≤◌, ◌+◌, ◌++◌, ◌∷◌, [], length, IfOk, IfErr, OnOk, OnErr, take};
+ghost use Rattle.std.specs.Prelude.{ℕ, Some, ◌≡◌, ◌<◌, ◌≤◌, ◌+◌, ◌++◌, ◌∷◌, [], length, IfOk};
+ghost use Rattle.std.specs.Prelude.{IfErr, OnOk, OnErr, take};
 ghost use Rattle.dispatch_core.specs.Run.{Run, Runs, IsLegalRun};
 ghost use Rattle.dispatch_core.specs.Values.{IsInput};
 ghost use Rattle.dispatch_core.specs.Refusals.{IsCost};
@@ -44,8 +45,8 @@ enum StepFault {
     NoMemory,
 }
 
-/// The program's graph, by a run of every segment in the order of numbers on worker 0. It is refused for want of
-/// memory alone, and then the table comes back.
+/// The program's graph, by a run of every segment in the order of numbers on worker 0. It is
+/// refused for want of memory alone, and then the table comes back.
 pub fn in_order(alloc: Global, table: SegTable) -> Result<Graph, NewFault>
     ensures ok { IfOk result (IsGraphOf table) }
     ensures err { IfErr result (λ fault. fault.table ≡ table) }
@@ -83,7 +84,8 @@ fn run_next(core: &mut Core<MixKernel>, segment: u32) -> Result<(), AllocFault>
     }
 }
 
-/// Finishes a running segment with the mixing kernel's value. It is refused for memory alone, and then nothing is changed.
+/// Finishes a running segment with the mixing kernel's value. It is refused for memory alone, and
+/// then nothing is changed.
 fn finish_computed(
     core: &mut Core<MixKernel>,
     worker: u32,
@@ -94,7 +96,11 @@ fn finish_computed(
     requires runs { Runs core.old.history worker segment }
     requires cost { IsCost core.old.table segment cost }
     requires input { IsInput core.old.table mix_value segment input }
-    ensures ok { OnOk result (core.new ≡ record { table = core.old.table; history = core.old.history ++ Event.Finish worker segment ∷ [] }) }
+    ensures ok { OnOk result (core.new
+        ≡ record {
+          table = core.old.table;
+          history = core.old.history ++ Event.Finish worker segment ∷ [];
+        }) }
     ensures same { OnErr result (core.new ≡ core.old) }
 {
     let kind = match core.finish(worker, mixed_result(segment, cost, input)) {
@@ -109,7 +115,13 @@ fn finish_computed(
 
 /// The mixing kernel's result.
 fn mixed_result(segment: u32, cost: u64, input: u64) -> SegResult<MixKernel>
-    ensures { result ≡ record { segment = segment; cost = cost; input = input; value = mix_value segment cost input } }
+    ensures { result
+        ≡ record {
+          segment = segment;
+          cost = cost;
+          input = input;
+          value = mix_value segment cost input;
+        } }
 {
     match SegResult::compute(&MixKernel, segment, cost, input) {
         Ok(outcome) => outcome,
@@ -117,8 +129,9 @@ fn mixed_result(segment: u32, cost: u64, input: u64) -> SegResult<MixKernel>
     }
 }
 
-/// The core after a list of events, run with the mixing kernel, or the first of them that may not follow those before
-/// it. Where it is refused, for that or when memory runs out, the table comes back.
+/// The core after a list of events, run with the mixing kernel, or the first of them that may not
+/// follow those before it. Where it is refused, for that or when memory runs out, the table comes
+/// back.
 pub fn replay(
     alloc: Global,
     table: SegTable,
@@ -155,7 +168,8 @@ fn replay_fault(index: usize, fault: StepFault) -> ReplayFault
 
 /// Makes one event.
 fn make_event(core: &mut Core<MixKernel>, event: Event) -> Result<(), StepFault>
-    ensures next { OnOk result (core.new ≡ record { table = core.old.table; history = core.old.history ++ event ∷ [] }) }
+    ensures next { OnOk result (core.new
+        ≡ record { table = core.old.table; history = core.old.history ++ event ∷ [] }) }
     ensures refused { IfErr result (RefusesStep core.old.table core.old.history event) }
     ensures same { OnErr result (core.new ≡ core.old) }
 {
@@ -169,8 +183,13 @@ fn make_event(core: &mut Core<MixKernel>, event: Event) -> Result<(), StepFault>
 }
 
 fn make_finish(core: &mut Core<MixKernel>, worker: u32, segment: u32) -> Result<(), StepFault>
-    ensures next { OnOk result (core.new ≡ record { table = core.old.table; history = core.old.history ++ Event.Finish worker segment ∷ [] }) }
-    ensures refused { IfErr result (RefusesStep core.old.table core.old.history (Event.Finish worker segment)) }
+    ensures next { OnOk result (core.new
+        ≡ record {
+          table = core.old.table;
+          history = core.old.history ++ Event.Finish worker segment ∷ [];
+        }) }
+    ensures refused { IfErr result (RefusesStep core.old.table core.old.history
+        (Event.Finish worker segment)) }
     ensures same { OnErr result (core.new ≡ core.old) }
 {
     match core.task_of(worker, segment) {

@@ -1,13 +1,18 @@
--- Each graph has a greedy run: what the simulation comes to, segment by segment and moment by moment.
-use Rattle.std.proofs.Common.{ℕ, zero, suc, ◌+◌, ◌<◌, ◌≤◌, ◌≡◌, ◌⊎◌, ◌∙◌, List, [], ◌∷◌, Option, Some, None, length, sum, get_or, set, replicate, refl, subst, arith, inl, inr}
+-- Each graph has a greedy run: what the simulation comes to, segment by segment and moment by
+-- moment.
+use Rattle.std.proofs.Common.{ℕ, zero, suc, ◌+◌, ◌<◌, ◌≤◌, ◌≡◌, ◌⊎◌, ◌∙◌, List, [], ◌∷◌, Option}
+use Rattle.std.proofs.Common.{Some, None, length, sum, get_or, set, replicate, refl, subst, arith}
+use Rattle.std.proofs.Common.{inl, inr}
 use Rattle.std.proofs.lemmas.Bool.{cases_lt}
 use Rattle.std.proofs.lemmas.List.{get_or_default, get_or_past}
 use Rattle.std.proofs.lemmas.List.Elements.{Contains-get_or}
 use Rattle.task_segments.specs.Schedule.{at}
-use Rattle.dispatch_core.proofs.Decisions.{IsDecided, decided_by_equivalent, decide_both, decide_each, decide_most, find_first}
+use Rattle.dispatch_core.proofs.Decisions.{IsDecided, decided_by_equivalent, decide_both}
+use Rattle.dispatch_core.proofs.Decisions.{decide_each, decide_most, find_first}
 use Rattle.dispatch_core.specs.RecordedGraph.{IsGraph, Precedes, RecordedGraph, predecessors_of}
 use Rattle.greedy_sim.proofs.Members.{contains_first, contains_later}
-use Rattle.greedy_sim.proofs.Moments.{NextEnd, begin, is_the_greedy_run, go_on, moment-le-work, next_early}
+use Rattle.greedy_sim.proofs.Moments.{NextEnd, begin, is_the_greedy_run, go_on, moment-le-work}
+use Rattle.greedy_sim.proofs.Moments.{next_early}
 use Rattle.greedy_sim.proofs.Passing.{pass_full, pass_over, start_at_once, start_on_thread}
 use Rattle.greedy_sim.proofs.Steps.{precedes_ascends}
 use Rattle.greedy_sim.specs.Greedy.{IsGreedyRun, ReadyBy}
@@ -28,7 +33,8 @@ ready_or_not : (graph : RecordedGraph) (starts : List ℕ) (s m : ℕ)
 ready_or_not graph starts s m =
     let row : List ℕ = predecessors_of graph s in
     let Ended : ℕ → Type 0 = λ r. at starts r + at graph.costs r ≤ m in
-    decided_by_equivalent ((k : ℕ) → k < length row → Ended (get_or row k 0)) (ReadyBy graph.costs (Precedes graph) starts s m)
+    decided_by_equivalent ((k : ℕ) → k < length row → Ended (get_or row k 0))
+    (ReadyBy graph.costs (Precedes graph) starts s m)
     (λ all r pred. subst Ended (get_or_default row pred.0 0 r pred.1 ∙ pred.2) (all pred.0 pred.1))
     (λ ready k within. ready (get_or row k 0) (Contains-get_or row k 0 within))
     (decide_each (λ k. Ended (get_or row k 0)) (length row)
@@ -42,13 +48,19 @@ decide_take : (busy : List ℕ) (m cursor k : ℕ) → IsDecided (MayTake busy m
 decide_take busy m cursor k =
     decide_both (cursor ≤ k) (at busy k ≤ m) (decide_most cursor k) (decide_most (at busy k) m)
 
-busy_after : (busy : List ℕ) (m cursor k : ℕ) → ¬ MayTake busy m cursor k → cursor ≤ k → m < at busy k
+busy_after : (busy : List ℕ) (m cursor k : ℕ) → ¬ MayTake busy m cursor k → cursor ≤ k
+    → m < at busy k
 busy_after busy m cursor k fails above =
     elim (cases_lt m (at busy k)) [ inl later ↦ later | inr free ↦ absurd (fails (above, free)) ]
 
 -- a segment that has not started and whose predecessors have ended
-starts_now : (graph : RecordedGraph) (p m i : ℕ) → IsGraph graph → m < no_start → i < length graph.costs
-    → (come : HasCome graph p m i) → at come.starts i ≡ no_start → ReadyBy graph.costs (Precedes graph) come.starts i m
+starts_now : (graph : RecordedGraph) (p m i : ℕ)
+    → IsGraph graph
+    → m < no_start
+    → i < length graph.costs
+    → (come : HasCome graph p m i)
+    → at come.starts i ≡ no_start
+    → ReadyBy graph.costs (Precedes graph) come.starts i m
     → HasCome graph p m (i + 1)
 starts_now graph p m i is early inside come was ready =
     elim (cases_lt 0 (at graph.costs i)) [
@@ -57,33 +69,38 @@ starts_now graph p m i is early inside come was ready =
         starts = set come.starts i m;
         threads = come.threads;
         busy = come.busy;
-        state = start_at_once (precedes_ascends is) come.state early inside was (omega (arith, none)) ready;
+        state = start_at_once (precedes_ascends is) come.state early inside was
+            (omega (arith, none)) ready;
       }
-      | inl positive ↦ elim (find_first (MayTake come.busy m come.cursor) p (decide_take come.busy m come.cursor)) [
-        | inl none ↦ record {
-          cursor = p;
-          starts = come.starts;
-          threads = come.threads;
-          busy = come.busy;
-          state = pass_full come.state positive
-              (λ k above below. busy_after come.busy m come.cursor k (none k below) above);
-        }
-        | inr found ↦
-            let k : ℕ = found.0 in
-            let first = found.1 in
-            record {
-              cursor = k + 1;
-              starts = set come.starts i m;
-              threads = set come.threads i (Some k);
-              busy = set come.busy k (m + at graph.costs i);
-              state = start_on_thread k
-                  (precedes_ascends is) come.state early inside was positive ready first.holds.0 first.below first.holds.1
-                  (λ j above lower. busy_after come.busy m come.cursor j (first.none_before j lower) above);
+      | inl positive ↦ elim
+          (find_first (MayTake come.busy m come.cursor) p (decide_take come.busy m come.cursor)) [
+            | inl none ↦ record {
+              cursor = p;
+              starts = come.starts;
+              threads = come.threads;
+              busy = come.busy;
+              state = pass_full come.state positive
+                  (λ k above below. busy_after come.busy m come.cursor k (none k below) above);
             }
-      ]
+            | inr found ↦
+                let k : ℕ = found.0 in
+                let first = found.1 in
+                record {
+                  cursor = k + 1;
+                  starts = set come.starts i m;
+                  threads = set come.threads i (Some k);
+                  busy = set come.busy k (m + at graph.costs i);
+                  state = start_on_thread k
+                      (precedes_ascends is) come.state early inside was positive ready first.holds.0
+                      first.below first.holds.1
+                      (λ j above lower.
+                      busy_after come.busy m come.cursor j (first.none_before j lower) above);
+                }
+          ]
     ]
 
-one_more : (graph : RecordedGraph) (p m i : ℕ) → IsGraph graph → m < no_start → i < length graph.costs → HasCome graph p m i
+one_more : (graph : RecordedGraph) (p m i : ℕ) → IsGraph graph → m < no_start
+    → i < length graph.costs → HasCome graph p m i
     → HasCome graph p m (i + 1)
 one_more graph p m i is early inside come =
     let passed : (at come.starts i ≤ m) ⊎ (ReadyBy graph.costs (Precedes graph) come.starts i m → ⊥)
@@ -108,21 +125,31 @@ one_more graph p m i is early inside come =
 
 -- ---- one moment
 
-all_more : (graph : RecordedGraph) (p m d i : ℕ) → IsGraph graph → m < no_start → i + d ≡ length graph.costs
-    → HasCome graph p m i → HasCome graph p m (length graph.costs)
+all_more : (graph : RecordedGraph) (p m d i : ℕ)
+    → IsGraph graph
+    → m < no_start
+    → i + d ≡ length graph.costs
+    → HasCome graph p m i
+    → HasCome graph p m (length graph.costs)
 all_more graph p m zero i is early all come =
-    let same : i ≡ length graph.costs = omega (arith, all) in subst (λ (n : ℕ). HasCome graph p m n) same come
+    let same : i ≡ length graph.costs = omega (arith, all) in
+    subst (λ (n : ℕ). HasCome graph p m n) same come
 all_more graph p m (suc d) i is early all come =
     all_more graph p m d (i + 1) is early (omega (arith, all))
     (one_more graph p m i is early (omega (arith, all)) come)
 
 -- the ends after m come no sooner
-no_sooner : (b : ℕ) (bs : List ℕ) (m next : ℕ) → (m < b → next ≤ b) → ((k : ℕ) → m < at bs k → next ≤ at bs k)
-    → (k : ℕ) → m < at (b ∷ bs) k → next ≤ at (b ∷ bs) k
+no_sooner : (b : ℕ) (bs : List ℕ) (m next : ℕ)
+    → (m < b → next ≤ b)
+    → ((k : ℕ) → m < at bs k → next ≤ at bs k)
+    → (k : ℕ)
+    → m < at (b ∷ bs) k
+    → next ≤ at (b ∷ bs) k
 no_sooner b bs m next contains_first first zero more = contains_first more
 no_sooner b bs m next contains_first first (suc k) more = first k more
 
-none_later : (b : ℕ) (bs : List ℕ) (m : ℕ) → b ≤ m → ((k : ℕ) → at bs k ≤ m) → (k : ℕ) → at (b ∷ bs) k ≤ m
+none_later : (b : ℕ) (bs : List ℕ) (m : ℕ) → b ≤ m → ((k : ℕ) → at bs k ≤ m) → (k : ℕ)
+    → at (b ∷ bs) k ≤ m
 none_later b bs m contains_first rest zero = contains_first
 none_later b bs m contains_first rest (suc k) = rest k
 
@@ -136,7 +163,8 @@ next_end (b ∷ bs) m = elim (next_end bs m) [
       record {
         later = later;
         found = contains_first b b bs refl;
-        first = no_sooner b bs m b (λ h. omega arith) (λ k more. absurd (omega (arith, more, none k)));
+        first =
+            no_sooner b bs m b (λ h. omega arith) (λ k more. absurd (omega (arith, more, none k)));
       },
     )
   ]
@@ -158,7 +186,8 @@ next_end (b ∷ bs) m = elim (next_end bs m) [
             record {
               later = later;
               found = contains_first b b bs refl;
-              first = no_sooner b bs m b (λ h. omega arith) (λ k more. omega (arith, sooner, ahead.first k more));
+              first = no_sooner b bs m b (λ h. omega arith)
+                  (λ k more. omega (arith, sooner, ahead.first k more));
             },
           )
           | inr fails ↦ inr (
@@ -176,17 +205,27 @@ next_end (b ∷ bs) m = elim (next_end bs m) [
 -- ---- the whole
 
 -- no moment is later than the work, so there are enough of them
-runs_from : (graph : RecordedGraph) (p moments m : ℕ) → IsGraph graph → 0 < p → sum graph.costs < m + moments
+runs_from : (graph : RecordedGraph) (p moments m : ℕ)
+    → IsGraph graph
+    → 0 < p
+    → sum graph.costs < m + moments
     → HasCome graph p m 0
-    → (starts : List ℕ) × (threads : List (Option ℕ)) × IsGreedyRun graph.costs (Precedes graph) p starts threads
-runs_from graph p zero m is some enough come = absurd (omega (arith, enough, moment-le-work come.state))
+    → (starts : List ℕ)
+    × (threads : List (Option ℕ))
+    × IsGreedyRun graph.costs (Precedes graph) p starts threads
+runs_from graph p zero m is some enough come =
+    absurd (omega (arith, enough, moment-le-work come.state))
 runs_from graph p (suc moments) m is some enough come =
     let small = is.small in
     let early : m < no_start = omega (arith, small, moment-le-work come.state) in
     let over : HasCome graph p m (length graph.costs) =
     all_more graph p m (length graph.costs) 0 is early (omega arith) come in
     elim (next_end over.busy m) [
-      | inl none ↦ (over.starts, over.threads, is_the_greedy_run (precedes_ascends is) over.state some early none)
+      | inl none ↦ (
+        over.starts,
+        over.threads,
+        is_the_greedy_run (precedes_ascends is) over.state some early none,
+      )
       | inr found ↦
           let next : ℕ = found.0 in
           let later = found.1.later in
@@ -196,12 +235,15 @@ runs_from graph p (suc moments) m is some enough come =
             starts = over.starts;
             threads = over.threads;
             busy = over.busy;
-            state = go_on (precedes_ascends is) over.state (next_early over.state (omega (arith, small)) found.1) found.1;
+            state = go_on (precedes_ascends is) over.state
+                (next_early over.state (omega (arith, small)) found.1) found.1;
           })
     ]
 
 pub some_run : (graph : RecordedGraph) (p : ℕ) → IsGraph graph → 0 < p
-    → (starts : List ℕ) × (threads : List (Option ℕ)) × IsGreedyRun graph.costs (Precedes graph) p starts threads
+    → (starts : List ℕ)
+    × (threads : List (Option ℕ))
+    × IsGreedyRun graph.costs (Precedes graph) p starts threads
 some_run graph p is some =
     let n : ℕ = length graph.costs in
     runs_from graph p (suc (sum graph.costs)) 0 is some (omega arith)

@@ -1,9 +1,10 @@
--- A text of version 2 as a tree: a loop stands in it as a loop, and an index may name the variable of a loop around it.
+-- A text of version 2 as a tree: a loop stands in it as a loop, and an index may name the variable
+-- of a loop around it.
 use Rattle.std.specs.Prelude.{ℕ, ◌+◌}
 use Rattle.loop_text.specs.declared.loops.LoopTask.{LoopTask}
 
--- A list of statements: none, or those before the last, and the last. The line of a `work` is that of its number, and each
--- other line that of the first word, or of the `{`.
+-- A list of statements: none, or those before the last, and the last. The line of a `work` is that
+-- of its number, and each other line that of the first word, or of the `{`.
 pub data Tree : Type 0 where
   NoStatement : Tree
   ThenWork : (before : Tree) (cost line : ℕ) → Tree

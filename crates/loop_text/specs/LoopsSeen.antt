@@ -1,7 +1,8 @@
 -- The tree of a list of statements.
 use Rattle.std.specs.Prelude.{List, fold}
 use Rattle.loop_text.specs.Loops.{Tree}
-use Rattle.loop_text.specs.Loops.Tree.{NoStatement, ThenWork, ThenWait, ThenGroup, ThenTask, ThenFor}
+use Rattle.loop_text.specs.Loops.Tree.{NoStatement, ThenWork, ThenWait, ThenGroup, ThenTask}
+use Rattle.loop_text.specs.Loops.Tree.{ThenFor}
 use Rattle.loop_text.specs.declared.loops.LoopStmt.{LoopStmt}
 use Rattle.loop_text.specs.declared.loops.LoopStmt.TheVariants.{Work, Wait, Group, Task, For}
 

@@ -3,7 +3,8 @@ use Rattle.std.specs.Prelude.{ℕ, nat_lt, if◌then◌else◌, List, [], ◌∷
 use Rattle.std.specs.List.{list_any, position_or_len}
 use Rattle.std.specs.Str.{bytes_eq}
 use Rattle.loop_text.specs.declared.open_loops.LoopOpening.{LoopOpening}
-use Rattle.loop_text.specs.declared.open_loops.LoopOpening.TheVariants.{TaskOpening, GroupOpening, ForOpening}
+use Rattle.loop_text.specs.declared.open_loops.LoopOpening.TheVariants.{TaskOpening, GroupOpening}
+use Rattle.loop_text.specs.declared.open_loops.LoopOpening.TheVariants.{ForOpening}
 use Rattle.loop_text.specs.declared.open_loops.LoopBlock.{LoopBlock}
 use Rattle.loop_text.specs.Loops.{Tree}
 use Rattle.loop_text.specs.Loops.Tree.{NoStatement, ThenGroup, ThenTask, ThenFor}
@@ -23,15 +24,21 @@ with_open_block open_blocks opening = record {
   statements = NoStatement;
 }
 
--- A block as the statement after these. A loop that has no turn stands for nothing, and is left out.
+-- A block as the statement after these. A loop that has no turn stands for nothing, and is left
+-- out.
 abbrev pub with_block : Tree → LoopOpening → Tree → Tree
 with_block before (TaskOpening task) body = ThenTask before task body
 with_block before (GroupOpening line brace_line) body = ThenGroup before line brace_line body
-with_block before (ForOpening variable from to line brace_line) body = if nat_lt to from then before else ThenFor before from to line body
+with_block before (ForOpening variable from to line brace_line) body =
+    if nat_lt to from then before else ThenFor before from to line body
 
 abbrev pub after_end_of : List LoopBlock → Tree → OpenBlocks
 after_end_of [] statements = record { blocks = []; statements = statements }
-after_end_of (block ∷ blocks) statements = record { blocks = blocks; statements = with_block block.before block.opening statements }
+after_end_of (block ∷ blocks)
+    statements = record {
+      blocks = blocks;
+      statements = with_block block.before block.opening statements;
+    }
 
 -- the innermost block ends
 abbrev pub without_innermost : OpenBlocks → OpenBlocks
@@ -60,4 +67,6 @@ variables_of (block ∷ blocks) = variables_around block.opening (variables_of b
 -- the loops between a variable's own and this place
 abbrev pub variable_number : List (List ℕ) → List ℕ → Option ℕ
 variable_number variables text =
-    if list_any (bytes_eq text) variables then Some (position_or_len (bytes_eq text) variables) else None
+    if list_any (bytes_eq text) variables
+    then Some (position_or_len (bytes_eq text) variables)
+    else None

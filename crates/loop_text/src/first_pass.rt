@@ -13,7 +13,8 @@ use std::alloc::Global;
 
 /// The first pass.
 pub fn read_loops(alloc: Global, after_header: Scanner<'_>) -> Result<LoopBody, ReadFault>
-    ensures { Gives (λ body. body) result (first_pass (tokens_left after_header.entry) (end_line after_header.entry) first.after_header) }
+    ensures { Gives (λ body. body) result (first_pass (tokens_left after_header.entry)
+        (end_line after_header.entry) first.after_header) }
 {
     let mut scanner = after_header;
     let mut reader = LoopReader::new(alloc);

@@ -1,5 +1,6 @@
 //! The first pass over a text of version 2, token by token.
-ghost use Rattle.std.specs.Prelude.{◌≡◌, ◌≤◌, ◌<◌, ◌+◌, ◌∷◌, ◌++◌, [], true, false, codes, length, OnOk, IfOk, Some, None, Ok};
+ghost use Rattle.std.specs.Prelude.{◌≡◌, ◌≤◌, ◌<◌, ◌+◌, ◌∷◌, ◌++◌, [], true, false, codes, length};
+ghost use Rattle.std.specs.Prelude.{OnOk, IfOk, Some, None, Ok};
 ghost use Rattle.program_text.specs.Answers.{Gives};
 ghost use Rattle.program_text.specs.Words.{is_number};
 ghost use Rattle.program_text.specs.ScannerSeen.{token_seen};
@@ -44,8 +45,8 @@ pub struct Bounds {
     to: u32,
 }
 
-/// What was read so far: the line of the word with which the statement begins, its parts, the open blocks, the
-/// innermost last, and the statements of the innermost.
+/// What was read so far: the line of the word with which the statement begins, its parts, the open
+/// blocks, the innermost last, and the statements of the innermost.
 #[derive(Drop)]
 pub(crate) struct LoopReader {
     alloc: Global,
@@ -151,13 +152,16 @@ fn step_of(digits: &[u8]) -> u32
 impl LoopReader {
     ghost use Rattle.std.specs.Prelude.{reverse, ℕ};
     ghost use Rattle.program_text.specs.Words.{is_text};
-    ghost use Rattle.loop_text.specs.FirstPass.{State, after_header, step, place_step, tree_or_fault, end_at, at, with_item, open_step};
+    ghost use Rattle.loop_text.specs.FirstPass.{State, after_header, step, place_step};
+    ghost use Rattle.loop_text.specs.FirstPass.{tree_or_fault, end_at, at, with_item, open_step};
     ghost use Rattle.loop_text.specs.LoopReaderSeen.{loop_state_of};
     ghost use Rattle.program_text.specs.ScannerSeen.{token_seen};
 
     /// A block begins.
     fn open(&mut self, token: Token<'_>, opening: LoopOpening) -> Result<(), ReadFault>
-        ensures { Gives (λ _. loop_state_of self.new LoopPlace.Statement) result (open_step (loop_state_of self.old LoopPlace.Statement) opening (token_seen token.entry)) }
+        ensures { Gives (λ _. loop_state_of self.new LoopPlace.Statement) result
+            (open_step (loop_state_of self.old LoopPlace.Statement) opening
+            (token_seen token.entry)) }
     {
         if self.tree.depth() >= MOST_NESTING {
             return Err(token.fault(ReadKind::TooDeep));
@@ -174,7 +178,8 @@ impl LoopReader {
         index: Option<Index>,
         next: LoopPlace,
     ) -> Result<LoopPlace, ReadFault>
-        ensures { Gives (loop_state_of self.new) result (Ok (at (with_item (loop_state_of self.old next) kind index) next)) }
+        ensures { Gives (loop_state_of self.new) result (Ok (at
+            (with_item (loop_state_of self.old next) kind index) next)) }
     {
         let pending = mem::replace(&mut self.pending, Pending::new(self.alloc));
         self.head.items.push(LoopItem {
@@ -187,7 +192,8 @@ impl LoopReader {
     }
 
     fn statement(&mut self, token: Token<'_>) -> Result<LoopPlace, ReadFault>
-        ensures { Gives (loop_state_of self.new) result (place_step (loop_state_of self.old LoopPlace.Statement) (token_seen token.entry)) }
+        ensures { Gives (loop_state_of self.new) result (place_step
+            (loop_state_of self.old LoopPlace.Statement) (token_seen token.entry)) }
     {
         if token.is(b"work") {
             Ok(LoopPlace::WorkNumber)
@@ -212,7 +218,8 @@ impl LoopReader {
 
     fn close(&mut self, token: Token<'_>) -> Result<LoopPlace, ReadFault>
         requires word { is_text token.text.now (codes "}") ≡ true }
-        ensures { Gives (loop_state_of self.new) result (place_step (loop_state_of self.old LoopPlace.Statement) (token_seen token.entry)) }
+        ensures { Gives (loop_state_of self.new) result (place_step
+            (loop_state_of self.old LoopPlace.Statement) (token_seen token.entry)) }
     {
         if self.tree.depth() == 0 {
             return Err(token.fault(ReadKind::Unopened));
@@ -222,7 +229,8 @@ impl LoopReader {
     }
 
     fn work_number(&mut self, token: Token<'_>) -> Result<LoopPlace, ReadFault>
-        ensures { Gives (loop_state_of self.new) result (place_step (loop_state_of self.old LoopPlace.WorkNumber) (token_seen token.entry)) }
+        ensures { Gives (loop_state_of self.new) result (place_step
+            (loop_state_of self.old LoopPlace.WorkNumber) (token_seen token.entry)) }
     {
         if !is_number(token.text) {
             return Err(token.fault(ReadKind::BadWord));
@@ -235,7 +243,8 @@ impl LoopReader {
     }
 
     fn group_brace(&mut self, token: Token<'_>) -> Result<LoopPlace, ReadFault>
-        ensures { Gives (loop_state_of self.new) result (place_step (loop_state_of self.old LoopPlace.GroupBrace) (token_seen token.entry)) }
+        ensures { Gives (loop_state_of self.new) result (place_step
+            (loop_state_of self.old LoopPlace.GroupBrace) (token_seen token.entry)) }
     {
         if !token.is(b"{") {
             return Err(token.fault(ReadKind::BadWord));
@@ -252,7 +261,8 @@ impl LoopReader {
     }
 
     fn for_variable(&mut self, token: Token<'_>) -> Result<LoopPlace, ReadFault>
-        ensures { Gives (loop_state_of self.new) result (place_step (loop_state_of self.old LoopPlace.ForVariable) (token_seen token.entry)) }
+        ensures { Gives (loop_state_of self.new) result (place_step
+            (loop_state_of self.old LoopPlace.ForVariable) (token_seen token.entry)) }
     {
         if !is_word(token.text) || self.tree.variable(token).is_some() {
             return Err(token.fault(ReadKind::BadWord));
@@ -262,21 +272,24 @@ impl LoopReader {
     }
 
     fn for_from(&mut self, token: Token<'_>) -> Result<LoopPlace, ReadFault>
-        ensures { Gives (loop_state_of self.new) result (place_step (loop_state_of self.old LoopPlace.ForFrom) (token_seen token.entry)) }
+        ensures { Gives (loop_state_of self.new) result (place_step
+            (loop_state_of self.old LoopPlace.ForFrom) (token_seen token.entry)) }
     {
         self.bounds.from = bound(token)?;
         Ok(LoopPlace::ForTo)
     }
 
     fn for_to(&mut self, token: Token<'_>) -> Result<LoopPlace, ReadFault>
-        ensures { Gives (loop_state_of self.new) result (place_step (loop_state_of self.old LoopPlace.ForTo) (token_seen token.entry)) }
+        ensures { Gives (loop_state_of self.new) result (place_step
+            (loop_state_of self.old LoopPlace.ForTo) (token_seen token.entry)) }
     {
         self.bounds.to = bound(token)?;
         Ok(LoopPlace::ForBrace)
     }
 
     fn for_brace(&mut self, token: Token<'_>) -> Result<LoopPlace, ReadFault>
-        ensures { Gives (loop_state_of self.new) result (place_step (loop_state_of self.old LoopPlace.ForBrace) (token_seen token.entry)) }
+        ensures { Gives (loop_state_of self.new) result (place_step
+            (loop_state_of self.old LoopPlace.ForBrace) (token_seen token.entry)) }
     {
         if !token.is(b"{") {
             return Err(token.fault(ReadKind::BadWord));
@@ -297,7 +310,8 @@ impl LoopReader {
     }
 
     fn clause(&mut self, token: Token<'_>) -> Result<LoopPlace, ReadFault>
-        ensures { Gives (loop_state_of self.new) result (place_step (loop_state_of self.old LoopPlace.Clause) (token_seen token.entry)) }
+        ensures { Gives (loop_state_of self.new) result (place_step
+            (loop_state_of self.old LoopPlace.Clause) (token_seen token.entry)) }
     {
         if token.is(b"{") {
             self.task_brace(token)
@@ -314,7 +328,8 @@ impl LoopReader {
 
     fn task_brace(&mut self, token: Token<'_>) -> Result<LoopPlace, ReadFault>
         requires word { is_text token.text.now (codes "{") ≡ true }
-        ensures { Gives (loop_state_of self.new) result (place_step (loop_state_of self.old LoopPlace.Clause) (token_seen token.entry)) }
+        ensures { Gives (loop_state_of self.new) result (place_step
+            (loop_state_of self.old LoopPlace.Clause) (token_seen token.entry)) }
     {
         let head = mem::replace(&mut self.head, LoopHead::new(self.alloc));
         let task = LoopTask {
@@ -329,7 +344,8 @@ impl LoopReader {
     }
 
     fn if_opens(&self, token: Token<'_>) -> Result<LoopPlace, ReadFault>
-        ensures { Gives (loop_state_of self.now) result (place_step (loop_state_of self.now LoopPlace.IfOpens) (token_seen token.entry)) }
+        ensures { Gives (loop_state_of self.now) result (place_step
+            (loop_state_of self.now LoopPlace.IfOpens) (token_seen token.entry)) }
     {
         if !token.is(b"(") {
             return Err(token.fault(ReadKind::BadWord));
@@ -338,7 +354,8 @@ impl LoopReader {
     }
 
     fn if_number(&mut self, token: Token<'_>) -> Result<LoopPlace, ReadFault>
-        ensures { Gives (loop_state_of self.new) result (place_step (loop_state_of self.old LoopPlace.IfNumber) (token_seen token.entry)) }
+        ensures { Gives (loop_state_of self.new) result (place_step
+            (loop_state_of self.old LoopPlace.IfNumber) (token_seen token.entry)) }
     {
         let number = zero_or_one(token)?;
         self.head.has_if = true;
@@ -347,7 +364,8 @@ impl LoopReader {
     }
 
     fn if_closes(&self, token: Token<'_>) -> Result<LoopPlace, ReadFault>
-        ensures { Gives (loop_state_of self.now) result (place_step (loop_state_of self.now LoopPlace.IfCloses) (token_seen token.entry)) }
+        ensures { Gives (loop_state_of self.now) result (place_step
+            (loop_state_of self.now LoopPlace.IfCloses) (token_seen token.entry)) }
     {
         if !token.is(b")") {
             return Err(token.fault(ReadKind::BadWord));
@@ -356,7 +374,8 @@ impl LoopReader {
     }
 
     fn final_opens(&self, token: Token<'_>) -> Result<LoopPlace, ReadFault>
-        ensures { Gives (loop_state_of self.now) result (place_step (loop_state_of self.now LoopPlace.FinalOpens) (token_seen token.entry)) }
+        ensures { Gives (loop_state_of self.now) result (place_step
+            (loop_state_of self.now LoopPlace.FinalOpens) (token_seen token.entry)) }
     {
         if !token.is(b"(") {
             return Err(token.fault(ReadKind::BadWord));
@@ -365,7 +384,8 @@ impl LoopReader {
     }
 
     fn final_number(&mut self, token: Token<'_>) -> Result<LoopPlace, ReadFault>
-        ensures { Gives (loop_state_of self.new) result (place_step (loop_state_of self.old LoopPlace.FinalNumber) (token_seen token.entry)) }
+        ensures { Gives (loop_state_of self.new) result (place_step
+            (loop_state_of self.old LoopPlace.FinalNumber) (token_seen token.entry)) }
     {
         let number = zero_or_one(token)?;
         self.head.has_final = true;
@@ -374,7 +394,8 @@ impl LoopReader {
     }
 
     fn final_closes(&self, token: Token<'_>) -> Result<LoopPlace, ReadFault>
-        ensures { Gives (loop_state_of self.now) result (place_step (loop_state_of self.now LoopPlace.FinalCloses) (token_seen token.entry)) }
+        ensures { Gives (loop_state_of self.now) result (place_step
+            (loop_state_of self.now LoopPlace.FinalCloses) (token_seen token.entry)) }
     {
         if !token.is(b")") {
             return Err(token.fault(ReadKind::BadWord));
@@ -383,7 +404,8 @@ impl LoopReader {
     }
 
     fn depend_opens(&self, token: Token<'_>) -> Result<LoopPlace, ReadFault>
-        ensures { Gives (loop_state_of self.now) result (place_step (loop_state_of self.now LoopPlace.DependOpens) (token_seen token.entry)) }
+        ensures { Gives (loop_state_of self.now) result (place_step
+            (loop_state_of self.now LoopPlace.DependOpens) (token_seen token.entry)) }
     {
         if !token.is(b"(") {
             return Err(token.fault(ReadKind::BadWord));
@@ -392,7 +414,8 @@ impl LoopReader {
     }
 
     fn depend_type(&self, token: Token<'_>) -> Result<LoopPlace, ReadFault>
-        ensures { Gives (loop_state_of self.now) result (place_step (loop_state_of self.now LoopPlace.DependType) (token_seen token.entry)) }
+        ensures { Gives (loop_state_of self.now) result (place_step
+            (loop_state_of self.now LoopPlace.DependType) (token_seen token.entry)) }
     {
         let kind = if token.is(b"in") {
             DependKind::DependIn
@@ -409,7 +432,8 @@ impl LoopReader {
     }
 
     fn depend_colon(&self, kind: DependKind, token: Token<'_>) -> Result<LoopPlace, ReadFault>
-        ensures { Gives (loop_state_of self.now) result (place_step (loop_state_of self.now (LoopPlace.DependColon kind)) (token_seen token.entry)) }
+        ensures { Gives (loop_state_of self.now) result (place_step
+            (loop_state_of self.now (LoopPlace.DependColon kind)) (token_seen token.entry)) }
     {
         if !token.is(b":") {
             return Err(token.fault(ReadKind::BadWord));
@@ -418,7 +442,8 @@ impl LoopReader {
     }
 
     fn depend_name(&mut self, kind: DependKind, token: Token<'_>) -> Result<LoopPlace, ReadFault>
-        ensures { Gives (loop_state_of self.new) result (place_step (loop_state_of self.old (LoopPlace.DependName kind)) (token_seen token.entry)) }
+        ensures { Gives (loop_state_of self.new) result (place_step
+            (loop_state_of self.old (LoopPlace.DependName kind)) (token_seen token.entry)) }
     {
         if !is_word(token.text) {
             return Err(token.fault(ReadKind::BadWord));
@@ -432,7 +457,8 @@ impl LoopReader {
     }
 
     fn subscript(&mut self, kind: DependKind, token: Token<'_>) -> Result<LoopPlace, ReadFault>
-        ensures { Gives (loop_state_of self.new) result (place_step (loop_state_of self.old (LoopPlace.Subscript kind)) (token_seen token.entry)) }
+        ensures { Gives (loop_state_of self.new) result (place_step
+            (loop_state_of self.old (LoopPlace.Subscript kind)) (token_seen token.entry)) }
     {
         if token.is(b"[") {
             Ok(LoopPlace::IndexStart(kind))
@@ -446,7 +472,8 @@ impl LoopReader {
     }
 
     fn index_start(&mut self, kind: DependKind, token: Token<'_>) -> Result<LoopPlace, ReadFault>
-        ensures { Gives (loop_state_of self.new) result (place_step (loop_state_of self.old (LoopPlace.IndexStart kind)) (token_seen token.entry)) }
+        ensures { Gives (loop_state_of self.new) result (place_step
+            (loop_state_of self.old (LoopPlace.IndexStart kind)) (token_seen token.entry)) }
     {
         if is_number(token.text) {
             self.pending.index = Index {
@@ -470,7 +497,8 @@ impl LoopReader {
     fn index_variable(&mut self, kind: DependKind, token: Token<'_>) -> Result<LoopPlace, ReadFault>
         requires number { is_number token.text.now ≡ false }
         requires minus { is_text token.text.now (codes "-") ≡ false }
-        ensures { Gives (loop_state_of self.new) result (place_step (loop_state_of self.old (LoopPlace.IndexStart kind)) (token_seen token.entry)) }
+        ensures { Gives (loop_state_of self.new) result (place_step
+            (loop_state_of self.old (LoopPlace.IndexStart kind)) (token_seen token.entry)) }
     {
         let variable = self.tree.variable(token);
         if !is_word(token.text) || variable.is_none() {
@@ -485,7 +513,8 @@ impl LoopReader {
     }
 
     fn index_number(&mut self, kind: DependKind, token: Token<'_>) -> Result<LoopPlace, ReadFault>
-        ensures { Gives (loop_state_of self.new) result (place_step (loop_state_of self.old (LoopPlace.IndexNumber kind)) (token_seen token.entry)) }
+        ensures { Gives (loop_state_of self.new) result (place_step
+            (loop_state_of self.old (LoopPlace.IndexNumber kind)) (token_seen token.entry)) }
     {
         if !is_number(token.text) {
             return Err(token.fault(ReadKind::BadWord));
@@ -495,7 +524,8 @@ impl LoopReader {
     }
 
     fn index_sign(&mut self, kind: DependKind, token: Token<'_>) -> Result<LoopPlace, ReadFault>
-        ensures { Gives (loop_state_of self.new) result (place_step (loop_state_of self.old (LoopPlace.IndexSign kind)) (token_seen token.entry)) }
+        ensures { Gives (loop_state_of self.new) result (place_step
+            (loop_state_of self.old (LoopPlace.IndexSign kind)) (token_seen token.entry)) }
     {
         if token.is(b"]") {
             let index = self.pending.index;
@@ -509,7 +539,8 @@ impl LoopReader {
     }
 
     fn index_closes(&mut self, kind: DependKind, token: Token<'_>) -> Result<LoopPlace, ReadFault>
-        ensures { Gives (loop_state_of self.new) result (place_step (loop_state_of self.old (LoopPlace.IndexCloses kind)) (token_seen token.entry)) }
+        ensures { Gives (loop_state_of self.new) result (place_step
+            (loop_state_of self.old (LoopPlace.IndexCloses kind)) (token_seen token.entry)) }
     {
         if !token.is(b"]") {
             return Err(token.fault(ReadKind::BadWord));
@@ -519,7 +550,8 @@ impl LoopReader {
     }
 
     fn depend_more(&self, kind: DependKind, token: Token<'_>) -> Result<LoopPlace, ReadFault>
-        ensures { Gives (loop_state_of self.now) result (place_step (loop_state_of self.now (LoopPlace.DependMore kind)) (token_seen token.entry)) }
+        ensures { Gives (loop_state_of self.now) result (place_step
+            (loop_state_of self.now (LoopPlace.DependMore kind)) (token_seen token.entry)) }
     {
         if token.is(b",") {
             Ok(LoopPlace::DependName(kind))
@@ -549,7 +581,8 @@ impl LoopReader {
         place: LoopPlace,
         token: Token<'_>,
     ) -> Result<LoopPlace, ReadFault>
-        ensures { Gives (loop_state_of self.new) result (step (loop_state_of self.old place) (token_seen token.entry)) }
+        ensures { Gives (loop_state_of self.new) result (step (loop_state_of self.old place)
+            (token_seen token.entry)) }
     {
         if let Some(kind) = loop_form_fault(token) {
             return Err(token.fault(kind));
@@ -559,7 +592,8 @@ impl LoopReader {
 
     /// The same of a token that is one by itself.
     fn take_formed(&mut self, place: LoopPlace, token: Token<'_>) -> Result<LoopPlace, ReadFault>
-        ensures { Gives (loop_state_of self.new) result (place_step (loop_state_of self.old place) (token_seen token.entry)) }
+        ensures { Gives (loop_state_of self.new) result (place_step (loop_state_of self.old place)
+            (token_seen token.entry)) }
     {
         match place {
             LoopPlace::Statement => self.statement(token),
@@ -591,7 +625,8 @@ impl LoopReader {
 
     /// The text ends here, on this line.
     pub(crate) fn finish(self, place: LoopPlace, line: u32) -> Result<LoopBody, ReadFault>
-        ensures { Gives (λ body. body) result (tree_or_fault (end_at place self.tree.blocks line) (loop_state_of self place)) }
+        ensures { Gives (λ body. body) result (tree_or_fault (end_at place self.tree.blocks line)
+            (loop_state_of self place)) }
     {
         if place != LoopPlace::Statement {
             return Err(ReadFault {

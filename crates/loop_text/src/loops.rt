@@ -1,4 +1,5 @@
-//! A text of version 2 as a tree in which loops stand as loops. Contracts see a body as a tree of the definitions.
+//! A text of version 2 as a tree in which loops stand as loops. Contracts see a body as a tree of
+//! the definitions.
 ghost use Rattle.std.specs.Prelude.{◌≡◌, [], ◌∷◌, ◌++◌, OnOk, IfOk};
 ghost use Rattle.std.specs.String.{string_bytes};
 
@@ -47,8 +48,9 @@ impl Word {
     }
 }
 
-/// An index: a number that is added to the value of a variable, or taken from it; without a variable, to or from 0.
-/// A variable is the number of loops that stand between its own loop and the index. The line is that of the first token.
+/// An index: a number that is added to the value of a variable, or taken from it; without a
+/// variable, to or from 0. A variable is the number of loops that stand between its own loop and
+/// the index. The line is that of the first token.
 #[derive(Clone, Copy, Debug, PartialEq, Eq)]
 pub struct Index {
     pub variable: Option<u32>,

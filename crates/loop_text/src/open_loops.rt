@@ -1,6 +1,8 @@
 //! The open blocks of a text of version 2, and the statements of the innermost.
 ghost use Rattle.std.specs.Prelude.{◌≡◌, ◌≤◌, ◌<◌, [], length, OnOk};
-ghost use Rattle.loop_text.specs.OpenBlocks.{with_statements, with_open_block, without_innermost, brace_of, innermost_brace, variables_of, variable_number};
+ghost use Rattle.loop_text.specs.OpenBlocks.{with_statements, with_open_block, without_innermost};
+ghost use Rattle.loop_text.specs.OpenBlocks.{brace_of, innermost_brace, variables_of};
+ghost use Rattle.loop_text.specs.OpenBlocks.{variable_number};
 ghost use Rattle.loop_text.specs.Loops.Tree.{NoStatement, ThenWork, ThenWait};
 ghost use Rattle.program_text.specs.declared.limits.TheConstants.{MOST_NESTING};
 
@@ -101,7 +103,8 @@ impl OpenLoops {
         self.blocks.len()
     }
 
-    /// The loops between this variable's own and this place, if a loop around this place has that variable.
+    /// The loops between this variable's own and this place, if a loop around this place has that
+    /// variable.
     pub(crate) fn variable(&self, token: Token<'_>) -> Option<u32>
         ensures { result ≡ variable_number (variables_of self.now.blocks) token.entry.text.now }
     {
@@ -120,13 +123,15 @@ impl OpenLoops {
     }
 
     pub(crate) fn add_work(&mut self, cost: u64, line: u32) -> Result<(), AllocFault>
-        ensures { OnOk result (self.new ≡ with_statements self.old (ThenWork self.old.statements cost line)) }
+        ensures { OnOk result (self.new
+            ≡ with_statements self.old (ThenWork self.old.statements cost line)) }
     {
         self.statements.push(LoopStmt::Work { cost, line })
     }
 
     pub(crate) fn add_wait(&mut self, line: u32) -> Result<(), AllocFault>
-        ensures { OnOk result (self.new ≡ with_statements self.old (ThenWait self.old.statements line)) }
+        ensures { OnOk result (self.new
+            ≡ with_statements self.old (ThenWait self.old.statements line)) }
     {
         self.statements.push(LoopStmt::Wait { line })
     }

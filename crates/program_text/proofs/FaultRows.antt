@@ -4,8 +4,13 @@ use Rattle.program_text.specs.declared.fault.ReadKind.{ReadKind}
 use Rattle.program_text.specs.Answers.{is_memory}
 
 -- a row of a table whose own fault is another than out of memory
-pub row_no_memory : (b : Bool) (k kind : ReadKind) (rest : Option ReadKind) → is_memory k ≡ false → (rest ≡ Some kind → is_memory kind ≡ false) → cond b (Some k) rest ≡ Some kind → is_memory kind ≡ false
-row_no_memory true k kind rest own other h = let same : k ≡ kind = cc in ap is_memory (sym same) ∙ own
+pub row_no_memory : (b : Bool) (k kind : ReadKind) (rest : Option ReadKind)
+    → is_memory k ≡ false
+    → (rest ≡ Some kind → is_memory kind ≡ false)
+    → cond b (Some k) rest ≡ Some kind
+    → is_memory kind ≡ false
+row_no_memory true k kind rest own other h =
+    let same : k ≡ kind = cc in ap is_memory (sym same) ∙ own
 row_no_memory false k kind rest own other h = other h
 
 abbrev pub none_of : Option ReadKind

@@ -1,5 +1,6 @@
 -- A run is ASCII.
-use Rattle.std.proofs.Common.{◌≡◌, ℕ, suc, zero, ◌<◌, ◌&&◌, Bool, true, false, not, length, List, [], ◌∷◌, refl, arith, eqb}
+use Rattle.std.proofs.Common.{◌≡◌, ℕ, suc, zero, ◌<◌, ◌&&◌, Bool, true, false, not, length, List}
+use Rattle.std.proofs.Common.{[], ◌∷◌, refl, arith, eqb}
 use Rattle.std.specs.List.{list_all}
 use Rattle.std.specs.Str.{IsAscii}
 use Rattle.std.proofs.lemmas.Bool.Decides.{nat_tests}
@@ -19,8 +20,11 @@ byte_is_ascii b h = grind (arith, nat_tests)
 
 bytes_are_ascii : (text : List ℕ) → list_all is_run_byte text ≡ true → IsAscii text
 bytes_are_ascii [] h i = omega arith
-bytes_are_ascii (b ∷ bytes) h zero = byte_is_ascii b (left_is_true (is_run_byte b) (list_all is_run_byte bytes) h)
-bytes_are_ascii (b ∷ bytes) h (suc i) = bytes_are_ascii bytes (right_is_true (is_run_byte b) (list_all is_run_byte bytes) h) i
+bytes_are_ascii (b ∷ bytes) h zero =
+    byte_is_ascii b (left_is_true (is_run_byte b) (list_all is_run_byte bytes) h)
+bytes_are_ascii (b ∷ bytes) h (suc i) =
+    bytes_are_ascii bytes (right_is_true (is_run_byte b) (list_all is_run_byte bytes) h) i
 
 pub run_is_ascii : (text : List ℕ) → is_run text ≡ true → IsAscii text
-run_is_ascii text h = bytes_are_ascii text (right_is_true (not (eqb (length text) 0)) (list_all is_run_byte text) h)
+run_is_ascii text h =
+    bytes_are_ascii text (right_is_true (not (eqb (length text) 0)) (list_all is_run_byte text) h)

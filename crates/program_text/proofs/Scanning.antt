@@ -1,12 +1,16 @@
 -- How the scanner goes on from byte to byte, and from token to token.
-use Rattle.std.proofs.Common.{◌≡◌, ℕ, suc, ◌-◌, ◌<◌, ◌≤◌, Bool, true, false, ◌&&◌, ◌||◌, cond, List, [], ◌∷◌, length, take, drop, max, get_or, refl, sym, ap, ◌∙◌, arith, eqb, false-eqb}
+use Rattle.std.proofs.Common.{◌≡◌, ℕ, suc, ◌-◌, ◌<◌, ◌≤◌, Bool, true, false, ◌&&◌, ◌||◌, cond, List}
+use Rattle.std.proofs.Common.{[], ◌∷◌, length, take, drop, max, get_or, refl, sym, ap, ◌∙◌, arith}
+use Rattle.std.proofs.Common.{eqb, false-eqb}
 use Rattle.std.specs.Prelude.{count_by}
 use Rattle.std.specs.List.{prefix_len}
 use Rattle.std.proofs.lemmas.Bool.{eqb-true}
 use Rattle.std.proofs.lemmas.List.{take_all}
 use Rattle.std.proofs.lemmas.List.Sums.{prefix_len-le-length}
 use Rattle.std.proofs.lemmas.Grind.{common_steps}
-use Rattle.program_text.specs.Tokens.{is_gap, in_comment_after, is_blank, is_line_feed, is_run_byte, line_after, line_at_end, starts_with_run_byte, with_byte_in_front, tokens_from, StandsAtToken}
+use Rattle.program_text.specs.Tokens.{is_gap, in_comment_after, is_blank, is_line_feed, is_run_byte}
+use Rattle.program_text.specs.Tokens.{line_after, line_at_end, starts_with_run_byte}
+use Rattle.program_text.specs.Tokens.{with_byte_in_front, tokens_from, StandsAtToken}
 
 bool_cases : {P : Type 0} (b : Bool) → (b ≡ true → P) → (b ≡ false → P) → P
 bool_cases true on_true on_false = on_true refl
@@ -21,30 +25,42 @@ or_false_right true b h = absurd cc
 or_false_right false b h = h
 
 -- what a `[first, rest @ ..]` pattern binds as the rest
-pub rest_of_cons : (b : ℕ) (bytes : List ℕ) → take (length (b ∷ bytes) - 1) (drop 1 (b ∷ bytes)) ≡ bytes
+pub rest_of_cons : (b : ℕ) (bytes : List ℕ)
+    → take (length (b ∷ bytes) - 1) (drop 1 (b ∷ bytes)) ≡ bytes
 rest_of_cons b bytes = take_all _ _ (omega arith)
 
 -- a byte of a gap adds no token
-pub gap_goes_on : (c : Bool) (line : ℕ) (bytes : List ℕ) → 1 ≤ length bytes → is_gap c (get_or bytes 0 0) ≡ true
-    → tokens_from (in_comment_after c (get_or bytes 0 0)) (line_after (get_or bytes 0 0) line) (take (length bytes - 1) (drop 1 bytes)) ≡ tokens_from c line bytes
+pub gap_goes_on : (c : Bool) (line : ℕ) (bytes : List ℕ)
+    → 1 ≤ length bytes
+    → is_gap c (get_or bytes 0 0) ≡ true
+    → tokens_from (in_comment_after c (get_or bytes 0 0)) (line_after (get_or bytes 0 0) line)
+    (take (length bytes - 1) (drop 1 bytes))
+    ≡ tokens_from c line bytes
 unfolding tokens_from
 gap_goes_on c line [] some h = absurd (omega arith)
 gap_goes_on c line (b ∷ bytes) some h = rw (rest_of_cons b bytes, h) refl
 
 pub line_goes_on : (line : ℕ) (bytes : List ℕ) → 1 ≤ length bytes
-    → line_at_end (line_after (get_or bytes 0 0) line) (take (length bytes - 1) (drop 1 bytes)) ≡ line_at_end line bytes
+    → line_at_end (line_after (get_or bytes 0 0) line) (take (length bytes - 1) (drop 1 bytes))
+    ≡ line_at_end line bytes
 line_goes_on line [] some = absurd (omega arith)
 line_goes_on line (b ∷ bytes) some = rw (rest_of_cons b bytes) (grind (arith, common_steps))
 
 -- nothing is left
-pub no_tokens : (c : Bool) (line : ℕ) (bytes : List ℕ) → length bytes < 1 → tokens_from c line bytes ≡ []
+pub no_tokens : (c : Bool) (line : ℕ) (bytes : List ℕ)
+    → length bytes < 1
+    → tokens_from c line bytes ≡ []
 unfolding tokens_from
 no_tokens c line [] none = refl
 no_tokens c line (b ∷ bytes) none = absurd (omega arith)
 
 -- one byte of the definition
 tokens_step : (line b : ℕ) (bytes : List ℕ) → is_gap false b ≡ false
-    → tokens_from false line (b ∷ bytes) ≡ cond (is_run_byte b && starts_with_run_byte bytes) (with_byte_in_front b (tokens_from (in_comment_after false b) (line_after b line) bytes)) (record { text = b ∷ []; line = line } ∷ tokens_from (in_comment_after false b) (line_after b line) bytes)
+    → tokens_from false line (b ∷ bytes)
+    ≡ cond (is_run_byte b && starts_with_run_byte bytes)
+    (with_byte_in_front b (tokens_from (in_comment_after false b) (line_after b line) bytes))
+    (record { text = b ∷ []; line = line }
+    ∷ tokens_from (in_comment_after false b) (line_after b line) bytes)
 unfolding tokens_from
 tokens_step line b bytes h = rw h refl
 
@@ -58,30 +74,56 @@ no_feed b line h = let blank = or_false_left (is_blank b) (eqb b 35) h in
 -- a run byte differs from a byte that is none
 differs : (k b : ℕ) → is_run_byte k ≡ false → is_run_byte b ≡ true → eqb b k ≡ false
 differs k b k_is_none b_is_one =
-    bool_cases (eqb b k) (λ same. absurd (let e : b ≡ k = eqb-true b k same in let f = ap is_run_byte e in cc)) (λ other. other)
+    bool_cases (eqb b k)
+    (λ same. absurd (let e : b ≡ k = eqb-true b k same in let f = ap is_run_byte e in cc))
+    (λ other. other)
 
 run_is_no_gap : (b : ℕ) → is_run_byte b ≡ true → is_gap false b ≡ false
-run_is_no_gap b h = rw (differs 32 b refl h, differs 9 b refl h, differs 13 b refl h, differs 10 b refl h, differs 35 b refl h) refl
+run_is_no_gap b h =
+    rw (
+      differs 32 b refl h,
+      differs 9 b refl h,
+      differs 13 b refl h,
+      differs 10 b refl h,
+      differs 35 b refl h,
+    )
+    refl
 
-one_more : (b : ℕ) (bytes : List ℕ) → is_run_byte b ≡ true → prefix_len is_run_byte (b ∷ bytes) ≡ suc (prefix_len is_run_byte bytes)
+one_more : (b : ℕ) (bytes : List ℕ)
+    → is_run_byte b ≡ true
+    → prefix_len is_run_byte (b ∷ bytes) ≡ suc (prefix_len is_run_byte bytes)
 one_more b bytes h = rw h (omega arith)
 
 -- a byte that is no run byte, and belongs to no gap, is a token
 pub single_token : (line b : ℕ) (bytes : List ℕ) → is_gap false b ≡ false → is_run_byte b ≡ false
-    → tokens_from false line (b ∷ bytes) ≡ record { text = b ∷ []; line = line } ∷ tokens_from false line bytes
-single_token line b bytes no_gap no_run = rw (tokens_step line b bytes no_gap, no_run, no_hash b no_gap, no_feed b line no_gap) refl
+    → tokens_from false line (b ∷ bytes)
+    ≡ record { text = b ∷ []; line = line } ∷ tokens_from false line bytes
+single_token line b bytes no_gap no_run =
+    rw (tokens_step line b bytes no_gap, no_run, no_hash b no_gap, no_feed b line no_gap) refl
 
 -- run bytes in front are one token, as many as there are
 pub run_token : (line b : ℕ) (bytes : List ℕ) → is_run_byte b ≡ true
-    → tokens_from false line (b ∷ bytes) ≡ record { text = take (prefix_len is_run_byte (b ∷ bytes)) (b ∷ bytes); line = line } ∷ tokens_from false line (drop (prefix_len is_run_byte (b ∷ bytes)) (b ∷ bytes))
+    → tokens_from false line (b ∷ bytes)
+    ≡ record { text = take (prefix_len is_run_byte (b ∷ bytes)) (b ∷ bytes); line = line }
+    ∷ tokens_from false line (drop (prefix_len is_run_byte (b ∷ bytes)) (b ∷ bytes))
 run_token line b [] h =
     let no_gap = run_is_no_gap b h in
     rw (tokens_step line b [] no_gap, no_hash b no_gap, no_feed b line no_gap, h) refl
 run_token line b (d ∷ bytes) h =
     let no_gap = run_is_no_gap b h in
     bool_cases (is_run_byte d)
-    (λ more. rw (tokens_step line b (d ∷ bytes) no_gap, no_hash b no_gap, no_feed b line no_gap, one_more b (d ∷ bytes) h, run_token line d bytes more, h, more) refl)
-    (λ ends. rw (tokens_step line b (d ∷ bytes) no_gap, no_hash b no_gap, no_feed b line no_gap, h, ends) refl)
+    (λ more. rw (
+      tokens_step line b (d ∷ bytes) no_gap,
+      no_hash b no_gap,
+      no_feed b line no_gap,
+      one_more b (d ∷ bytes) h,
+      run_token line d bytes more,
+      h,
+      more,
+    )
+    refl)
+    (λ ends. rw
+    (tokens_step line b (d ∷ bytes) no_gap, no_hash b no_gap, no_feed b line no_gap, h, ends) refl)
 
 -- how long the first token is
 abbrev pub token_length : List ℕ → ℕ
@@ -90,34 +132,62 @@ token_length bytes = max (prefix_len is_run_byte bytes) 1
 -- what the first token takes
 pub record TakesToken (line : ℕ) (bytes : List ℕ) : Type 0 where
   pub within : token_length bytes ≤ length bytes
-  pub first : tokens_from false line bytes ≡ record { text = take (token_length bytes) bytes; line = line } ∷ tokens_from false line (drop (token_length bytes) bytes)
-  pub no_feed : count_by is_line_feed (drop (token_length bytes) bytes) ≡ count_by is_line_feed bytes
+  pub first : tokens_from false line bytes
+      ≡ record { text = take (token_length bytes) bytes; line = line }
+      ∷ tokens_from false line (drop (token_length bytes) bytes)
+  pub no_feed : count_by is_line_feed (drop (token_length bytes) bytes)
+      ≡ count_by is_line_feed bytes
 
 feed_free : (b : ℕ) → is_gap false b ≡ false → is_line_feed b ≡ false
-feed_free b h = or_false_right (eqb b 13) (eqb b 10) (or_false_right _ _ (or_false_left (is_blank b) (eqb b 35) h))
+feed_free b h =
+    or_false_right (eqb b 13) (eqb b 10)
+    (or_false_right _ _ (or_false_left (is_blank b) (eqb b 35) h))
 
-run_has_no_feed : (bytes : List ℕ) → count_by is_line_feed (drop (prefix_len is_run_byte bytes) bytes) ≡ count_by is_line_feed bytes
+run_has_no_feed : (bytes : List ℕ)
+    → count_by is_line_feed (drop (prefix_len is_run_byte bytes) bytes)
+    ≡ count_by is_line_feed bytes
 run_has_no_feed [] = refl
 run_has_no_feed (b ∷ bytes) =
     bool_cases (is_run_byte b)
-    (λ run. rw (one_more b bytes run, feed_free b (run_is_no_gap b run), run_has_no_feed bytes) refl)
+    (λ run.
+    rw (one_more b bytes run, feed_free b (run_is_no_gap b run), run_has_no_feed bytes) refl)
     (λ other. rw other refl)
 
-pub takes_token : (line : ℕ) (bytes : List ℕ) → 0 < length bytes → StandsAtToken bytes → TakesToken line bytes
+pub takes_token : (line : ℕ) (bytes : List ℕ) → 0 < length bytes → StandsAtToken bytes
+    → TakesToken line bytes
 takes_token line [] some stands = absurd (omega arith)
 takes_token line (b ∷ bytes) some stands =
     bool_cases (is_run_byte b)
-    (λ run. let long : max (prefix_len is_run_byte (b ∷ bytes)) 1 ≡ prefix_len is_run_byte (b ∷ bytes) = omega (arith, one_more b bytes run) in
-    record { within = rw long (prefix_len-le-length is_run_byte (b ∷ bytes)); first = rw long (run_token line b bytes run); no_feed = rw long (run_has_no_feed (b ∷ bytes)) })
+    (λ run. let long : max (prefix_len is_run_byte (b ∷ bytes)) 1
+    ≡ prefix_len is_run_byte (b ∷ bytes) = omega (arith, one_more b bytes run) in
+    record {
+      within = rw long (prefix_len-le-length is_run_byte (b ∷ bytes));
+      first = rw long
+          (run_token line b bytes run);
+      no_feed = rw long (run_has_no_feed (b ∷ bytes));
+    })
     (λ other. let none : prefix_len is_run_byte (b ∷ bytes) ≡ 0 = rw other refl in
     let long : max (prefix_len is_run_byte (b ∷ bytes)) 1 ≡ 1 = rw none refl in
-    record { within = rw long (omega arith); first = rw long (single_token line b bytes stands other); no_feed = rw (long, feed_free b stands) refl })
+    record {
+      within = rw long (omega arith);
+      first = rw long (single_token line b bytes stands other);
+      no_feed = rw (long, feed_free b stands) refl;
+    })
 
 -- the same at the length that the scanner found
-pub token_found : (line : ℕ) (bytes : List ℕ) (run n : ℕ) (empty : Bool) → empty ≡ eqb (length bytes) 0 → empty ≡ false → StandsAtToken bytes → run ≡ prefix_len is_run_byte bytes → n ≡ max run 1
-    → (n ≤ length bytes) × (tokens_from false line bytes ≡ record { text = take n bytes; line = line } ∷ tokens_from false line (drop n bytes)) × (count_by is_line_feed (drop n bytes) ≡ count_by is_line_feed bytes)
+pub token_found : (line : ℕ) (bytes : List ℕ) (run n : ℕ) (empty : Bool)
+    → empty ≡ eqb (length bytes) 0
+    → empty ≡ false
+    → StandsAtToken bytes
+    → run ≡ prefix_len is_run_byte bytes
+    → n ≡ max run 1
+    → (n ≤ length bytes)
+    × (tokens_from false line bytes
+    ≡ record { text = take n bytes; line = line } ∷ tokens_from false line (drop n bytes))
+    × (count_by is_line_feed (drop n bytes) ≡ count_by is_line_feed bytes)
 token_found line bytes run n empty empty_is not_empty stands run_is n_is =
-    let some : 0 < length bytes = omega (arith, false-eqb (length bytes) 0 (sym not_empty ∙ empty_is)) in
+    let some : 0 < length bytes =
+    omega (arith, false-eqb (length bytes) 0 (sym not_empty ∙ empty_is)) in
     let found = takes_token line bytes some stands in
     let same : n ≡ token_length bytes = n_is ∙ ap (λ (k : ℕ). max k 1) run_is in
     (rw same found.within, rw same found.first, rw same found.no_feed)

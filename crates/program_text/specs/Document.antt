@@ -1,5 +1,6 @@
 -- A document: a program text, and what follows it after a line of three hyphens.
-use Rattle.std.specs.Prelude.{ℕ, ◌+◌, ◌++◌, Bool, ◌||◌, List, [], ◌∷◌, length, flat_map, Option, Some, None, nat_lt, if◌then◌else◌, codes, take, drop}
+use Rattle.std.specs.Prelude.{ℕ, ◌+◌, ◌++◌, Bool, ◌||◌, List, [], ◌∷◌, length, flat_map, Option}
+use Rattle.std.specs.Prelude.{Some, None, nat_lt, if◌then◌else◌, codes, take, drop}
 use Rattle.std.specs.List.{slice_split, position_or_len, join_with_byte}
 use Rattle.std.specs.Str.{bytes_eq}
 use Rattle.program_text.specs.Tokens.{is_line_feed}
@@ -27,9 +28,13 @@ text_of_lines lines = flat_map (λ line. line ++ 10 ∷ []) lines
 -- the lines before the mark, or all of the document
 abbrev pub program_part : List ℕ → List ℕ
 program_part document =
-    if has_divider document then text_of_lines (take (lines_before (lines_of document)) (lines_of document)) else document
+    if has_divider document
+    then text_of_lines (take (lines_before (lines_of document)) (lines_of document))
+    else document
 
 -- what stands after the mark, if there is one
 abbrev pub rest_part : List ℕ → Option (List ℕ)
 rest_part document =
-    if has_divider document then Some (join_with_byte 10 (drop (lines_before (lines_of document) + 1) (lines_of document))) else None
+    if has_divider document
+    then Some (join_with_byte 10 (drop (lines_before (lines_of document) + 1) (lines_of document)))
+    else None

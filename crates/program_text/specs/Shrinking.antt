@@ -14,7 +14,8 @@ one_shrinks (Task task) = omega (arith, length-append task.body (Ends ∷ []))
 one_shrinks Wait = omega arith
 one_shrinks (Group body) = omega (arith, length-append body (GroupEnds ∷ []))
 
-pub marks_shrink : (statements : List Stmt) → max (most deep-Stmt statements) 0 ≤ length (marks_of statements)
+pub marks_shrink : (statements : List Stmt)
+    → max (most deep-Stmt statements) 0 ≤ length (marks_of statements)
 marks_shrink [] = omega arith
 marks_shrink (s ∷ ss) =
     omega (arith, one_shrinks s, marks_shrink ss, length-append (marks_of_one s) (marks_of ss))

@@ -7,14 +7,16 @@ ghost use Rattle.program_text.specs.Document.{is_divider, program_part, rest_par
 /// A document in its two parts.
 #[derive(Clone, Copy, Debug)]
 pub struct Document<'a> {
-    /// The program text: the lines before the line `---`, or the whole document where it has no such line.
+    /// The program text: the lines before the line `---`, or the whole document where it has no
+    /// such line.
     pub program: &'a [u8],
     /// What stands after the line `---`, where there is one.
     pub rest: Option<&'a [u8]>,
 }
 
-/// Splits a document at its first line that is `---`; one CR may follow the hyphens. A line ends before an LF, or where
-/// the document ends. The mark belongs to neither part, and the program text keeps the LF of its last line.
+/// Splits a document at its first line that is `---`; one CR may follow the hyphens. A line ends
+/// before an LF, or where the document ends. The mark belongs to neither part, and the program text
+/// keeps the LF of its last line.
 pub fn split_document(document: &[u8]) -> Document<'_>
     ensures program { result.program.now ≡ program_part document.now }
     ensures rest { option_copied result.rest ≡ rest_part document.now }

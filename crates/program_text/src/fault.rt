@@ -43,9 +43,9 @@ pub enum ReadKind {
     TooManyTurns = 14,
 }
 
-/// What is wrong with a text, and the line on which the first wrong token begins: 1 plus the LF bytes before it.
-/// The end of the text has the line that it ends on, `Unclosed` that of the `{` of the innermost open block, a
-/// text of too many bytes line 1, and out of memory line 0.
+/// What is wrong with a text, and the line on which the first wrong token begins: 1 plus the LF
+/// bytes before it. The end of the text has the line that it ends on, `Unclosed` that of the `{` of
+/// the innermost open block, a text of too many bytes line 1, and out of memory line 0.
 #[derive(Clone, Copy, Debug, PartialEq, Eq, Drop, Error)]
 #[error("line {line}: {kind:?}")]
 pub struct ReadFault {

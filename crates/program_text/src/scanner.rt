@@ -1,7 +1,10 @@
 //! The tokens of a text, one after another.
-ghost use Rattle.std.specs.Prelude.{◌≡◌, ◌+◌, ◌<◌, ◌≤◌, ◌^◌, ◌∷◌, [], length, true, false, count_by};
+ghost use Rattle.std.specs.Prelude.{◌≡◌, ◌+◌, ◌<◌, ◌≤◌, ◌^◌, ◌∷◌, [], length, true, false};
+ghost use Rattle.std.specs.Prelude.{count_by};
 ghost use Rattle.std.specs.List.{prefix_len};
-ghost use Rattle.program_text.specs.Tokens.{is_gap, in_comment_after, is_blank, is_run_byte, tokens_from, line_at_end, line_after, is_line_feed, StandsAtToken};
+ghost use Rattle.program_text.specs.Tokens.{is_gap, in_comment_after, is_blank, is_run_byte};
+ghost use Rattle.program_text.specs.Tokens.{tokens_from, line_at_end, line_after, is_line_feed};
+ghost use Rattle.program_text.specs.Tokens.{StandsAtToken};
 
 use crate::fault::{ReadFault, ReadKind};
 
@@ -62,7 +65,8 @@ impl<'a> Scanner<'a> {
         ensures first { MatchOption result (tokens_left self.old ≡ [])
             (λ token. tokens_left self.old ≡ token_seen token ∷ tokens_left self.new) }
         ensures line { end_line self.new ≡ end_line self.old }
-        ensures at_end { MatchOption result (self.new.line ≡ end_line self.old) (λ token. length self.new.rest.now < length self.old.rest.now) }
+        ensures at_end { MatchOption result (self.new.line ≡ end_line self.old)
+            (λ token. length self.new.rest.now < length self.old.rest.now) }
     {
         self.skip_gap();
         if self.rest.is_empty() {

@@ -103,8 +103,8 @@ pub enum Stmt {
     Group(Body),
 }
 
-/// A task that is created here: whether it is undeferred (an `if` clause of value 0), its depend items, and its
-/// code.
+/// A task that is created here: whether it is undeferred (an `if` clause of value 0), its depend
+/// items, and its code.
 #[derive(Drop)]
 #[cycle(body)]
 pub struct TaskStmt {
@@ -113,8 +113,9 @@ pub struct TaskStmt {
     pub body: Body,
 }
 
-/// The statements of a task or of a group. Contracts see the list of their marks: a task or a group is a mark where
-/// it begins, the marks of its statements, and a mark where it ends; any other statement is one mark.
+/// The statements of a task or of a group. Contracts see the list of their marks: a task or a group
+/// is a mark where it begins, the marks of its statements, and a mark where it ends; any other
+/// statement is one mark.
 #[derive(Drop)]
 #[cycle(body)]
 pub struct Body {
@@ -156,10 +157,11 @@ impl Body {
     }
 }
 
-/// Whether some item of one list conflicts with some item of the other. Two items conflict where they name one
-/// location, unless both are `in` or both are `inoutset`: the dependence rules of the OpenMP API 5.2, `depend` clause.
-/// It takes no memory. Where both lists only read, or the names of the one are all numbered below those of the other,
-/// each item is looked at a few times; else each pair of items.
+/// Whether some item of one list conflicts with some item of the other. Two items conflict where
+/// they name one location, unless both are `in` or both are `inoutset`: the dependence rules of the
+/// OpenMP API 5.2, `depend` clause. It takes no memory. Where both lists only read, or the names of
+/// the one are all numbered below those of the other, each item is looked at a few times; else each
+/// pair of items.
 #[tactic(auto, using(crate::proofs::Quick::reads_apart, crate::proofs::Quick::names_apart))]
 pub fn conflicts(earlier: &[Item], later: &[Item]) -> bool
     ensures { result ≡ items_conflict earlier.now later.now }

@@ -3,7 +3,8 @@ ghost use Rattle.std.specs.Prelude.{◌≡◌, ◌≤◌, true};
 ghost use Rattle.std.specs.Option.{SomeIff};
 ghost use Rattle.std.specs.List.{list_all};
 ghost use Rattle.std.specs.Char.{is_ascii_digit};
-ghost use Rattle.program_text.specs.Words.{is_sign, is_run, begins_with_digit, is_word, is_number, value_of};
+ghost use Rattle.program_text.specs.Words.{is_sign, is_run, begins_with_digit, is_word, is_number};
+ghost use Rattle.program_text.specs.Words.{value_of};
 ghost use Rattle.program_text.specs.declared.limits.TheConstants.{LARGEST_READABLE};
 ghost use Rattle.program_text.specs.Tokens.{is_run_byte};
 

@@ -17,8 +17,8 @@ use std::test::Fail;
 use std::thread::Threads;
 use supply::Supply;
 
-/// The calls that are made one after another. One that is refused is made once more with ample memory, and then has to
-/// answer as a first call does.
+/// The calls that are made one after another. One that is refused is made once more with ample
+/// memory, and then has to answer as a first call does.
 #[derive(Clone, Copy)]
 enum Calls {
     Program,
@@ -66,8 +66,8 @@ fn make<H: AllocGlobal + Threads + Wait + Abort + Sync>(
     }
 }
 
-/// What is left at a turn: 32 bytes more at each, since no growth takes less, and twice as much at each of the last ones, which
-/// have room for the stacks of threads.
+/// What is left at a turn: 32 bytes more at each, since no growth takes less, and twice as much at
+/// each of the last ones, which have room for the stacks of threads.
 fn left_at(turn: usize) -> usize {
     if turn < SMALL_TURNS {
         32 * turn
@@ -80,7 +80,8 @@ const SMALL_TURNS: usize = 2048;
 
 const TURNS: usize = SMALL_TURNS + 14;
 
-/// Makes the calls with ample memory, then with none, and then with a little more at each turn, until no growth is refused.
+/// Makes the calls with ample memory, then with none, and then with a little more at each turn,
+/// until no growth is refused.
 fn refuse_each<H: AllocGlobal + Threads + Wait + Abort + Sync>(
     rt: &H,
     calls: Calls,

@@ -1,5 +1,7 @@
 -- Each document has a verdict: the claim holds, or some test is the first that fails.
-use Rattle.std.proofs.Common.{ℕ, zero, suc, ◌+◌, ◌-◌, ◌<◌, ◌≤◌, ◌≡◌, ◌≢◌, ◌⊎◌, ◌∙◌, List, [], ◌∷◌, Option, Some, None, Result, Ok, Err, length, get_or, take, refl, sym, ap, subst, arith, inl, inr}
+use Rattle.std.proofs.Common.{ℕ, zero, suc, ◌+◌, ◌-◌, ◌<◌, ◌≤◌, ◌≡◌, ◌≢◌, ◌⊎◌, ◌∙◌, List, [], ◌∷◌}
+use Rattle.std.proofs.Common.{Option, Some, None, Result, Ok, Err, length, get_or, take, refl, sym}
+use Rattle.std.proofs.Common.{ap, subst, arith, inl, inr}
 use Rattle.std.specs.List.{range_with_len}
 use Rattle.std.proofs.lemmas.Bool.{cases_lt}
 use Rattle.std.proofs.lemmas.List.{get_or_default, take_all}
@@ -23,7 +25,8 @@ use Rattle.span_cert.specs.Certificates.{Claims, HasClaim, IsChecked}
 use Rattle.span_cert.specs.Claims.{Claim, HasForm, moments_of_starts, segments_of_starts, word_says}
 use Rattle.span_cert.specs.OneVerdict.{HasVerdict}
 use Rattle.span_cert.specs.Steps.{Progress, begin, step}
-use Rattle.span_cert.specs.Tests.{Fails, FirstBadStep, FirstBroken, IsBroken, HasRightNumbers, NoneIsBroken, checked_of}
+use Rattle.span_cert.specs.Tests.{Fails, FirstBadStep, FirstBroken, IsBroken, HasRightNumbers}
+use Rattle.span_cert.specs.Tests.{NoneIsBroken, checked_of}
 use Rattle.span_cert.specs.declared.checker.Checked.{Checked}
 use Rattle.span_cert.specs.declared.claim.Expected.{Expected}
 use Rattle.span_cert.specs.declared.claim.Expected.TheVariants as expected
@@ -31,7 +34,9 @@ use Rattle.span_cert.specs.declared.fault.CheckFault.{CheckFault}
 use Rattle.span_cert.specs.declared.fault.CheckFault.TheVariants as fault
 use Rattle.span_cert.specs.declared.claim.TheConstants.{MOST_BYTES}
 use Rattle.dispatch_core.proofs.DecidedEdges.{decide_precedes}
-use Rattle.dispatch_core.proofs.Decisions.{IsDecided, decided_by_equivalent, decide_below, decide_both, decide_each, decide_less, decide_same, find_first}
+use Rattle.dispatch_core.proofs.Decisions.{IsDecided, decided_by_equivalent, decide_below}
+use Rattle.dispatch_core.proofs.Decisions.{decide_both, decide_each, decide_less, decide_same}
+use Rattle.dispatch_core.proofs.Decisions.{find_first}
 use Rattle.dispatch_core.proofs.SomeGraph.{IsWhole, tree_fits, whole_table}
 
 -- ---- the form
@@ -58,13 +63,19 @@ claim_in (Some p) = p.claim
 nothing_read : (p : Progress) → None ≡ Some p → ⊥
 nothing_read p e = cc
 
-form_of : (text : List ℕ) (read : Option Progress) → all_steps (step_by word_says step) begin (words_of text) ≡ read
-    → length text ≤ MOST_BYTES → FormOrNone text
-form_of text None is fits = inr (λ claim form. nothing_read _ (sym is ∙ spelled_reads text claim form))
+form_of : (text : List ℕ) (read : Option Progress)
+    → all_steps (step_by word_says step) begin (words_of text) ≡ read
+    → length text ≤ MOST_BYTES
+    → FormOrNone text
+form_of text None is fits =
+    inr (λ claim form. nothing_read _ (sym is ∙ spelled_reads text claim form))
 form_of text (Some p) is fits = elim (decide_link p.next) [
   | inr other ↦ inr (λ claim form. other (ap next_in (sym is ∙ spelled_reads text claim form)))
   | inl link ↦ elim (cases_lt 0 (length p.claim.chain)) [
-    | inl some ↦ inl (p.claim, record { fits = fits; spelled = reads_spelled text p.next p.claim is link; some = some })
+    | inl some ↦ inl (
+      p.claim,
+      record { fits = fits; spelled = reads_spelled text p.next p.claim is link; some = some },
+    )
     | inr none ↦ inr (λ claim form.
         let same : p.claim ≡ claim = ap claim_in (sym is ∙ spelled_reads text claim form) in
         let some = form.some in
@@ -106,8 +117,10 @@ decide_counted : (table : Table) (claim : Claim) → IsDecided (HasRightNumbers 
 decide_counted table claim =
     let A : Type 0 = segments_of_starts claim.starts ≡ range_with_len 0 (length table.segments) in
     let B : Type 0 = AreSegments (costs_of table) claim.chain in
-    decided_by_equivalent (A × B) (HasRightNumbers table claim) (λ h. record { starts = h.0; chain = h.1 }) (λ c. (c.starts, c.chain))
-    (decide_both A B (same_lists (segments_of_starts claim.starts) (range_with_len 0 (length table.segments)))
+    decided_by_equivalent (A × B) (HasRightNumbers table claim)
+    (λ h. record { starts = h.0; chain = h.1 }) (λ c. (c.starts, c.chain))
+    (decide_both A B
+    (same_lists (segments_of_starts claim.starts) (range_with_len 0 (length table.segments)))
     (decide_inside (costs_of table) claim.chain))
 
 decide_broken : (table : Table) (starts : List ℕ) (s t : ℕ) → IsSoundTable table
@@ -129,7 +142,9 @@ kept_or_broken table starts sound =
     let n : ℕ = length table.segments in
     let B : ℕ → ℕ → Type 0 = λ t s. IsBroken table starts s t in
     let known : (s t : ℕ) → IsBroken table starts s t → s < n = λ s t b.
-    let up = sound.goes_up.ascending s t b.precedes in let inside = b.is_segment in omega (arith, up, inside) in
+    let up = sound.goes_up.ascending s t b.precedes in
+    let inside = b.is_segment in
+    omega (arith, up, inside) in
     let decided : (t s : ℕ) → IsDecided (B t s) = λ t s. decide_broken table starts s t sound in
     elim (find_first (λ t. (s : ℕ) × (s < n) × B t s) n (λ t. decide_below (B t) n (decided t))) [
       | inl none ↦ inl (λ s t b. none t b.is_segment (s, known s t b, b))
@@ -147,24 +162,33 @@ kept_or_broken table starts sound =
                   | inr more ↦ more
                 ];
             least_from = λ r b. elim
-                (cases_lt r from.0) [ inl less ↦ absurd (from.1.none_before r less b) | inr more ↦ more ];
+                (cases_lt r from.0) [
+                  | inl less ↦ absurd (from.1.none_before r less b)
+                  | inr more ↦ more
+                ];
           },
         )
       ]
     ]
 
-linked_from : (table : Table) (chain : List ℕ) (d k : ℕ) → IsSoundTable table → 0 < k → k + d ≡ length chain
+linked_from : (table : Table) (chain : List ℕ) (d k : ℕ)
+    → IsSoundTable table
+    → 0 < k
+    → k + d ≡ length chain
     → IsChain (MustPrecede table) (take k chain)
     → IsChain (MustPrecede table) chain ⊎ ((s : ℕ) × (t : ℕ) × FirstBadStep table chain s t)
 linked_from table chain zero k sound some all linked =
-    inl (subst (λ (xs : List ℕ). IsChain (MustPrecede table) xs) (take_all k chain (omega (arith, all))) linked)
+    inl (subst (λ (xs : List ℕ). IsChain (MustPrecede table) xs)
+    (take_all k chain (omega (arith, all))) linked)
 linked_from table chain (suc d) k sound some all linked =
     let s : ℕ = get_or chain (k - 1) 0 in
     let t : ℕ = get_or chain k 0 in
     elim (decide_precedes table s t sound.in_place) [
       | inl edge ↦ linked_from table chain d (k + 1) sound (omega arith) (omega (arith, all))
-          (one_link_more (MustPrecede table) chain k s t some (omega (arith, all)) linked refl refl edge)
-      | inr apart ↦ inr (s, t, bad_step table chain k s t some (omega (arith, all)) refl refl apart linked)
+          (one_link_more (MustPrecede table) chain k s t some (omega (arith, all)) linked refl refl
+          edge)
+      | inr apart ↦
+          inr (s, t, bad_step table chain k s t some (omega (arith, all)) refl refl apart linked)
     ]
 
 -- ---- the verdict on a claim
@@ -174,18 +198,24 @@ Verdict table claim =
     ((checked : Checked) × IsChecked checked table claim) ⊎
     ((why : CheckFault) × Fails table claim why × (why ≢ fault.OutOfMemory))
 
-verdict_on : (table : Table) (claim : Claim) → IsSoundTable table → 0 < length claim.chain → Verdict table claim
+verdict_on : (table : Table) (claim : Claim) → IsSoundTable table → 0 < length claim.chain
+    → Verdict table claim
 verdict_on table claim sound some =
     let starts : List ℕ = moments_of_starts claim.starts in
     let costs : List ℕ = costs_of table in
     elim (decide_counted table claim) [
       | inr wrong ↦ inr (fault.WrongCount, wrong, λ e. cc)
       | inl counted ↦ elim (kept_or_broken table starts sound) [
-        | inr pair ↦ inr (fault.Broken pair.0 pair.1, record { counted = counted; first = pair.2 }, λ e. cc)
+        | inr pair ↦
+            inr (fault.Broken pair.0 pair.1, record { counted = counted; first = pair.2 }, λ e. cc)
         | inl kept ↦ elim (decide_same (end_of costs starts) claim.end) [
-          | inr elsewhere ↦ inr
-              (fault.EndWrong, record { counted = counted; kept = kept; elsewhere = elsewhere }, λ e. cc)
-          | inl ends ↦ elim (linked_from table claim.chain (length claim.chain - 1) 1 sound (omega arith)
+          | inr elsewhere ↦ inr (
+            fault.EndWrong,
+            record { counted = counted; kept = kept; elsewhere = elsewhere },
+            λ e. cc,
+          )
+          | inl ends ↦
+              elim (linked_from table claim.chain (length claim.chain - 1) 1 sound (omega arith)
               (omega (arith, some)) (one_link (MustPrecede table) claim.chain some)) [
                 | inr pair ↦ inr (
                   fault.ChainStep pair.0 pair.1,
@@ -232,8 +262,10 @@ verdict_on table claim sound some =
 
 -- ---- the verdict on a document
 
-refuses_claim : (document : List ℕ) (why : CheckFault) → Claims document (λ table claim. Fails table claim why)
-    → why ≢ fault.OutOfMemory → HasVerdict document
+refuses_claim : (document : List ℕ) (why : CheckFault)
+    → Claims document (λ table claim. Fails table claim why)
+    → why ≢ fault.OutOfMemory
+    → HasVerdict document
 refuses_claim document fault.WrongCount h other = (Err fault.WrongCount, refl, h)
 refuses_claim document (fault.Broken s t) h other = (Err (fault.Broken s t), refl, h)
 refuses_claim document fault.EndWrong h other = (Err fault.EndWrong, refl, h)
@@ -243,11 +275,14 @@ refuses_claim document fault.OutOfMemory h other = absurd (other refl)
 refuses_claim document fault.BadForm h other = absurd h.says
 refuses_claim document (fault.BadProgram read) h other = absurd h.says
 
-checks_claim : (document : List ℕ) (program : ProgramMarks) (claim : Claim) → HasTree (program_part document) program
-    → HasClaim document claim → HasVerdict document
+checks_claim : (document : List ℕ) (program : ProgramMarks) (claim : Claim)
+    → HasTree (program_part document) program
+    → HasClaim document claim
+    → HasVerdict document
 checks_claim document program claim tree has =
     let table : Table = table_of program.marks in
-    let whole : IsWhole table = whole_table program (tree_fits (program_part document) program tree) in
+    let whole : IsWhole table =
+    whole_table program (tree_fits (program_part document) program tree) in
     elim (verdict_on table claim whole.sound has.has_form.some) [
       | inl good ↦ (
         Ok good.0,
@@ -261,11 +296,14 @@ checks_claim document program claim tree has =
         },
       )
       | inr bad ↦ refuses_claim document bad.0
-          (record { program = program; tree = tree; claim = claim; has_claim = has; says = bad.1 }) bad.2
+          (record { program = program; tree = tree; claim = claim; has_claim = has; says = bad.1 })
+          bad.2
     ]
 
-checks_rest : (document : List ℕ) (program : ProgramMarks) (rest : Option (List ℕ)) → rest_part document ≡ rest
-    → HasTree (program_part document) program → HasVerdict document
+checks_rest : (document : List ℕ) (program : ProgramMarks) (rest : Option (List ℕ))
+    → rest_part document ≡ rest
+    → HasTree (program_part document) program
+    → HasVerdict document
 checks_rest document program None is tree = (
   Err fault.BadForm,
   refl,
@@ -276,7 +314,8 @@ checks_rest document program None is tree = (
   },
 )
 checks_rest document program (Some text) is tree = elim (form_or_none text) [
-  | inl form ↦ checks_claim document program form.0 tree (record { text = text; is_text = is; has_form = form.1 })
+  | inl form ↦ checks_claim document program form.0 tree
+      (record { text = text; is_text = is; has_form = form.1 })
   | inr none ↦
       let other : (claim : Claim) → ¬ HasClaim document claim = λ claim h.
       let same : h.text ≡ text = same_Some h.text text (sym h.is_text ∙ is) in
@@ -284,10 +323,12 @@ checks_rest document program (Some text) is tree = elim (form_or_none text) [
       (Err fault.BadForm, refl, record { program = program; tree = tree; none = other })
 ]
 
-checks_read : (document : List ℕ) (read : Result ProgramMarks ReadFault) → program_of (program_part document) ≡ read
+checks_read : (document : List ℕ) (read : Result ProgramMarks ReadFault)
+    → program_of (program_part document) ≡ read
     → HasVerdict document
 checks_read document (Ok program) is =
-    checks_rest document program (rest_part document) refl (found_tree_of (program_part document) program is)
+    checks_rest document program (rest_part document) refl
+    (found_tree_of (program_part document) program is)
 checks_read document (Err why) is = (Err (fault.BadProgram why), refl, is)
 
 pub some_verdict : (document : List ℕ) → HasVerdict document

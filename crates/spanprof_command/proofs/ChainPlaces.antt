@@ -1,5 +1,6 @@
 -- Whether a segment stands in an ascending chain is seen at one place of it.
-use Rattle.std.proofs.Common.{◌≡◌, ◌≢◌, ◌∙◌, refl, sym, subst, ap, ℕ, zero, suc, ◌+◌, ◌<◌, true, false, eqb, List, [], ◌∷◌, length, get_or, inl, inr, arith}
+use Rattle.std.proofs.Common.{◌≡◌, ◌≢◌, ◌∙◌, refl, sym, subst, ap, ℕ, zero, suc, ◌+◌, ◌<◌, true}
+use Rattle.std.proofs.Common.{false, eqb, List, [], ◌∷◌, length, get_or, inl, inr, arith}
 use Rattle.std.specs.List.{list_any}
 use Rattle.std.specs.List.Sorted.{IsStrictlyIncreasing}
 use Rattle.std.proofs.lemmas.Bool.{cases_eq, cases_lt}
@@ -12,7 +13,11 @@ use Rattle.spanprof_command.specs.ChainPlaces.{IsPlace}
 use Rattle.spanprof_command.specs.Slacks.{in_chain}
 
 -- a chain of a relation that leads to larger numbers is ascending
-pub chain_ascends : (R : ℕ → ℕ → Type 0) → ((s t : ℕ) → R s t → s < t) → (chain : List ℕ) → IsChain R chain → IsStrictlyIncreasing chain
+pub chain_ascends : (R : ℕ → ℕ → Type 0)
+    → ((s t : ℕ) → R s t → s < t)
+    → (chain : List ℕ)
+    → IsChain R chain
+    → IsStrictlyIncreasing chain
 chain_ascends R up [] linked k within = absurd (omega arith)
 chain_ascends R up (s ∷ []) linked k within = absurd (omega arith)
 chain_ascends R up (s ∷ t ∷ rest) linked zero within = up s t linked.0
@@ -22,23 +27,35 @@ chain_ascends R up (s ∷ t ∷ rest) linked (suc k) within =
     subst (λ (n : ℕ). get_or (s ∷ t ∷ rest) (suc k) 0 < get_or (s ∷ t ∷ rest) n 0) next less
 
 -- of two members of an ascending chain the earlier is below the later
-ascends : (chain : List ℕ) → IsStrictlyIncreasing chain → (i j : ℕ) → i < j → j < length chain → get_or chain i 0 < get_or chain j 0
+ascends : (chain : List ℕ)
+    → IsStrictlyIncreasing chain
+    → (i j : ℕ)
+    → i < j
+    → j < length chain
+    → get_or chain i 0 < get_or chain j 0
 ascends chain up i j = below_from_sorted chain i j 0 (sorted_from_strictly_increasing chain up)
 
 -- where the member at the place is the segment, it stands in the chain; else it does not
-stands_in_chain : (chain : List ℕ) (s place : ℕ) → place < length chain → get_or chain place 0 ≡ s → in_chain chain s ≡ 1
+stands_in_chain : (chain : List ℕ) (s place : ℕ) → place < length chain → get_or chain place 0 ≡ s
+    → in_chain chain s ≡ 1
 stands_in_chain chain s place within at =
     let here : eqb (get_or chain place 0) s ≡ true = grind (arith, nat_tests) in
-    let some : list_any (λ member. eqb member s) chain ≡ true = list_any_at (λ member. eqb member s) chain place 0 within here in
+    let some : list_any (λ member. eqb member s) chain ≡ true =
+    list_any_at (λ member. eqb member s) chain place 0 within here in
     rw some refl
 
-pub stands_not : (chain : List ℕ) (s place : ℕ) → IsStrictlyIncreasing chain → IsPlace chain s place → (place < length chain → get_or chain place 0 ≢ s) → in_chain chain s ≡ 0
+pub stands_not : (chain : List ℕ) (s place : ℕ)
+    → IsStrictlyIncreasing chain
+    → IsPlace chain s place
+    → (place < length chain → get_or chain place 0 ≢ s)
+    → in_chain chain s ≡ 0
 stands_not chain s place up is other =
     let each : (k d : ℕ) → k < length chain → eqb (get_or chain k d) s ≡ false = λ k d l. (
     let same = get_or_default chain k d 0 l in
     let apart : get_or chain k 0 ≢ s = λ e. by_place k l e in
     grind (arith, nat_tests)) in
-    let none : list_any (λ member. eqb member s) chain ≡ false = list_any_none (λ member. eqb member s) chain each in
+    let none : list_any (λ member. eqb member s) chain ≡ false =
+    list_any_none (λ member. eqb member s) chain each in
     rw none refl
   where
     by_place : (k : ℕ) → k < length chain → get_or chain k 0 ≡ s → ⊥
@@ -54,7 +71,10 @@ stands_not chain s place up is other =
     ]
 
 -- the place of the next segment
-pub next_place : (chain : List ℕ) (s place : ℕ) → IsStrictlyIncreasing chain → IsPlace chain s place → IsPlace chain (s + 1) (place + in_chain chain s)
+pub next_place : (chain : List ℕ) (s place : ℕ)
+    → IsStrictlyIncreasing chain
+    → IsPlace chain s place
+    → IsPlace chain (s + 1) (place + in_chain chain s)
 next_place chain s place up is = elim (cases_lt place (length chain)) [
   | inl within ↦ elim (cases_eq (get_or chain place 0) s) [
     | inl here ↦ (
@@ -72,7 +92,8 @@ next_place chain s place up is = elim (cases_lt place (length chain)) [
   | inr past ↦ kept (λ l. absurd (omega arith))
 ]
   where
-    kept : (place < length chain → get_or chain place 0 ≢ s) → IsPlace chain (s + 1) (place + in_chain chain s)
+    kept : (place < length chain → get_or chain place 0 ≢ s)
+        → IsPlace chain (s + 1) (place + in_chain chain s)
     kept other =
         let none = stands_not chain s place up is other in
         rw none (record {

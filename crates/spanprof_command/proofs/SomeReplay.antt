@@ -1,5 +1,6 @@
 -- Of a program and what stands behind it a replay says something.
-use Rattle.std.proofs.Common.{ℕ, zero, suc, ◌<◌, ◌≡◌, ◌⊎◌, ◌∙◌, ◌++◌, List, [], ◌∷◌, Option, Some, None, length, flat_map, refl, sym, ap, subst, arith, inl, inr}
+use Rattle.std.proofs.Common.{ℕ, zero, suc, ◌<◌, ◌≡◌, ◌⊎◌, ◌∙◌, ◌++◌, List, [], ◌∷◌, Option, Some}
+use Rattle.std.proofs.Common.{None, length, flat_map, refl, sym, ap, subst, arith, inl, inr}
 use Rattle.std.specs.Prelude.{Contains, codes}
 use Rattle.std.proofs.lemmas.Option.{none-some, same_Some}
 use Rattle.task_program.specs.PlainWords.{all_steps, step_by, words_of}
@@ -12,14 +13,17 @@ use Rattle.dispatch_core.specs.Facts.{IsSoundTable}
 use Rattle.dispatch_core.specs.Run.{HasFinished, IsLegalRun, IsOpen}
 use Rattle.dispatch_core.specs.declared.event.Event.{Event}
 use Rattle.dispatch_core.proofs.DecidedEdges.{decide_continues, decide_creation}
-use Rattle.dispatch_core.proofs.Decisions.{IsDecided, decided_by_equivalent, decide_below, decide_both, decide_either, decide_less, decide_same, some_list}
+use Rattle.dispatch_core.proofs.Decisions.{IsDecided, decided_by_equivalent, decide_below}
+use Rattle.dispatch_core.proofs.Decisions.{decide_both, decide_either, decide_less, decide_same}
+use Rattle.dispatch_core.proofs.Decisions.{some_list}
 use Rattle.dispatch_core.proofs.FirstRefused.{legal_or_refused}
 use Rattle.dispatch_core.proofs.NeverStuck.{decide_finished}
 use Rattle.dispatch_core.proofs.SomeGraph.{IsWhole, kept_list}
 use Rattle.spanprof_command.proofs.Spelling.{reads_spells, spells_reads}
 use Rattle.spanprof_command.specs.Events.{Spells, word_says}
 use Rattle.spanprof_command.specs.EventSteps.{Progress, begin, step}
-use Rattle.spanprof_command.specs.Replaying.{Recounts, Replays, Row, SaysOfEvents, bad_form, event_refusal, row_line, segments_of_rows}
+use Rattle.spanprof_command.specs.Replaying.{Recounts, Replays, Row, SaysOfEvents, bad_form}
+use Rattle.spanprof_command.specs.Replaying.{event_refusal, row_line, segments_of_rows}
 use Rattle.spanprof_command.specs.Report.{Output, number_line}
 use Rattle.spanprof_command.specs.declared.events.Expected.{Expected}
 use Rattle.spanprof_command.specs.declared.events.Expected.TheVariants as expected
@@ -33,7 +37,8 @@ decide_at_event (expected.Worker verb) = inr (λ e. cc)
 decide_at_event (expected.Segment verb worker) = inr (λ e. cc)
 
 abbrev EventsOrNone : List ℕ → Type 0
-EventsOrNone text = ((events : List Event) × Spells text events) ⊎ ((events : List Event) → ¬ Spells text events)
+EventsOrNone text =
+    ((events : List Event) × Spells text events) ⊎ ((events : List Event) → ¬ Spells text events)
 
 abbrev next_in : Option Progress → Expected
 next_in None = expected.Event
@@ -42,9 +47,11 @@ next_in (Some p) = p.next
 nothing_read : (p : Progress) → None ≡ Some p → ⊥
 nothing_read p e = cc
 
-events_of : (text : List ℕ) (read : Option Progress) → all_steps (step_by word_says step) begin (words_of text) ≡ read
+events_of : (text : List ℕ) (read : Option Progress)
+    → all_steps (step_by word_says step) begin (words_of text) ≡ read
     → EventsOrNone text
-events_of text None is = inr (λ events spells. nothing_read _ (sym is ∙ spells_reads text events spells))
+events_of text None is =
+    inr (λ events spells. nothing_read _ (sym is ∙ spells_reads text events spells))
 events_of text (Some p) is = elim (decide_at_event p.next) [
   | inl whole ↦ inl (p.events, reads_spells text p.next p.events is whole)
   | inr other ↦ inr (λ events spells. other (ap next_in (sym is ∙ spells_reads text events spells)))
@@ -52,7 +59,9 @@ events_of text (Some p) is = elim (decide_at_event p.next) [
 
 -- ---- the record
 
-decide_open : (table : Table) (history : List Event) (s : ℕ) → IsSoundTable table → IsDecided (IsOpen table history s)
+decide_open : (table : Table) (history : List Event) (s : ℕ)
+    → IsSoundTable table
+    → IsDecided (IsOpen table history s)
 decide_open table history s sound =
     let E : ℕ → Type 0 = λ pred. Continues table pred s ⊎ Creation table pred s in
     let P : ℕ → Type 0 = λ pred. E pred × HasFinished history pred in
@@ -62,7 +71,8 @@ decide_open table history s sound =
       | inr created ↦ sound.goes_up.ascending pred s (inr (inl created))
     ] in
     decide_either (s ≡ 0) Opened (decide_same s 0)
-    (decided_by_equivalent ((pred : ℕ) × (pred < s) × P pred) Opened (λ h. (h.0, h.2.0, h.2.1)) (λ h. (h.0, up h.0 h.1, (h.1, h.2)))
+    (decided_by_equivalent ((pred : ℕ) × (pred < s) × P pred) Opened (λ h. (h.0, h.2.0, h.2.1))
+    (λ h. (h.0, up h.0 h.1, (h.1, h.2)))
     (decide_below P s (λ pred.
     decide_both (E pred) (HasFinished history pred)
     (decide_either (Continues table pred s) (Creation table pred s) (decide_continues table pred s)
@@ -79,7 +89,8 @@ some_rows table [] sound =
     ([], record { are = refl; kept = λ row h. absurd (let within = h.1 in omega (arith, within)) })
 some_rows table (s ∷ segments) sound =
     let rest : (rows : List Row) × AreRowsOf table segments rows = some_rows table segments sound in
-    let preds : (list : List ℕ) × Lists (λ p. IsKeptEdge table p s) list = kept_list table sound s in
+    let preds : (list : List ℕ) × Lists (λ p. IsKeptEdge table p s) list =
+    kept_list table sound s in
     let first : Row = record { segment = s; preds = preds.0 } in (
       first ∷ rest.0,
       record {
@@ -90,12 +101,15 @@ some_rows table (s ∷ segments) sound =
   where
     kept_first : (table : Table) (first : Row) (rows : List Row)
         → Lists (λ p. IsKeptEdge table p first.segment) first.preds
-        → ((row : Row) → Contains rows row → Lists (λ p. IsKeptEdge table p row.segment) row.preds) → (row : Row)
-        → Contains (first ∷ rows) row → Lists (λ p. IsKeptEdge table p row.segment) row.preds
+        → ((row : Row) → Contains rows row → Lists (λ p. IsKeptEdge table p row.segment) row.preds)
+        → (row : Row)
+        → Contains (first ∷ rows) row
+        → Lists (λ p. IsKeptEdge table p row.segment) row.preds
     kept_first table first rows here later row (zero, within, is) =
         let P : Row → Type 0 = λ r. Lists (λ p. IsKeptEdge table p r.segment) r.preds in
         subst P is here
-    kept_first table first rows here later row (suc k, within, is) = later row (k, omega (arith, within), is)
+    kept_first table first rows here later row (suc k, within, is) =
+        later row (k, omega (arith, within), is)
 
 some_recount : (table : Table) (events : List Event) → IsSoundTable table → IsLegalRun table events
     → (output : Output) × Recounts table events output
@@ -109,7 +123,8 @@ some_recount table events sound legal =
     let opened : (list : List ℕ) × Lists O list =
     some_list O n (λ s. decide_both (IsSegment table s) (IsOpen table events s) (decide_less s n)
     (decide_open table events s sound)) (λ s h. h.0) in
-    let rows : (rows : List Row) × AreRowsOf table opened.0 rows = some_rows table opened.0 sound in (
+    let rows : (rows : List Row) × AreRowsOf table opened.0 rows =
+    some_rows table opened.0 sound in (
       record {
         text = number_line (codes "events") (length events) ++
             (number_line (codes "finished") (length finished.0) ++ flat_map row_line rows.0);
@@ -133,7 +148,8 @@ some_replay : (table : Table) (events : List Event) → IsSoundTable table
     → (output : Output) × Replays table events output
 some_replay table events sound = elim (legal_or_refused table events sound) [
   | inl legal ↦
-      let told : (output : Output) × Recounts table events output = some_recount table events sound legal in
+      let told : (output : Output) × Recounts table events output =
+      some_recount table events sound legal in
       (told.0, inl told.1)
   | inr refused ↦ (
     event_refusal refused.0 refused.1,
@@ -144,7 +160,8 @@ some_replay table events sound = elim (legal_or_refused table events sound) [
 
 pub some_said : (rest : Option (List ℕ)) (program : ProgramMarks) → IsWhole (table_of program.marks)
     → (output : Output) × SaysOfEvents rest program output
-some_said None program whole = (bad_form, inl (record { none = λ events h. none-some h.text h.is_text; says = refl }))
+some_said None program whole =
+    (bad_form, inl (record { none = λ events h. none-some h.text h.is_text; says = refl }))
 some_said (Some text) program whole =
     elim (events_of text (all_steps (step_by word_says step) begin (words_of text)) refl) [
       | inl read ↦

@@ -1,5 +1,7 @@
 -- Each words and input have a report.
-use Rattle.std.proofs.Common.{ℕ, zero, suc, ◌+◌, ◌<◌, ◌≤◌, ◌≡◌, ◌⊎◌, ◌∙◌, Bool, true, false, List, [], ◌∷◌, ◌++◌, Option, Some, None, Result, Ok, Err, length, sum, get_or, refl, sym, subst, arith, inl, inr}
+use Rattle.std.proofs.Common.{ℕ, zero, suc, ◌+◌, ◌<◌, ◌≤◌, ◌≡◌, ◌⊎◌, ◌∙◌, Bool, true, false, List}
+use Rattle.std.proofs.Common.{[], ◌∷◌, ◌++◌, Option, Some, None, Result, Ok, Err, length, sum}
+use Rattle.std.proofs.Common.{get_or, refl, sym, subst, arith, inl, inr}
 use Rattle.std.specs.Prelude.{if◌then◌else◌, nat_le, nat_lt}
 use Rattle.std.proofs.lemmas.Bool.{both_ways, cases_lt, ltb-false}
 use Rattle.std.proofs.lemmas.List.{get_or_append_left, get_or_push, length-set, length_push}
@@ -7,7 +9,9 @@ use Rattle.std.proofs.lemmas.Option.{get_or_from_slice_get, slice_get_within}
 use Rattle.command_words.specs.Request.{request_of}
 use Rattle.command_words.specs.declared.changes.Change.{Change}
 use Rattle.command_words.specs.declared.request.Request.{Request}
-use Rattle.command_words.specs.declared.request.Request.TheVariants.{Certify, Check, Curve, Greedy, Replay, Run, Show, Slack, Span, WhatIf}
+use Rattle.command_words.specs.declared.request.Request.TheVariants.{Certify, Check, Curve, Greedy}
+use Rattle.command_words.specs.declared.request.Request.TheVariants.{Replay, Run, Show, Slack, Span}
+use Rattle.command_words.specs.declared.request.Request.TheVariants.{WhatIf}
 use Rattle.task_program.proofs.ReadWhole.{found_tree_of}
 use Rattle.task_program.specs.Canonical.{canonical_text}
 use Rattle.task_program.specs.Document.{program_part, rest_part}
@@ -43,32 +47,39 @@ use Rattle.span_cert.specs.declared.checker.Checked.{Checked}
 use Rattle.span_cert.specs.declared.fault.CheckFault.{CheckFault}
 use Rattle.whatif_costs.specs.Changed.{with_cost, refusal_of}
 use Rattle.whatif_costs.specs.declared.fault.WhatFault.{WhatFault}
-use Rattle.whatif_costs.specs.declared.fault.WhatFault.TheVariants.{CostTooLarge, UnknownSegment, WorkTooLarge}
+use Rattle.whatif_costs.specs.declared.fault.WhatFault.TheVariants.{CostTooLarge, UnknownSegment}
+use Rattle.whatif_costs.specs.declared.fault.WhatFault.TheVariants.{WorkTooLarge}
 use Rattle.worker_run.specs.AllValues.{AreAllValues}
 use Rattle.worker_run.specs.Answer.{IsWorkerCount}
-use Rattle.dispatch_core.proofs.Decisions.{IsDecided, decided_by_equivalent, decide_both, decide_most}
+use Rattle.dispatch_core.proofs.Decisions.{IsDecided, decided_by_equivalent, decide_both}
+use Rattle.dispatch_core.proofs.Decisions.{decide_most}
 use Rattle.spanprof_command.proofs.OneReport.{span_output}
 use Rattle.spanprof_command.proofs.SomeAnalysis.{IsAnalysed, some_analysed}
-use Rattle.dispatch_core.proofs.SomeGraph.{AreFirstValues, IsWhole, first_values, some_graph, tree_fits, whole_table}
+use Rattle.dispatch_core.proofs.SomeGraph.{AreFirstValues, IsWhole, first_values, some_graph}
+use Rattle.dispatch_core.proofs.SomeGraph.{tree_fits, whole_table}
 use Rattle.dispatch_core.specs.declared.event.TheConstants.{MOST_WORKERS}
 use Rattle.spanprof_command.proofs.SomeReplay.{some_said}
 use Rattle.spanprof_command.proofs.TriedSpans.{same_as, tells_trial}
 use Rattle.spanprof_command.specs.Certificates.{AnswersCheck, Certifies, acceptance, check_refusal}
-use Rattle.spanprof_command.specs.GreedyRuns.{Curves, GreedyRuns, IsThreadCount, curve_header, curve_row, greedy_header, greedy_row, thread_count}
+use Rattle.spanprof_command.specs.GreedyRuns.{Curves, GreedyRuns, IsThreadCount, curve_header}
+use Rattle.spanprof_command.specs.GreedyRuns.{curve_row, greedy_header, greedy_row, thread_count}
 use Rattle.spanprof_command.specs.OnProgram.{OnProgram}
 use Rattle.spanprof_command.specs.OneReport.{HasReport}
 use Rattle.spanprof_command.specs.Report.{Output, input_too_long, program_refusal, wrong_words}
 use Rattle.spanprof_command.specs.Reports.{Answers, AnswersWithin, ReportsBy, Shows, Spans}
 use Rattle.spanprof_command.specs.Slacks.{Slacks, slack_header, slack_row}
 use Rattle.spanprof_command.specs.Tables.{numbered_table}
-use Rattle.spanprof_command.specs.Trials.{Trials, TriesChanges, after_changes, change_refusal, spans_told, unless_refused}
+use Rattle.spanprof_command.specs.Trials.{Trials, TriesChanges, after_changes, change_refusal}
+use Rattle.spanprof_command.specs.Trials.{spans_told, unless_refused}
 use Rattle.spanprof_command.specs.WorkerRuns.{WorkerRuns, run_told, worker_count}
 use Rattle.spanprof_command.specs.declared.report.Status.TheVariants.{Done}
 use Rattle.command_io.specs.declared.input.TheConstants.{LARGEST_INPUT}
 
 -- of each program a command says something
 abbrev SaysSome : (ProgramMarks → Output → Type 0) → Type 0
-SaysSome Says = (program : ProgramMarks) → IsWhole (table_of program.marks) → (output : Output) × Says program output
+SaysSome Says =
+    (program : ProgramMarks) → IsWhole (table_of program.marks)
+    → (output : Output) × Says program output
 
 on_read : (Says : ProgramMarks → Output → Type 0) → SaysSome Says
     → (input : List ℕ) (read : Result ProgramMarks ReadFault) → program_of input ≡ read
@@ -78,7 +89,8 @@ on_read Says some input (Ok program) is =
     let said : (output : Output) × Says program output =
     some program (whole_table program (tree_fits input program tree)) in
     (said.0, inl (record { program = program; tree = tree; says = said.1 }))
-on_read Says some input (Err fault) is = (program_refusal fault, inr (record { fault = fault; is_fault = is; says = refl }))
+on_read Says some input (Err fault) is =
+    (program_refusal fault, inr (record { fault = fault; is_fault = is; says = refl }))
 
 on_program : (Says : ProgramMarks → Output → Type 0) → SaysSome Says → (input : List ℕ)
     → (output : Output) × OnProgram Says input output
@@ -112,14 +124,25 @@ some_slacks program whole =
             (length table.segments);
         status = Done;
       },
-      record { graph = analysed.graph; found = analysed.found; are_analysed = analysed.are_analysed; says = refl },
+      record {
+        graph = analysed.graph;
+        found = analysed.found;
+        are_analysed = analysed.are_analysed;
+        says = refl;
+      },
     )
 
 some_certificate : SaysSome Certifies
 some_certificate program whole =
-    let analysed : IsAnalysed (table_of program.marks) = some_analysed (table_of program.marks) whole in (
+    let analysed : IsAnalysed (table_of program.marks) =
+    some_analysed (table_of program.marks) whole in (
       record { text = certificate program (claim_of analysed.found); status = Done },
-      record { graph = analysed.graph; found = analysed.found; are_analysed = analysed.are_analysed; says = refl },
+      record {
+        graph = analysed.graph;
+        found = analysed.found;
+        are_analysed = analysed.are_analysed;
+        says = refl;
+      },
     )
 
 -- ---- check
@@ -132,11 +155,17 @@ told_verdict document (Err why) is judges =
     let P : CheckFault → Type 0 = λ w. is_verdict (Err w) ≡ true in (
       check_refusal why,
       inr
-          (record { why = why; refuses = judges; not_memory = λ e. both_ways false refl (subst P e is); says = refl }),
+          (record {
+            why = why;
+            refuses = judges;
+            not_memory = λ e. both_ways false refl (subst P e is);
+            says = refl;
+          }),
     )
 
 some_check : (document : List ℕ) → (output : Output) × AnswersCheck document output
-some_check document = let verdict = some_verdict document in told_verdict document verdict.0 verdict.1 verdict.2
+some_check document =
+    let verdict = some_verdict document in told_verdict document verdict.0 verdict.1 verdict.2
 
 -- ---- run
 
@@ -144,7 +173,8 @@ all_values : (table : Table) (value_of : ℕ → ℕ → ℕ → ℕ) → IsSoun
     → (values : List ℕ) × AreAllValues table value_of values
 all_values table value_of sound =
     let n : ℕ = length table.segments in
-    let all : (values : List ℕ) × AreFirstValues table value_of n values = first_values table value_of sound n
+    let all : (values : List ℕ) × AreFirstValues table value_of n values =
+    first_values table value_of sound n
     (omega arith) in (
       all.0,
       record {
@@ -153,14 +183,17 @@ all_values table value_of sound =
             let within : s < length all.0 = slice_get_within all.0 s value is in
             let same : get_or all.0 s 0 ≡ value = get_or_from_slice_get all.0 s value 0 is in
             let each = all.1.each in
-            subst (λ (v : ℕ). IsValue table value_of s v) same (all.1.are s (omega (arith, within, each)));
+            subst (λ (v : ℕ). IsValue table value_of s v) same
+            (all.1.are s (omega (arith, within, each)));
       },
     )
 
 decide_workers : (workers : ℕ) → IsDecided (IsWorkerCount workers)
 decide_workers workers =
-    decided_by_equivalent ((1 ≤ workers) × (workers ≤ MOST_WORKERS)) (IsWorkerCount workers) (λ h. h) (λ h. h)
-    (decide_both (1 ≤ workers) (workers ≤ MOST_WORKERS) (decide_most 1 workers) (decide_most workers MOST_WORKERS))
+    decided_by_equivalent ((1 ≤ workers) × (workers ≤ MOST_WORKERS)) (IsWorkerCount workers)
+    (λ h. h) (λ h. h)
+    (decide_both (1 ≤ workers) (workers ≤ MOST_WORKERS) (decide_most 1 workers)
+    (decide_most workers MOST_WORKERS))
 
 some_worker_run : (workers : ℕ) → SaysSome (WorkerRuns workers)
 some_worker_run workers program whole =
@@ -168,7 +201,8 @@ some_worker_run workers program whole =
     elim (decide_workers workers) [
       | inr outside ↦ (worker_count, inl (record { outside = outside; says = refl }))
       | inl within ↦
-          let graph : (graph : RecordedGraph) × IsGraphOf table graph = some_graph table whole.sound in
+          let graph : (graph : RecordedGraph) × IsGraphOf table graph =
+          some_graph table whole.sound in
           let values : (values : List ℕ) × AreAllValues table mix_value values =
           all_values table mix_value whole.sound in (
             run_told graph.0 values.0,
@@ -187,7 +221,8 @@ some_worker_run workers program whole =
 -- ---- greedy and curve
 
 -- a number of threads is in range, or is refused
-thread_count_or_not : (threads : ℕ) → ((threads < 1) ⊎ (MOST_THREADS < threads)) ⊎ IsThreadCount threads
+thread_count_or_not : (threads : ℕ)
+    → ((threads < 1) ⊎ (MOST_THREADS < threads)) ⊎ IsThreadCount threads
 thread_count_or_not threads = elim (cases_lt threads 1) [
   | inl none ↦ inl (inl none)
   | inr some ↦ elim (cases_lt MOST_THREADS threads) [
@@ -202,7 +237,8 @@ some_greedy count program whole =
     elim (thread_count_or_not count) [
       | inl outside ↦ (thread_count, inl (record { outside = outside; says = refl }))
       | inr within ↦
-          let graph : (graph : RecordedGraph) × IsGraphOf table graph = some_graph table whole.sound in
+          let graph : (graph : RecordedGraph) × IsGraphOf table graph =
+          some_graph table whole.sound in
           let is_graph : IsGraph graph.0 = graph_of_program table graph.0 whole.sound graph.1 in
           let some = within.some in
           let run : (starts : List ℕ) × (threads : List (Option ℕ)) × IsGreedyRun graph.0.costs
@@ -236,9 +272,11 @@ some_end graph p is some =
 
 some_ends : (graph : RecordedGraph) (upto : ℕ) → IsGraph graph
     → (ends : List ℕ) × IsCurve graph.costs (Precedes graph) upto ends
-some_ends graph zero is = ([], record { each = refl; at_each = λ k less. absurd (omega (arith, less)) })
+some_ends graph zero is =
+    ([], record { each = refl; at_each = λ k less. absurd (omega (arith, less)) })
 some_ends graph (suc n) is =
-    let before : (ends : List ℕ) × IsCurve graph.costs (Precedes graph) n ends = some_ends graph n is in
+    let before : (ends : List ℕ) × IsCurve graph.costs (Precedes graph) n ends =
+    some_ends graph n is in
     let next : (end : ℕ) × IsGreedyEnd graph.costs (Precedes graph) (n + 1) end =
     some_end graph (n + 1) is (omega arith) in
     let each = before.1.each in (
@@ -253,9 +291,11 @@ some_ends graph (suc n) is =
               (before.1.at_each k below)
           | inr last ↦
               let is_last : n ≡ k = omega (arith, less, last) in
-              let same : get_or (before.0 ++ next.0 ∷ []) n 0 ≡ next.0 = get_or_push before.0 next.0 0 n each in
+              let same : get_or (before.0 ++ next.0 ∷ []) n 0 ≡ next.0 =
+              get_or_push before.0 next.0 0 n each in
               let P : ℕ → Type 0 =
-              λ j. IsGreedyEnd graph.costs (Precedes graph) (j + 1) (get_or (before.0 ++ next.0 ∷ []) j 0) in
+              λ j. IsGreedyEnd graph.costs (Precedes graph) (j + 1)
+              (get_or (before.0 ++ next.0 ∷ []) j 0) in
               subst P is_last (subst (λ (e : ℕ). IsGreedyEnd graph.costs (Precedes graph) (n + 1) e)
               (sym same) next.1)
         ];
@@ -305,10 +345,13 @@ within_work false false true is = absurd cc
 within_work false true heavy is = absurd cc
 within_work true large heavy is = absurd cc
 
-changed_graph : (graph : RecordedGraph) (s cost : ℕ) → IsGraph graph → refusal_of graph s cost ≡ None
+changed_graph : (graph : RecordedGraph) (s cost : ℕ)
+    → IsGraph graph
+    → refusal_of graph s cost ≡ None
     → IsGraph (with_cost graph s cost)
 changed_graph graph s cost is allowed =
-    let each : length (with_cost graph s cost).costs ≡ length graph.costs = length-set graph.costs s cost in
+    let each : length (with_cost graph s cost).costs ≡ length graph.costs =
+    length-set graph.costs s cost in
     let all = is.each in
     let some = is.some in
     let few = is.few in
@@ -324,7 +367,8 @@ changed_graph graph s cost is allowed =
       reached = λ t later known. is.reached t later (omega (arith, known, each));
     }
 
-none_refused : (refusal : Option WhatFault) (next : Result RecordedGraph WhatFault) (tried : RecordedGraph)
+none_refused : (refusal : Option WhatFault) (next : Result RecordedGraph WhatFault)
+    (tried : RecordedGraph)
     → unless_refused refusal next ≡ Ok tried → (refusal ≡ None) × (next ≡ Ok tried)
 none_refused None next tried is = (refl, is)
 none_refused (Some why) next tried is = absurd cc
@@ -334,19 +378,26 @@ tried_graph : (graph tried : RecordedGraph) (changes : List Change) → IsGraph 
 tried_graph graph tried [] is all = subst IsGraph (same_as graph tried all) is
 tried_graph graph tried (change ∷ changes) is all =
     let next : RecordedGraph = with_cost graph change.segment change.cost in
-    let step = none_refused (refusal_of graph change.segment change.cost) (after_changes next changes) tried all in
+    let step = none_refused (refusal_of graph change.segment change.cost)
+    (after_changes next changes) tried all in
     tried_graph next tried changes (changed_graph graph change.segment change.cost is step.0) step.1
 
-some_span : (graph : RecordedGraph) → IsGraph graph → (span : ℕ) × IsSpan graph.costs (Precedes graph) span
+some_span : (graph : RecordedGraph)
+    → IsGraph graph
+    → (span : ℕ) × IsSpan graph.costs (Precedes graph) span
 some_span graph is =
-    let starts : (starts : List ℕ) × IsEarliest graph.costs (Precedes graph) starts = earliest_exists graph is in (
+    let starts : (starts : List ℕ) × IsEarliest graph.costs (Precedes graph) starts =
+    earliest_exists graph is in (
       end_of graph.costs starts.0,
       IsSpan-earliest graph.costs (Precedes graph) starts.0
           (IsAscending-graph graph is) starts.1 is.some,
     )
 
-tries : (table : Table) (graph : RecordedGraph) (changes : List Change) (tried : Result RecordedGraph WhatFault) → IsWhole table
-    → IsGraphOf table graph → after_changes graph changes ≡ tried
+tries : (table : Table) (graph : RecordedGraph) (changes : List Change)
+    (tried : Result RecordedGraph WhatFault)
+    → IsWhole table
+    → IsGraphOf table graph
+    → after_changes graph changes ≡ tried
     → (output : Output) × TriesChanges changes table output
 tries table graph changes (Err why) whole of all = (
   change_refusal why,
@@ -362,7 +413,8 @@ tries table graph changes (Ok tried) whole of all =
     some_span tried (tried_graph graph tried changes is all) in
     let was : (span : ℕ) × IsSpan graph.costs (Precedes graph) span = some_span graph is in
     let spans =
-    same_span (MustPrecede table) (IsKeptEdge table) whole.sound.goes_up.ascending whole.sound.chains.within
+    same_span (MustPrecede table) (IsKeptEdge table) whole.sound.goes_up.ascending
+    whole.sound.chains.within
     (edge_reaches table whole.nested whole.grouped) in
     let output : Output = spans_told (sum tried.costs) span.0 was.0 in (
       output,
@@ -390,7 +442,8 @@ some_answer (Greedy threads) input = on_program (GreedyRuns threads) (some_greed
 some_answer (Curve upto) input = on_program (Curves upto) (some_curve upto) input
 some_answer (WhatIf changes) input = on_program (Trials changes) (some_trial changes) input
 
-some_within : (asked : Request) (input : List ℕ) → (output : Output) × AnswersWithin asked input output
+some_within : (asked : Request) (input : List ℕ)
+    → (output : Output) × AnswersWithin asked input output
 some_within asked input = elim (cases_lt LARGEST_INPUT (length input)) [
   | inl longer ↦ (input_too_long, inl (record { longer = longer; says = refl }))
   | inr fits ↦
@@ -398,7 +451,8 @@ some_within asked input = elim (cases_lt LARGEST_INPUT (length input)) [
       (answer.0, inr (record { fits = fits; answers = answer.1 }))
 ]
 
-some_by : (asked : Option Request) (input : List ℕ) → (output : Output) × ReportsBy asked input output
+some_by : (asked : Option Request) (input : List ℕ)
+    → (output : Output) × ReportsBy asked input output
 some_by None input = (wrong_words, refl)
 some_by (Some asked) input = some_within asked input
 

@@ -1,23 +1,32 @@
 -- The fault that is told is the first.
-use Rattle.std.proofs.Common.{◌≡◌, ℕ, ◌<◌, ◌+◌, ◌≤◌, Bool, true, false, not, List, [], ◌∷◌, ◌++◌, length, append_assoc, Option, Some, None, Result, Ok, Err, refl, sym, ap, subst, ◌∙◌, arith, codes}
+use Rattle.std.proofs.Common.{◌≡◌, ℕ, ◌<◌, ◌+◌, ◌≤◌, Bool, true, false, not, List, [], ◌∷◌, ◌++◌}
+use Rattle.std.proofs.Common.{length, append_assoc, Option, Some, None, Result, Ok, Err, refl, sym}
+use Rattle.std.proofs.Common.{ap, subst, ◌∙◌, arith, codes}
 use Rattle.std.specs.Prelude.{sum_by, nat_lt, drop, map}
 use Rattle.std.proofs.lemmas.Bool.{ltb-false, ltb-true}
 use Rattle.std.proofs.lemmas.List.{append-nil, map_push, length-map, drop-append-le}
 use Rattle.program_text.specs.declared.fault.ReadKind.{ReadKind}
-use Rattle.program_text.specs.declared.fault.ReadKind.TheVariants.{TooLong, BadHeader, BadWord, Unclosed, Unopened}
+use Rattle.program_text.specs.declared.fault.ReadKind.TheVariants.{TooLong, BadHeader, BadWord}
+use Rattle.program_text.specs.declared.fault.ReadKind.TheVariants.{Unclosed, Unopened}
 use Rattle.program_text.specs.declared.fault.ReadFault.{ReadFault}
 use Rattle.task_program.specs.declared.place.Place.{Place}
-use Rattle.task_program.specs.declared.place.Place.TheVariants.{Header, Version, Statement, WorkNumber, GroupBrace, Clause, DependMore}
+use Rattle.task_program.specs.declared.place.Place.TheVariants.{Header, Version, Statement}
+use Rattle.task_program.specs.declared.place.Place.TheVariants.{WorkNumber, GroupBrace, Clause}
+use Rattle.task_program.specs.declared.place.Place.TheVariants.{DependMore}
 use Rattle.program_text.specs.declared.limits.TheConstants.{MOST_TEXT_BYTES}
 use Rattle.program_text.specs.Tokens.{Token, texts, tokens_of, line_at_end}
 use Rattle.task_program.specs.TokenCounts.{open_braces, limit_fault_after}
 use Rattle.program_text.specs.Words.{is_text}
 use Rattle.task_program.specs.Within.{IsWithin}
 use Rattle.task_program.specs.ProgramMarks.{ProgramMarks}
-use Rattle.task_program.specs.Faults.{State, Block, form_fault, place_fault, is_header, closes_nothing, is_allowed, unless_fault, step, after_at, line_of_block, end_at, program_or_fault, go_on, read_tokens, start, one_pass}
+use Rattle.task_program.specs.Faults.{State, Block, form_fault, place_fault, is_header}
+use Rattle.task_program.specs.Faults.{closes_nothing, is_allowed, unless_fault, step, after_at}
+use Rattle.task_program.specs.Faults.{line_of_block, end_at, program_or_fault, go_on, read_tokens}
+use Rattle.task_program.specs.Faults.{start, one_pass}
 use Rattle.task_program.specs.ReadInVersion.{begins_version_two, program_of}
 use Rattle.task_program.specs.ViablePrefix.{IsSentence, IsViable}
-use Rattle.task_program.specs.FirstFault.{IsMisplaced, IsWrong, IsRight, AreRight, EndsEarly, IsFirstFault, HasFault, IsToldApart, FaultIsFirst}
+use Rattle.task_program.specs.FirstFault.{IsMisplaced, IsWrong, IsRight, AreRight, EndsEarly}
+use Rattle.task_program.specs.FirstFault.{IsFirstFault, HasFault, IsToldApart, FaultIsFirst}
 use Rattle.task_program.specs.FirstFault.IsMisplaced.{OfHeader, AfterWhole, Elsewhere}
 use Rattle.task_program.specs.FirstFault.IsWrong.{ByItself, Misplaced, PastLimit}
 use Rattle.task_program.specs.FirstFault.AreRight.{Nothing, More}
@@ -30,8 +39,14 @@ use Rattle.task_program.proofs.FoundWhole.{step_went}
 use Rattle.task_program.proofs.ReadWhole.{of_one}
 use Rattle.task_program.proofs.Shapes.{closes_none, fits_at, FollowsAt, nothing_follows}
 use Rattle.task_program.proofs.Accepting.{is_whole, sentence_accepted}
-use Rattle.task_program.proofs.Tallies.{Tally, tally_of, tally_after, tally_now, limit_of, limits, NoItems, is_past_header, tally_more, place_tallies, place_limits, header_tallies, header_limits, nothing_counted}
-use Rattle.task_program.proofs.Begun.{LengthAt, Began, is_not_viable, viable_next, fits_of, step_begins, row_cases, in_header, after_header, closes_at, whole_closes, whole_now, closes_same, no_header, no_close, none_allowed}
+use Rattle.task_program.proofs.Tallies.{Tally, tally_of, tally_after, tally_now, limit_of, limits}
+use Rattle.task_program.proofs.Tallies.{NoItems, is_past_header, tally_more, place_tallies}
+use Rattle.task_program.proofs.Tallies.{place_limits, header_tallies, header_limits}
+use Rattle.task_program.proofs.Tallies.{nothing_counted}
+use Rattle.task_program.proofs.Begun.{LengthAt, Began, is_not_viable, viable_next, fits_of}
+use Rattle.task_program.proofs.Begun.{step_begins, row_cases, in_header, after_header, closes_at}
+use Rattle.task_program.proofs.Begun.{whole_closes, whole_now, closes_same, no_header, no_close}
+use Rattle.task_program.proofs.Begun.{none_allowed}
 
 -- ---- what is known where these tokens were read
 
@@ -61,13 +76,17 @@ nothing_after [] h = refl
 nothing_after (first ∷ []) h = refl
 nothing_after (first ∷ second ∷ before) h = absurd (omega (arith, h))
 
-nothing_after_one : (before : List Token) (token : Token) → length before ≤ 1 → drop 2 (before ++ token ∷ []) ≡ []
+nothing_after_one : (before : List Token) (token : Token)
+    → length before ≤ 1
+    → drop 2 (before ++ token ∷ []) ≡ []
 nothing_after_one [] token h = refl
 nothing_after_one (first ∷ []) token h = refl
 nothing_after_one (first ∷ second ∷ before) token h = absurd (omega (arith, h))
 
-items_go : (place : Place) (state : State) (text : List ℕ) (line : ℕ) → NoItems place state.head.items
-    → NoItems (after_at place (at state place) text line).place (after_at place (at state place) text line).head.items
+items_go : (place : Place) (state : State) (text : List ℕ) (line : ℕ)
+    → NoItems place state.head.items
+    → NoItems (after_at place (at state place) text line).place
+    (after_at place (at state place) text line).head.items
 items_go Header state text line h = h
 items_go Version state text line h = h
 items_go Statement state text line h =
@@ -106,27 +125,55 @@ limits_so : (before : List Token) (state : State) (text : List ℕ) → Counts b
     → limit_fault_after (drop 2 before) text ≡ limits state text
 limits_so before state text c header allowed =
     bool_cases (is_past_header state.place)
-    (λ past. ap (λ (t : Tally). limit_of t text) c.tally_is ∙ place_limits state.place state text past c.within.items allowed)
+    (λ past. ap (λ (t : Tally). limit_of t text) c.tally_is
+    ∙ place_limits state.place state text past c.within.items allowed)
     (λ here.
-    let short : length before ≤ 1 = omega (arith, texts_long before, header_short state.place (length (texts before)) c.began.length_is here) in
-    ap (λ (ts : List Token). limit_fault_after ts text) (nothing_after before short) ∙ header_limits state.place text here header ∙ sym (header_limitless state.place state text here))
+    let short : length before
+    ≤ 1 = omega (
+      arith,
+      texts_long before,
+      header_short state.place (length (texts before)) c.began.length_is here,
+    )
+    in
+    ap (λ (ts : List Token). limit_fault_after ts text) (nothing_after before short)
+    ∙ header_limits state.place text here header
+    ∙ sym (header_limitless state.place state text here))
 
-tally_goes : (before : List Token) (state : State) (bytes : ℕ) (next : State) (token : Token) → Counts before state
+tally_goes : (before : List Token) (state : State) (bytes : ℕ) (next : State) (token : Token)
+    → Counts before state
     → is_allowed state.place state.head.has_if token.text ≡ true
-    → after_at state.place (record state { bytes = bytes }) token.text token.line ≡ next → tally_of (drop 2 (before ++ token ∷ [])) ≡ tally_now next
+    → after_at state.place (record state { bytes = bytes }) token.text token.line ≡ next
+    → tally_of (drop 2 (before ++ token ∷ [])) ≡ tally_now next
 tally_goes before state bytes next token c allowed same =
     let inside : State = record state { bytes = bytes } in
-    let on : tally_now (after_at state.place inside token.text token.line) ≡ tally_now next = ap (λ (s : State). tally_now s) same in
+    let on : tally_now (after_at state.place inside token.text token.line) ≡ tally_now next =
+    ap (λ (s : State). tally_now s) same in
     bool_cases (is_past_header state.place)
     (λ past.
-    let long : 2 ≤ length before = omega (arith, texts_long before, past_long state.place (length (texts before)) c.began.length_is past) in
-    ap (λ (ts : List Token). tally_of ts) (drop-append-le 2 before (token ∷ []) long) ∙ tally_more (drop 2 before) token ∙ ap (λ (t : Tally). tally_after t token) c.tally_is
+    let long : 2
+    ≤ length before = omega
+    (arith, texts_long before, past_long state.place (length (texts before)) c.began.length_is past)
+    in
+    ap (λ (ts : List Token). tally_of ts) (drop-append-le 2 before (token ∷ []) long)
+    ∙ tally_more (drop 2 before) token
+    ∙ ap (λ (t : Tally). tally_after t token) c.tally_is
     ∙ place_tallies state.place inside token.text token.line past c.no_items allowed ∙ on)
     (λ here.
-    let short : length before ≤ 1 = omega (arith, texts_long before, header_short state.place (length (texts before)) c.began.length_is here) in
-    ap (λ (ts : List Token). tally_of ts) (nothing_after_one before token short ∙ sym (nothing_after before short)) ∙ c.tally_is ∙ header_tallies state.place inside token.text token.line here ∙ on)
+    let short : length before
+    ≤ 1 = omega (
+      arith,
+      texts_long before,
+      header_short state.place (length (texts before)) c.began.length_is here,
+    )
+    in
+    ap (λ (ts : List Token). tally_of ts)
+    (nothing_after_one before token short ∙ sym (nothing_after before short))
+    ∙ c.tally_is
+    ∙ header_tallies state.place inside token.text token.line here
+    ∙ on)
 
-texts_more : (before : List Token) (token : Token) → texts (before ++ token ∷ []) ≡ texts before ++ token.text ∷ []
+texts_more : (before : List Token) (token : Token)
+    → texts (before ++ token ∷ []) ≡ texts before ++ token.text ∷ []
 texts_more before token = map_push (λ (t : Token). t.text) before token
 
 -- nothing is wrong with a token after which the reading goes on
@@ -136,12 +183,16 @@ unfolding step
 token_right before state next token c h =
     let passed = unless_ok (form_fault state.bytes token.text) token.line _ next h in
     let inside : State = record state { bytes = state.bytes + length token.text } in
-    let p = passes inside token.text (unless_ok (place_fault inside token.text) token.line _ next passed.1).0 in
-    let no_limit : limits state token.text ≡ None = rw (p.number, p.nesting, p.tasks, p.segments, p.items, p.work) refl in
+    let p = passes inside token.text
+    (unless_ok (place_fault inside token.text) token.line _ next passed.1).0 in
+    let no_limit : limits state token.text ≡ None =
+    rw (p.number, p.nesting, p.tasks, p.segments, p.items, p.work) refl in
     record {
       formed = subst (λ (n : ℕ). form_fault n token.text ≡ None) c.began.bytes_are passed.0;
-      viable = viable_next (texts before) state token.text c.began (fits_of state token.text p.header p.unopened p.allowed);
-      within = limits_so before state token.text c (is_true _ p.header) (is_true _ p.allowed) ∙ no_limit;
+      viable = viable_next (texts before) state token.text c.began
+          (fits_of state token.text p.header p.unopened p.allowed);
+      within =
+          limits_so before state token.text c (is_true _ p.header) (is_true _ p.allowed) ∙ no_limit;
     }
 
 counts_more : (before : List Token) (state next : State) (token : Token) → Counts before state
@@ -152,12 +203,16 @@ counts_more before state next token c h =
     let inside : State = record state { bytes = state.bytes + length token.text } in
     let placed = unless_ok (place_fault inside token.text) token.line _ next passed.1 in
     let same = ok_is (after_at state.place inside token.text token.line) next placed.1 in
-    let allowed : is_allowed state.place state.head.has_if token.text ≡ true = is_true _ (passes inside token.text placed.0).allowed in
+    let allowed : is_allowed state.place state.head.has_if token.text ≡ true =
+    is_true _ (passes inside token.text placed.0).allowed in
     record {
-      began = subst (λ (ts : List (List ℕ)). Began ts next) (sym (texts_more before token)) (step_begins (texts before) state next token c.began h);
-      tally_is = tally_goes before state (state.bytes + length token.text) next token c allowed same;
+      began = subst (λ (ts : List (List ℕ)). Began ts next) (sym (texts_more before token))
+          (step_begins (texts before) state next token c.began h);
+      tally_is =
+          tally_goes before state (state.bytes + length token.text) next token c allowed same;
       within = step_keeps state token next c.within h;
-      no_items = subst (λ (s : State). NoItems s.place s.head.items) same (items_go state.place inside token.text token.line c.no_items);
+      no_items = subst (λ (s : State). NoItems s.place s.head.items) same
+          (items_go state.place inside token.text token.line c.no_items);
       right = More before token c.right (token_right before state next token c h);
     }
 
@@ -167,8 +222,10 @@ abbrev fault_so : ReadKind → ℕ → ReadFault
 fault_so kind line = record { kind = kind; line = line }
 
 -- the fault of a token that is one by itself
-at_place : (before : List Token) (state : State) (text : List ℕ) (kind : ReadKind) → Counts before state
-    → form_fault (sum_by length (texts before)) text ≡ None → place_fault state text ≡ Some kind
+at_place : (before : List Token) (state : State) (text : List ℕ) (kind : ReadKind)
+    → Counts before state
+    → form_fault (sum_by length (texts before)) text ≡ None
+    → place_fault state text ≡ Some kind
     → IsWrong before text kind
 at_place before state text kind c formed h =
     let b = c.began in
@@ -177,25 +234,40 @@ at_place before state text kind c formed h =
     let header_is = is_header place text in
     let allowed_is = is_allowed place state.head.has_if text in
     let closes_is = closes_none place depth text in
-    let closes_so : closes_nothing place state.tree.blocks text ≡ closes_is = closes_same place state.tree.blocks text in
+    let closes_so : closes_nothing place state.tree.blocks text ≡ closes_is =
+    closes_same place state.tree.blocks text in
     row_cases (not header_is) BadHeader kind _ h
-    (λ bad same. subst (IsWrong before text) same (Misplaced before text BadHeader formed (is_not_viable (texts before) state text b (no_header header_is closes_is allowed_is bad))
+    (λ bad same. subst (IsWrong before text) same (Misplaced before text BadHeader formed
+    (is_not_viable (texts before) state text b (no_header header_is closes_is allowed_is bad))
     (OfHeader (texts before) text (in_header place text (length (texts before)) b.length_is bad))))
     (λ header h1. row_cases (closes_nothing place state.tree.blocks text) Unopened kind _ h1
     (λ closes same.
     let whole = closes_at place state.head.has_if depth text (sym closes_so ∙ closes) in
-    let sentence : IsSentence (texts before) = subst IsSentence (append-nil (texts before)) (b.follows [] whole.1) in
-    subst (IsWrong before text) same (Misplaced before text Unopened formed (is_not_viable (texts before) state text b (no_close header_is _ closes_is allowed_is closes closes_so))
+    let sentence : IsSentence (texts before) = subst IsSentence (append-nil (texts before))
+    (b.follows [] whole.1) in
+    subst (IsWrong before text) same (Misplaced before text Unopened formed
+    (is_not_viable (texts before) state text b
+    (no_close header_is _ closes_is allowed_is closes closes_so))
     (AfterWhole (texts before) text sentence whole.0)))
     (λ unopened h2. row_cases (not allowed_is) BadWord kind _ h2
     (λ bad same.
-    let no_whole : IsSentence (texts before) → text ≡ codes "}" → ⊥ = λ s text_is. absurd (let wrong : true ≡ false = sym (whole_closes place depth text (whole_now (texts before) state b s) text_is) ∙ sym closes_so ∙ unopened in cc) in
-    subst (IsWrong before text) same (Misplaced before text BadWord formed (is_not_viable (texts before) state text b (none_allowed header_is closes_is allowed_is bad))
-    (Elsewhere (texts before) text (after_header place state.head.has_if text (length (texts before)) b.length_is bad) no_whole)))
-    (λ allowed h3. PastLimit before text kind formed (viable_next (texts before) state text b (fits_of state text header unopened allowed))
+    let no_whole : IsSentence (texts before) → text ≡ codes "}"
+    → ⊥ = λ s text_is. absurd
+    (let wrong : true
+    ≡ false = sym (whole_closes place depth text (whole_now (texts before) state b s) text_is)
+    ∙ sym closes_so
+    ∙ unopened in cc)
+    in
+    subst (IsWrong before text) same (Misplaced before text BadWord formed
+    (is_not_viable (texts before) state text b (none_allowed header_is closes_is allowed_is bad))
+    (Elsewhere (texts before) text
+    (after_header place state.head.has_if text (length (texts before)) b.length_is bad) no_whole)))
+    (λ allowed h3. PastLimit before text kind formed
+    (viable_next (texts before) state text b (fits_of state text header unopened allowed))
     (limits_so before state text c (is_true header_is header) (is_true allowed_is allowed) ∙ h3))))
 
-unless_err : {P : Type 0} (found : Option ReadKind) (line : ℕ) (after : Result State ReadFault) (fault : ReadFault)
+unless_err : {P : Type 0} (found : Option ReadKind) (line : ℕ) (after : Result State ReadFault)
+    (fault : ReadFault)
     → unless_fault found line after ≡ Err fault
     → ((kind : ReadKind) → found ≡ Some kind → fault_so kind line ≡ fault → P)
     → (found ≡ None → after ≡ Err fault → P) → P
@@ -203,30 +275,46 @@ unless_err (Some kind) line after fault h here later = here kind refl cc
 unless_err None line after fault h here later = later refl h
 
 -- a token is wrong at which the reading stops
-token_wrong : (before : List Token) (state : State) (token : Token) (fault : ReadFault) → Counts before state
+token_wrong : (before : List Token) (state : State) (token : Token) (fault : ReadFault)
+    → Counts before state
     → step state token ≡ Err fault
     → (kind : ReadKind) × IsWrong before token.text kind × (fault_so kind token.line ≡ fault)
 unfolding step
 token_wrong before state token fault c h =
     let inside : State = record state { bytes = state.bytes + length token.text } in
     unless_err (form_fault state.bytes token.text) token.line _ fault h
-    (λ kind form same. (kind, ByItself before token.text kind (subst (λ (n : ℕ). form_fault n token.text ≡ Some kind) c.began.bytes_are form), same))
+    (λ kind form same. (
+      kind,
+      ByItself before token.text kind
+          (subst (λ (n : ℕ). form_fault n token.text ≡ Some kind) c.began.bytes_are form),
+      same,
+    ))
     (λ form h1. unless_err (place_fault inside token.text) token.line _ fault h1
-    (λ kind place same. (kind, at_place before state token.text kind c (subst (λ (n : ℕ). form_fault n token.text ≡ None) c.began.bytes_are form) place, same))
+    (λ kind place same. (
+      kind,
+      at_place before state token.text kind c
+          (subst (λ (n : ℕ). form_fault n token.text ≡ None) c.began.bytes_are form) place,
+      same,
+    ))
     (λ none wrong. absurd cc))
 
-token_fault : (before later : List Token) (state : State) (token : Token) (end_line : ℕ) (fault : ReadFault)
-    → Counts before state → step state token ≡ Err fault → IsFirstFault (before ++ token ∷ later) end_line fault
+token_fault : (before later : List Token) (state : State) (token : Token) (end_line : ℕ)
+    (fault : ReadFault)
+    → Counts before state
+    → step state token ≡ Err fault
+    → IsFirstFault (before ++ token ∷ later) end_line fault
 token_fault before later state token end_line fault c h =
     let told = token_wrong before state token fault c h in
-    subst (IsFirstFault (before ++ token ∷ later) end_line) told.2 (AtToken before later token end_line told.0 c.right told.1)
+    subst (IsFirstFault (before ++ token ∷ later) end_line) told.2
+    (AtToken before later token end_line told.0 c.right told.1)
 
 -- ---- one fault at most
 
 sentence_long : (before : List (List ℕ)) → IsSentence before → 2 ≤ length before
 sentence_long before s = omega (arith, ap (λ (ts : List (List ℕ)). length ts) s.spelled)
 
-two_kinds : (one other : ReadKind) (found : Option ReadKind) → found ≡ Some one → found ≡ Some other → one ≡ other
+two_kinds : (one other : ReadKind) (found : Option ReadKind) → found ≡ Some one → found ≡ Some other
+    → one ≡ other
 two_kinds one other found h g = cc
 
 some_none : (kind : ReadKind) (found : Option ReadKind) → found ≡ Some kind → found ≡ None → ⊥
@@ -236,66 +324,110 @@ right_not_wrong : (before : List Token) (text : List ℕ) (kind : ReadKind) → 
     → IsWrong before text kind → ⊥
 right_not_wrong before text kind r (ByItself _ _ _ form) = some_none kind _ form r.formed
 right_not_wrong before text kind r (Misplaced _ _ _ form no_viable misplaced) = no_viable r.viable
-right_not_wrong before text kind r (PastLimit _ _ _ form viable_so limit) = some_none kind _ limit r.within
+right_not_wrong before text kind r (PastLimit _ _ _ form viable_so limit) =
+    some_none kind _ limit r.within
 
-misplaced_once : (before : List (List ℕ)) (text : List ℕ) (one other : ReadKind) → IsMisplaced before text one
-    → IsMisplaced before text other → one ≡ other
+misplaced_once : (before : List (List ℕ)) (text : List ℕ) (one other : ReadKind)
+    → IsMisplaced before text one
+    → IsMisplaced before text other
+    → one ≡ other
 misplaced_once before text one other (OfHeader _ _ short) (OfHeader _ _ again) = refl
-misplaced_once before text one other (OfHeader _ _ short) (AfterWhole _ _ s text_is) = absurd (let long = sentence_long before s in omega (arith, short, long))
-misplaced_once before text one other (OfHeader _ _ short) (Elsewhere _ _ long no_whole) = absurd (omega (arith, short, long))
-misplaced_once before text one other (AfterWhole _ _ s text_is) (OfHeader _ _ short) = absurd (let long = sentence_long before s in omega (arith, short, long))
-misplaced_once before text one other (AfterWhole _ _ s text_is) (AfterWhole _ _ again text_so) = refl
-misplaced_once before text one other (AfterWhole _ _ s text_is) (Elsewhere _ _ long no_whole) = absurd (no_whole s text_is)
-misplaced_once before text one other (Elsewhere _ _ long no_whole) (OfHeader _ _ short) = absurd (omega (arith, short, long))
-misplaced_once before text one other (Elsewhere _ _ long no_whole) (AfterWhole _ _ s text_is) = absurd (no_whole s text_is)
+misplaced_once before text one other (OfHeader _ _ short) (AfterWhole _ _ s text_is) =
+    absurd (let long = sentence_long before s in omega (arith, short, long))
+misplaced_once before text one other (OfHeader _ _ short) (Elsewhere _ _ long no_whole) =
+    absurd (omega (arith, short, long))
+misplaced_once before text one other (AfterWhole _ _ s text_is) (OfHeader _ _ short) =
+    absurd (let long = sentence_long before s in omega (arith, short, long))
+misplaced_once before text one other (AfterWhole _ _ s text_is) (AfterWhole _ _ again text_so) =
+    refl
+misplaced_once before text one other (AfterWhole _ _ s text_is) (Elsewhere _ _ long no_whole) =
+    absurd (no_whole s text_is)
+misplaced_once before text one other (Elsewhere _ _ long no_whole) (OfHeader _ _ short) =
+    absurd (omega (arith, short, long))
+misplaced_once before text one other (Elsewhere _ _ long no_whole) (AfterWhole _ _ s text_is) =
+    absurd (no_whole s text_is)
 misplaced_once before text one other (Elsewhere _ _ long no_whole) (Elsewhere _ _ again none) = refl
 
 wrong_once : (before : List Token) (text : List ℕ) (one other : ReadKind) → IsWrong before text one
     → IsWrong before text other → one ≡ other
-wrong_once before text one other (ByItself _ _ _ form) (ByItself _ _ _ again) = two_kinds one other _ form again
-wrong_once before text one other (ByItself _ _ _ form) (Misplaced _ _ _ none no_viable misplaced) = absurd (some_none one _ form none)
-wrong_once before text one other (ByItself _ _ _ form) (PastLimit _ _ _ none viable_so limit) = absurd (some_none one _ form none)
-wrong_once before text one other (Misplaced _ _ _ none no_viable misplaced) (ByItself _ _ _ form) = absurd (some_none other _ form none)
-wrong_once before text one other (Misplaced _ _ _ none no_viable misplaced) (Misplaced _ _ _ again no_more misplaced_so) = misplaced_once (texts before) text one other misplaced misplaced_so
-wrong_once before text one other (Misplaced _ _ _ none no_viable misplaced) (PastLimit _ _ _ again viable_so limit) = absurd (no_viable viable_so)
-wrong_once before text one other (PastLimit _ _ _ none viable_so limit) (ByItself _ _ _ form) = absurd (some_none other _ form none)
-wrong_once before text one other (PastLimit _ _ _ none viable_so limit) (Misplaced _ _ _ again no_viable misplaced) = absurd (no_viable viable_so)
-wrong_once before text one other (PastLimit _ _ _ none viable_so limit) (PastLimit _ _ _ again viable_too limit_too) = two_kinds one other _ limit limit_too
+wrong_once before text one other (ByItself _ _ _ form) (ByItself _ _ _ again) =
+    two_kinds one other _ form again
+wrong_once before text one other (ByItself _ _ _ form) (Misplaced _ _ _ none no_viable misplaced) =
+    absurd (some_none one _ form none)
+wrong_once before text one other (ByItself _ _ _ form) (PastLimit _ _ _ none viable_so limit) =
+    absurd (some_none one _ form none)
+wrong_once before text one other (Misplaced _ _ _ none no_viable misplaced) (ByItself _ _ _ form) =
+    absurd (some_none other _ form none)
+wrong_once before text one other (Misplaced _ _ _ none no_viable misplaced)
+    (Misplaced _ _ _ again no_more misplaced_so) =
+    misplaced_once (texts before) text one other misplaced misplaced_so
+wrong_once before text one other (Misplaced _ _ _ none no_viable misplaced)
+    (PastLimit _ _ _ again viable_so limit) =
+    absurd (no_viable viable_so)
+wrong_once before text one other (PastLimit _ _ _ none viable_so limit) (ByItself _ _ _ form) =
+    absurd (some_none other _ form none)
+wrong_once before text one other (PastLimit _ _ _ none viable_so limit)
+    (Misplaced _ _ _ again no_viable misplaced) =
+    absurd (no_viable viable_so)
+wrong_once before text one other (PastLimit _ _ _ none viable_so limit)
+    (PastLimit _ _ _ again viable_too limit_too) =
+    two_kinds one other _ limit limit_too
 
 no_braces : (all : List Token) (line : ℕ) (others : List ℕ) → length all < 2
     → open_braces (drop 2 all) ≡ line ∷ others → ⊥
 no_braces all line others short braces =
-    let none : open_braces (drop 2 all) ≡ [] = ap (λ (ts : List Token). open_braces ts) (nothing_after all (omega (arith, short))) in
+    let none : open_braces (drop 2 all) ≡ [] =
+    ap (λ (ts : List Token). open_braces ts) (nothing_after all (omega (arith, short))) in
     absurd (let wrong : line ∷ others ≡ [] = sym braces ∙ none in cc)
 
 ends_once : (all : List Token) (end_line : ℕ) (one other : ReadFault) → EndsEarly all end_line one
     → EndsEarly all end_line other → one ≡ other
 ends_once all end_line one other (InHeader _ _ short) (InHeader _ _ again) = refl
-ends_once all end_line one other (InHeader _ _ short) (BlockOpen _ _ line others viable_so braces) = absurd (no_braces all line others short braces)
-ends_once all end_line one other (InHeader _ _ short) (Inside _ _ long no_viable) = absurd (omega (arith, short, long))
-ends_once all end_line one other (BlockOpen _ _ line others viable_so braces) (InHeader _ _ short) = absurd (no_braces all line others short braces)
-ends_once all end_line one other (BlockOpen _ _ line others viable_so braces) (BlockOpen _ _ line_too others_too again braces_too) =
+ends_once all end_line one other (InHeader _ _ short) (BlockOpen _ _ line others viable_so braces) =
+    absurd (no_braces all line others short braces)
+ends_once all end_line one other (InHeader _ _ short) (Inside _ _ long no_viable) =
+    absurd (omega (arith, short, long))
+ends_once all end_line one other (BlockOpen _ _ line others viable_so braces) (InHeader _ _ short) =
+    absurd (no_braces all line others short braces)
+ends_once all end_line one other (BlockOpen _ _ line others viable_so braces)
+    (BlockOpen _ _ line_too others_too again braces_too) =
     let same : line ∷ others ≡ line_too ∷ others_too = sym braces ∙ braces_too in
     let same_line : line ≡ line_too = cc in
     ap (λ (n : ℕ). fault_so Unclosed n) same_line
-ends_once all end_line one other (BlockOpen _ _ line others viable_so braces) (Inside _ _ long no_viable) = absurd (no_viable viable_so)
-ends_once all end_line one other (Inside _ _ long no_viable) (InHeader _ _ short) = absurd (omega (arith, short, long))
-ends_once all end_line one other (Inside _ _ long no_viable) (BlockOpen _ _ line others viable_so braces) = absurd (no_viable viable_so)
+ends_once all end_line one other (BlockOpen _ _ line others viable_so braces)
+    (Inside _ _ long no_viable) =
+    absurd (no_viable viable_so)
+ends_once all end_line one other (Inside _ _ long no_viable) (InHeader _ _ short) =
+    absurd (omega (arith, short, long))
+ends_once all end_line one other (Inside _ _ long no_viable)
+    (BlockOpen _ _ line others viable_so braces) =
+    absurd (no_viable viable_so)
 ends_once all end_line one other (Inside _ _ long no_viable) (Inside _ _ again none) = refl
 
 -- ---- the end
 
-end_by : (all : List Token) (place : Place) (has_if : Bool) (blocks : List Block) (end_line : ℕ) (fault : ReadFault)
+end_by : (all : List Token) (place : Place) (has_if : Bool) (blocks : List Block) (end_line : ℕ)
+    (fault : ReadFault)
     → LengthAt place (length all) → open_braces (drop 2 all) ≡ map line_of_block blocks
-    → (fits_at place has_if (length blocks) (codes "}") ≡ true → IsViable (texts all ++ codes "}" ∷ []))
-    → (fits_at place has_if (length blocks) (codes "}") ≡ false → IsViable (texts all ++ codes "}" ∷ []) → ⊥)
+    → (fits_at place has_if (length blocks) (codes "}") ≡ true
+    → IsViable (texts all ++ codes "}" ∷ []))
+    → (fits_at place has_if (length blocks) (codes "}") ≡ false
+    → IsViable (texts all ++ codes "}" ∷ []) → ⊥)
     → end_at place blocks end_line ≡ Some fault → EndsEarly all end_line fault
-end_by all Header has_if blocks end_line fault long braces can cannot h = let same : fault_so BadHeader end_line ≡ fault = cc in subst (EndsEarly all end_line) same (InHeader all end_line (omega (arith, long)))
-end_by all Version has_if blocks end_line fault long braces can cannot h = let same : fault_so BadHeader end_line ≡ fault = cc in subst (EndsEarly all end_line) same (InHeader all end_line (omega (arith, long)))
+end_by all Header has_if blocks end_line fault long braces can cannot h =
+    let same : fault_so BadHeader end_line ≡ fault = cc in
+    subst (EndsEarly all end_line) same (InHeader all end_line (omega (arith, long)))
+end_by all Version has_if blocks end_line fault long braces can cannot h =
+    let same : fault_so BadHeader end_line ≡ fault = cc in
+    subst (EndsEarly all end_line) same (InHeader all end_line (omega (arith, long)))
 end_by all Statement has_if [] end_line fault long braces can cannot h = absurd cc
 end_by all Statement has_if (block ∷ blocks) end_line fault long braces can cannot h =
-    let same : fault_so Unclosed (line_of_block block) ≡ fault = cc in subst (EndsEarly all end_line) same (BlockOpen all end_line (line_of_block block) (map line_of_block blocks) (can refl) braces)
-end_by all _ has_if blocks end_line fault long braces can cannot h = let same : fault_so BadWord end_line ≡ fault = cc in subst (EndsEarly all end_line) same (Inside all end_line long (cannot refl))
+    let same : fault_so Unclosed (line_of_block block) ≡ fault = cc in
+    subst (EndsEarly all end_line) same
+    (BlockOpen all end_line (line_of_block block) (map line_of_block blocks) (can refl) braces)
+end_by all _ has_if blocks end_line fault long braces can cannot h =
+    let same : fault_so BadWord end_line ≡ fault = cc in
+    subst (EndsEarly all end_line) same (Inside all end_line long (cannot refl))
 
 whole_ends : (place : Place) (blocks : List Block) (line : ℕ) (fault : ReadFault)
     → is_whole place (length blocks) ≡ true → end_at place blocks line ≡ Some fault → ⊥
@@ -303,13 +435,16 @@ whole_ends Statement [] line fault h g = absurd cc
 whole_ends Statement (block ∷ blocks) line fault h g = absurd cc
 whole_ends _ blocks line fault h g = absurd cc
 
-ended_err : (found : Option ReadFault) (state : State) (fault : ReadFault) → program_or_fault found state ≡ Err fault
+ended_err : (found : Option ReadFault) (state : State) (fault : ReadFault)
+    → program_or_fault found state ≡ Err fault
     → found ≡ Some fault
 ended_err (Some other) state fault h = cc
 ended_err None state fault h = absurd cc
 
-ended_ok : (place : Place) (has_if : Bool) (blocks : List Block) (line : ℕ) (state : State) (program : ProgramMarks)
-    → program_or_fault (end_at place blocks line) state ≡ Ok program → FollowsAt place has_if (length blocks) []
+ended_ok : (place : Place) (has_if : Bool) (blocks : List Block) (line : ℕ) (state : State)
+    (program : ProgramMarks)
+    → program_or_fault (end_at place blocks line) state ≡ Ok program
+    → FollowsAt place has_if (length blocks) []
 ended_ok Statement has_if [] line state program h = nothing_follows has_if
 ended_ok Statement has_if (block ∷ blocks) line state program h = absurd cc
 ended_ok _ has_if blocks line state program h = absurd cc
@@ -318,8 +453,10 @@ early_at : (all : List Token) (state : State) (end_line : ℕ) (fault : ReadFaul
     → end_at state.place state.tree.blocks end_line ≡ Some fault → EndsEarly all end_line fault
 early_at all state end_line fault c h =
     let b = c.began in
-    end_by all state.place state.head.has_if state.tree.blocks end_line fault (subst (λ (n : ℕ). LengthAt state.place n) (texts_long all) b.length_is)
-    (ap (λ (t : Tally). t.braces) c.tally_is) (viable_next (texts all) state (codes "}") b) (is_not_viable (texts all) state (codes "}") b) h
+    end_by all state.place state.head.has_if state.tree.blocks end_line fault
+    (subst (λ (n : ℕ). LengthAt state.place n) (texts_long all) b.length_is)
+    (ap (λ (t : Tally). t.braces) c.tally_is) (viable_next (texts all) state (codes "}") b)
+    (is_not_viable (texts all) state (codes "}") b) h
 
 end_is : (state : State) (line : ℕ) (fault : ReadFault) → read_tokens [] line state ≡ Err fault
     → end_at state.place state.tree.blocks line ≡ Some fault
@@ -329,54 +466,85 @@ end_is state line fault h = ended_err (end_at state.place state.tree.blocks line
 end_fault : (all : List Token) (state : State) (end_line : ℕ) (fault : ReadFault) → Counts all state
     → end_at state.place state.tree.blocks end_line ≡ Some fault → IsFirstFault all end_line fault
 end_fault all state end_line fault c h =
-    AtEnd all end_line fault c.right (λ s. whole_ends state.place state.tree.blocks end_line fault (whole_now (texts all) state c.began s) h) (early_at all state end_line fault c h)
+    AtEnd all end_line fault c.right
+    (λ s. whole_ends state.place state.tree.blocks end_line fault
+    (whole_now (texts all) state c.began s) h)
+    (early_at all state end_line fault c h)
 
 -- ---- the whole
 
-by_next_or_fault : {P : Type 0} (read : Result State ReadFault) (later : State → Result ProgramMarks ReadFault) (fault : ReadFault)
+by_next_or_fault : {P : Type 0} (read : Result State ReadFault)
+    (later : State → Result ProgramMarks ReadFault) (fault : ReadFault)
     → go_on read later ≡ Err fault
     → ((next : State) → read ≡ Ok next → later next ≡ Err fault → P) → (read ≡ Err fault → P) → P
 by_next_or_fault (Ok next) later fault h on stops = on next refl h
 by_next_or_fault (Err other) later fault h on stops = stops cc
 
-fault_from : (tokens before : List Token) (state : State) (end_line : ℕ) (fault : ReadFault) → Counts before state
-    → read_tokens tokens end_line state ≡ Err fault → IsFirstFault (before ++ tokens) end_line fault
+fault_from : (tokens before : List Token) (state : State) (end_line : ℕ) (fault : ReadFault)
+    → Counts before state
+    → read_tokens tokens end_line state ≡ Err fault
+    → IsFirstFault (before ++ tokens) end_line fault
 unfolding read_tokens
 fault_from [] before state end_line fault c h =
-    subst (λ (ts : List Token). IsFirstFault ts end_line fault) (sym (append-nil before)) (end_fault before state end_line fault c (ended_err (end_at state.place state.tree.blocks end_line) state fault h))
+    subst (λ (ts : List Token). IsFirstFault ts end_line fault) (sym (append-nil before))
+    (end_fault before state end_line fault c
+    (ended_err (end_at state.place state.tree.blocks end_line) state fault h))
 fault_from (token ∷ tokens) before state end_line fault c h =
     by_next_or_fault (step state token) (λ next. read_tokens tokens end_line next) fault h
-    (λ next one later. subst (λ (ts : List Token). IsFirstFault ts end_line fault) (append_assoc before (token ∷ []) tokens)
-    (fault_from tokens (before ++ token ∷ []) next end_line fault (counts_more before state next token c one) later))
+    (λ next one later. subst (λ (ts : List Token). IsFirstFault ts end_line fault)
+    (append_assoc before (token ∷ []) tokens)
+    (fault_from tokens (before ++ token ∷ []) next end_line fault
+    (counts_more before state next token c one) later))
     (λ stops. token_fault before tokens state token end_line fault c stops)
 
 abbrev Whole : List Token → Type 0
 Whole all = IsSentence (texts all) × AreRight all
 
-whole_from : (tokens before : List Token) (state : State) (end_line : ℕ) (program : ProgramMarks) → Counts before state
-    → read_tokens tokens end_line state ≡ Ok program → Whole (before ++ tokens)
+whole_from : (tokens before : List Token) (state : State) (end_line : ℕ) (program : ProgramMarks)
+    → Counts before state
+    → read_tokens tokens end_line state ≡ Ok program
+    → Whole (before ++ tokens)
 unfolding read_tokens
 whole_from [] before state end_line program c h =
-    let whole = c.began.follows [] (ended_ok state.place state.head.has_if state.tree.blocks end_line state program h) in
-    subst Whole (sym (append-nil before)) (subst IsSentence (append-nil (texts before)) whole, c.right)
+    let whole = c.began.follows []
+    (ended_ok state.place state.head.has_if state.tree.blocks end_line state program h) in
+    subst Whole (sym (append-nil before))
+    (subst IsSentence (append-nil (texts before)) whole, c.right)
 whole_from (token ∷ tokens) before state end_line program c h =
     let went = step_went (step state token) (λ next. read_tokens tokens end_line next) program h in
     subst Whole (append_assoc before (token ∷ []) tokens)
-    (whole_from tokens (before ++ token ∷ []) went.0 end_line program (counts_more before state went.0 token c went.1) went.2)
+    (whole_from tokens (before ++ token ∷ []) went.0 end_line program
+    (counts_more before state went.0 token c went.1) went.2)
 
 at_start : Counts [] start
 at_start = record {
-  began = record { follows = λ later f. f; accepted = λ later s. sentence_accepted later s; length_is = refl; bytes_are = refl };
+  began = record {
+    follows = λ later f. f;
+    accepted = λ later s. sentence_accepted later s;
+    length_is = refl;
+    bytes_are = refl;
+  };
   tally_is = nothing_counted;
-  within = record { tasks = omega arith; segments = omega arith; work = omega arith; nesting = omega arith; items = omega arith; names = omega arith; bytes = omega arith };
+  within = record {
+    tasks = omega arith;
+    segments = omega arith;
+    work = omega arith;
+    nesting = omega arith;
+    items = omega arith;
+    names = omega arith;
+    bytes = omega arith;
+  };
   no_items = refl;
   right = Nothing;
 }
 
-too_long : (text : List ℕ) → nat_lt MOST_TEXT_BYTES (length text) ≡ true → program_of text ≡ Err (fault_so TooLong 1)
+too_long : (text : List ℕ)
+    → nat_lt MOST_TEXT_BYTES (length text) ≡ true
+    → program_of text ≡ Err (fault_so TooLong 1)
 too_long text long = rw long refl
 
-same_fault : (read : Result ProgramMarks ReadFault) (one other : ReadFault) → read ≡ Err one → read ≡ Err other
+same_fault : (read : Result ProgramMarks ReadFault) (one other : ReadFault) → read ≡ Err one
+    → read ≡ Err other
     → one ≡ other
 same_fault read one other h g = cc
 
@@ -386,14 +554,16 @@ same_fault read one other h g = cc
 record ReadSo (before : List Token) : Type 0 where
   state : State
   counts : Counts before state
-  goes_on : (later : List Token) (line : ℕ) → read_tokens (before ++ later) line start ≡ read_tokens later line state
+  goes_on : (later : List Token) (line : ℕ)
+      → read_tokens (before ++ later) line start ≡ read_tokens later line state
 
 step_cases : {P : Type 0} (read : Result State ReadFault) → ((next : State) → read ≡ Ok next → P)
     → ((fault : ReadFault) → read ≡ Err fault → P) → P
 step_cases (Ok next) on stops = on next refl
 step_cases (Err fault) on stops = stops fault refl
 
-one_on : (token : Token) (later : List Token) (line : ℕ) (state next : State) → step state token ≡ Ok next
+one_on : (token : Token) (later : List Token) (line : ℕ) (state next : State)
+    → step state token ≡ Ok next
     → read_tokens (token ∷ later) line state ≡ read_tokens later line next
 unfolding read_tokens
 one_on token later line state next h = rw h refl
@@ -404,7 +574,8 @@ unfolding read_tokens
 one_stops token later line state fault h = rw h refl
 
 right_read : (before : List Token) → AreRight before → ReadSo before
-right_read before Nothing = record { state = start; counts = at_start; goes_on = λ later line. refl }
+right_read before
+    Nothing = record { state = start; counts = at_start; goes_on = λ later line. refl }
 right_read before (More others token rights right) =
     let r = right_read others rights in
     step_cases (step r.state token)
@@ -412,64 +583,101 @@ right_read before (More others token rights right) =
       state = next;
       counts = counts_more others r.state next token r.counts one;
       goes_on = λ later line.
-          ap (λ (ts : List Token). read_tokens ts line start) (append_assoc others (token ∷ []) later) ∙ r.goes_on (token ∷ later) line ∙ one_on token later line r.state next one;
+          ap (λ (ts : List Token). read_tokens ts line start)
+          (append_assoc others (token ∷ []) later)
+          ∙ r.goes_on (token ∷ later) line
+          ∙ one_on token later line r.state next one;
     })
-    (λ fault stops. let wrong = token_wrong others r.state token fault r.counts stops in absurd (right_not_wrong others token.text wrong.0 right wrong.1))
+    (λ fault stops. let wrong = token_wrong others r.state token fault r.counts stops in
+    absurd (right_not_wrong others token.text wrong.0 right wrong.1))
 
 abbrev fault_of_program : ReadFault → Result ProgramMarks ReadFault
 fault_of_program fault = Err fault
 
-refused_at : (before later : List Token) (token : Token) (line : ℕ) (kind : ReadKind) → AreRight before
-    → IsWrong before token.text kind → read_tokens (before ++ token ∷ later) line start ≡ Err (fault_so kind token.line)
+refused_at : (before later : List Token) (token : Token) (line : ℕ) (kind : ReadKind)
+    → AreRight before
+    → IsWrong before token.text kind
+    → read_tokens (before ++ token ∷ later) line start ≡ Err (fault_so kind token.line)
 refused_at before later token line kind rights wrong =
     let r = right_read before rights in
     step_cases (step r.state token)
-    (λ next one. absurd (right_not_wrong before token.text kind (token_right before r.state next token r.counts one) wrong))
+    (λ next one. absurd (right_not_wrong before token.text kind
+    (token_right before r.state next token r.counts one) wrong))
     (λ fault stops.
     let told = token_wrong before r.state token fault r.counts stops in
-    let same : fault ≡ fault_so kind token.line = sym told.2 ∙ ap (λ (k : ReadKind). fault_so k token.line) (wrong_once before token.text told.0 kind told.1 wrong) in
-    r.goes_on (token ∷ later) line ∙ one_stops token later line r.state fault stops ∙ ap (λ (f : ReadFault). fault_of_program f) same)
+    let same : fault
+    ≡ fault_so kind token.line = sym told.2
+    ∙ ap (λ (k : ReadKind). fault_so k token.line)
+    (wrong_once before token.text told.0 kind told.1 wrong) in
+    r.goes_on (token ∷ later) line
+    ∙ one_stops token later line r.state fault stops
+    ∙ ap (λ (f : ReadFault). fault_of_program f) same)
 
-read_cases : {P : Type 0} (read : Result ProgramMarks ReadFault) → ((program : ProgramMarks) → read ≡ Ok program → P)
-    → ((fault : ReadFault) → read ≡ Err fault → P) → P
+read_cases : {P : Type 0} (read : Result ProgramMarks ReadFault)
+    → ((program : ProgramMarks) → read ≡ Ok program → P)
+    → ((fault : ReadFault) → read ≡ Err fault → P)
+    → P
 read_cases (Ok program) on stops = on program refl
 read_cases (Err fault) on stops = stops fault refl
 
-early_once : (all : List Token) (line : ℕ) (one other : ReadFault) → AreRight all → EndsEarly all line one
-    → read_tokens all line start ≡ Err other → one ≡ other
+early_once : (all : List Token) (line : ℕ) (one other : ReadFault)
+    → AreRight all
+    → EndsEarly all line one
+    → read_tokens all line start ≡ Err other
+    → one ≡ other
 early_once all line one other rights early h =
     let r = right_read all rights in
-    let ended_so : read_tokens [] line r.state ≡ Err other = sym (r.goes_on [] line) ∙ ap (λ (ts : List Token). read_tokens ts line start) (append-nil all) ∙ h in
-    ends_once all line one other early (early_at all r.state line other r.counts (end_is r.state line other ended_so))
+    let ended_so : read_tokens [] line r.state ≡ Err other = sym (r.goes_on [] line)
+    ∙ ap (λ (ts : List Token). read_tokens ts line start) (append-nil all)
+    ∙ h in
+    ends_once all line one other early
+    (early_at all r.state line other r.counts (end_is r.state line other ended_so))
 
-refused_end : (all : List Token) (line : ℕ) (fault : ReadFault) → AreRight all → (IsSentence (texts all) → ⊥)
-    → EndsEarly all line fault → read_tokens all line start ≡ Err fault
+refused_end : (all : List Token) (line : ℕ) (fault : ReadFault)
+    → AreRight all
+    → (IsSentence (texts all) → ⊥)
+    → EndsEarly all line fault
+    → read_tokens all line start ≡ Err fault
 refused_end all line fault rights no_sentence early =
     read_cases (read_tokens all line start)
     (λ program h. absurd (no_sentence (whole_from all [] start line program at_start h).0))
-    (λ other h. h ∙ ap (λ (f : ReadFault). fault_of_program f) (sym (early_once all line fault other rights early h)))
+    (λ other h. h
+    ∙ ap (λ (f : ReadFault). fault_of_program f)
+    (sym (early_once all line fault other rights early h)))
 
-refused_first : (tokens : List Token) (line : ℕ) (fault : ReadFault) → IsFirstFault tokens line fault
+refused_first : (tokens : List Token) (line : ℕ) (fault : ReadFault)
+    → IsFirstFault tokens line fault
     → read_tokens tokens line start ≡ Err fault
-refused_first tokens line fault (AtToken before later token _ kind rights wrong) = refused_at before later token line kind rights wrong
-refused_first tokens line fault (AtEnd _ _ _ rights no_sentence early) = refused_end tokens line fault rights no_sentence early
+refused_first tokens line fault (AtToken before later token _ kind rights wrong) =
+    refused_at before later token line kind rights wrong
+refused_first tokens line fault (AtEnd _ _ _ rights no_sentence early) =
+    refused_end tokens line fault rights no_sentence early
 
 -- a sentence of right tokens has no first fault
 whole_read : (all : List Token) (line : ℕ) → IsSentence (texts all) → AreRight all
     → (program : ProgramMarks) × (read_tokens all line start ≡ Ok program)
 whole_read all line s rights =
     let r = right_read all rights in
-    let to_end : read_tokens all line start ≡ read_tokens [] line r.state = ap (λ (ts : List Token). read_tokens ts line start) (sym (append-nil all)) ∙ r.goes_on [] line in
+    let to_end : read_tokens all line start ≡ read_tokens [] line r.state = ap
+    (λ (ts : List Token). read_tokens ts line start) (sym (append-nil all))
+    ∙ r.goes_on [] line in
     read_cases (read_tokens all line start)
     (λ program h. (program, h))
-    (λ fault h. absurd (whole_ends r.state.place r.state.tree.blocks line fault (whole_now (texts all) r.state r.counts.began s) (end_is r.state line fault (sym to_end ∙ h))))
+    (λ fault h. absurd (whole_ends r.state.place r.state.tree.blocks line fault
+    (whole_now (texts all) r.state r.counts.began s) (end_is r.state line fault (sym to_end ∙ h))))
 
-short_refused : (text : List ℕ) (fault : ReadFault) → length text ≤ MOST_TEXT_BYTES → program_of text ≡ one_pass text
-    → HasFault text fault → program_of text ≡ Err fault
+short_refused : (text : List ℕ) (fault : ReadFault)
+    → length text ≤ MOST_TEXT_BYTES
+    → program_of text ≡ one_pass text
+    → HasFault text fault
+    → program_of text ≡ Err fault
 short_refused text fault fits so (TextTooLong _ long) = absurd (omega (arith, fits, long))
-short_refused text fault fits so (OfTokens _ _ short first) = so ∙ refused_first (tokens_of text) (line_at_end 1 text) fault first
+short_refused text fault fits so (OfTokens _ _ short first) =
+    so ∙ refused_first (tokens_of text) (line_at_end 1 text) fault first
 
-told_apart : (text : List ℕ) → begins_version_two (tokens_of text) ≡ false → nat_lt MOST_TEXT_BYTES (length text) ≡ false
+told_apart : (text : List ℕ)
+    → begins_version_two (tokens_of text) ≡ false
+    → nat_lt MOST_TEXT_BYTES (length text) ≡ false
     → IsToldApart text
 told_apart text one short =
     let fits = ltb-false MOST_TEXT_BYTES (length text) short in
@@ -477,11 +685,13 @@ told_apart text one short =
     let line = line_at_end 1 text in
     record {
       read = (
-        λ r. let whole = whole_from (tokens_of text) [] start line r.0 at_start (sym so ∙ r.1) in record { text_fits = fits; sentence = whole.0; right = whole.1 },
+        λ r. let whole = whole_from (tokens_of text) [] start line r.0 at_start (sym so ∙ r.1) in
+            record { text_fits = fits; sentence = whole.0; right = whole.1 },
         λ w. let r = whole_read (tokens_of text) line w.sentence w.right in (r.0, so ∙ r.1),
       );
       refused = λ fault. (
-        λ h. OfTokens text fault fits (fault_from (tokens_of text) [] start line fault at_start (sym so ∙ h)),
+        λ h. OfTokens text fault fits
+            (fault_from (tokens_of text) [] start line fault at_start (sym so ∙ h)),
         λ h. short_refused text fault fits so h,
       );
     }
@@ -500,10 +710,14 @@ long_apart text long =
         λ w. absurd (omega (arith, longer, w.text_fits)),
       );
       refused = λ fault. (
-        λ h. subst (HasFault text) (same_fault (program_of text) (fault_so TooLong 1) fault (too_long text long) h) (TextTooLong text longer),
+        λ h. subst (HasFault text)
+            (same_fault (program_of text) (fault_so TooLong 1) fault (too_long text long) h)
+            (TextTooLong text longer),
         λ h. long_refused text fault longer (too_long text long) h,
       );
     }
 
 pub fault_is_first : (text : List ℕ) → FaultIsFirst text
-fault_is_first text one = bool_cases (nat_lt MOST_TEXT_BYTES (length text)) (λ long. long_apart text long) (λ short. told_apart text one short)
+fault_is_first text one =
+    bool_cases (nat_lt MOST_TEXT_BYTES (length text)) (λ long. long_apart text long)
+    (λ short. told_apart text one short)

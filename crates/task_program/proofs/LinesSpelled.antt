@@ -1,5 +1,6 @@
 -- The lines of the canonical text are spelled as a tree without loops.
-use Rattle.std.proofs.Common.{◌≡◌, ℕ, suc, ◌≤◌, Bool, true, false, List, [], ◌∷◌, ◌++◌, append_assoc, refl, sym, ap, subst, ◌∙◌, arith, codes}
+use Rattle.std.proofs.Common.{◌≡◌, ℕ, suc, ◌≤◌, Bool, true, false, List, [], ◌∷◌, ◌++◌}
+use Rattle.std.proofs.Common.{append_assoc, refl, sym, ap, subst, ◌∙◌, arith, codes}
 use Rattle.std.specs.Prelude.{All}
 use Rattle.std.specs.List.{flat_map, AllZip}
 use Rattle.std.specs.Fmt.{decimal}
@@ -7,7 +8,9 @@ use Rattle.std.proofs.lemmas.List.{append-nil}
 use Rattle.std.proofs.lemmas.List.Concat.{flat_map-append}
 use Rattle.std.proofs.lemmas.List.Elements.{All-head, All-tail, All-nil, All-cons}
 use Rattle.program_text.specs.declared.statement.DependKind.{DependKind}
-use Rattle.program_text.specs.declared.statement.DependKind.TheVariants.{DependIn, DependOut, DependInOut, DependInOutSet}
+use Rattle.program_text.specs.declared.statement.DependKind.TheVariants.{DependIn, DependOut}
+use Rattle.program_text.specs.declared.statement.DependKind.TheVariants.{DependInOut}
+use Rattle.program_text.specs.declared.statement.DependKind.TheVariants.{DependInOutSet}
 use Rattle.program_text.specs.declared.statement.Item.{Item}
 use Rattle.loop_text.specs.declared.loops.LoopItem.{LoopItem}
 use Rattle.loop_text.specs.declared.loops.LoopTask.{LoopTask}
@@ -24,12 +27,14 @@ use Rattle.loop_text.specs.FirstPass.{no_clauses}
 use Rattle.loop_text.specs.Loops.{Tree}
 use Rattle.loop_text.specs.Loops.Tree.{NoStatement, ThenWork, ThenWait, ThenGroup, ThenTask}
 use Rattle.task_program.specs.LoopGrammar as grammar
-use Rattle.task_program.specs.LoopGrammar.{ItemsSpelled, ClausesSpelled, OpeningSpelled, Spelled, task_of}
+use Rattle.task_program.specs.LoopGrammar.{ItemsSpelled, ClausesSpelled, OpeningSpelled, Spelled}
+use Rattle.task_program.specs.LoopGrammar.{task_of}
 use Rattle.task_program.proofs.Keeping.{bool_cases}
 use Rattle.task_program.proofs.Nested as nested
 use Rattle.task_program.proofs.Nested.{NestsIn}
 use Rattle.task_program.proofs.ReadBack.{same_is}
-use Rattle.task_program.proofs.Spelled.{spell, decimal_value, decimal_number, after_texts_by, depend_texts_by, if_texts, line_texts_by}
+use Rattle.task_program.proofs.Spelled.{spell, decimal_value, decimal_number, after_texts_by}
+use Rattle.task_program.proofs.Spelled.{depend_texts_by, if_texts, line_texts_by}
 use Rattle.task_program.proofs.Locations.{with_lines, lines_apart, StandsFor, ItemIs, location_item}
 
 -- ---- items
@@ -53,7 +58,9 @@ type_of_word DependInOut = refl
 type_of_word DependInOutSet = refl
 
 -- the clauses before are followed by these items, and then by more that stand for the rest
-record Clauses (names : List (List ℕ)) (tokens : List Token) (head : LoopHead) (first : List LoopItem) (items : List Item) : Type 0 where
+record Clauses (names : List (List ℕ)) (tokens : List Token) (head : LoopHead)
+    (first : List LoopItem) (items : List Item)
+    : Type 0 where
   more : List LoopItem
   all : List LoopItem
   all_are : all ≡ head.items ++ (first ++ more)
@@ -61,17 +68,34 @@ record Clauses (names : List (List ℕ)) (tokens : List Token) (head : LoopHead)
   stand : AllZip (IsItemOf names) items more
 
 abbrev depend_front : DependKind → (a b c d : ℕ) → List Token → List Token
-depend_front kind a b c d inside = record { text = codes "depend"; line = a } ∷ record { text = codes "("; line = b } ∷ record { text = type_word kind; line = c } ∷ record { text = codes ":"; line = d } ∷ inside
+depend_front kind a b c d inside = record { text = codes "depend"; line = a }
+    ∷ record { text = codes "("; line = b } ∷ record { text = type_word kind; line = c }
+    ∷ record { text = codes ":"; line = d } ∷ inside
 
-closed_clause : (kind : DependKind) (before inside : List Token) (a b c d e : ℕ) (head : LoopHead) (items : List LoopItem) → ClausesSpelled [] before head → ItemsSpelled [] (type_of (type_word kind)) inside items
-    → ClausesSpelled [] (before ++ depend_front kind a b c d (inside ++ record { text = codes ")"; line = e } ∷ [])) (record head { items = head.items ++ items })
+closed_clause : (kind : DependKind) (before inside : List Token) (a b c d e : ℕ) (head : LoopHead)
+    (items : List LoopItem)
+    → ClausesSpelled [] before head
+    → ItemsSpelled [] (type_of (type_word kind)) inside items
+    → ClausesSpelled []
+    (before ++ depend_front kind a b c d (inside ++ record { text = codes ")"; line = e } ∷ []))
+    (record head { items = head.items ++ items })
 closed_clause kind before inside a b c d e head items clauses all =
-    grammar.ClausesSpelled.Depend [] before inside (record { text = codes "depend"; line = a }) (record { text = codes "("; line = b }) (record { text = type_word kind; line = c }) (record { text = codes ":"; line = d }) (record { text = codes ")"; line = e })
+    grammar.ClausesSpelled.Depend [] before inside (record { text = codes "depend"; line = a })
+    (record { text = codes "("; line = b }) (record { text = type_word kind; line = c })
+    (record { text = codes ":"; line = d }) (record { text = codes ")"; line = e })
     head items clauses refl refl (is_type_word kind) refl all refl
 
-items_spelled : (names : List (List ℕ)) (kind : DependKind) (items : List Item) (before inside : List Token) (a b c d : ℕ) (head : LoopHead) (first : List LoopItem) (lines : ℕ → ℕ)
-    → ClausesSpelled [] before head → ItemsSpelled [] (type_of (type_word kind)) inside first → All (IsLocated names) items
-    → Clauses names (before ++ depend_front kind a b c d (inside ++ with_lines (after_texts_by (spell false) names kind items) lines)) head first items
+items_spelled : (names : List (List ℕ)) (kind : DependKind) (items : List Item)
+    (before inside : List Token) (a b c d : ℕ) (head : LoopHead) (first : List LoopItem)
+    (lines : ℕ → ℕ)
+    → ClausesSpelled [] before head
+    → ItemsSpelled [] (type_of (type_word kind)) inside first
+    → All (IsLocated names) items
+    → Clauses names
+    (before
+    ++ depend_front kind a b c d
+    (inside ++ with_lines (after_texts_by (spell false) names kind items) lines))
+    head first items
 unfolding with_lines
 items_spelled names kind [] before inside a b c d head first lines clauses begun all = record {
   more = [];
@@ -89,52 +113,92 @@ items_spelled names kind (item ∷ items) before inside a b c d head first lines
     (λ same.
     let kind_is : kind ≡ item.kind = same_is kind item.kind same in
     let apart = lines_apart name after (λ i. lines (suc i)) in
-    let one : ItemIs (type_of (type_word kind)) (name_of names item) (with_lines name (λ i. lines (suc i))) = location_item (type_of (type_word kind)) (name_of names item) (λ i. lines (suc i)) located in
+    let one : ItemIs (type_of (type_word kind)) (name_of names item)
+    (with_lines name (λ i. lines (suc i))) =
+    location_item (type_of (type_word kind)) (name_of names item) (λ i. lines (suc i)) located in
     let comma : Token = record { text = codes ","; line = lines 0 } in
     let inside_next : List Token = inside ++ comma ∷ with_lines name (λ i. lines (suc i)) in
-    let begun_next : ItemsSpelled [] (type_of (type_word kind)) inside_next (first ++ one.item ∷ []) =
-    grammar.ItemsSpelled.More [] (type_of (type_word kind)) inside (with_lines name (λ i. lines (suc i))) comma first one.item begun refl one.spelled in
-    let begun_so : ItemsSpelled [] (type_of (type_word item.kind)) inside_next (first ++ one.item ∷ []) = subst (λ (k : DependKind). ItemsSpelled [] (type_of (type_word k)) inside_next (first ++ one.item ∷ [])) kind_is begun_next in
-    let r = items_spelled names item.kind items before inside_next a b c d head (first ++ one.item ∷ []) apart.0 clauses begun_so others in
-    let tokens_are : before ++ depend_front item.kind a b c d (inside_next ++ with_lines after apart.0) ≡ before ++ depend_front kind a b c d (inside ++ comma ∷ with_lines (name ++ after) (λ i. lines (suc i))) =
-    ap (λ (k : DependKind). before ++ depend_front k a b c d (inside_next ++ with_lines after apart.0)) (sym kind_is)
+    let begun_next : ItemsSpelled [] (type_of (type_word kind)) inside_next
+    (first ++ one.item ∷ []) =
+    grammar.ItemsSpelled.More [] (type_of (type_word kind)) inside
+    (with_lines name (λ i. lines (suc i))) comma first one.item begun refl one.spelled in
+    let begun_so : ItemsSpelled [] (type_of (type_word item.kind)) inside_next
+    (first ++ one.item ∷ []) = subst
+    (λ (k : DependKind).
+    ItemsSpelled [] (type_of (type_word k)) inside_next (first ++ one.item ∷ []))
+    kind_is begun_next in
+    let r = items_spelled names item.kind items before inside_next a b c d head
+    (first ++ one.item ∷ []) apart.0 clauses begun_so others in
+    let tokens_are : before
+    ++ depend_front item.kind a b c d (inside_next ++ with_lines after apart.0)
+    ≡ before
+    ++ depend_front kind a b c d
+    (inside ++ comma ∷ with_lines (name ++ after) (λ i. lines (suc i))) =
+    ap
+    (λ (k : DependKind). before ++ depend_front k a b c d (inside_next ++ with_lines after apart.0))
+    (sym kind_is)
     ∙ ap (λ (ts : List Token). before ++ depend_front kind a b c d ts)
-    (append_assoc inside (comma ∷ with_lines name (λ i. lines (suc i))) (with_lines after apart.0) ∙ ap (λ (ts : List Token). inside ++ comma ∷ ts) (sym apart.1)) in
-    let stands : IsItemOf names item one.item = subst (λ (k : DependKind). StandsFor k (name_of names item) one.item) (type_of_word kind ∙ kind_is) one.stands in
+    (append_assoc inside (comma ∷ with_lines name (λ i. lines (suc i))) (with_lines after apart.0)
+    ∙ ap (λ (ts : List Token). inside ++ comma ∷ ts) (sym apart.1)) in
+    let stands : IsItemOf names item one.item = subst
+    (λ (k : DependKind). StandsFor k (name_of names item) one.item) (type_of_word kind ∙ kind_is)
+    one.stands in
     rw same (record {
       more = one.item ∷ r.more;
       all = r.all;
-      all_are = r.all_are ∙ ap (λ (is : List LoopItem). head.items ++ is) (append_assoc first (one.item ∷ []) r.more);
-      spelled = subst (λ (ts : List Token). ClausesSpelled [] ts (record head { items = r.all })) tokens_are r.spelled;
+      all_are = r.all_are
+          ∙ ap (λ (is : List LoopItem). head.items ++ is)
+          (append_assoc first (one.item ∷ []) r.more);
+      spelled = subst (λ (ts : List Token). ClausesSpelled [] ts (record head { items = r.all }))
+          tokens_are r.spelled;
       stand = (stands, r.stand);
     }))
     (λ other.
     let lines_five : ℕ → ℕ = λ i. lines (suc (suc (suc (suc (suc i))))) in
     let apart = lines_apart name after lines_five in
-    let one : ItemIs (type_of (type_word item.kind)) (name_of names item) (with_lines name lines_five) = location_item (type_of (type_word item.kind)) (name_of names item) lines_five located in
+    let one : ItemIs (type_of (type_word item.kind)) (name_of names item)
+    (with_lines name lines_five) =
+    location_item (type_of (type_word item.kind)) (name_of names item) lines_five located in
     let closes : Token = record { text = codes ")"; line = lines 0 } in
     let before_next : List Token = before ++ depend_front kind a b c d (inside ++ closes ∷ []) in
     let head_next : LoopHead = record head { items = head.items ++ first } in
-    let clauses_next : ClausesSpelled [] before_next head_next = closed_clause kind before inside a b c d (lines 0) head first clauses begun in
-    let begun_next : ItemsSpelled [] (type_of (type_word item.kind)) (with_lines name lines_five) (one.item ∷ []) = grammar.ItemsSpelled.First [] (type_of (type_word item.kind)) (with_lines name lines_five) one.item one.spelled in
-    let r = items_spelled names item.kind items before_next (with_lines name lines_five) (lines 1) (lines 2) (lines 3) (lines 4) head_next (one.item ∷ []) apart.0 clauses_next begun_next others in
-    let later : List Token = depend_front item.kind (lines 1) (lines 2) (lines 3) (lines 4) (with_lines (name ++ after) lines_five) in
-    let tokens_are : before_next ++ depend_front item.kind (lines 1) (lines 2) (lines 3) (lines 4) (with_lines name lines_five ++ with_lines after apart.0) ≡ before ++ depend_front kind a b c d (inside ++ closes ∷ later) =
-    ap (λ (ts : List Token). before_next ++ depend_front item.kind (lines 1) (lines 2) (lines 3) (lines 4) ts) (sym apart.1)
+    let clauses_next : ClausesSpelled [] before_next head_next =
+    closed_clause kind before inside a b c d (lines 0) head first clauses begun in
+    let begun_next : ItemsSpelled [] (type_of (type_word item.kind)) (with_lines name lines_five)
+    (one.item ∷ []) = grammar.ItemsSpelled.First
+    [] (type_of (type_word item.kind)) (with_lines name lines_five) one.item one.spelled in
+    let r = items_spelled names item.kind items before_next (with_lines name lines_five) (lines 1)
+    (lines 2) (lines 3) (lines 4) head_next (one.item ∷ []) apart.0 clauses_next begun_next
+    others in
+    let later : List Token = depend_front item.kind (lines 1) (lines 2) (lines 3) (lines 4)
+    (with_lines (name ++ after) lines_five) in
+    let tokens_are : before_next
+    ++ depend_front item.kind (lines 1) (lines 2) (lines 3) (lines 4)
+    (with_lines name lines_five ++ with_lines after apart.0)
+    ≡ before ++ depend_front kind a b c d (inside ++ closes ∷ later) =
+    ap
+    (λ (ts : List Token).
+    before_next ++ depend_front item.kind (lines 1) (lines 2) (lines 3) (lines 4) ts)
+    (sym apart.1)
     ∙ append_assoc before (depend_front kind a b c d (inside ++ closes ∷ [])) later
-    ∙ ap (λ (ts : List Token). before ++ depend_front kind a b c d ts) (append_assoc inside (closes ∷ []) later) in
-    let stands : IsItemOf names item one.item = subst (λ (k : DependKind). StandsFor k (name_of names item) one.item) (type_of_word item.kind) one.stands in
+    ∙ ap (λ (ts : List Token). before ++ depend_front kind a b c d ts)
+    (append_assoc inside (closes ∷ []) later) in
+    let stands : IsItemOf names item one.item = subst
+    (λ (k : DependKind). StandsFor k (name_of names item) one.item) (type_of_word item.kind)
+    one.stands in
     rw other (record {
       more = one.item ∷ r.more;
       all = r.all;
       all_are = r.all_are ∙ append_assoc head.items first (one.item ∷ r.more);
-      spelled = subst (λ (ts : List Token). ClausesSpelled [] ts (record head { items = r.all })) tokens_are r.spelled;
+      spelled = subst (λ (ts : List Token). ClausesSpelled [] ts (record head { items = r.all }))
+          tokens_are r.spelled;
       stand = (stands, r.stand);
     }))
 
 -- ---- the clauses of a task
 
-record IsHead (names : List (List ℕ)) (undeferred : Bool) (items : List Item) (tokens : List Token) : Type 0 where
+record IsHead (names : List (List ℕ)) (undeferred : Bool) (items : List Item) (tokens : List Token)
+    : Type 0 where
   head : LoopHead
   spelled : ClausesSpelled [] tokens head
   undeferred_is : head.undeferred ≡ undeferred
@@ -142,12 +206,19 @@ record IsHead (names : List (List ℕ)) (undeferred : Bool) (items : List Item) 
   stand : AllZip (IsItemOf names) items head.items
 
 -- the clauses, after these
-depends_spelled : (names : List (List ℕ)) (items : List Item) (before : List Token) (head : LoopHead) (lines : ℕ → ℕ) → ClausesSpelled [] before head → head.is_final ≡ false → head.items ≡ [] → All (IsLocated names) items
-    → IsHead names head.undeferred items (before ++ with_lines (depend_texts_by (spell false) names items) lines)
+depends_spelled : (names : List (List ℕ)) (items : List Item) (before : List Token)
+    (head : LoopHead) (lines : ℕ → ℕ)
+    → ClausesSpelled [] before head
+    → head.is_final ≡ false
+    → head.items ≡ []
+    → All (IsLocated names) items
+    → IsHead names head.undeferred items
+    (before ++ with_lines (depend_texts_by (spell false) names items) lines)
 unfolding with_lines
 depends_spelled names [] before head lines clauses not_final none all = record {
   head = head;
-  spelled = subst (λ (ts : List Token). ClausesSpelled [] ts head) (sym (append-nil before)) clauses;
+  spelled =
+      subst (λ (ts : List Token). ClausesSpelled [] ts head) (sym (append-nil before)) clauses;
   undeferred_is = refl;
   not_final = not_final;
   stand = subst (λ (is : List LoopItem). AllZip (IsItemOf names) [] is) (sym none) tt;
@@ -157,59 +228,100 @@ depends_spelled names (item ∷ items) before head lines clauses not_final none 
     let after : List (List ℕ) = after_texts_by (spell false) names item.kind items in
     let lines_four : ℕ → ℕ = λ i. lines (suc (suc (suc (suc i)))) in
     let apart = lines_apart name after lines_four in
-    let one : ItemIs (type_of (type_word item.kind)) (name_of names item) (with_lines name lines_four) = location_item (type_of (type_word item.kind)) (name_of names item) lines_four (All-head (IsLocated names) item items all) in
-    let r = items_spelled names item.kind items before (with_lines name lines_four) (lines 0) (lines 1) (lines 2) (lines 3) head (one.item ∷ []) apart.0 clauses
-    (grammar.ItemsSpelled.First [] (type_of (type_word item.kind)) (with_lines name lines_four) one.item one.spelled) (All-tail (IsLocated names) item items all) in
-    let stands : IsItemOf names item one.item = subst (λ (k : DependKind). StandsFor k (name_of names item) one.item) (type_of_word item.kind) one.stands in
-    let all_are : r.all ≡ one.item ∷ r.more = r.all_are ∙ ap (λ (is : List LoopItem). is ++ one.item ∷ r.more) none in
+    let one : ItemIs (type_of (type_word item.kind)) (name_of names item)
+    (with_lines name lines_four) = location_item
+    (type_of (type_word item.kind)) (name_of names item) lines_four
+    (All-head (IsLocated names) item items all) in
+    let r = items_spelled names item.kind items before (with_lines name lines_four) (lines 0)
+    (lines 1) (lines 2) (lines 3) head (one.item ∷ []) apart.0 clauses
+    (grammar.ItemsSpelled.First [] (type_of (type_word item.kind)) (with_lines name lines_four)
+    one.item one.spelled)
+    (All-tail (IsLocated names) item items all) in
+    let stands : IsItemOf names item one.item = subst
+    (λ (k : DependKind). StandsFor k (name_of names item) one.item) (type_of_word item.kind)
+    one.stands in
+    let all_are : r.all ≡ one.item ∷ r.more =
+    r.all_are ∙ ap (λ (is : List LoopItem). is ++ one.item ∷ r.more) none in
     record {
       head = record head { items = r.all };
-      spelled = subst (λ (ts : List Token). ClausesSpelled [] (before ++ depend_front item.kind (lines 0) (lines 1) (lines 2) (lines 3) ts) (record head { items = r.all })) (sym apart.1) r.spelled;
+      spelled = subst
+          (λ (ts : List Token). ClausesSpelled []
+          (before ++ depend_front item.kind (lines 0) (lines 1) (lines 2) (lines 3) ts)
+          (record head { items = r.all }))
+          (sym apart.1) r.spelled;
       undeferred_is = refl;
       not_final = not_final;
-      stand = subst (λ (is : List LoopItem). AllZip (IsItemOf names) (item ∷ items) is) (sym all_are) (stands, r.stand);
+      stand = subst (λ (is : List LoopItem). AllZip (IsItemOf names) (item ∷ items) is)
+          (sym all_are) (stands, r.stand);
     }
 
 zero_is : (value_of (codes "0") ≤ 1)
 zero_is = omega arith
 
-clauses_spelled : (names : List (List ℕ)) (undeferred : Bool) (items : List Item) (lines : ℕ → ℕ) → All (IsLocated names) items
-    → IsHead names undeferred items (with_lines (if_texts undeferred ++ depend_texts_by (spell false) names items) lines)
+clauses_spelled : (names : List (List ℕ)) (undeferred : Bool) (items : List Item) (lines : ℕ → ℕ)
+    → All (IsLocated names) items
+    → IsHead names undeferred items
+    (with_lines (if_texts undeferred ++ depend_texts_by (spell false) names items) lines)
 unfolding with_lines
-clauses_spelled names false items lines all = depends_spelled names items [] no_clauses lines (grammar.ClausesSpelled.NoClause []) refl refl all
+clauses_spelled names false items lines all =
+    depends_spelled names items [] no_clauses lines (grammar.ClausesSpelled.NoClause []) refl refl
+    all
 clauses_spelled names true items lines all =
     let head : LoopHead = record no_clauses { has_if = true; undeferred = true } in
     let number : grammar.IsNumber (codes "0") 1 = record { is_number = refl; fits = zero_is } in
-    let first : ClausesSpelled [] (record { text = codes "if"; line = lines 0 } ∷ record { text = codes "("; line = lines 1 } ∷ record { text = codes "0"; line = lines 2 } ∷ record { text = codes ")"; line = lines 3 } ∷ []) head =
-    grammar.ClausesSpelled.If [] [] (record { text = codes "if"; line = lines 0 }) (record { text = codes "("; line = lines 1 }) (record { text = codes "0"; line = lines 2 }) (record { text = codes ")"; line = lines 3 }) no_clauses
+    let first : ClausesSpelled []
+    (record { text = codes "if"; line = lines 0 } ∷ record { text = codes "("; line = lines 1 }
+    ∷ record { text = codes "0"; line = lines 2 } ∷ record { text = codes ")"; line = lines 3 }
+    ∷ [])
+    head =
+    grammar.ClausesSpelled.If [] [] (record { text = codes "if"; line = lines 0 })
+    (record { text = codes "("; line = lines 1 }) (record { text = codes "0"; line = lines 2 })
+    (record { text = codes ")"; line = lines 3 }) no_clauses
     (grammar.ClausesSpelled.NoClause []) refl refl refl number refl in
     depends_spelled names items _ head (λ i. lines (suc (suc (suc (suc i))))) first refl refl all
 
 -- ---- a task up to its `{`
 
-record IsOpening (names : List (List ℕ)) (undeferred : Bool) (items : List Item) (tokens : List Token) : Type 0 where
+record IsOpening (names : List (List ℕ)) (undeferred : Bool) (items : List Item)
+    (tokens : List Token)
+    : Type 0 where
   task : LoopTask
   spelled : OpeningSpelled [] tokens (TaskOpening task)
   undeferred_is : task.undeferred ≡ undeferred
   not_final : task.is_final ≡ false
   stand : AllZip (IsItemOf names) items task.items
 
-opening_spelled : (names : List (List ℕ)) (undeferred : Bool) (items : List Item) (lines : ℕ → ℕ) → All (IsLocated names) items
-    → IsOpening names undeferred items (with_lines (line_texts_by (spell false) names (Begins undeferred items)) lines)
+opening_spelled : (names : List (List ℕ)) (undeferred : Bool) (items : List Item) (lines : ℕ → ℕ)
+    → All (IsLocated names) items
+    → IsOpening names undeferred items
+    (with_lines (line_texts_by (spell false) names (Begins undeferred items)) lines)
 unfolding with_lines
 opening_spelled names undeferred items lines all =
-    let clauses : List (List ℕ) = if_texts undeferred ++ depend_texts_by (spell false) names items in
+    let clauses : List (List ℕ) =
+    if_texts undeferred ++ depend_texts_by (spell false) names items in
     let apart = lines_apart clauses (codes "{" ∷ []) (λ i. lines (suc i)) in
     let h = clauses_spelled names undeferred items (λ i. lines (suc i)) all in
     let word : Token = record { text = codes "task"; line = lines 0 } in
     let brace : Token = record { text = codes "{"; line = apart.0 0 } in
-    let grouped : clauses ++ codes "{" ∷ [] ≡ if_texts undeferred ++ (depend_texts_by (spell false) names items ++ codes "{" ∷ []) = append_assoc (if_texts undeferred) (depend_texts_by (spell false) names items) (codes "{" ∷ []) in
-    let tokens_are : word ∷ (with_lines clauses (λ i. lines (suc i)) ++ brace ∷ []) ≡ word ∷ with_lines (if_texts undeferred ++ (depend_texts_by (spell false) names items ++ codes "{" ∷ [])) (λ i. lines (suc i)) =
-    ap (λ (ts : List Token). word ∷ ts) (sym apart.1 ∙ ap (λ (ts : List (List ℕ)). with_lines ts (λ i. lines (suc i))) grouped) in
+    let grouped : clauses ++ codes "{" ∷ []
+    ≡ if_texts undeferred
+    ++ (depend_texts_by (spell false) names items ++ codes "{" ∷ []) = append_assoc
+    (if_texts undeferred) (depend_texts_by (spell false) names items) (codes "{" ∷ []) in
+    let tokens_are : word ∷ (with_lines clauses (λ i. lines (suc i)) ++ brace ∷ [])
+    ≡ word
+    ∷ with_lines
+    (if_texts undeferred ++ (depend_texts_by (spell false) names items ++ codes "{" ∷ []))
+    (λ i. lines (suc i)) =
+    ap (λ (ts : List Token). word ∷ ts)
+    (sym apart.1 ∙ ap (λ (ts : List (List ℕ)). with_lines ts (λ i. lines (suc i))) grouped) in
     record {
       task = task_of h.head (lines 0) (apart.0 0);
-      spelled = subst (λ (ts : List Token). OpeningSpelled [] ts (TaskOpening (task_of h.head (lines 0) (apart.0 0)))) tokens_are
-          (grammar.OpeningSpelled.Task [] (with_lines clauses (λ i. lines (suc i))) word brace h.head refl h.spelled refl);
+      spelled = subst
+          (λ (ts : List Token).
+          OpeningSpelled [] ts (TaskOpening (task_of h.head (lines 0) (apart.0 0))))
+          tokens_are
+          (grammar.OpeningSpelled.Task [] (with_lines clauses (λ i. lines (suc i))) word brace
+          h.head refl h.spelled refl);
       undeferred_is = h.undeferred_is;
       not_final = h.not_final;
       stand = h.stand;
@@ -220,15 +332,29 @@ opening_spelled names undeferred items lines all =
 -- a tree without loops that stands for these marks, with these names
 pub data Stands : (names : List (List ℕ)) → List Mark → Tree → Type 0 where
   Nothing : (names : List (List ℕ)) → Stands names [] NoStatement
-  Work : (names : List (List ℕ)) (marks : List Mark) (tree : Tree) (cost line : ℕ) → Stands names marks tree → Stands names (marks ++ Works cost ∷ []) (ThenWork tree cost line)
-  Wait : (names : List (List ℕ)) (marks : List Mark) (tree : Tree) (line : ℕ) → Stands names marks tree → Stands names (marks ++ Waits ∷ []) (ThenWait tree line)
-  Task : (names : List (List ℕ)) (marks inside : List Mark) (tree body : Tree) (task : LoopTask) (items : List Item) → Stands names marks tree → Stands names inside body
-      → task.is_final ≡ false → AllZip (IsItemOf names) items task.items
-      → Stands names (marks ++ (Begins task.undeferred items ∷ (inside ++ Ends ∷ []))) (ThenTask tree task body)
-  Group : (names : List (List ℕ)) (marks inside : List Mark) (tree body : Tree) (line brace_line : ℕ) → Stands names marks tree → Stands names inside body
-      → Stands names (marks ++ (GroupBegins ∷ (inside ++ GroupEnds ∷ []))) (ThenGroup tree line brace_line body)
+  Work : (names : List (List ℕ)) (marks : List Mark) (tree : Tree) (cost line : ℕ)
+      → Stands names marks tree
+      → Stands names (marks ++ Works cost ∷ []) (ThenWork tree cost line)
+  Wait : (names : List (List ℕ)) (marks : List Mark) (tree : Tree) (line : ℕ)
+      → Stands names marks tree
+      → Stands names (marks ++ Waits ∷ []) (ThenWait tree line)
+  Task : (names : List (List ℕ)) (marks inside : List Mark) (tree body : Tree) (task : LoopTask)
+      (items : List Item)
+      → Stands names marks tree
+      → Stands names inside body
+      → task.is_final ≡ false
+      → AllZip (IsItemOf names) items task.items
+      → Stands names (marks ++ (Begins task.undeferred items ∷ (inside ++ Ends ∷ [])))
+      (ThenTask tree task body)
+  Group : (names : List (List ℕ)) (marks inside : List Mark) (tree body : Tree)
+      (line brace_line : ℕ)
+      → Stands names marks tree
+      → Stands names inside body
+      → Stands names (marks ++ (GroupBegins ∷ (inside ++ GroupEnds ∷ [])))
+      (ThenGroup tree line brace_line body)
 
-pub record HasMarks (names : List (List ℕ)) (room : ℕ) (tokens : List Token) (marks : List Mark) : Type 0 where
+pub record HasMarks (names : List (List ℕ)) (room : ℕ) (tokens : List Token) (marks : List Mark)
+    : Type 0 where
   pub tree : Tree
   pub spelled : Spelled [] room tokens tree
   pub stands : Stands names marks tree
@@ -241,75 +367,126 @@ HasLocations names _ = Unit {0}
 abbrev words_of : List (List ℕ) → Mark → List (List ℕ)
 words_of names mark = line_texts_by (spell false) names mark
 
-has_marks_of_same : (names : List (List ℕ)) (room : ℕ) (tokens other : List Token) (marks more : List Mark) → tokens ≡ other → marks ≡ more → HasMarks names room tokens marks → HasMarks names room other more
+has_marks_of_same : (names : List (List ℕ)) (room : ℕ) (tokens other : List Token)
+    (marks more : List Mark)
+    → tokens ≡ other
+    → marks ≡ more
+    → HasMarks names room tokens marks
+    → HasMarks names room other more
 has_marks_of_same names room tokens other marks more same equal h = record {
   tree = h.tree;
   spelled = subst (λ (ts : List Token). Spelled [] room ts h.tree) same h.spelled;
   stands = subst (λ (ms : List Mark). Stands names ms h.tree) equal h.stands;
 }
 
-work_added : (names : List (List ℕ)) (room cost a b : ℕ) (before : List Token) (done : List Mark) → cost ≤ LARGEST_COST → HasMarks names room before done
-    → HasMarks names room (before ++ record { text = codes "work"; line = a } ∷ record { text = decimal cost; line = b } ∷ []) (done ++ Works cost ∷ [])
+work_added : (names : List (List ℕ)) (room cost a b : ℕ) (before : List Token) (done : List Mark)
+    → cost ≤ LARGEST_COST
+    → HasMarks names room before done
+    → HasMarks names room
+    (before ++ record { text = codes "work"; line = a } ∷ record { text = decimal cost; line = b }
+    ∷ [])
+    (done ++ Works cost ∷ [])
 work_added names room cost a b before done fits h =
     let word : Token = record { text = codes "work"; line = a } in
     let number : Token = record { text = decimal cost; line = b } in
     let is : value_of (decimal cost) ≡ cost = decimal_value cost fits in
-    let within : grammar.IsNumber (decimal cost) LARGEST_COST = record { is_number = decimal_number cost fits; fits = omega (arith, is, fits) } in
+    let within : grammar.IsNumber (decimal cost) LARGEST_COST = record {
+      is_number = decimal_number cost fits;
+      fits = omega (arith, is, fits);
+    } in
     record {
       tree = ThenWork h.tree cost b;
-      spelled = subst (λ (n : ℕ). Spelled [] room (before ++ word ∷ number ∷ []) (ThenWork h.tree n b)) is (grammar.Spelled.Work [] room before word number h.tree h.spelled refl within);
+      spelled = subst
+          (λ (n : ℕ). Spelled [] room (before ++ word ∷ number ∷ []) (ThenWork h.tree n b)) is
+          (grammar.Spelled.Work [] room before word number h.tree h.spelled refl within);
       stands = Work names done h.tree cost b h.stands;
     }
 
-wait_added : (names : List (List ℕ)) (room a : ℕ) (before : List Token) (done : List Mark) → HasMarks names room before done → HasMarks names room (before ++ record { text = codes "taskwait"; line = a } ∷ []) (done ++ Waits ∷ [])
+wait_added : (names : List (List ℕ)) (room a : ℕ) (before : List Token) (done : List Mark)
+    → HasMarks names room before done
+    → HasMarks names room (before ++ record { text = codes "taskwait"; line = a } ∷ [])
+    (done ++ Waits ∷ [])
 wait_added names room a before done h = record {
   tree = ThenWait h.tree a;
-  spelled = grammar.Spelled.Wait [] room before (record { text = codes "taskwait"; line = a }) h.tree h.spelled refl;
+  spelled = grammar.Spelled.Wait [] room before (record { text = codes "taskwait"; line = a })
+      h.tree h.spelled refl;
   stands = Wait names done h.tree a h.stands;
 }
 
-group_added : (names : List (List ℕ)) (room a b c : ℕ) (before body : List Token) (done inside : List Mark) → HasMarks names (suc room) before done → HasMarks names room body inside
-    → HasMarks names (suc room) (before ++ ((record { text = codes "taskgroup"; line = a } ∷ record { text = codes "{"; line = b } ∷ []) ++ (body ++ record { text = codes "}"; line = c } ∷ []))) (done ++ (GroupBegins ∷ (inside ++ GroupEnds ∷ [])))
+group_added : (names : List (List ℕ)) (room a b c : ℕ) (before body : List Token)
+    (done inside : List Mark)
+    → HasMarks names (suc room) before done
+    → HasMarks names room body inside
+    → HasMarks names (suc room)
+    (before
+    ++ ((record { text = codes "taskgroup"; line = a } ∷ record { text = codes "{"; line = b } ∷ [])
+    ++ (body ++ record { text = codes "}"; line = c } ∷ [])))
+    (done ++ (GroupBegins ∷ (inside ++ GroupEnds ∷ [])))
 group_added names room a b c before body done inside h g =
     let word : Token = record { text = codes "taskgroup"; line = a } in
     let brace : Token = record { text = codes "{"; line = b } in
     record {
       tree = ThenGroup h.tree a b g.tree;
-      spelled = grammar.Spelled.Block [] room before (word ∷ brace ∷ []) body (record { text = codes "}"; line = c }) (GroupOpening a b) h.tree g.tree h.spelled (grammar.OpeningSpelled.Group [] word brace refl refl) g.spelled refl;
+      spelled = grammar.Spelled.Block [] room before (word ∷ brace ∷ []) body
+          (record { text = codes "}"; line = c }) (GroupOpening a b) h.tree g.tree h.spelled
+          (grammar.OpeningSpelled.Group [] word brace refl refl) g.spelled refl;
       stands = Group names done inside h.tree g.tree a b h.stands g.stands;
     }
 
-task_added : (names : List (List ℕ)) (room c : ℕ) (before opens body : List Token) (done inside : List Mark) (undeferred : Bool) (items : List Item) → HasMarks names (suc room) before done → IsOpening names undeferred items opens → HasMarks names room body inside
-    → HasMarks names (suc room) (before ++ (opens ++ (body ++ record { text = codes "}"; line = c } ∷ []))) (done ++ (Begins undeferred items ∷ (inside ++ Ends ∷ [])))
+task_added : (names : List (List ℕ)) (room c : ℕ) (before opens body : List Token)
+    (done inside : List Mark) (undeferred : Bool) (items : List Item)
+    → HasMarks names (suc room) before done
+    → IsOpening names undeferred items opens
+    → HasMarks names room body inside
+    → HasMarks names (suc room)
+    (before ++ (opens ++ (body ++ record { text = codes "}"; line = c } ∷ [])))
+    (done ++ (Begins undeferred items ∷ (inside ++ Ends ∷ [])))
 task_added names room c before opens body done inside undeferred items h o g = record {
   tree = ThenTask h.tree o.task g.tree;
-  spelled = grammar.Spelled.Block [] room before opens body (record { text = codes "}"; line = c }) (TaskOpening o.task) h.tree g.tree h.spelled o.spelled g.spelled refl;
-  stands = subst (λ (u : Bool). Stands names (done ++ (Begins u items ∷ (inside ++ Ends ∷ []))) (ThenTask h.tree o.task g.tree)) o.undeferred_is
+  spelled = grammar.Spelled.Block [] room before opens body (record { text = codes "}"; line = c })
+      (TaskOpening o.task) h.tree g.tree h.spelled o.spelled g.spelled refl;
+  stands = subst
+      (λ (u : Bool). Stands names (done ++ (Begins u items ∷ (inside ++ Ends ∷ [])))
+      (ThenTask h.tree o.task g.tree))
+      o.undeferred_is
       (Task names done inside h.tree g.tree o.task items h.stands g.stands o.not_final o.stand);
 }
 
 pub no_marks : (names : List (List ℕ)) (room : ℕ) → HasMarks names room [] []
-no_marks names room = record { tree = NoStatement; spelled = grammar.Spelled.Nothing [] room; stands = Nothing names }
+no_marks names
+    room = record {
+      tree = NoStatement;
+      spelled = grammar.Spelled.Nothing [] room;
+      stands = Nothing names;
+    }
 
 all_front : (P : Mark → Type 0) (one other : List Mark) → All P (one ++ other) → All P one
 all_front P [] other all = All-nil P
-all_front P (mark ∷ one) other all = All-cons P mark one (All-head P mark (one ++ other) all) (all_front P one other (All-tail P mark (one ++ other) all))
+all_front P (mark ∷ one) other all =
+    All-cons P mark one (All-head P mark (one ++ other) all)
+    (all_front P one other (All-tail P mark (one ++ other) all))
 
 all_back : (P : Mark → Type 0) (one other : List Mark) → All P (one ++ other) → All P other
 all_back P [] other all = all
 all_back P (mark ∷ one) other all = all_back P one other (All-tail P mark (one ++ other) all)
 
-append_of_block : {A : Type 0} (before opens inside : List A) (closes : A) (rest : List A) → (before ++ (opens ++ (inside ++ closes ∷ []))) ++ rest ≡ before ++ (opens ++ (inside ++ closes ∷ rest))
+append_of_block : {A : Type 0} (before opens inside : List A) (closes : A) (rest : List A)
+    → (before ++ (opens ++ (inside ++ closes ∷ []))) ++ rest
+    ≡ before ++ (opens ++ (inside ++ closes ∷ rest))
 append_of_block before opens inside closes rest =
     append_assoc before (opens ++ (inside ++ closes ∷ [])) rest
-    ∙ ap (λ xs. before ++ xs) (append_assoc opens (inside ++ closes ∷ []) rest ∙ ap (λ xs. opens ++ xs) (append_assoc inside (closes ∷ []) rest))
+    ∙ ap (λ xs. before ++ xs) (append_assoc opens (inside ++ closes ∷ []) rest
+    ∙ ap (λ xs. opens ++ xs) (append_assoc inside (closes ∷ []) rest))
 
 -- the lines of a block and of what follows it
 record Block (opens inside rest : List (List ℕ)) (lines : ℕ → ℕ) : Type 0 where
   inside_lines : ℕ → ℕ
   close_line : ℕ
   rest_lines : ℕ → ℕ
-  tokens_are : with_lines (opens ++ (inside ++ codes "}" ∷ rest)) lines ≡ with_lines opens lines ++ (with_lines inside inside_lines ++ record { text = codes "}"; line = close_line } ∷ with_lines rest rest_lines)
+  tokens_are : with_lines (opens ++ (inside ++ codes "}" ∷ rest)) lines
+      ≡ with_lines opens lines
+      ++ (with_lines inside inside_lines ++ record { text = codes "}"; line = close_line }
+      ∷ with_lines rest rest_lines)
 
 block_lines : (opens inside rest : List (List ℕ)) (lines : ℕ → ℕ) → Block opens inside rest lines
 unfolding with_lines
@@ -324,48 +501,95 @@ block_lines opens inside rest lines =
     }
 
 -- the lines of these marks, after what is spelled already
-pub lines_spelled : (names : List (List ℕ)) (room : ℕ) (marks : List Mark) → NestsIn room marks → All (HasLocations names) marks → (before : List Token) (done : List Mark) (lines : ℕ → ℕ) → HasMarks names room before done
-    → HasMarks names room (before ++ with_lines (flat_map (words_of names) marks) lines) (done ++ marks)
+pub lines_spelled : (names : List (List ℕ)) (room : ℕ) (marks : List Mark)
+    → NestsIn room marks
+    → All (HasLocations names) marks
+    → (before : List Token) (done : List Mark) (lines : ℕ → ℕ)
+    → HasMarks names room before done
+    → HasMarks names room (before ++ with_lines (flat_map (words_of names) marks) lines)
+    (done ++ marks)
 unfolding with_lines
-lines_spelled names _ _ (nested.NestsIn.Nothing room) all before done lines h = has_marks_of_same names room before (before ++ []) done (done ++ []) (sym (append-nil before)) (sym (append-nil done)) h
+lines_spelled names _ _ (nested.NestsIn.Nothing room) all before done lines h =
+    has_marks_of_same names room before (before ++ []) done (done ++ []) (sym (append-nil before))
+    (sym (append-nil done)) h
 lines_spelled names _ _ (nested.NestsIn.Work room cost rest n) all before done lines h =
-    let later = lines_spelled names room rest n (All-tail (HasLocations names) (Works cost) rest all) (before ++ record { text = codes "work"; line = lines 0 } ∷ record { text = decimal cost; line = lines 1 } ∷ []) (done ++ Works cost ∷ []) (λ i. lines (suc (suc i)))
-    (work_added names room cost (lines 0) (lines 1) before done (All-head (HasLocations names) (Works cost) rest all) h) in
-    has_marks_of_same names room _ _ _ _ (append_assoc before (record { text = codes "work"; line = lines 0 } ∷ record { text = decimal cost; line = lines 1 } ∷ []) _) (append_assoc done (Works cost ∷ []) rest) later
+    let later = lines_spelled names room rest n
+    (All-tail (HasLocations names) (Works cost) rest all)
+    (before ++ record { text = codes "work"; line = lines 0 }
+    ∷ record { text = decimal cost; line = lines 1 } ∷ [])
+    (done ++ Works cost ∷ []) (λ i. lines (suc (suc i)))
+    (work_added names room cost (lines 0) (lines 1) before done
+    (All-head (HasLocations names) (Works cost) rest all) h) in
+    has_marks_of_same names room _ _ _ _
+    (append_assoc before
+    (record { text = codes "work"; line = lines 0 } ∷ record { text = decimal cost; line = lines 1 }
+    ∷ [])
+    _)
+    (append_assoc done (Works cost ∷ []) rest) later
 lines_spelled names _ _ (nested.NestsIn.Wait room rest n) all before done lines h =
-    let later = lines_spelled names room rest n (All-tail (HasLocations names) Waits rest all) (before ++ record { text = codes "taskwait"; line = lines 0 } ∷ []) (done ++ Waits ∷ []) (λ i. lines (suc i))
+    let later = lines_spelled names room rest n (All-tail (HasLocations names) Waits rest all)
+    (before ++ record { text = codes "taskwait"; line = lines 0 } ∷ []) (done ++ Waits ∷ [])
+    (λ i. lines (suc i))
     (wait_added names room (lines 0) before done h) in
-    has_marks_of_same names room _ _ _ _ (append_assoc before (record { text = codes "taskwait"; line = lines 0 } ∷ []) _) (append_assoc done (Waits ∷ []) rest) later
-lines_spelled names _ _ (nested.NestsIn.Task room undeferred items body rest inside n) all before done lines h =
+    has_marks_of_same names room _ _ _ _
+    (append_assoc before (record { text = codes "taskwait"; line = lines 0 } ∷ []) _)
+    (append_assoc done (Waits ∷ []) rest) later
+lines_spelled names _ _ (nested.NestsIn.Task room undeferred items body rest inside n) all before
+    done lines h =
     let opens : List (List ℕ) = words_of names (Begins undeferred items) in
     let within : List (List ℕ) = flat_map (words_of names) body in
     let after : List (List ℕ) = flat_map (words_of names) rest in
-    let others : All (HasLocations names) (body ++ Ends ∷ rest) = All-tail (HasLocations names) (Begins undeferred items) (body ++ Ends ∷ rest) all in
+    let others : All (HasLocations names) (body ++ Ends ∷ rest) =
+    All-tail (HasLocations names) (Begins undeferred items) (body ++ Ends ∷ rest) all in
     let b = block_lines opens within after lines in
     let closes : Token = record { text = codes "}"; line = b.close_line } in
-    let o = opening_spelled names undeferred items lines (All-head (HasLocations names) (Begins undeferred items) (body ++ Ends ∷ rest) all) in
-    let in_body = lines_spelled names room body inside (all_front (HasLocations names) body (Ends ∷ rest) others) [] [] b.inside_lines (no_marks names room) in
-    let front = task_added names room b.close_line before (with_lines opens lines) (with_lines within b.inside_lines) done body undeferred items h o in_body in
-    let later = lines_spelled names (suc room) rest n (All-tail (HasLocations names) Ends rest (all_back (HasLocations names) body (Ends ∷ rest) others)) (before ++ (with_lines opens lines ++ (with_lines within b.inside_lines ++ closes ∷ [])))
+    let o = opening_spelled names undeferred items lines
+    (All-head (HasLocations names) (Begins undeferred items) (body ++ Ends ∷ rest) all) in
+    let in_body = lines_spelled names room body inside
+    (all_front (HasLocations names) body (Ends ∷ rest) others) [] [] b.inside_lines
+    (no_marks names room) in
+    let front = task_added names room b.close_line before (with_lines opens lines)
+    (with_lines within b.inside_lines) done body undeferred items h o in_body in
+    let later = lines_spelled names (suc room) rest n
+    (All-tail (HasLocations names) Ends rest
+    (all_back (HasLocations names) body (Ends ∷ rest) others))
+    (before ++ (with_lines opens lines ++ (with_lines within b.inside_lines ++ closes ∷ [])))
     (done ++ (Begins undeferred items ∷ (body ++ Ends ∷ []))) b.rest_lines front in
-    let texts_are : opens ++ (within ++ codes "}" ∷ after) ≡ flat_map (words_of names) (Begins undeferred items ∷ (body ++ Ends ∷ rest)) = ap (λ (ts : List (List ℕ)). opens ++ ts) (sym (flat_map-append (words_of names) body (Ends ∷ rest))) in
+    let texts_are : opens ++ (within ++ codes "}" ∷ after)
+    ≡ flat_map (words_of names) (Begins undeferred items ∷ (body ++ Ends ∷ rest)) = ap
+    (λ (ts : List (List ℕ)). opens ++ ts)
+    (sym (flat_map-append (words_of names) body (Ends ∷ rest))) in
     has_marks_of_same names (suc room) _ _ _ _
-    (append_of_block before (with_lines opens lines) (with_lines within b.inside_lines) closes (with_lines after b.rest_lines)
-    ∙ ap (λ (ts : List Token). before ++ ts) (sym b.tokens_are ∙ ap (λ (ts : List (List ℕ)). with_lines ts lines) texts_are))
+    (append_of_block before (with_lines opens lines) (with_lines within b.inside_lines) closes
+    (with_lines after b.rest_lines)
+    ∙ ap (λ (ts : List Token). before ++ ts)
+    (sym b.tokens_are ∙ ap (λ (ts : List (List ℕ)). with_lines ts lines) texts_are))
     (append_of_block done (Begins undeferred items ∷ []) body Ends rest) later
 lines_spelled names _ _ (nested.NestsIn.Group room body rest inside n) all before done lines h =
     let opens : List (List ℕ) = words_of names GroupBegins in
     let within : List (List ℕ) = flat_map (words_of names) body in
     let after : List (List ℕ) = flat_map (words_of names) rest in
-    let others : All (HasLocations names) (body ++ GroupEnds ∷ rest) = All-tail (HasLocations names) GroupBegins (body ++ GroupEnds ∷ rest) all in
+    let others : All (HasLocations names) (body ++ GroupEnds ∷ rest) =
+    All-tail (HasLocations names) GroupBegins (body ++ GroupEnds ∷ rest) all in
     let b = block_lines opens within after lines in
     let closes : Token = record { text = codes "}"; line = b.close_line } in
-    let in_body = lines_spelled names room body inside (all_front (HasLocations names) body (GroupEnds ∷ rest) others) [] [] b.inside_lines (no_marks names room) in
-    let front = group_added names room (lines 0) (lines 1) b.close_line before (with_lines within b.inside_lines) done body h in_body in
-    let later = lines_spelled names (suc room) rest n (All-tail (HasLocations names) GroupEnds rest (all_back (HasLocations names) body (GroupEnds ∷ rest) others)) (before ++ (with_lines opens lines ++ (with_lines within b.inside_lines ++ closes ∷ [])))
+    let in_body = lines_spelled names room body inside
+    (all_front (HasLocations names) body (GroupEnds ∷ rest) others) [] [] b.inside_lines
+    (no_marks names room) in
+    let front = group_added names room (lines 0) (lines 1) b.close_line before
+    (with_lines within b.inside_lines) done body h in_body in
+    let later = lines_spelled names (suc room) rest n
+    (All-tail (HasLocations names) GroupEnds rest
+    (all_back (HasLocations names) body (GroupEnds ∷ rest) others))
+    (before ++ (with_lines opens lines ++ (with_lines within b.inside_lines ++ closes ∷ [])))
     (done ++ (GroupBegins ∷ (body ++ GroupEnds ∷ []))) b.rest_lines front in
-    let texts_are : opens ++ (within ++ codes "}" ∷ after) ≡ flat_map (words_of names) (GroupBegins ∷ (body ++ GroupEnds ∷ rest)) = ap (λ (ts : List (List ℕ)). opens ++ ts) (sym (flat_map-append (words_of names) body (GroupEnds ∷ rest))) in
+    let texts_are : opens ++ (within ++ codes "}" ∷ after)
+    ≡ flat_map (words_of names) (GroupBegins ∷ (body ++ GroupEnds ∷ rest)) = ap
+    (λ (ts : List (List ℕ)). opens ++ ts)
+    (sym (flat_map-append (words_of names) body (GroupEnds ∷ rest))) in
     has_marks_of_same names (suc room) _ _ _ _
-    (append_of_block before (with_lines opens lines) (with_lines within b.inside_lines) closes (with_lines after b.rest_lines)
-    ∙ ap (λ (ts : List Token). before ++ ts) (sym b.tokens_are ∙ ap (λ (ts : List (List ℕ)). with_lines ts lines) texts_are))
+    (append_of_block before (with_lines opens lines) (with_lines within b.inside_lines) closes
+    (with_lines after b.rest_lines)
+    ∙ ap (λ (ts : List Token). before ++ ts)
+    (sym b.tokens_are ∙ ap (λ (ts : List (List ℕ)). with_lines ts lines) texts_are))
     (append_of_block done (GroupBegins ∷ []) body GroupEnds rest) later

@@ -1,11 +1,24 @@
--- After the tokens read so far in version 2: what the grammar has there, what it has not, and which blocks are open.
-use Rattle.std.proofs.Common.{◌≡◌, ℕ, Bool, true, false, not, ◌&&◌, cond, List, [], ◌∷◌, ◌++◌, map, append_assoc, Option, Some, None, Result, Ok, refl, sym, ap, subst, ◌∙◌, codes}
+-- After the tokens read so far in version 2: what the grammar has there, what it has not, and which
+-- blocks are open.
+use Rattle.std.proofs.Common.{◌≡◌, ℕ, Bool, true, false, not, ◌&&◌, cond, List, [], ◌∷◌, ◌++◌, map}
+use Rattle.std.proofs.Common.{append_assoc, Option, Some, None, Result, Ok, refl, sym, ap, subst}
+use Rattle.std.proofs.Common.{◌∙◌, codes}
 use Rattle.std.proofs.lemmas.List.{map_push}
 use Rattle.std.proofs.lemmas.List.Sums.{fold-append}
 use Rattle.program_text.specs.declared.fault.ReadKind.{ReadKind}
 use Rattle.program_text.specs.declared.fault.ReadFault.{ReadFault}
 use Rattle.loop_text.specs.declared.loop_place.LoopPlace.{LoopPlace}
-use Rattle.loop_text.specs.declared.loop_place.LoopPlace.TheVariants.{Statement, WorkNumber, GroupBrace, ForVariable, ForFrom, ForTo, ForBrace, Clause, IfOpens, IfNumber, IfCloses, FinalOpens, FinalNumber, FinalCloses, DependOpens, DependType, DependColon, DependName, Subscript, IndexStart, IndexNumber, IndexSign, IndexCloses, DependMore}
+use Rattle.loop_text.specs.declared.loop_place.LoopPlace.TheVariants.{Statement, WorkNumber}
+use Rattle.loop_text.specs.declared.loop_place.LoopPlace.TheVariants.{GroupBrace, ForVariable}
+use Rattle.loop_text.specs.declared.loop_place.LoopPlace.TheVariants.{ForFrom, ForTo, ForBrace}
+use Rattle.loop_text.specs.declared.loop_place.LoopPlace.TheVariants.{Clause, IfOpens, IfNumber}
+use Rattle.loop_text.specs.declared.loop_place.LoopPlace.TheVariants.{IfCloses, FinalOpens}
+use Rattle.loop_text.specs.declared.loop_place.LoopPlace.TheVariants.{FinalNumber, FinalCloses}
+use Rattle.loop_text.specs.declared.loop_place.LoopPlace.TheVariants.{DependOpens, DependType}
+use Rattle.loop_text.specs.declared.loop_place.LoopPlace.TheVariants.{DependColon, DependName}
+use Rattle.loop_text.specs.declared.loop_place.LoopPlace.TheVariants.{Subscript, IndexStart}
+use Rattle.loop_text.specs.declared.loop_place.LoopPlace.TheVariants.{IndexNumber, IndexSign}
+use Rattle.loop_text.specs.declared.loop_place.LoopPlace.TheVariants.{IndexCloses, DependMore}
 use Rattle.loop_text.specs.declared.open_loops.LoopBlock.{LoopBlock}
 use Rattle.program_text.specs.declared.statement.DependKind.{DependKind}
 use Rattle.program_text.specs.Tokens.{Token, texts}
@@ -14,13 +27,16 @@ use Rattle.program_text.specs.Words.{is_text, is_number}
 use Rattle.loop_text.specs.Loops.{Tree}
 use Rattle.loop_text.specs.OpenBlocks as blocks
 use Rattle.loop_text.specs.OpenBlocks.{variables_of, brace_of}
-use Rattle.loop_text.specs.FirstPass.{State, is_allowed, closes_nothing, form_fault, place_fault, unless_fault, step, after_at}
+use Rattle.loop_text.specs.FirstPass.{State, is_allowed, closes_nothing, form_fault, place_fault}
+use Rattle.loop_text.specs.FirstPass.{unless_fault, step, after_at}
 use Rattle.task_program.specs.LoopViablePrefix.{IsLoopSentence, IsLoopViable}
 use Rattle.task_program.proofs.Keeping.{bool_cases}
 use Rattle.task_program.proofs.FoundPlaces.{same_text, is_true}
 use Rattle.task_program.proofs.Tallies.{other_text}
 use Rattle.task_program.proofs.LoopContinued.{steps_back, may_continue}
-use Rattle.task_program.proofs.LoopShapes.{is_loop_end, clause_depend, LoopShape, shape_at, closes_none, allowed_at, fits, lead_end, lead_at, lead, Follows}
+use Rattle.task_program.proofs.LoopShapes.{is_loop_end, clause_depend, LoopShape, shape_at}
+use Rattle.task_program.proofs.LoopShapes.{closes_none, allowed_at, fits, lead_end, lead_at, lead}
+use Rattle.task_program.proofs.LoopShapes.{Follows}
 use Rattle.task_program.proofs.LoopAccepting.{accepts, accepts_next}
 
 -- for each open block the variables of the loops around it
@@ -29,7 +45,9 @@ variables_of_each [] = []
 variables_of_each (block ∷ others) = variables_of others ∷ variables_of_each others
 
 abbrev pub shape_of : State → LoopShape
-shape_of state = shape_at state.place state.head.has_if state.head.has_final state.bounds.variable (variables_of state.tree.blocks) (variables_of_each state.tree.blocks)
+shape_of state =
+    shape_at state.place state.head.has_if state.head.has_final state.bounds.variable
+    (variables_of state.tree.blocks) (variables_of_each state.tree.blocks)
 
 abbrev at : State → LoopPlace → State
 at state place = record state { place = place }
@@ -39,13 +57,18 @@ at state place = record state { place = place }
 abbrev LeadsSo : State → LoopPlace → List ℕ → ℕ → Type 0
 LeadsSo state place text line =
     shape_of (after_at place (at state place) text line)
-    ≡ lead_at place state.head.has_if state.head.has_final state.bounds.variable (variables_of state.tree.blocks) (variables_of_each state.tree.blocks) text
+    ≡ lead_at place state.head.has_if state.head.has_final state.bounds.variable
+    (variables_of state.tree.blocks) (variables_of_each state.tree.blocks) text
 
 abbrev shape_with : State → List LoopBlock → LoopShape
-shape_with state open_now = shape_at Statement state.head.has_if state.head.has_final state.bounds.variable (variables_of open_now) (variables_of_each open_now)
+shape_with state open_now =
+    shape_at Statement state.head.has_if state.head.has_final state.bounds.variable
+    (variables_of open_now) (variables_of_each open_now)
 
 end_leads : (state : State) (open_now : List LoopBlock) (statements : Tree)
-    → shape_with state (blocks.after_end_of open_now statements).blocks ≡ lead_end state.head.has_if state.head.has_final state.bounds.variable (variables_of open_now) (variables_of_each open_now)
+    → shape_with state (blocks.after_end_of open_now statements).blocks
+    ≡ lead_end state.head.has_if state.head.has_final state.bounds.variable (variables_of open_now)
+    (variables_of_each open_now)
 unfolding variables_of
 end_leads state [] statements = refl
 end_leads state (block ∷ others) statements = refl
@@ -62,7 +85,8 @@ statement_leads state text line =
     (λ group. rw (no_work, no_task, no_wait, group) refl)
     (λ no_group. bool_cases (is_text text (codes "for"))
     (λ loop. rw (no_work, no_task, no_wait, no_group, loop) refl)
-    (λ no_for. rw (no_work, no_task, no_wait, no_group, no_for) (end_leads state state.tree.blocks state.tree.statements))))))
+    (λ no_for. rw (no_work, no_task, no_wait, no_group, no_for)
+    (end_leads state state.tree.blocks state.tree.statements))))))
 
 clause_leads : (state : State) (text : List ℕ) (line : ℕ) → LeadsSo state Clause text line
 unfolding variables_of
@@ -84,7 +108,8 @@ subscript_leads state kind text line =
     (λ comma. rw (no_opens, comma) refl)
     (λ other. rw (no_opens, other) refl))
 
-start_leads : (state : State) (kind : DependKind) (text : List ℕ) (line : ℕ) → LeadsSo state (IndexStart kind) text line
+start_leads : (state : State) (kind : DependKind) (text : List ℕ) (line : ℕ)
+    → LeadsSo state (IndexStart kind) text line
 start_leads state kind text line =
     bool_cases (is_number text)
     (λ number. rw number refl)
@@ -92,19 +117,22 @@ start_leads state kind text line =
     (λ minus. rw (no_number, minus) refl)
     (λ other. rw (no_number, other) refl))
 
-sign_leads : (state : State) (kind : DependKind) (text : List ℕ) (line : ℕ) → LeadsSo state (IndexSign kind) text line
+sign_leads : (state : State) (kind : DependKind) (text : List ℕ) (line : ℕ)
+    → LeadsSo state (IndexSign kind) text line
 sign_leads state kind text line =
     bool_cases (is_text text (codes "]"))
     (λ closes. rw closes refl)
     (λ other. rw other refl)
 
-more_leads : (state : State) (kind : DependKind) (text : List ℕ) (line : ℕ) → LeadsSo state (DependMore kind) text line
+more_leads : (state : State) (kind : DependKind) (text : List ℕ) (line : ℕ)
+    → LeadsSo state (DependMore kind) text line
 more_leads state kind text line =
     bool_cases (is_text text (codes ","))
     (λ comma. rw comma refl)
     (λ other. rw other refl)
 
-pub place_leads : (place : LoopPlace) (state : State) (text : List ℕ) (line : ℕ) → LeadsSo state place text line
+pub place_leads : (place : LoopPlace) (state : State) (text : List ℕ) (line : ℕ)
+    → LeadsSo state place text line
 unfolding variables_of
 place_leads Statement state text line = statement_leads state text line
 place_leads Clause state text line = clause_leads state text line
@@ -123,7 +151,8 @@ closes_same Statement (block ∷ others) text = refl
 closes_same _ open_now text = refl
 
 allowed_same : (place : LoopPlace) (state : State) (text : List ℕ)
-    → is_allowed place state.head state.tree.blocks text ≡ allowed_at place state.head.has_if state.head.has_final (variables_of state.tree.blocks) text
+    → is_allowed place state.head state.tree.blocks text
+    ≡ allowed_at place state.head.has_if state.head.has_final (variables_of state.tree.blocks) text
 allowed_same Statement state text = refl
 allowed_same WorkNumber state text = refl
 allowed_same GroupBrace state text = refl
@@ -149,7 +178,11 @@ allowed_same (IndexSign kind) state text = refl
 allowed_same (IndexCloses kind) state text = refl
 allowed_same (DependMore kind) state text = refl
 
-both_tests : (closes other allowed known : Bool) → closes ≡ false → closes ≡ other → allowed ≡ true → allowed ≡ known
+both_tests : (closes other allowed known : Bool)
+    → closes ≡ false
+    → closes ≡ other
+    → allowed ≡ true
+    → allowed ≡ known
     → (not other && known) ≡ true
 both_tests false false true true h s a k = refl
 both_tests false false true false h s a k = absurd cc
@@ -157,31 +190,51 @@ both_tests false false false known h s a k = absurd cc
 both_tests false true allowed known h s a k = absurd cc
 both_tests true other allowed known h s a k = absurd cc
 
-no_close : (closes other known : Bool) → closes ≡ true → closes ≡ other → (not other && known) ≡ false
+no_close : (closes other known : Bool)
+    → closes ≡ true
+    → closes ≡ other
+    → (not other && known) ≡ false
 no_close true true known h s = refl
 no_close true false known h s = absurd cc
 no_close false other known h s = absurd cc
 
-none_allowed : (other allowed known : Bool) → not allowed ≡ true → allowed ≡ known → (not other && known) ≡ false
+none_allowed : (other allowed known : Bool)
+    → not allowed ≡ true
+    → allowed ≡ known
+    → (not other && known) ≡ false
 none_allowed true false known h s = refl
 none_allowed false false false h s = refl
 none_allowed false false true h s = absurd cc
 none_allowed other true known h s = absurd cc
 
-pub fits_of : (state : State) (text : List ℕ) → closes_nothing state.place state.tree.blocks text ≡ false
-    → is_allowed state.place state.head state.tree.blocks text ≡ true → fits (shape_of state) text ≡ true
+pub fits_of : (state : State) (text : List ℕ)
+    → closes_nothing state.place state.tree.blocks text ≡ false
+    → is_allowed state.place state.head state.tree.blocks text ≡ true
+    → fits (shape_of state) text ≡ true
 fits_of state text unopened allowed =
-    both_tests (closes_nothing state.place state.tree.blocks text) (closes_none state.place (variables_of_each state.tree.blocks) text) (is_allowed state.place state.head state.tree.blocks text)
-    (allowed_at state.place state.head.has_if state.head.has_final (variables_of state.tree.blocks) text)
-    unopened (closes_same state.place state.tree.blocks text) allowed (allowed_same state.place state text)
+    both_tests (closes_nothing state.place state.tree.blocks text)
+    (closes_none state.place (variables_of_each state.tree.blocks) text)
+    (is_allowed state.place state.head state.tree.blocks text)
+    (allowed_at state.place state.head.has_if state.head.has_final (variables_of state.tree.blocks)
+    text)
+    unopened (closes_same state.place state.tree.blocks text) allowed
+    (allowed_same state.place state text)
 
-pub unfit_close : (state : State) (text : List ℕ) → closes_nothing state.place state.tree.blocks text ≡ true
+pub unfit_close : (state : State) (text : List ℕ)
+    → closes_nothing state.place state.tree.blocks text ≡ true
     → fits (shape_of state) text ≡ false
-unfit_close state text closes = no_close (closes_nothing state.place state.tree.blocks text) (closes_none state.place (variables_of_each state.tree.blocks) text) _ closes (closes_same state.place state.tree.blocks text)
+unfit_close state text closes =
+    no_close (closes_nothing state.place state.tree.blocks text)
+    (closes_none state.place (variables_of_each state.tree.blocks) text) _ closes
+    (closes_same state.place state.tree.blocks text)
 
 pub unfit_word : (state : State) (text : List ℕ)
-    → not (is_allowed state.place state.head state.tree.blocks text) ≡ true → fits (shape_of state) text ≡ false
-unfit_word state text bad = none_allowed (closes_none state.place (variables_of_each state.tree.blocks) text) (is_allowed state.place state.head state.tree.blocks text) _ bad (allowed_same state.place state text)
+    → not (is_allowed state.place state.head state.tree.blocks text) ≡ true
+    → fits (shape_of state) text ≡ false
+unfit_word state text bad =
+    none_allowed (closes_none state.place (variables_of_each state.tree.blocks) text)
+    (is_allowed state.place state.head state.tree.blocks text) _ bad
+    (allowed_same state.place state text)
 
 -- ---- what is known where these tokens were read
 
@@ -189,16 +242,22 @@ abbrev pub brace_lines : List LoopBlock → List ℕ
 brace_lines open_now = map (λ block. brace_of block.opening) open_now
 
 pub record LoopBegan (before : List Token) (state : State) : Type 0 where
-  pub follows : (later : List (List ℕ)) → Follows (shape_of state) later → IsLoopSentence (texts before ++ later)
-  pub accepted : (later : List (List ℕ)) → IsLoopSentence (texts before ++ later) → accepts (shape_of state) later ≡ true
+  pub follows : (later : List (List ℕ))
+      → Follows (shape_of state) later
+      → IsLoopSentence (texts before ++ later)
+  pub accepted : (later : List (List ℕ))
+      → IsLoopSentence (texts before ++ later)
+      → accepts (shape_of state) later ≡ true
   pub braces_are : open_braces before ≡ brace_lines state.tree.blocks
 
 -- a token that the grammar does not have
 pub is_not_viable : (before : List Token) (state : State) (text : List ℕ) → LoopBegan before state
     → fits (shape_of state) text ≡ false → IsLoopViable (texts before ++ text ∷ []) → ⊥
 is_not_viable before state text b wrong_here v =
-    let sentence : IsLoopSentence (texts before ++ text ∷ v.0) = subst IsLoopSentence (append_assoc (texts before) (text ∷ []) v.0) v.1 in
-    let fits_so : fits (shape_of state) text ≡ true = (accepts_next (shape_of state) text v.0 (b.accepted (text ∷ v.0) sentence)).0 in
+    let sentence : IsLoopSentence (texts before ++ text ∷ v.0) =
+    subst IsLoopSentence (append_assoc (texts before) (text ∷ []) v.0) v.1 in
+    let fits_so : fits (shape_of state) text ≡ true =
+    (accepts_next (shape_of state) text v.0 (b.accepted (text ∷ v.0) sentence)).0 in
     absurd (let wrong : true ≡ false = sym fits_so ∙ wrong_here in cc)
 
 -- and one that it has
@@ -207,9 +266,15 @@ pub viable_next : (before : List Token) (state : State) (text : List ℕ) → Lo
 viable_next before state text b fits_so =
     let s = shape_of state in
     let next = lead s text in
-    let c = may_continue next.place next.has_if next.has_final next.variable next.variables next.around in
-    let back = steps_back s.place s.has_if s.has_final s.variable s.variables s.around text c.0 fits_so c.1 in
-    (c.0, subst IsLoopSentence (sym (append_assoc (texts before) (text ∷ []) c.0)) (b.follows (text ∷ c.0) back))
+    let c =
+    may_continue next.place next.has_if next.has_final next.variable next.variables next.around in
+    let back =
+    steps_back s.place s.has_if s.has_final s.variable s.variables s.around text c.0 fits_so
+    c.1 in (
+      c.0,
+      subst IsLoopSentence (sym (append_assoc (texts before) (text ∷ []) c.0))
+          (b.follows (text ∷ c.0) back),
+    )
 
 -- ---- open blocks
 
@@ -217,33 +282,42 @@ abbrev token_so : List ℕ → ℕ → Token
 token_so text line = record { text = text; line = line }
 
 abbrev BracesGo : LoopPlace → State → List ℕ → ℕ → Type 0
-BracesGo place state text line = braces_after (brace_lines state.tree.blocks) (token_so text line) ≡ brace_lines (after_at place (at state place) text line).tree.blocks
+BracesGo place state text line =
+    braces_after (brace_lines state.tree.blocks) (token_so text line)
+    ≡ brace_lines (after_at place (at state place) text line).tree.blocks
 
 -- at a place that has no `{` and no `}`
 no_brace : (place : LoopPlace) (state : State) (text : List ℕ) (line : ℕ)
     → is_allowed place state.head state.tree.blocks text ≡ true
     → is_allowed place state.head state.tree.blocks (codes "{") ≡ false
     → is_allowed place state.head state.tree.blocks (codes "}") ≡ false
-    → (after_at place (at state place) text line).tree.blocks ≡ state.tree.blocks → BracesGo place state text line
+    → (after_at place (at state place) text line).tree.blocks ≡ state.tree.blocks
+    → BracesGo place state text line
 no_brace place state text line allowed no_open no_end same =
     let test : List ℕ → Bool = λ t. is_allowed place state.head state.tree.blocks t in
     let opens = other_text test text (codes "{") allowed no_open in
     let ends = other_text test text (codes "}") allowed no_end in
-    let stay : braces_after (brace_lines state.tree.blocks) (token_so text line) ≡ brace_lines state.tree.blocks = rw (opens, ends) refl in
+    let stay : braces_after (brace_lines state.tree.blocks) (token_so text line)
+    ≡ brace_lines state.tree.blocks =
+    rw (opens, ends) refl in
     stay ∙ sym (ap brace_lines same)
 
-either_blocks : (b : Bool) (one other : State) (open_now : List LoopBlock) → one.tree.blocks ≡ open_now
-    → other.tree.blocks ≡ open_now → (cond b one other).tree.blocks ≡ open_now
+either_blocks : (b : Bool) (one other : State) (open_now : List LoopBlock)
+    → one.tree.blocks ≡ open_now
+    → other.tree.blocks ≡ open_now
+    → (cond b one other).tree.blocks ≡ open_now
 either_blocks true one other open_now h g = h
 either_blocks false one other open_now h g = g
 
 end_braces : (open_now : List LoopBlock) (statements : Tree) (line : ℕ)
-    → braces_after (brace_lines open_now) (token_so (codes "}") line) ≡ brace_lines (blocks.after_end_of open_now statements).blocks
+    → braces_after (brace_lines open_now) (token_so (codes "}") line)
+    ≡ brace_lines (blocks.after_end_of open_now statements).blocks
 end_braces [] statements line = refl
 end_braces (block ∷ others) statements line = refl
 
 statement_braces : (state : State) (text : List ℕ) (line : ℕ)
-    → is_allowed Statement state.head state.tree.blocks text ≡ true → BracesGo Statement state text line
+    → is_allowed Statement state.head state.tree.blocks text ≡ true
+    → BracesGo Statement state text line
 statement_braces state text line allowed =
     bool_cases (is_text text (codes "work"))
     (λ work. rw (same_text text (codes "work") work) refl)
@@ -255,7 +329,8 @@ statement_braces state text line allowed =
     (λ group. rw (same_text text (codes "taskgroup") group) refl)
     (λ no_group. bool_cases (is_text text (codes "for"))
     (λ loop. rw (same_text text (codes "for") loop) refl)
-    (λ no_for. rw (is_loop_end text allowed no_work no_task no_wait no_group no_for) (end_braces state.tree.blocks state.tree.statements line))))))
+    (λ no_for. rw (is_loop_end text allowed no_work no_task no_wait no_group no_for)
+    (end_braces state.tree.blocks state.tree.statements line))))))
 
 clause_braces : (state : State) (text : List ℕ) (line : ℕ)
     → is_allowed Clause state.head state.tree.blocks text ≡ true → BracesGo Clause state text line
@@ -266,7 +341,9 @@ clause_braces state text line allowed =
     (λ if_word. rw (same_text text (codes "if") if_word) refl)
     (λ no_if. bool_cases (is_text text (codes "final"))
     (λ final_word. rw (same_text text (codes "final") final_word) refl)
-    (λ no_final. rw (clause_depend text state.head.has_if state.head.has_final allowed no_brace_here no_if no_final) refl)))
+    (λ no_final. rw
+    (clause_depend text state.head.has_if state.head.has_final allowed no_brace_here no_if no_final)
+    refl)))
 
 place_braces : (place : LoopPlace) (state : State) (text : List ℕ) (line : ℕ)
     → is_allowed place state.head state.tree.blocks text ≡ true → BracesGo place state text line
@@ -275,11 +352,19 @@ place_braces GroupBrace state text line h = rw (same_text text (codes "{") h) re
 place_braces ForBrace state text line h = rw (same_text text (codes "{") h) refl
 place_braces Clause state text line h = clause_braces state text line h
 place_braces (Subscript kind) state text line h =
-    no_brace (Subscript kind) state text line h refl refl (either_blocks (is_text text (codes "[")) _ _ state.tree.blocks refl (either_blocks (is_text text (codes ",")) _ _ state.tree.blocks refl refl))
+    no_brace (Subscript kind) state text line h refl refl (either_blocks (is_text text (codes "["))
+    _ _ state.tree.blocks refl
+    (either_blocks (is_text text (codes ",")) _ _ state.tree.blocks refl refl))
 place_braces (IndexStart kind) state text line h =
-    no_brace (IndexStart kind) state text line h refl refl (either_blocks (is_number text) _ _ state.tree.blocks refl (either_blocks (is_text text (codes "-")) _ _ state.tree.blocks refl refl))
-place_braces (IndexSign kind) state text line h = no_brace (IndexSign kind) state text line h refl refl (either_blocks (is_text text (codes "]")) _ _ state.tree.blocks refl refl)
-place_braces (DependMore kind) state text line h = no_brace (DependMore kind) state text line h refl refl (either_blocks (is_text text (codes ",")) _ _ state.tree.blocks refl refl)
+    no_brace (IndexStart kind) state text line h refl refl (either_blocks (is_number text) _ _
+    state.tree.blocks refl
+    (either_blocks (is_text text (codes "-")) _ _ state.tree.blocks refl refl))
+place_braces (IndexSign kind) state text line h =
+    no_brace (IndexSign kind) state text line h refl refl
+    (either_blocks (is_text text (codes "]")) _ _ state.tree.blocks refl refl)
+place_braces (DependMore kind) state text line h =
+    no_brace (DependMore kind) state text line h refl refl
+    (either_blocks (is_text text (codes ",")) _ _ state.tree.blocks refl refl)
 place_braces WorkNumber state text line h = no_brace WorkNumber state text line h refl refl refl
 place_braces ForVariable state text line h = no_brace ForVariable state text line h refl refl refl
 place_braces ForFrom state text line h = no_brace ForFrom state text line h refl refl refl
@@ -292,19 +377,25 @@ place_braces FinalNumber state text line h = no_brace FinalNumber state text lin
 place_braces FinalCloses state text line h = no_brace FinalCloses state text line h refl refl refl
 place_braces DependOpens state text line h = no_brace DependOpens state text line h refl refl refl
 place_braces DependType state text line h = no_brace DependType state text line h refl refl refl
-place_braces (DependColon kind) state text line h = no_brace (DependColon kind) state text line h refl refl refl
-place_braces (DependName kind) state text line h = no_brace (DependName kind) state text line h refl refl refl
-place_braces (IndexNumber kind) state text line h = no_brace (IndexNumber kind) state text line h refl refl refl
-place_braces (IndexCloses kind) state text line h = no_brace (IndexCloses kind) state text line h refl refl refl
+place_braces (DependColon kind) state text line h =
+    no_brace (DependColon kind) state text line h refl refl refl
+place_braces (DependName kind) state text line h =
+    no_brace (DependName kind) state text line h refl refl refl
+place_braces (IndexNumber kind) state text line h =
+    no_brace (IndexNumber kind) state text line h refl refl refl
+place_braces (IndexCloses kind) state text line h =
+    no_brace (IndexCloses kind) state text line h refl refl refl
 
 -- ---- one token more
 
-unless_cases : {P : Type 0} (found : Option ReadKind) (line : ℕ) (after : Result State ReadFault) (next : State)
+unless_cases : {P : Type 0} (found : Option ReadKind) (line : ℕ) (after : Result State ReadFault)
+    (next : State)
     → unless_fault found line after ≡ Ok next → (found ≡ None → after ≡ Ok next → P) → P
 unless_cases (Some kind) line after next h on = absurd cc
 unless_cases None line after next h on = on refl h
 
-row_passed : (b : Bool) (kind : ReadKind) (others : Option ReadKind) → cond b (Some kind) others ≡ None
+row_passed : (b : Bool) (kind : ReadKind) (others : Option ReadKind)
+    → cond b (Some kind) others ≡ None
     → (b ≡ false) × (others ≡ None)
 row_passed true kind others h = absurd cc
 row_passed false kind others h = (refl, h)
@@ -321,7 +412,8 @@ pub record Passed (state next : State) (token : Token) : Type 0 where
   pub allowed : is_allowed state.place state.head state.tree.blocks token.text ≡ true
   pub next_is : after_at state.place state token.text token.line ≡ next
 
-pub step_passes : (state next : State) (token : Token) → step state token ≡ Ok next → Passed state next token
+pub step_passes : (state next : State) (token : Token) → step state token ≡ Ok next
+    → Passed state next token
 unfolding step
 step_passes state next token h =
     unless_cases (form_fault token.text) token.line _ next h
@@ -331,24 +423,35 @@ step_passes state next token h =
     let r2 = row_passed _ _ _ r1.1 in
     record { formed = form; unopened = r1.0; allowed = is_true _ r2.0; next_is = ok_is _ next h2 }))
 
-pub texts_more : (before : List Token) (token : Token) → texts (before ++ token ∷ []) ≡ texts before ++ token.text ∷ []
+pub texts_more : (before : List Token) (token : Token)
+    → texts (before ++ token ∷ []) ≡ texts before ++ token.text ∷ []
 texts_more before token = map_push (λ (t : Token). t.text) before token
 
-pub step_begins : (before : List Token) (state next : State) (token : Token) → LoopBegan before state
-    → step state token ≡ Ok next → LoopBegan (before ++ token ∷ []) next
+pub step_begins : (before : List Token) (state next : State) (token : Token)
+    → LoopBegan before state
+    → step state token ≡ Ok next
+    → LoopBegan (before ++ token ∷ []) next
 step_begins before state next token b h =
     let p = step_passes state next token h in
     let s = shape_of state in
     let fits_so : fits s token.text ≡ true = fits_of state token.text p.unopened p.allowed in
-    let leads : shape_of next ≡ lead s token.text = sym (ap (λ (t : State). shape_of t) p.next_is) ∙ place_leads state.place state token.text token.line in
-    let on : (later : List (List ℕ)) → texts (before ++ token ∷ []) ++ later ≡ texts before ++ token.text ∷ later =
-    λ later. ap (λ (ts : List (List ℕ)). ts ++ later) (texts_more before token) ∙ append_assoc (texts before) (token.text ∷ []) later in
+    let leads : shape_of next ≡ lead s token.text = sym (ap (λ (t : State). shape_of t) p.next_is)
+    ∙ place_leads state.place state token.text token.line in
+    let on : (later : List (List ℕ))
+    → texts (before ++ token ∷ []) ++ later ≡ texts before ++ token.text ∷ later =
+    λ later. ap (λ (ts : List (List ℕ)). ts ++ later) (texts_more before token)
+    ∙ append_assoc (texts before) (token.text ∷ []) later in
     record {
       follows = λ later f.
           subst IsLoopSentence (sym (on later))
-          (b.follows (token.text ∷ later) (steps_back s.place s.has_if s.has_final s.variable s.variables s.around token.text later fits_so (subst (λ (t : LoopShape). Follows t later) leads f)));
+          (b.follows (token.text ∷ later) (steps_back s.place s.has_if s.has_final s.variable
+          s.variables s.around token.text later fits_so
+          (subst (λ (t : LoopShape). Follows t later) leads f)));
       accepted = λ later sentence.
-          subst (λ (t : LoopShape). accepts t later ≡ true) (sym leads) (accepts_next s token.text later (b.accepted (token.text ∷ later) (subst IsLoopSentence (on later) sentence))).1;
-      braces_are = fold-append braces_after [] before (token ∷ []) ∙ ap (λ (lines : List ℕ). braces_after lines token) b.braces_are ∙ place_braces state.place state token.text token.line p.allowed
+          subst (λ (t : LoopShape). accepts t later ≡ true) (sym leads) (accepts_next s token.text
+          later (b.accepted (token.text ∷ later) (subst IsLoopSentence (on later) sentence))).1;
+      braces_are = fold-append braces_after [] before (token ∷ [])
+          ∙ ap (λ (lines : List ℕ). braces_after lines token) b.braces_are
+          ∙ place_braces state.place state token.text token.line p.allowed
           ∙ ap (λ (t : State). brace_lines t.tree.blocks) p.next_is;
     }

@@ -1,26 +1,38 @@
 -- The fault of a text of version 2 that lies in its tokens is the first of them.
-use Rattle.std.proofs.Common.{◌≡◌, ℕ, ◌<◌, ◌≤◌, Bool, true, false, not, List, [], ◌∷◌, ◌++◌, length, append_assoc, Option, Some, None, Result, Ok, Err, refl, sym, ap, subst, ◌∙◌, arith, codes}
+use Rattle.std.proofs.Common.{◌≡◌, ℕ, ◌<◌, ◌≤◌, Bool, true, false, not, List, [], ◌∷◌, ◌++◌, length}
+use Rattle.std.proofs.Common.{append_assoc, Option, Some, None, Result, Ok, Err, refl, sym, ap}
+use Rattle.std.proofs.Common.{subst, ◌∙◌, arith, codes}
 use Rattle.std.specs.Prelude.{nat_lt}
 use Rattle.std.proofs.lemmas.Bool.{leb-true, ltb-true, ltb-false}
 use Rattle.std.proofs.lemmas.List.{append-nil, length-map}
 use Rattle.program_text.specs.declared.fault.ReadKind.{ReadKind}
-use Rattle.program_text.specs.declared.fault.ReadKind.TheVariants.{TooLong, BadWord, BadNumber, Unclosed, Unopened, TooDeep}
+use Rattle.program_text.specs.declared.fault.ReadKind.TheVariants.{TooLong, BadWord, BadNumber}
+use Rattle.program_text.specs.declared.fault.ReadKind.TheVariants.{Unclosed, Unopened, TooDeep}
 use Rattle.program_text.specs.declared.fault.ReadFault.{ReadFault}
 use Rattle.loop_text.specs.declared.loop_place.LoopPlace.{LoopPlace}
-use Rattle.loop_text.specs.declared.loop_place.LoopPlace.TheVariants.{Statement, WorkNumber, GroupBrace, ForFrom, ForTo, ForBrace, Clause, IfNumber, FinalNumber}
+use Rattle.loop_text.specs.declared.loop_place.LoopPlace.TheVariants.{Statement, WorkNumber}
+use Rattle.loop_text.specs.declared.loop_place.LoopPlace.TheVariants.{GroupBrace, ForFrom, ForTo}
+use Rattle.loop_text.specs.declared.loop_place.LoopPlace.TheVariants.{ForBrace, Clause, IfNumber}
+use Rattle.loop_text.specs.declared.loop_place.LoopPlace.TheVariants.{FinalNumber}
 use Rattle.loop_text.specs.declared.loop_reader.LoopHead.{LoopHead}
 use Rattle.loop_text.specs.declared.open_loops.LoopBlock.{LoopBlock}
-use Rattle.program_text.specs.declared.limits.TheConstants.{MOST_TEXT_BYTES, MOST_NESTING, LARGEST_COST, LARGEST_BOUND}
+use Rattle.program_text.specs.declared.limits.TheConstants.{MOST_TEXT_BYTES, MOST_NESTING}
+use Rattle.program_text.specs.declared.limits.TheConstants.{LARGEST_COST, LARGEST_BOUND}
 use Rattle.program_text.specs.Tokens.{Token, texts, tokens_of, line_at_end}
 use Rattle.task_program.specs.TokenCounts.{open_braces}
 use Rattle.program_text.specs.Words.{is_text, is_number, value_of}
 use Rattle.loop_text.specs.Loops.{Tree}
 use Rattle.loop_text.specs.OpenBlocks.{variables_of, brace_of}
 use Rattle.task_program.specs.ProgramMarks.{ProgramMarks}
-use Rattle.loop_text.specs.FirstPass.{State, is_allowed, closes_nothing, is_number_too_large, nests_too_deep, form_fault, place_fault, unless_fault, step, end_at, tree_or_fault, go_on, first_pass, after_header}
-use Rattle.task_program.specs.ReadInVersion.{begins_version_two, then_second, two_passes, program_of}
+use Rattle.loop_text.specs.FirstPass.{State, is_allowed, closes_nothing, is_number_too_large}
+use Rattle.loop_text.specs.FirstPass.{nests_too_deep, form_fault, place_fault, unless_fault, step}
+use Rattle.loop_text.specs.FirstPass.{end_at, tree_or_fault, go_on, first_pass, after_header}
+use Rattle.task_program.specs.ReadInVersion.{begins_version_two, then_second, two_passes}
+use Rattle.task_program.specs.ReadInVersion.{program_of}
 use Rattle.task_program.specs.LoopViablePrefix.{IsLoopSentence, IsLoopViable}
-use Rattle.task_program.specs.FirstLoopFault.{IsLoopWrong, AreInPlace, EndsInLoops, IsFirstLoopFault, body_of, HasLoopFault, IsToldInLoops, LoopFaultIsFirst}
+use Rattle.task_program.specs.FirstLoopFault.{IsLoopWrong, AreInPlace, EndsInLoops}
+use Rattle.task_program.specs.FirstLoopFault.{IsFirstLoopFault, body_of, HasLoopFault}
+use Rattle.task_program.specs.FirstLoopFault.{IsToldInLoops, LoopFaultIsFirst}
 use Rattle.task_program.specs.FirstLoopFault.IsLoopMisplaced.{AfterWhole, Elsewhere}
 use Rattle.task_program.specs.FirstLoopFault.IsPastLoopLimit.{LargeNumber, DeepBlock}
 use Rattle.task_program.specs.FirstLoopFault.IsLoopWrong.{ByItself, Misplaced, PastLimit}
@@ -36,7 +48,9 @@ use Rattle.task_program.proofs.Begun.{row_cases}
 use Rattle.task_program.proofs.LoopContinued.{nothing_follows}
 use Rattle.task_program.proofs.LoopShapes.{closes_none, fits_at, FollowsAt}
 use Rattle.task_program.proofs.LoopAccepting.{is_whole, accepts_none, sentence_accepted}
-use Rattle.task_program.proofs.LoopBegun.{variables_of_each, shape_of, brace_lines, LoopBegan, closes_same, fits_of, unfit_close, unfit_word, is_not_viable, viable_next, step_passes, step_begins}
+use Rattle.task_program.proofs.LoopBegun.{variables_of_each, shape_of, brace_lines, LoopBegan}
+use Rattle.task_program.proofs.LoopBegun.{closes_same, fits_of, unfit_close, unfit_word}
+use Rattle.task_program.proofs.LoopBegun.{is_not_viable, viable_next, step_passes, step_begins}
 
 record Counts (before : List Token) (state : State) : Type 0 where
   began : LoopBegan before state
@@ -48,7 +62,8 @@ counts_more before state next token c h =
     let p = step_passes state next token h in
     record {
       began = step_begins before state next token c.began h;
-      in_place = More before token c.in_place p.formed (viable_next before state token.text c.began (fits_of state token.text p.unopened p.allowed));
+      in_place = More before token c.in_place p.formed (viable_next before state token.text c.began
+          (fits_of state token.text p.unopened p.allowed));
     }
 
 -- ---- the fault of a token
@@ -57,89 +72,138 @@ abbrev fault_so : ReadKind → ℕ → ReadFault
 fault_so kind line = record { kind = kind; line = line }
 
 -- a `}` that closes nothing comes after what is whole
-closes_at : (place : LoopPlace) (hi hf : Bool) (x : List ℕ) (vs : List (List ℕ)) (us : List (List (List ℕ))) (text : List ℕ)
+closes_at : (place : LoopPlace) (hi hf : Bool) (x : List ℕ) (vs : List (List ℕ))
+    (us : List (List (List ℕ))) (text : List ℕ)
     → closes_none place us text ≡ true → (text ≡ codes "}") × FollowsAt place hi hf x vs us []
-closes_at Statement hi hf x vs [] text h = (same_text text (codes "}") h, nothing_follows hi hf x vs)
+closes_at Statement hi hf x vs [] text h =
+    (same_text text (codes "}") h, nothing_follows hi hf x vs)
 closes_at Statement hi hf x vs (outer ∷ us) text h = absurd cc
 closes_at _ hi hf x vs us text h = absurd cc
 
-whole_closes : (place : LoopPlace) (us : List (List (List ℕ))) (text : List ℕ) → is_whole place us ≡ true
-    → text ≡ codes "}" → closes_none place us text ≡ true
+whole_closes : (place : LoopPlace) (us : List (List (List ℕ))) (text : List ℕ)
+    → is_whole place us ≡ true
+    → text ≡ codes "}"
+    → closes_none place us text ≡ true
 whole_closes Statement [] text h text_is = rw text_is refl
 whole_closes Statement (outer ∷ us) text h text_is = absurd cc
 whole_closes _ us text h text_is = absurd cc
 
-whole_now : (before : List Token) (state : State) → LoopBegan before state → IsLoopSentence (texts before)
+whole_now : (before : List Token) (state : State)
+    → LoopBegan before state
+    → IsLoopSentence (texts before)
     → is_whole state.place (variables_of_each state.tree.blocks) ≡ true
-whole_now before state b s = accepts_none (shape_of state) (b.accepted [] (subst IsLoopSentence (sym (append-nil (texts before))) s))
+whole_now before state b s =
+    accepts_none (shape_of state)
+    (b.accepted [] (subst IsLoopSentence (sym (append-nil (texts before))) s))
 
 abbrev LargeHere : List ℕ → Type 0
 LargeHere text = (is_number text ≡ true) × (1 < value_of text)
 
 large_number : (place : LoopPlace) (head : LoopHead) (open_now : List LoopBlock) (text : List ℕ)
-    → is_number_too_large place text ≡ true → is_allowed place head open_now text ≡ true → LargeHere text
-large_number WorkNumber head open_now text large allowed = (allowed, omega (arith, ltb-true LARGEST_COST (value_of text) large))
-large_number ForFrom head open_now text large allowed = (allowed, omega (arith, ltb-true LARGEST_BOUND (value_of text) large))
-large_number ForTo head open_now text large allowed = (allowed, omega (arith, ltb-true LARGEST_BOUND (value_of text) large))
+    → is_number_too_large place text ≡ true
+    → is_allowed place head open_now text ≡ true
+    → LargeHere text
+large_number WorkNumber head open_now text large allowed =
+    (allowed, omega (arith, ltb-true LARGEST_COST (value_of text) large))
+large_number ForFrom head open_now text large allowed =
+    (allowed, omega (arith, ltb-true LARGEST_BOUND (value_of text) large))
+large_number ForTo head open_now text large allowed =
+    (allowed, omega (arith, ltb-true LARGEST_BOUND (value_of text) large))
 large_number IfNumber head open_now text large allowed = (allowed, ltb-true 1 (value_of text) large)
-large_number FinalNumber head open_now text large allowed = (allowed, ltb-true 1 (value_of text) large)
+large_number FinalNumber head open_now text large allowed =
+    (allowed, ltb-true 1 (value_of text) large)
 large_number _ head open_now text large allowed = absurd cc
 
 abbrev DeepHere : List LoopBlock → List ℕ → Type 0
 DeepHere open_now text = (text ≡ codes "{") × (MOST_NESTING ≤ length open_now)
 
 deep_block : (place : LoopPlace) (head : LoopHead) (open_now : List LoopBlock) (text : List ℕ)
-    → nests_too_deep place open_now text ≡ true → is_allowed place head open_now text ≡ true → DeepHere open_now text
-deep_block GroupBrace head open_now text deep allowed = (same_text text (codes "{") allowed, leb-true MOST_NESTING (length open_now) deep)
-deep_block ForBrace head open_now text deep allowed = (same_text text (codes "{") allowed, leb-true MOST_NESTING (length open_now) deep)
-deep_block Clause head open_now text deep allowed =
-    (same_text text (codes "{") (left_is_true (is_text text (codes "{")) _ deep), leb-true MOST_NESTING (length open_now) (right_is_true (is_text text (codes "{")) _ deep))
+    → nests_too_deep place open_now text ≡ true
+    → is_allowed place head open_now text ≡ true
+    → DeepHere open_now text
+deep_block GroupBrace head open_now text deep allowed =
+    (same_text text (codes "{") allowed, leb-true MOST_NESTING (length open_now) deep)
+deep_block ForBrace head open_now text deep allowed =
+    (same_text text (codes "{") allowed, leb-true MOST_NESTING (length open_now) deep)
+deep_block Clause head open_now text deep allowed = (
+  same_text text (codes "{") (left_is_true (is_text text (codes "{")) _ deep),
+  leb-true MOST_NESTING (length open_now) (right_is_true (is_text text (codes "{")) _ deep),
+)
 deep_block _ head open_now text deep allowed = absurd cc
 
 -- the fault of a token that is one by itself
-at_place : (before : List Token) (state : State) (text : List ℕ) (kind : ReadKind) → Counts before state
-    → form_fault text ≡ None → place_fault state text ≡ Some kind → IsLoopWrong before text kind
+at_place : (before : List Token) (state : State) (text : List ℕ) (kind : ReadKind)
+    → Counts before state
+    → form_fault text ≡ None
+    → place_fault state text ≡ Some kind
+    → IsLoopWrong before text kind
 at_place before state text kind c formed h =
     let b = c.began in
     let s = shape_of state in
-    let closes_so : closes_nothing state.place state.tree.blocks text ≡ closes_none s.place s.around text = closes_same state.place state.tree.blocks text in
+    let closes_so : closes_nothing state.place state.tree.blocks text
+    ≡ closes_none s.place s.around text =
+    closes_same state.place state.tree.blocks text in
     row_cases (closes_nothing state.place state.tree.blocks text) Unopened kind _ h
     (λ closes same.
-    let whole = closes_at s.place s.has_if s.has_final s.variable s.variables s.around text (sym closes_so ∙ closes) in
-    let sentence : IsLoopSentence (texts before) = subst IsLoopSentence (append-nil (texts before)) (b.follows [] whole.1) in
-    subst (IsLoopWrong before text) same (Misplaced before text Unopened formed (is_not_viable before state text b (unfit_close state text closes)) (AfterWhole (texts before) text sentence whole.0)))
-    (λ unopened h1. row_cases (not (is_allowed state.place state.head state.tree.blocks text)) BadWord kind _ h1
+    let whole = closes_at s.place s.has_if s.has_final s.variable s.variables s.around text
+    (sym closes_so ∙ closes) in
+    let sentence : IsLoopSentence (texts before) = subst IsLoopSentence (append-nil (texts before))
+    (b.follows [] whole.1) in
+    subst (IsLoopWrong before text) same (Misplaced before text Unopened formed
+    (is_not_viable before state text b (unfit_close state text closes))
+    (AfterWhole (texts before) text sentence whole.0)))
+    (λ unopened h1.
+    row_cases (not (is_allowed state.place state.head state.tree.blocks text)) BadWord kind _ h1
     (λ bad same.
     let no_whole : IsLoopSentence (texts before) → text ≡ codes "}" → ⊥ =
-    λ sentence text_is. absurd (let wrong : true ≡ false = sym (whole_closes s.place s.around text (whole_now before state b sentence) text_is) ∙ sym closes_so ∙ unopened in cc) in
-    subst (IsLoopWrong before text) same (Misplaced before text BadWord formed (is_not_viable before state text b (unfit_word state text bad)) (Elsewhere (texts before) text no_whole)))
+    λ sentence text_is. absurd
+    (let wrong : true
+    ≡ false = sym (whole_closes s.place s.around text (whole_now before state b sentence) text_is)
+    ∙ sym closes_so
+    ∙ unopened in cc)
+    in
+    subst (IsLoopWrong before text) same (Misplaced before text BadWord formed
+    (is_not_viable before state text b (unfit_word state text bad))
+    (Elsewhere (texts before) text no_whole)))
     (λ allowed h2.
-    let allowed_so : is_allowed state.place state.head state.tree.blocks text ≡ true = is_true _ allowed in
-    let viable : IsLoopViable (texts before ++ text ∷ []) = viable_next before state text b (fits_of state text unopened allowed_so) in
+    let allowed_so : is_allowed state.place state.head state.tree.blocks text
+    ≡ true = is_true _ allowed in
+    let viable : IsLoopViable (texts before ++ text ∷ []) =
+    viable_next before state text b (fits_of state text unopened allowed_so) in
     row_cases (is_number_too_large state.place text) BadNumber kind _ h2
     (λ large same.
     let number = large_number state.place state.head state.tree.blocks text large allowed_so in
-    subst (IsLoopWrong before text) same (PastLimit before text BadNumber formed viable (LargeNumber before text number.0 number.1)))
+    subst (IsLoopWrong before text) same
+    (PastLimit before text BadNumber formed viable (LargeNumber before text number.0 number.1)))
     (λ small h3. row_cases (nests_too_deep state.place state.tree.blocks text) TooDeep kind _ h3
     (λ deep same.
     let block = deep_block state.place state.head state.tree.blocks text deep allowed_so in
-    let braces : length (open_braces before) ≡ length state.tree.blocks = ap length b.braces_are ∙ length-map state.tree.blocks (λ (one : LoopBlock). brace_of one.opening) in
-    subst (IsLoopWrong before text) same (PastLimit before text TooDeep formed viable (DeepBlock before text block.0 (omega (arith, block.1, braces)))))
+    let braces : length (open_braces before)
+    ≡ length state.tree.blocks = ap length b.braces_are
+    ∙ length-map state.tree.blocks (λ (one : LoopBlock). brace_of one.opening) in
+    subst (IsLoopWrong before text) same (PastLimit before text TooDeep formed viable
+    (DeepBlock before text block.0 (omega (arith, block.1, braces)))))
     (λ shallow none. absurd cc))))
 
-unless_err : {P : Type 0} (found : Option ReadKind) (line : ℕ) (after : Result State ReadFault) (fault : ReadFault)
+unless_err : {P : Type 0} (found : Option ReadKind) (line : ℕ) (after : Result State ReadFault)
+    (fault : ReadFault)
     → unless_fault found line after ≡ Err fault
     → ((kind : ReadKind) → found ≡ Some kind → fault_so kind line ≡ fault → P)
     → (found ≡ None → after ≡ Err fault → P) → P
 unless_err (Some kind) line after fault h here later = here kind refl cc
 unless_err None line after fault h here later = later refl h
 
-token_fault : (before later : List Token) (state : State) (token : Token) (end_line : ℕ) (fault : ReadFault)
-    → Counts before state → step state token ≡ Err fault → IsFirstLoopFault (before ++ token ∷ later) end_line fault
+token_fault : (before later : List Token) (state : State) (token : Token) (end_line : ℕ)
+    (fault : ReadFault)
+    → Counts before state
+    → step state token ≡ Err fault
+    → IsFirstLoopFault (before ++ token ∷ later) end_line fault
 unfolding step
 token_fault before later state token end_line fault c h =
-    let told : (kind : ReadKind) → IsLoopWrong before token.text kind → fault_so kind token.line ≡ fault → IsFirstLoopFault (before ++ token ∷ later) end_line fault =
-    λ kind wrong same. subst (IsFirstLoopFault (before ++ token ∷ later) end_line) same (AtToken before later token end_line kind c.in_place wrong) in
+    let told : (kind : ReadKind) → IsLoopWrong before token.text kind
+    → fault_so kind token.line ≡ fault → IsFirstLoopFault (before ++ token ∷ later) end_line fault =
+    λ kind wrong same. subst (IsFirstLoopFault (before ++ token ∷ later) end_line) same
+    (AtToken before later token end_line kind c.in_place wrong) in
     unless_err (form_fault token.text) token.line _ fault h
     (λ kind form same. told kind (ByItself before token.text kind form) same)
     (λ form h1. unless_err (place_fault state token.text) token.line _ fault h1
@@ -148,44 +212,61 @@ token_fault before later state token end_line fault c h =
 
 -- ---- the end
 
-end_by : (all : List Token) (place : LoopPlace) (hi hf : Bool) (vs : List (List ℕ)) (open_now : List LoopBlock) (end_line : ℕ) (fault : ReadFault)
+end_by : (all : List Token) (place : LoopPlace) (hi hf : Bool) (vs : List (List ℕ))
+    (open_now : List LoopBlock) (end_line : ℕ) (fault : ReadFault)
     → open_braces all ≡ brace_lines open_now
-    → (fits_at place hi hf vs (variables_of_each open_now) (codes "}") ≡ true → IsLoopViable (texts all ++ codes "}" ∷ []))
-    → (fits_at place hi hf vs (variables_of_each open_now) (codes "}") ≡ false → IsLoopViable (texts all ++ codes "}" ∷ []) → ⊥)
+    → (fits_at place hi hf vs (variables_of_each open_now) (codes "}") ≡ true
+    → IsLoopViable (texts all ++ codes "}" ∷ []))
+    → (fits_at place hi hf vs (variables_of_each open_now) (codes "}") ≡ false
+    → IsLoopViable (texts all ++ codes "}" ∷ []) → ⊥)
     → end_at place open_now end_line ≡ Some fault → EndsInLoops all end_line fault
 end_by all Statement hi hf vs [] end_line fault braces can cannot h = absurd cc
 end_by all Statement hi hf vs (block ∷ others) end_line fault braces can cannot h =
-    let same : fault_so Unclosed (brace_of block.opening) ≡ fault = cc in subst (EndsInLoops all end_line) same (BlockOpen all end_line (brace_of block.opening) (brace_lines others) (can refl) braces)
-end_by all _ hi hf vs open_now end_line fault braces can cannot h = let same : fault_so BadWord end_line ≡ fault = cc in subst (EndsInLoops all end_line) same (Inside all end_line (cannot refl))
+    let same : fault_so Unclosed (brace_of block.opening) ≡ fault = cc in
+    subst (EndsInLoops all end_line) same
+    (BlockOpen all end_line (brace_of block.opening) (brace_lines others) (can refl) braces)
+end_by all _ hi hf vs open_now end_line fault braces can cannot h =
+    let same : fault_so BadWord end_line ≡ fault = cc in
+    subst (EndsInLoops all end_line) same (Inside all end_line (cannot refl))
 
 whole_ends : (place : LoopPlace) (open_now : List LoopBlock) (line : ℕ) (fault : ReadFault)
-    → is_whole place (variables_of_each open_now) ≡ true → end_at place open_now line ≡ Some fault → ⊥
+    → is_whole place (variables_of_each open_now) ≡ true
+    → end_at place open_now line ≡ Some fault
+    → ⊥
 whole_ends Statement [] line fault h g = absurd cc
 whole_ends Statement (block ∷ others) line fault h g = absurd cc
 whole_ends _ open_now line fault h g = absurd cc
 
-ended_err : (found : Option ReadFault) (state : State) (fault : ReadFault) → tree_or_fault found state ≡ Err fault
+ended_err : (found : Option ReadFault) (state : State) (fault : ReadFault)
+    → tree_or_fault found state ≡ Err fault
     → found ≡ Some fault
 ended_err (Some other) state fault h = cc
 ended_err None state fault h = absurd cc
 
-ended_ok : (place : LoopPlace) (hi hf : Bool) (x : List ℕ) (vs : List (List ℕ)) (open_now : List LoopBlock) (line : ℕ) (state : State) (tree : Tree)
-    → tree_or_fault (end_at place open_now line) state ≡ Ok tree → FollowsAt place hi hf x vs (variables_of_each open_now) []
+ended_ok : (place : LoopPlace) (hi hf : Bool) (x : List ℕ) (vs : List (List ℕ))
+    (open_now : List LoopBlock) (line : ℕ) (state : State) (tree : Tree)
+    → tree_or_fault (end_at place open_now line) state ≡ Ok tree
+    → FollowsAt place hi hf x vs (variables_of_each open_now) []
 ended_ok Statement hi hf x vs [] line state tree h = nothing_follows hi hf x vs
 ended_ok Statement hi hf x vs (block ∷ others) line state tree h = absurd cc
 ended_ok _ hi hf x vs open_now line state tree h = absurd cc
 
-end_fault : (all : List Token) (state : State) (end_line : ℕ) (fault : ReadFault) → Counts all state
-    → end_at state.place state.tree.blocks end_line ≡ Some fault → IsFirstLoopFault all end_line fault
+end_fault : (all : List Token) (state : State) (end_line : ℕ) (fault : ReadFault)
+    → Counts all state
+    → end_at state.place state.tree.blocks end_line ≡ Some fault
+    → IsFirstLoopFault all end_line fault
 end_fault all state end_line fault c h =
     let b = c.began in
     let s = shape_of state in
-    AtEnd all end_line fault c.in_place (λ sentence. whole_ends state.place state.tree.blocks end_line fault (whole_now all state b sentence) h)
-    (end_by all state.place s.has_if s.has_final s.variables state.tree.blocks end_line fault b.braces_are (viable_next all state (codes "}") b) (is_not_viable all state (codes "}") b) h)
+    AtEnd all end_line fault c.in_place (λ sentence.
+    whole_ends state.place state.tree.blocks end_line fault (whole_now all state b sentence) h)
+    (end_by all state.place s.has_if s.has_final s.variables state.tree.blocks end_line fault
+    b.braces_are (viable_next all state (codes "}") b) (is_not_viable all state (codes "}") b) h)
 
 -- ---- the whole
 
-by_next_or_fault : {P : Type 0} (read : Result State ReadFault) (later : State → Result Tree ReadFault) (fault : ReadFault)
+by_next_or_fault : {P : Type 0} (read : Result State ReadFault)
+    (later : State → Result Tree ReadFault) (fault : ReadFault)
     → go_on read later ≡ Err fault
     → ((next : State) → read ≡ Ok next → later next ≡ Err fault → P) → (read ≡ Err fault → P) → P
 by_next_or_fault (Ok next) later fault h on stops = on next refl h
@@ -196,71 +277,103 @@ step_on : (read : Result State ReadFault) (later : State → Result Tree ReadFau
 step_on (Ok next) later tree h = (next, refl, h)
 step_on (Err fault) later tree h = absurd cc
 
-fault_from : (tokens before : List Token) (state : State) (end_line : ℕ) (fault : ReadFault) → Counts before state
-    → first_pass tokens end_line state ≡ Err fault → IsFirstLoopFault (before ++ tokens) end_line fault
+fault_from : (tokens before : List Token) (state : State) (end_line : ℕ) (fault : ReadFault)
+    → Counts before state
+    → first_pass tokens end_line state ≡ Err fault
+    → IsFirstLoopFault (before ++ tokens) end_line fault
 unfolding first_pass
 fault_from [] before state end_line fault c h =
-    subst (λ (ts : List Token). IsFirstLoopFault ts end_line fault) (sym (append-nil before)) (end_fault before state end_line fault c (ended_err (end_at state.place state.tree.blocks end_line) state fault h))
+    subst (λ (ts : List Token). IsFirstLoopFault ts end_line fault) (sym (append-nil before))
+    (end_fault before state end_line fault c
+    (ended_err (end_at state.place state.tree.blocks end_line) state fault h))
 fault_from (token ∷ tokens) before state end_line fault c h =
     by_next_or_fault (step state token) (λ next. first_pass tokens end_line next) fault h
-    (λ next one later. subst (λ (ts : List Token). IsFirstLoopFault ts end_line fault) (append_assoc before (token ∷ []) tokens)
-    (fault_from tokens (before ++ token ∷ []) next end_line fault (counts_more before state next token c one) later))
+    (λ next one later. subst (λ (ts : List Token). IsFirstLoopFault ts end_line fault)
+    (append_assoc before (token ∷ []) tokens)
+    (fault_from tokens (before ++ token ∷ []) next end_line fault
+    (counts_more before state next token c one) later))
     (λ stops. token_fault before tokens state token end_line fault c stops)
 
-whole_from : (tokens before : List Token) (state : State) (end_line : ℕ) (tree : Tree) → Counts before state
-    → first_pass tokens end_line state ≡ Ok tree → IsLoopSentence (texts (before ++ tokens))
+whole_from : (tokens before : List Token) (state : State) (end_line : ℕ) (tree : Tree)
+    → Counts before state
+    → first_pass tokens end_line state ≡ Ok tree
+    → IsLoopSentence (texts (before ++ tokens))
 unfolding first_pass
 whole_from [] before state end_line tree c h =
     let s = shape_of state in
-    let whole = c.began.follows [] (ended_ok s.place s.has_if s.has_final s.variable s.variables state.tree.blocks end_line state tree h) in
-    subst (λ (ts : List Token). IsLoopSentence (texts ts)) (sym (append-nil before)) (subst IsLoopSentence (append-nil (texts before)) whole)
+    let whole = c.began.follows [] (ended_ok s.place s.has_if s.has_final s.variable s.variables
+    state.tree.blocks end_line state tree h) in
+    subst (λ (ts : List Token). IsLoopSentence (texts ts)) (sym (append-nil before))
+    (subst IsLoopSentence (append-nil (texts before)) whole)
 whole_from (token ∷ tokens) before state end_line tree c h =
     let went = step_on (step state token) (λ next. first_pass tokens end_line next) tree h in
     subst (λ (ts : List Token). IsLoopSentence (texts ts)) (append_assoc before (token ∷ []) tokens)
-    (whole_from tokens (before ++ token ∷ []) went.0 end_line tree (counts_more before state went.0 token c went.1) went.2)
+    (whole_from tokens (before ++ token ∷ []) went.0 end_line tree
+    (counts_more before state went.0 token c went.1) went.2)
 
-sentence_of : (later : List (List ℕ)) → FollowsAt Statement false false [] [] [] later → IsLoopSentence later
+sentence_of : (later : List (List ℕ))
+    → FollowsAt Statement false false [] [] [] later
+    → IsLoopSentence later
 sentence_of later f = record { pieces = f.pieces; spelled = f.texts_are; forms = f.forms }
 
 at_start : Counts [] after_header
 unfolding variables_of
 at_start = record {
-  began = record { follows = λ later f. sentence_of later f; accepted = λ later s. sentence_accepted later s; braces_are = refl };
+  began = record {
+    follows = λ later f. sentence_of later f;
+    accepted = λ later s. sentence_accepted later s;
+    braces_are = refl;
+  };
   in_place = Nothing;
 }
 
-too_long : (text : List ℕ) → nat_lt MOST_TEXT_BYTES (length text) ≡ true → program_of text ≡ Err (fault_so TooLong 1)
+too_long : (text : List ℕ)
+    → nat_lt MOST_TEXT_BYTES (length text) ≡ true
+    → program_of text ≡ Err (fault_so TooLong 1)
 too_long text long = rw long refl
 
-same_fault : (read : Result ProgramMarks ReadFault) (one other : ReadFault) → read ≡ Err one → read ≡ Err other
+same_fault : (read : Result ProgramMarks ReadFault) (one other : ReadFault) → read ≡ Err one
+    → read ≡ Err other
     → one ≡ other
 same_fault read one other h g = cc
 
 either_pass : (text : List ℕ) (read : Result Tree ReadFault) (fault : ReadFault)
-    → first_pass (body_of text) (line_at_end 1 text) after_header ≡ read → then_second read ≡ Err fault
+    → first_pass (body_of text) (line_at_end 1 text) after_header ≡ read
+    → then_second read ≡ Err fault
     → HasLoopFault text fault
 either_pass text (Ok tree) fault first h =
-    OfExpansion text fault tree (whole_from (body_of text) [] after_header (line_at_end 1 text) tree at_start first) first h
+    OfExpansion text fault tree
+    (whole_from (body_of text) [] after_header (line_at_end 1 text) tree at_start first) first h
 either_pass text (Err other) fault first h =
     let same : other ≡ fault = cc in
-    subst (HasLoopFault text) same (OfTokens text other (fault_from (body_of text) [] after_header (line_at_end 1 text) other at_start first))
+    subst (HasLoopFault text) same (OfTokens text other
+    (fault_from (body_of text) [] after_header (line_at_end 1 text) other at_start first))
 
-told_in_loops : (text : List ℕ) → begins_version_two (tokens_of text) ≡ true → nat_lt MOST_TEXT_BYTES (length text) ≡ false
+told_in_loops : (text : List ℕ)
+    → begins_version_two (tokens_of text) ≡ true
+    → nat_lt MOST_TEXT_BYTES (length text) ≡ false
     → IsToldInLoops text
 told_in_loops text two short =
-    let so : program_of text ≡ two_passes text = of_two text (ltb-false MOST_TEXT_BYTES (length text) short) two in
+    let so : program_of text ≡ two_passes text =
+    of_two text (ltb-false MOST_TEXT_BYTES (length text) short) two in
     record {
       read = λ program h.
-          let went = went_through (first_pass (body_of text) (line_at_end 1 text) after_header) program (sym so ∙ h) in
+          let went = went_through (first_pass (body_of text) (line_at_end 1 text) after_header)
+          program (sym so ∙ h) in
           whole_from (body_of text) [] after_header (line_at_end 1 text) went.0 at_start went.1;
-      refused = λ fault h. either_pass text (first_pass (body_of text) (line_at_end 1 text) after_header) fault refl (sym so ∙ h);
+      refused = λ fault h. either_pass text
+          (first_pass (body_of text) (line_at_end 1 text) after_header) fault refl (sym so ∙ h);
     }
 
 long_in_loops : (text : List ℕ) → nat_lt MOST_TEXT_BYTES (length text) ≡ true → IsToldInLoops text
 long_in_loops text long = record {
   read = λ program h. absurd (let wrong = sym (too_long text long) ∙ h in cc);
-  refused = λ fault h. subst (HasLoopFault text) (same_fault (program_of text) (fault_so TooLong 1) fault (too_long text long) h) (TextTooLong text (ltb-true MOST_TEXT_BYTES (length text) long));
+  refused = λ fault h. subst (HasLoopFault text)
+      (same_fault (program_of text) (fault_so TooLong 1) fault (too_long text long) h)
+      (TextTooLong text (ltb-true MOST_TEXT_BYTES (length text) long));
 }
 
 pub loop_fault_is_first : (text : List ℕ) → LoopFaultIsFirst text
-loop_fault_is_first text two = bool_cases (nat_lt MOST_TEXT_BYTES (length text)) (λ long. long_in_loops text long) (λ short. told_in_loops text two short)
+loop_fault_is_first text two =
+    bool_cases (nat_lt MOST_TEXT_BYTES (length text)) (λ long. long_in_loops text long)
+    (λ short. told_in_loops text two short)

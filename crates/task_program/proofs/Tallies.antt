@@ -1,27 +1,48 @@
 -- What was counted on the tokens is what the reading has counted on the marks.
-use Rattle.std.proofs.Common.{◌≡◌, ℕ, ◌+◌, ◌≤◌, Bool, true, false, not, ◌&&◌, ◌||◌, cond, List, [], ◌∷◌, ◌++◌, length, map, length-append, Option, Some, None, refl, sym, ap, subst, ◌∙◌, arith, codes}
+use Rattle.std.proofs.Common.{◌≡◌, ℕ, ◌+◌, ◌≤◌, Bool, true, false, not, ◌&&◌, ◌||◌, cond, List, []}
+use Rattle.std.proofs.Common.{◌∷◌, ◌++◌, length, map, length-append, Option, Some, None, refl, sym}
+use Rattle.std.proofs.Common.{ap, subst, ◌∙◌, arith, codes}
 use Rattle.std.specs.Prelude.{fold, sum_by, nat_lt, nat_le}
 use Rattle.std.proofs.lemmas.Bool.{le-ltb, lt-ltb, leb-true, leb-false, eqb-true}
 use Rattle.std.proofs.lemmas.List.{map_push, length-map}
 use Rattle.std.proofs.lemmas.List.Sums.{fold-append, sum_by-append}
 use Rattle.program_text.specs.declared.fault.ReadKind.{ReadKind}
-use Rattle.program_text.specs.declared.fault.ReadKind.TheVariants.{BadNumber, TooDeep, TooManyTasks, TooManySegments, TooManyItems, WorkTooLarge}
+use Rattle.program_text.specs.declared.fault.ReadKind.TheVariants.{BadNumber, TooDeep, TooManyTasks}
+use Rattle.program_text.specs.declared.fault.ReadKind.TheVariants.{TooManySegments, TooManyItems}
+use Rattle.program_text.specs.declared.fault.ReadKind.TheVariants.{WorkTooLarge}
 use Rattle.task_program.specs.declared.place.Place.{Place}
-use Rattle.task_program.specs.declared.place.Place.TheVariants.{Header, Version, Statement, WorkNumber, GroupBrace, Clause, IfOpens, IfNumber, IfCloses, DependOpens, DependType, DependColon, DependName, DependMore}
+use Rattle.task_program.specs.declared.place.Place.TheVariants.{Header, Version, Statement}
+use Rattle.task_program.specs.declared.place.Place.TheVariants.{WorkNumber, GroupBrace, Clause}
+use Rattle.task_program.specs.declared.place.Place.TheVariants.{IfOpens, IfNumber, IfCloses}
+use Rattle.task_program.specs.declared.place.Place.TheVariants.{DependOpens, DependType}
+use Rattle.task_program.specs.declared.place.Place.TheVariants.{DependColon, DependName, DependMore}
 use Rattle.program_text.specs.declared.statement.DependKind.{DependKind}
-use Rattle.program_text.specs.declared.statement.DependKind.TheVariants.{DependIn, DependOut, DependInOut, DependInOutSet}
+use Rattle.program_text.specs.declared.statement.DependKind.TheVariants.{DependIn, DependOut}
+use Rattle.program_text.specs.declared.statement.DependKind.TheVariants.{DependInOut}
+use Rattle.program_text.specs.declared.statement.DependKind.TheVariants.{DependInOutSet}
 use Rattle.program_text.specs.declared.statement.Item.{Item}
 use Rattle.program_text.specs.Marks.{Mark}
 use Rattle.program_text.specs.Marks.Mark.{Begins, Ends, Works, Waits, GroupBegins, GroupEnds}
-use Rattle.program_text.specs.Limits.{tasks_begun, segments_opened, work_done, tasks_of, segments_of, work_of}
-use Rattle.program_text.specs.declared.limits.TheConstants.{MOST_TASKS, MOST_SEGMENTS, MOST_NESTING, MOST_ITEMS, MOST_WORK}
+use Rattle.program_text.specs.Limits.{tasks_begun, segments_opened, work_done, tasks_of}
+use Rattle.program_text.specs.Limits.{segments_of, work_of}
+use Rattle.program_text.specs.declared.limits.TheConstants.{MOST_TASKS, MOST_SEGMENTS, MOST_NESTING}
+use Rattle.program_text.specs.declared.limits.TheConstants.{MOST_ITEMS, MOST_WORK}
 use Rattle.task_program.specs.Names.{number_of_name}
 use Rattle.program_text.specs.Tokens.{Token, texts}
-use Rattle.program_text.specs.Words.{is_text, is_run, begins_with_digit, is_word, is_number, value_of, type_word, type_of}
+use Rattle.program_text.specs.Words.{is_text, is_run, begins_with_digit, is_word, is_number}
+use Rattle.program_text.specs.Words.{value_of, type_word, type_of}
 use Rattle.task_program.specs.Within.{pending_tasks, pending_segments}
-use Rattle.task_program.specs.Faults.{State, Block, is_header, is_allowed, is_number_too_large, nests_too_deep, is_task_too_many, are_segments_too_many, is_item_too_many, is_work_too_large, after_at, after_end_of, line_of_block}
+use Rattle.task_program.specs.Faults.{State, Block, is_header, is_allowed, is_number_too_large}
+use Rattle.task_program.specs.Faults.{nests_too_deep, is_task_too_many, are_segments_too_many}
+use Rattle.task_program.specs.Faults.{is_item_too_many, is_work_too_large, after_at, after_end_of}
+use Rattle.task_program.specs.Faults.{line_of_block}
 use Rattle.task_program.specs.Faults.Block.{TaskBlock, GroupBlock}
-use Rattle.task_program.specs.TokenCounts.{inside_after, is_inside, outside_from, outside, tasks_by, is_waiting, is_value_too_large, is_too_deep, is_task_past, is_segment_past, is_work_past, segments_by, work_by, tasks_in, segments_in, work_in, items_after, items_in, braces_after, open_braces, limit_by, limit_fault_after}
+use Rattle.task_program.specs.TokenCounts.{inside_after, is_inside, outside_from, outside, tasks_by}
+use Rattle.task_program.specs.TokenCounts.{is_waiting, is_value_too_large, is_too_deep}
+use Rattle.task_program.specs.TokenCounts.{is_task_past, is_segment_past, is_work_past, segments_by}
+use Rattle.task_program.specs.TokenCounts.{work_by, tasks_in, segments_in, work_in, items_after}
+use Rattle.task_program.specs.TokenCounts.{items_in, braces_after, open_braces, limit_by}
+use Rattle.task_program.specs.TokenCounts.{limit_fault_after}
 use Rattle.task_program.proofs.Keeping.{at, bool_cases, with_one}
 use Rattle.task_program.proofs.Shapes.{left_is_true, right_is_true}
 use Rattle.task_program.proofs.FoundPlaces.{same_text, or_true_right}
@@ -30,12 +51,14 @@ use Rattle.task_program.proofs.Found.{type_is, is_depend, is_end}
 -- ---- one token more
 
 outside_more : (inside : Bool) (before : List (List ℕ)) (text : List ℕ)
-    → outside_from inside (before ++ text ∷ []) ≡ outside_from inside before ++ cond (fold inside_after inside before) [] (text ∷ [])
+    → outside_from inside (before ++ text ∷ [])
+    ≡ outside_from inside before ++ cond (fold inside_after inside before) [] (text ∷ [])
 unfolding outside_from
 outside_more true [] text = refl
 outside_more false [] text = refl
 outside_more true (first ∷ before) text = outside_more (inside_after true first) before text
-outside_more false (first ∷ before) text = ap (λ (ts : List (List ℕ)). first ∷ ts) (outside_more (inside_after false first) before text)
+outside_more false (first ∷ before) text =
+    ap (λ (ts : List (List ℕ)). first ∷ ts) (outside_more (inside_after false first) before text)
 
 weigh_either : (weight : List ℕ → ℕ) (inside : Bool) (text : List ℕ)
     → sum_by weight (cond inside [] (text ∷ [])) ≡ cond inside 0 (weight text)
@@ -44,10 +67,13 @@ weigh_either weight false text = omega arith
 
 -- outside parentheses it counts
 sum_more : (weight : List ℕ → ℕ) (before : List (List ℕ)) (text : List ℕ)
-    → sum_by weight (outside (before ++ text ∷ [])) ≡ sum_by weight (outside before) + cond (is_inside before) 0 (weight text)
+    → sum_by weight (outside (before ++ text ∷ []))
+    ≡ sum_by weight (outside before) + cond (is_inside before) 0 (weight text)
 sum_more weight before text =
-    ap (sum_by weight) (outside_more false before text) ∙ sum_by-append weight (outside before) (cond (is_inside before) [] (text ∷ []))
-    ∙ ap (λ (n : ℕ). sum_by weight (outside before) + n) (weigh_either weight (is_inside before) text)
+    ap (sum_by weight) (outside_more false before text)
+    ∙ sum_by-append weight (outside before) (cond (is_inside before) [] (text ∷ []))
+    ∙ ap (λ (n : ℕ). sum_by weight (outside before) + n)
+    (weigh_either weight (is_inside before) text)
 
 pub record Tally : Type 0 where
   pub inside : Bool
@@ -58,31 +84,56 @@ pub record Tally : Type 0 where
   pub braces : List ℕ
 
 abbrev pub tally_so : (inside : Bool) (tasks segments work items : ℕ) (braces : List ℕ) → Tally
-tally_so inside tasks segments work items braces = record { inside = inside; tasks = tasks; segments = segments; work = work; items = items; braces = braces }
+tally_so inside tasks segments work items
+    braces = record {
+      inside = inside;
+      tasks = tasks;
+      segments = segments;
+      work = work;
+      items = items;
+      braces = braces;
+    }
 
-same_tally : (inside inside' : Bool) (tasks tasks' segments segments' work work' items items' : ℕ) (braces braces' : List ℕ)
-    → inside ≡ inside' → tasks ≡ tasks' → segments ≡ segments' → work ≡ work' → items ≡ items' → braces ≡ braces'
-    → tally_so inside tasks segments work items braces ≡ tally_so inside' tasks' segments' work' items' braces'
-same_tally inside inside' tasks tasks' segments segments' work work' items items' braces braces' a b c d e f = rw (a, b, c, d, e, f) refl
+same_tally : (inside inside' : Bool) (tasks tasks' segments segments' work work' items items' : ℕ)
+    (braces braces' : List ℕ)
+    → inside ≡ inside'
+    → tasks ≡ tasks'
+    → segments ≡ segments'
+    → work ≡ work'
+    → items ≡ items'
+    → braces ≡ braces'
+    → tally_so inside tasks segments work items braces
+    ≡ tally_so inside' tasks' segments' work' items' braces'
+same_tally inside inside' tasks tasks' segments segments' work work' items items' braces braces' a b
+    c d e f =
+    rw (a, b, c, d, e, f) refl
 
 abbrev pub tally_of : List Token → Tally
 tally_of body =
     let before = texts body in
-    tally_so (is_inside before) (tasks_in before) (segments_in before) (work_in before) (items_in before) (open_braces body)
+    tally_so (is_inside before) (tasks_in before) (segments_in before) (work_in before)
+    (items_in before) (open_braces body)
 
 abbrev pub tally_after : Tally → Token → Tally
 tally_after t token =
-    tally_so (inside_after t.inside token.text) (t.tasks + cond t.inside 0 (tasks_by token.text)) (t.segments + cond t.inside 0 (segments_by token.text))
-    (t.work + cond t.inside 0 (work_by token.text)) (items_after t.items token.text) (braces_after t.braces token)
+    tally_so (inside_after t.inside token.text) (t.tasks + cond t.inside 0 (tasks_by token.text))
+    (t.segments + cond t.inside 0 (segments_by token.text))
+    (t.work + cond t.inside 0 (work_by token.text)) (items_after t.items token.text)
+    (braces_after t.braces token)
 
-pub tally_more : (body : List Token) (token : Token) → tally_of (body ++ token ∷ []) ≡ tally_after (tally_of body) token
+pub tally_more : (body : List Token) (token : Token)
+    → tally_of (body ++ token ∷ []) ≡ tally_after (tally_of body) token
 tally_more body token =
     let before = texts body in
     let text = token.text in
-    let more : texts (body ++ token ∷ []) ≡ before ++ text ∷ [] = map_push (λ (t : Token). t.text) body token in
-    let segments_more : segments_in (before ++ text ∷ []) ≡ segments_in before + cond (is_inside before) 0 (segments_by text) = omega (arith, sum_more segments_by before text) in
+    let more : texts (body ++ token ∷ []) ≡ before ++ text ∷ [] =
+    map_push (λ (t : Token). t.text) body token in
+    let segments_more : segments_in (before ++ text ∷ [])
+    ≡ segments_in before + cond (is_inside before) 0 (segments_by text) =
+    omega (arith, sum_more segments_by before text) in
     same_tally _ _ _ _ _ _ _ _ _ _ _ _
-    (ap (λ (ts : List (List ℕ)). is_inside ts) more ∙ fold-append inside_after false before (text ∷ []))
+    (ap (λ (ts : List (List ℕ)). is_inside ts) more
+    ∙ fold-append inside_after false before (text ∷ []))
     (ap (λ (ts : List (List ℕ)). tasks_in ts) more ∙ sum_more tasks_by before text)
     (ap (λ (ts : List (List ℕ)). segments_in ts) more ∙ segments_more)
     (ap (λ (ts : List (List ℕ)). work_in ts) more ∙ sum_more work_by before text)
@@ -107,7 +158,8 @@ item_coming _ = 0
 
 abbrev pub tally_at : Place → State → Tally
 tally_at place state =
-    tally_so (is_inside_at place) (tasks_of state.tree.marks + pending_tasks place) (segments_of state.tree.marks + pending_segments place) (work_of state.tree.marks)
+    tally_so (is_inside_at place) (tasks_of state.tree.marks + pending_tasks place)
+    (segments_of state.tree.marks + pending_segments place) (work_of state.tree.marks)
     (length state.head.items + item_coming place) (map line_of_block state.tree.blocks)
 
 -- where no task is begun
@@ -126,7 +178,9 @@ abbrev token_so : List ℕ → ℕ → Token
 token_so text line = record { text = text; line = line }
 
 abbrev Tallies : Place → State → List ℕ → ℕ → Type 0
-Tallies place state text line = tally_after (tally_at place state) (token_so text line) ≡ tally_now (after_at place (at state place) text line)
+Tallies place state text line =
+    tally_after (tally_at place state) (token_so text line)
+    ≡ tally_now (after_at place (at state place) text line)
 
 -- ---- tokens that are no signs
 
@@ -142,7 +196,8 @@ pub other_text : (test : List ℕ → Bool) (text word : List ℕ) → test text
     → is_text text word ≡ false
 other_text test text word h g =
     bool_cases (is_text text word)
-    (λ same. absurd (let wrong : true ≡ false = sym h ∙ ap test (same_text text word same) ∙ g in cc))
+    (λ same.
+    absurd (let wrong : true ≡ false = sym h ∙ ap test (same_text text word same) ∙ g in cc))
     (λ other. other)
 
 no_sign_number : (text : List ℕ) → is_number text ≡ true → NoSign text
@@ -178,26 +233,43 @@ braces_stay braces text line n = rw (n.brace, n.end) refl
 -- ---- the places
 
 end_tallies : (state : State) (blocks : List Block) (marks : List Mark) (line : ℕ)
-    → tally_after (tally_at Statement (record state { tree = record { blocks = blocks; marks = marks } })) (token_so (codes "}") line) ≡ tally_at Statement (record state { tree = after_end_of blocks marks })
-end_tallies state [] marks line = same_tally _ _ _ _ _ _ _ _ _ _ _ _ refl (omega arith) (omega arith) (omega arith) (omega arith) refl
+    → tally_after
+    (tally_at Statement (record state { tree = record { blocks = blocks; marks = marks } }))
+    (token_so (codes "}") line)
+    ≡ tally_at Statement (record state { tree = after_end_of blocks marks })
+end_tallies state [] marks line =
+    same_tally _ _ _ _ _ _ _ _ _ _ _ _ refl (omega arith) (omega arith) (omega arith) (omega arith)
+    refl
 end_tallies state (TaskBlock brace ∷ blocks) marks line =
-    same_tally _ _ _ _ _ _ _ _ _ _ _ _ refl (omega (arith, with_one tasks_begun marks Ends)) (omega (arith, with_one segments_opened marks Ends)) (omega (arith, with_one work_done marks Ends)) (omega arith) refl
+    same_tally _ _ _ _ _ _ _ _ _ _ _ _ refl (omega (arith, with_one tasks_begun marks Ends))
+    (omega (arith, with_one segments_opened marks Ends))
+    (omega (arith, with_one work_done marks Ends)) (omega arith) refl
 end_tallies state (GroupBlock brace ∷ blocks) marks line =
-    same_tally _ _ _ _ _ _ _ _ _ _ _ _ refl (omega (arith, with_one tasks_begun marks GroupEnds)) (omega (arith, with_one segments_opened marks GroupEnds)) (omega (arith, with_one work_done marks GroupEnds)) (omega arith) refl
+    same_tally _ _ _ _ _ _ _ _ _ _ _ _ refl (omega (arith, with_one tasks_begun marks GroupEnds))
+    (omega (arith, with_one segments_opened marks GroupEnds))
+    (omega (arith, with_one work_done marks GroupEnds)) (omega arith) refl
 
-statement_tallies : (state : State) (text : List ℕ) (line : ℕ) → is_allowed Statement state.head.has_if text ≡ true
+statement_tallies : (state : State) (text : List ℕ) (line : ℕ)
+    → is_allowed Statement state.head.has_if text ≡ true
     → Tallies Statement state text line
 statement_tallies state text line allowed =
     let marks = state.tree.marks in
     bool_cases (is_text text (codes "work"))
-    (λ work. rw (same_text text (codes "work") work) (same_tally _ _ _ _ _ _ _ _ _ _ _ _ refl (omega arith) (omega arith) (omega arith) (omega arith) refl))
+    (λ work. rw (same_text text (codes "work") work) (same_tally _ _ _ _ _ _ _ _ _ _ _ _ refl
+    (omega arith) (omega arith) (omega arith) (omega arith) refl))
     (λ no_work. bool_cases (is_text text (codes "task"))
-    (λ task. rw (same_text text (codes "task") task) (same_tally _ _ _ _ _ _ _ _ _ _ _ _ refl (omega arith) (omega arith) (omega arith) (omega arith) refl))
+    (λ task. rw (same_text text (codes "task") task) (same_tally _ _ _ _ _ _ _ _ _ _ _ _ refl
+    (omega arith) (omega arith) (omega arith) (omega arith) refl))
     (λ no_task. bool_cases (is_text text (codes "taskwait"))
-    (λ wait. rw (same_text text (codes "taskwait") wait) (same_tally _ _ _ _ _ _ _ _ _ _ _ _ refl (omega (arith, with_one tasks_begun marks Waits)) (omega (arith, with_one segments_opened marks Waits)) (omega (arith, with_one work_done marks Waits)) (omega arith) refl))
+    (λ wait. rw (same_text text (codes "taskwait") wait) (same_tally _ _ _ _ _ _ _ _ _ _ _ _ refl
+    (omega (arith, with_one tasks_begun marks Waits))
+    (omega (arith, with_one segments_opened marks Waits))
+    (omega (arith, with_one work_done marks Waits)) (omega arith) refl))
     (λ no_wait. bool_cases (is_text text (codes "taskgroup"))
-    (λ group. rw (same_text text (codes "taskgroup") group) (same_tally _ _ _ _ _ _ _ _ _ _ _ _ refl (omega arith) (omega arith) (omega arith) (omega arith) refl))
-    (λ no_group. rw (is_end text allowed no_work no_task no_wait no_group) (end_tallies state state.tree.blocks marks line)))))
+    (λ group. rw (same_text text (codes "taskgroup") group) (same_tally _ _ _ _ _ _ _ _ _ _ _ _ refl
+    (omega arith) (omega arith) (omega arith) (omega arith) refl))
+    (λ no_group. rw (is_end text allowed no_work no_task no_wait no_group)
+    (end_tallies state state.tree.blocks marks line)))))
 
 number_weight : (text : List ℕ) → is_number text ≡ true
     → (tasks_by text ≡ 0) × (segments_by text ≡ 0) × (work_by text ≡ value_of text)
@@ -207,62 +279,96 @@ number_weight text h =
     let group = other_text is_number text (codes "taskgroup") h refl in
     (rw task refl, rw (task, wait, group) refl, rw h refl)
 
-work_tallies : (state : State) (text : List ℕ) (line : ℕ) → is_number text ≡ true → Tallies WorkNumber state text line
+work_tallies : (state : State) (text : List ℕ) (line : ℕ)
+    → is_number text ≡ true
+    → Tallies WorkNumber state text line
 work_tallies state text line number =
     let n = no_sign_number text number in
     let w = number_weight text number in
     let marks = state.tree.marks in
     let mark = Works (value_of text) in
-    same_tally _ _ _ _ _ _ _ _ _ _ _ _ (inside_stays false text n) (omega (arith, w.0, with_one tasks_begun marks mark)) (omega (arith, w.1, with_one segments_opened marks mark))
-    (omega (arith, w.2, with_one work_done marks mark)) (items_stay _ text n) (braces_stay _ text line n)
+    same_tally _ _ _ _ _ _ _ _ _ _ _ _ (inside_stays false text n)
+    (omega (arith, w.0, with_one tasks_begun marks mark))
+    (omega (arith, w.1, with_one segments_opened marks mark))
+    (omega (arith, w.2, with_one work_done marks mark)) (items_stay _ text n)
+    (braces_stay _ text line n)
 
 no_items_long : (items : List Item) → items ≡ [] → length items ≡ 0
 no_items_long items h = ap length h
 
-group_tallies : (state : State) (line : ℕ) → state.head.items ≡ [] → Tallies GroupBrace state (codes "{") line
+group_tallies : (state : State) (line : ℕ)
+    → state.head.items ≡ []
+    → Tallies GroupBrace state (codes "{") line
 group_tallies state line none =
     let marks = state.tree.marks in
-    same_tally _ _ _ _ _ _ _ _ _ _ _ _ refl (omega (arith, with_one tasks_begun marks GroupBegins)) (omega (arith, with_one segments_opened marks GroupBegins)) (omega (arith, with_one work_done marks GroupBegins))
+    same_tally _ _ _ _ _ _ _ _ _ _ _ _ refl (omega (arith, with_one tasks_begun marks GroupBegins))
+    (omega (arith, with_one segments_opened marks GroupBegins))
+    (omega (arith, with_one work_done marks GroupBegins))
     (omega (arith, no_items_long state.head.items none)) refl
 
-clause_tallies : (state : State) (text : List ℕ) (line : ℕ) → is_allowed Clause state.head.has_if text ≡ true
+clause_tallies : (state : State) (text : List ℕ) (line : ℕ)
+    → is_allowed Clause state.head.has_if text ≡ true
     → Tallies Clause state text line
 clause_tallies state text line allowed =
     let marks = state.tree.marks in
     let mark = Begins state.head.undeferred state.head.items in
     bool_cases (is_text text (codes "{"))
-    (λ brace. rw (same_text text (codes "{") brace) (same_tally _ _ _ _ _ _ _ _ _ _ _ _ refl (omega (arith, with_one tasks_begun marks mark)) (omega (arith, with_one segments_opened marks mark)) (omega (arith, with_one work_done marks mark)) (omega arith) refl))
+    (λ brace. rw (same_text text (codes "{") brace) (same_tally _ _ _ _ _ _ _ _ _ _ _ _ refl
+    (omega (arith, with_one tasks_begun marks mark))
+    (omega (arith, with_one segments_opened marks mark))
+    (omega (arith, with_one work_done marks mark)) (omega arith) refl))
     (λ no_brace. bool_cases (is_text text (codes "if"))
-    (λ if_word. rw (same_text text (codes "if") if_word) (same_tally _ _ _ _ _ _ _ _ _ _ _ _ refl (omega arith) (omega arith) (omega arith) (omega arith) refl))
-    (λ no_if. rw (is_depend text state.head.has_if allowed no_brace no_if) (same_tally _ _ _ _ _ _ _ _ _ _ _ _ refl (omega arith) (omega arith) (omega arith) (omega arith) refl)))
+    (λ if_word. rw (same_text text (codes "if") if_word) (same_tally _ _ _ _ _ _ _ _ _ _ _ _ refl
+    (omega arith) (omega arith) (omega arith) (omega arith) refl))
+    (λ no_if. rw (is_depend text state.head.has_if allowed no_brace no_if)
+    (same_tally _ _ _ _ _ _ _ _ _ _ _ _ refl (omega arith) (omega arith) (omega arith) (omega arith)
+    refl)))
 
 if_number_tallies : (state : State) (text : List ℕ) (line : ℕ) → is_number text ≡ true
     → Tallies IfNumber state text line
 if_number_tallies state text line number =
     let n = no_sign_number text number in
-    same_tally _ _ _ _ _ _ _ _ _ _ _ _ (inside_stays true text n) (omega arith) (omega arith) (omega arith) (items_stay _ text n) (braces_stay _ text line n)
+    same_tally _ _ _ _ _ _ _ _ _ _ _ _ (inside_stays true text n) (omega arith) (omega arith)
+    (omega arith) (items_stay _ text n) (braces_stay _ text line n)
 
 type_tallies : (state : State) (kind : DependKind) (line : ℕ)
-    → tally_after (tally_at DependType state) (token_so (type_word kind) line) ≡ tally_at (DependColon kind) state
-type_tallies state DependIn line = same_tally _ _ _ _ _ _ _ _ _ _ _ _ refl (omega arith) (omega arith) (omega arith) (omega arith) refl
-type_tallies state DependOut line = same_tally _ _ _ _ _ _ _ _ _ _ _ _ refl (omega arith) (omega arith) (omega arith) (omega arith) refl
-type_tallies state DependInOut line = same_tally _ _ _ _ _ _ _ _ _ _ _ _ refl (omega arith) (omega arith) (omega arith) (omega arith) refl
-type_tallies state DependInOutSet line = same_tally _ _ _ _ _ _ _ _ _ _ _ _ refl (omega arith) (omega arith) (omega arith) (omega arith) refl
+    → tally_after (tally_at DependType state) (token_so (type_word kind) line)
+    ≡ tally_at (DependColon kind) state
+type_tallies state DependIn line =
+    same_tally _ _ _ _ _ _ _ _ _ _ _ _ refl (omega arith) (omega arith) (omega arith) (omega arith)
+    refl
+type_tallies state DependOut line =
+    same_tally _ _ _ _ _ _ _ _ _ _ _ _ refl (omega arith) (omega arith) (omega arith) (omega arith)
+    refl
+type_tallies state DependInOut line =
+    same_tally _ _ _ _ _ _ _ _ _ _ _ _ refl (omega arith) (omega arith) (omega arith) (omega arith)
+    refl
+type_tallies state DependInOutSet line =
+    same_tally _ _ _ _ _ _ _ _ _ _ _ _ refl (omega arith) (omega arith) (omega arith) (omega arith)
+    refl
 
 name_tallies : (state : State) (kind : DependKind) (text : List ℕ) (line : ℕ) → is_word text ≡ true
     → Tallies (DependName kind) state text line
 name_tallies state kind text line word =
     let n = no_sign_word text word in
     let item : Item = record { kind = kind; name = number_of_name state.names text } in
-    let items_are : length (state.head.items ++ item ∷ []) ≡ length state.head.items + 1 = length-append state.head.items (item ∷ []) in
-    same_tally _ _ _ _ _ _ _ _ _ _ _ _ (inside_stays true text n) (omega arith) (omega arith) (omega arith) (items_stay _ text n ∙ omega (arith, items_are)) (braces_stay _ text line n)
+    let items_are : length (state.head.items ++ item ∷ []) ≡ length state.head.items + 1 =
+    length-append state.head.items (item ∷ []) in
+    same_tally _ _ _ _ _ _ _ _ _ _ _ _ (inside_stays true text n) (omega arith) (omega arith)
+    (omega arith) (items_stay _ text n ∙ omega (arith, items_are)) (braces_stay _ text line n)
 
 more_tallies : (state : State) (kind : DependKind) (text : List ℕ) (line : ℕ)
-    → is_allowed (DependMore kind) state.head.has_if text ≡ true → Tallies (DependMore kind) state text line
+    → is_allowed (DependMore kind) state.head.has_if text ≡ true
+    → Tallies (DependMore kind) state text line
 more_tallies state kind text line allowed =
     bool_cases (is_text text (codes ","))
-    (λ comma. rw (same_text text (codes ",") comma) (same_tally _ _ _ _ _ _ _ _ _ _ _ _ refl (omega arith) (omega arith) (omega arith) (omega arith) refl))
-    (λ other. rw (same_text text (codes ")") (or_true_right (is_text text (codes ",")) (is_text text (codes ")")) allowed other)) (same_tally _ _ _ _ _ _ _ _ _ _ _ _ refl (omega arith) (omega arith) (omega arith) (omega arith) refl))
+    (λ comma. rw (same_text text (codes ",") comma) (same_tally _ _ _ _ _ _ _ _ _ _ _ _ refl
+    (omega arith) (omega arith) (omega arith) (omega arith) refl))
+    (λ other. rw
+    (same_text text (codes ")")
+    (or_true_right (is_text text (codes ",")) (is_text text (codes ")")) allowed other))
+    (same_tally _ _ _ _ _ _ _ _ _ _ _ _ refl (omega arith) (omega arith) (omega arith) (omega arith)
+    refl))
 
 -- a token after the header
 abbrev pub is_past_header : Place → Bool
@@ -270,85 +376,139 @@ is_past_header Header = false
 is_past_header Version = false
 is_past_header _ = true
 
-pub place_tallies : (place : Place) (state : State) (text : List ℕ) (line : ℕ) → is_past_header place ≡ true
-    → NoItems place state.head.items → is_allowed place state.head.has_if text ≡ true → Tallies place state text line
+pub place_tallies : (place : Place) (state : State) (text : List ℕ) (line : ℕ)
+    → is_past_header place ≡ true
+    → NoItems place state.head.items
+    → is_allowed place state.head.has_if text ≡ true
+    → Tallies place state text line
 place_tallies Header state text line past none allowed = absurd cc
 place_tallies Version state text line past none allowed = absurd cc
-place_tallies Statement state text line past none allowed = statement_tallies state text line allowed
+place_tallies Statement state text line past none allowed =
+    statement_tallies state text line allowed
 place_tallies WorkNumber state text line past none allowed = work_tallies state text line allowed
-place_tallies GroupBrace state text line past none allowed = rw (same_text text (codes "{") allowed) (group_tallies state line none)
+place_tallies GroupBrace state text line past none allowed =
+    rw (same_text text (codes "{") allowed) (group_tallies state line none)
 place_tallies Clause state text line past none allowed = clause_tallies state text line allowed
-place_tallies IfOpens state text line past none allowed = rw (same_text text (codes "(") allowed) (same_tally _ _ _ _ _ _ _ _ _ _ _ _ refl (omega arith) (omega arith) (omega arith) (omega arith) refl)
+place_tallies IfOpens state text line past none allowed =
+    rw (same_text text (codes "(") allowed) (same_tally _ _ _ _ _ _ _ _ _ _ _ _ refl (omega arith)
+    (omega arith) (omega arith) (omega arith) refl)
 place_tallies IfNumber state text line past none allowed = if_number_tallies state text line allowed
-place_tallies IfCloses state text line past none allowed = rw (same_text text (codes ")") allowed) (same_tally _ _ _ _ _ _ _ _ _ _ _ _ refl (omega arith) (omega arith) (omega arith) (omega arith) refl)
-place_tallies DependOpens state text line past none allowed = rw (same_text text (codes "(") allowed) (same_tally _ _ _ _ _ _ _ _ _ _ _ _ refl (omega arith) (omega arith) (omega arith) (omega arith) refl)
+place_tallies IfCloses state text line past none allowed =
+    rw (same_text text (codes ")") allowed) (same_tally _ _ _ _ _ _ _ _ _ _ _ _ refl (omega arith)
+    (omega arith) (omega arith) (omega arith) refl)
+place_tallies DependOpens state text line past none allowed =
+    rw (same_text text (codes "(") allowed) (same_tally _ _ _ _ _ _ _ _ _ _ _ _ refl (omega arith)
+    (omega arith) (omega arith) (omega arith) refl)
 place_tallies DependType state text line past none allowed =
-    subst (λ (t : List ℕ). tally_after (tally_at DependType state) (token_so t line) ≡ tally_at (DependColon (type_of text)) state) (sym (type_is text allowed)) (type_tallies state (type_of text) line)
-place_tallies (DependColon kind) state text line past none allowed = rw (same_text text (codes ":") allowed) (same_tally _ _ _ _ _ _ _ _ _ _ _ _ refl (omega arith) (omega arith) (omega arith) (omega arith) refl)
-place_tallies (DependName kind) state text line past none allowed = name_tallies state kind text line allowed
-place_tallies (DependMore kind) state text line past none allowed = more_tallies state kind text line allowed
+    subst
+    (λ (t : List ℕ). tally_after (tally_at DependType state) (token_so t line)
+    ≡ tally_at (DependColon (type_of text)) state)
+    (sym (type_is text allowed)) (type_tallies state (type_of text) line)
+place_tallies (DependColon kind) state text line past none allowed =
+    rw (same_text text (codes ":") allowed) (same_tally _ _ _ _ _ _ _ _ _ _ _ _ refl (omega arith)
+    (omega arith) (omega arith) (omega arith) refl)
+place_tallies (DependName kind) state text line past none allowed =
+    name_tallies state kind text line allowed
+place_tallies (DependMore kind) state text line past none allowed =
+    more_tallies state kind text line allowed
 
 -- ---- the limits
 
 -- the rows of the limits, in their order
 abbrev table : (number deep task segment item work : Bool) → Option ReadKind
 table number deep task segment item work =
-    cond number (Some BadNumber) (cond deep (Some TooDeep) (cond task (Some TooManyTasks) (cond segment (Some TooManySegments) (cond item (Some TooManyItems) (cond work (Some WorkTooLarge) None)))))
+    cond number (Some BadNumber) (cond deep (Some TooDeep) (cond task (Some TooManyTasks)
+    (cond segment (Some TooManySegments)
+    (cond item (Some TooManyItems) (cond work (Some WorkTooLarge) None)))))
 
-same_table : (a b c d e f a' b' c' d' e' f' : Bool) → a ≡ a' → b ≡ b' → c ≡ c' → d ≡ d' → e ≡ e' → f ≡ f'
+same_table : (a b c d e f a' b' c' d' e' f' : Bool)
+    → a ≡ a'
+    → b ≡ b'
+    → c ≡ c'
+    → d ≡ d'
+    → e ≡ e'
+    → f ≡ f'
     → table a b c d e f ≡ table a' b' c' d' e' f'
 same_table a b c d e f a' b' c' d' e' f' h1 h2 h3 h4 h5 h6 = rw (h1, h2, h3, h4, h5, h6) refl
 
 -- what the reading tests at its place
 abbrev pub limits : State → List ℕ → Option ReadKind
 limits state text =
-    table (is_number_too_large state.place text) (nests_too_deep state.place state.tree.blocks text) (is_task_too_many state.place state.tree.marks text)
-    (are_segments_too_many state.place state.tree.marks text) (is_item_too_many state.place state.head.items) (is_work_too_large state.place state.tree.marks text)
+    table (is_number_too_large state.place text) (nests_too_deep state.place state.tree.blocks text)
+    (is_task_too_many state.place state.tree.marks text)
+    (are_segments_too_many state.place state.tree.marks text)
+    (is_item_too_many state.place state.head.items)
+    (is_work_too_large state.place state.tree.marks text)
 
 abbrev pub limit_of : Tally → List ℕ → Option ReadKind
 limit_of t text = limit_by t.inside t.tasks t.segments t.work t.items (length t.braces) text
 
 -- each row by itself
 limit_at : (place : Place) (state : State) (text : List ℕ) (a b c d e f : Bool)
-    → is_value_too_large (is_inside_at place) text ≡ a → is_too_deep (length (map line_of_block state.tree.blocks)) text ≡ b
+    → is_value_too_large (is_inside_at place) text ≡ a
+    → is_too_deep (length (map line_of_block state.tree.blocks)) text ≡ b
     → is_task_past (is_inside_at place) (tasks_of state.tree.marks + pending_tasks place) text ≡ c
-    → is_segment_past (is_inside_at place) (segments_of state.tree.marks + pending_segments place) text ≡ d
+    → is_segment_past (is_inside_at place) (segments_of state.tree.marks + pending_segments place)
+    text
+    ≡ d
     → nat_lt MOST_ITEMS (length state.head.items + item_coming place) ≡ e
     → is_work_past (is_inside_at place) (work_of state.tree.marks) text ≡ f
     → limit_of (tally_at place state) text ≡ table a b c d e f
 limit_at place state text a b c d e f h1 h2 h3 h4 h5 h6 =
-    same_table (is_value_too_large (is_inside_at place) text) (is_too_deep (length (map line_of_block state.tree.blocks)) text)
+    same_table (is_value_too_large (is_inside_at place) text)
+    (is_too_deep (length (map line_of_block state.tree.blocks)) text)
     (is_task_past (is_inside_at place) (tasks_of state.tree.marks + pending_tasks place) text)
-    (is_segment_past (is_inside_at place) (segments_of state.tree.marks + pending_segments place) text)
-    (nat_lt MOST_ITEMS (length state.head.items + item_coming place)) (is_work_past (is_inside_at place) (work_of state.tree.marks) text)
+    (is_segment_past (is_inside_at place) (segments_of state.tree.marks + pending_segments place)
+    text)
+    (nat_lt MOST_ITEMS (length state.head.items + item_coming place))
+    (is_work_past (is_inside_at place) (work_of state.tree.marks) text)
     a b c d e f h1 h2 h3 h4 h5 h6
 
-value_off : (inside : Bool) (text : List ℕ) → is_number text ≡ false → is_value_too_large inside text ≡ false
+value_off : (inside : Bool) (text : List ℕ)
+    → is_number text ≡ false
+    → is_value_too_large inside text ≡ false
 value_off inside text number = rw number refl
 
-deep_off : (depth : ℕ) (text : List ℕ) → is_text text (codes "{") ≡ false → is_too_deep depth text ≡ false
+deep_off : (depth : ℕ) (text : List ℕ)
+    → is_text text (codes "{") ≡ false
+    → is_too_deep depth text ≡ false
 deep_off depth text brace = rw brace refl
 
 and_off : (a b : Bool) → (a && (false && b)) ≡ false
 and_off true b = refl
 and_off false b = refl
 
-work_off : (inside : Bool) (work : ℕ) (text : List ℕ) → is_number text ≡ false → is_work_past inside work text ≡ false
-work_off inside work text number = rw number (and_off (not inside) (nat_lt MOST_WORK (work + value_of text)))
+work_off : (inside : Bool) (work : ℕ) (text : List ℕ)
+    → is_number text ≡ false
+    → is_work_past inside work text ≡ false
+work_off inside work text number =
+    rw number (and_off (not inside) (nat_lt MOST_WORK (work + value_of text)))
 
-few_items : (place : Place) (state : State) → item_coming place ≡ 0 → length state.head.items ≤ MOST_ITEMS
+few_items : (place : Place) (state : State)
+    → item_coming place ≡ 0
+    → length state.head.items ≤ MOST_ITEMS
     → nat_lt MOST_ITEMS (length state.head.items + item_coming place) ≡ false
-few_items place state none few = le-ltb MOST_ITEMS (length state.head.items + item_coming place) (omega (arith, none, few))
+few_items place state none few =
+    le-ltb MOST_ITEMS (length state.head.items + item_coming place) (omega (arith, none, few))
 
 -- a token that passes no limit
-passes_no_limit : (place : Place) (state : State) (text : List ℕ) → item_coming place ≡ 0 → length state.head.items ≤ MOST_ITEMS
-    → is_number text ≡ false → is_text text (codes "{") ≡ false
-    → is_task_past (is_inside_at place) (tasks_of state.tree.marks + pending_tasks place) text ≡ false
-    → is_segment_past (is_inside_at place) (segments_of state.tree.marks + pending_segments place) text ≡ false
+passes_no_limit : (place : Place) (state : State) (text : List ℕ)
+    → item_coming place ≡ 0
+    → length state.head.items ≤ MOST_ITEMS
+    → is_number text ≡ false
+    → is_text text (codes "{") ≡ false
+    → is_task_past (is_inside_at place) (tasks_of state.tree.marks + pending_tasks place) text
+    ≡ false
+    → is_segment_past (is_inside_at place) (segments_of state.tree.marks + pending_segments place)
+    text
+    ≡ false
     → limit_of (tally_at place state) text ≡ None
 passes_no_limit place state text none few number brace task segment =
-    limit_at place state text false false false false false false (value_off (is_inside_at place) text number) (deep_off (length (map line_of_block state.tree.blocks)) text brace) task segment
-    (few_items place state none few) (work_off (is_inside_at place) (work_of state.tree.marks) text number)
+    limit_at place state text false false false false false false
+    (value_off (is_inside_at place) text number)
+    (deep_off (length (map line_of_block state.tree.blocks)) text brace) task segment
+    (few_items place state none few)
+    (work_off (is_inside_at place) (work_of state.tree.marks) text number)
 
 abbrev LimitsSame : Place → State → List ℕ → Type 0
 LimitsSame place state text = limit_of (tally_at place state) text ≡ limits (at state place) text
@@ -370,34 +530,53 @@ statement_text P work_so task_so wait_so group_so end_so text has_if allowed =
 statement_limits : (state : State) (text : List ℕ) → length state.head.items ≤ MOST_ITEMS
     → is_allowed Statement state.head.has_if text ≡ true → LimitsSame Statement state text
 statement_limits state text few allowed =
-    let number : is_number text ≡ false = statement_text (λ (t : List ℕ). is_number t ≡ false) refl refl refl refl refl text state.head.has_if allowed in
-    let brace : is_text text (codes "{") ≡ false = statement_text (λ (t : List ℕ). is_text t (codes "{") ≡ false) refl refl refl refl refl text state.head.has_if allowed in
+    let number : is_number text ≡ false = statement_text (λ (t : List ℕ). is_number t ≡ false) refl
+    refl refl refl refl text state.head.has_if allowed in
+    let brace : is_text text (codes "{") ≡ false = statement_text
+    (λ (t : List ℕ). is_text t (codes "{") ≡ false) refl refl refl refl refl text state.head.has_if
+    allowed in
     let tasks : tasks_of state.tree.marks + 0 ≡ tasks_of state.tree.marks = omega arith in
     let segments : segments_of state.tree.marks + 0 ≡ segments_of state.tree.marks = omega arith in
-    limit_at Statement state text false false (is_task_too_many Statement state.tree.marks text) (are_segments_too_many Statement state.tree.marks text) false false
+    limit_at Statement state text false false (is_task_too_many Statement state.tree.marks text)
+    (are_segments_too_many Statement state.tree.marks text) false false
     (value_off false text number) (deep_off _ text brace)
     (ap (λ (n : ℕ). is_text text (codes "task") && nat_le MOST_TASKS n) tasks)
-    (ap (λ (n : ℕ). (is_text text (codes "task") && nat_lt MOST_SEGMENTS (n + 2)) || (is_waiting text && nat_lt MOST_SEGMENTS (n + 1))) segments)
+    (ap
+    (λ (n : ℕ). (is_text text (codes "task") && nat_lt MOST_SEGMENTS (n + 2))
+    || (is_waiting text && nat_lt MOST_SEGMENTS (n + 1)))
+    segments)
     (few_items Statement state refl few) (work_off false _ text number)
 
-work_limits : (state : State) (text : List ℕ) → length state.head.items ≤ MOST_ITEMS → is_number text ≡ true
+work_limits : (state : State) (text : List ℕ)
+    → length state.head.items ≤ MOST_ITEMS
+    → is_number text ≡ true
     → LimitsSame WorkNumber state text
 work_limits state text few number =
     let brace = other_text is_number text (codes "{") number refl in
     let task = other_text is_number text (codes "task") number refl in
     let wait = other_text is_number text (codes "taskwait") number refl in
     let group = other_text is_number text (codes "taskgroup") number refl in
-    limit_at WorkNumber state text (is_number_too_large WorkNumber text) false false false false (is_work_too_large WorkNumber state.tree.marks text)
-    (rw number refl) (deep_off _ text brace) (rw task refl) (rw (task, wait, group) refl) (few_items WorkNumber state refl few) (rw number refl)
+    limit_at WorkNumber state text (is_number_too_large WorkNumber text) false false false false
+    (is_work_too_large WorkNumber state.tree.marks text)
+    (rw number refl) (deep_off _ text brace) (rw task refl) (rw (task, wait, group) refl)
+    (few_items WorkNumber state refl few) (rw number refl)
 
-brace_limits : (place : Place) (state : State) → length state.head.items ≤ MOST_ITEMS → item_coming place ≡ 0
+brace_limits : (place : Place) (state : State)
+    → length state.head.items ≤ MOST_ITEMS
+    → item_coming place ≡ 0
     → is_inside_at place ≡ false
-    → limits (at state place) (codes "{") ≡ table false (nat_le MOST_NESTING (length state.tree.blocks)) false false false false
+    → limits (at state place) (codes "{")
+    ≡ table false (nat_le MOST_NESTING (length state.tree.blocks)) false false false false
     → LimitsSame place state (codes "{")
 brace_limits place state few none outside_so same =
-    let deep : nat_le MOST_NESTING (length (map line_of_block state.tree.blocks)) ≡ nat_le MOST_NESTING (length state.tree.blocks) = ap (λ (n : ℕ). nat_le MOST_NESTING n) (length-map state.tree.blocks line_of_block) in
-    limit_at place state (codes "{") false (nat_le MOST_NESTING (length state.tree.blocks)) false false false false (value_off (is_inside_at place) (codes "{") refl) deep (rw outside_so refl) (rw outside_so refl)
-    (few_items place state none few) (work_off (is_inside_at place) (work_of state.tree.marks) (codes "{") refl)
+    let deep : nat_le MOST_NESTING (length (map line_of_block state.tree.blocks))
+    ≡ nat_le MOST_NESTING (length state.tree.blocks) =
+    ap (λ (n : ℕ). nat_le MOST_NESTING n) (length-map state.tree.blocks line_of_block) in
+    limit_at place state (codes "{") false (nat_le MOST_NESTING (length state.tree.blocks)) false
+    false false false (value_off (is_inside_at place) (codes "{") refl) deep (rw outside_so refl)
+    (rw outside_so refl)
+    (few_items place state none few)
+    (work_off (is_inside_at place) (work_of state.tree.marks) (codes "{") refl)
     ∙ sym same
 
 clause_limits : (state : State) (text : List ℕ) → length state.head.items ≤ MOST_ITEMS
@@ -406,21 +585,30 @@ clause_limits state text few allowed =
     bool_cases (is_text text (codes "{"))
     (λ brace. rw (same_text text (codes "{") brace) (brace_limits Clause state few refl refl refl))
     (λ no_brace. bool_cases (is_text text (codes "if"))
-    (λ if_word. rw (same_text text (codes "if") if_word) (passes_no_limit Clause state (codes "if") refl few refl refl refl refl))
-    (λ no_if. rw (is_depend text state.head.has_if allowed no_brace no_if) (passes_no_limit Clause state (codes "depend") refl few refl refl refl refl)))
+    (λ if_word. rw (same_text text (codes "if") if_word)
+    (passes_no_limit Clause state (codes "if") refl few refl refl refl refl))
+    (λ no_if. rw (is_depend text state.head.has_if allowed no_brace no_if)
+    (passes_no_limit Clause state (codes "depend") refl few refl refl refl refl)))
 
-if_number_limits : (state : State) (text : List ℕ) → length state.head.items ≤ MOST_ITEMS → is_number text ≡ true
+if_number_limits : (state : State) (text : List ℕ)
+    → length state.head.items ≤ MOST_ITEMS
+    → is_number text ≡ true
     → LimitsSame IfNumber state text
 if_number_limits state text few number =
     let brace = other_text is_number text (codes "{") number refl in
-    limit_at IfNumber state text (is_number_too_large IfNumber text) false false false false false (rw number refl) (deep_off _ text brace) refl refl (few_items IfNumber state refl few) refl
+    limit_at IfNumber state text (is_number_too_large IfNumber text) false false false false false
+    (rw number refl) (deep_off _ text brace) refl refl (few_items IfNumber state refl few) refl
 
 type_limits : (state : State) (kind : DependKind) → length state.head.items ≤ MOST_ITEMS
     → LimitsSame DependType state (type_word kind)
-type_limits state DependIn few = passes_no_limit DependType state (codes "in") refl few refl refl refl refl
-type_limits state DependOut few = passes_no_limit DependType state (codes "out") refl few refl refl refl refl
-type_limits state DependInOut few = passes_no_limit DependType state (codes "inout") refl few refl refl refl refl
-type_limits state DependInOutSet few = passes_no_limit DependType state (codes "inoutset") refl few refl refl refl refl
+type_limits state DependIn few =
+    passes_no_limit DependType state (codes "in") refl few refl refl refl refl
+type_limits state DependOut few =
+    passes_no_limit DependType state (codes "out") refl few refl refl refl refl
+type_limits state DependInOut few =
+    passes_no_limit DependType state (codes "inout") refl few refl refl refl refl
+type_limits state DependInOutSet few =
+    passes_no_limit DependType state (codes "inoutset") refl few refl refl refl refl
 
 pub no_digit : (run digit digits : Bool) → (run && not digit) ≡ true → (digit && digits) ≡ false
 no_digit run false digits h = refl
@@ -437,15 +625,23 @@ name_limits : (state : State) (kind : DependKind) (text : List ℕ) → is_word 
     → LimitsSame (DependName kind) state text
 name_limits state kind text word =
     let number : is_number text ≡ false = no_digit (is_run text) (begins_with_digit text) _ word in
-    limit_at (DependName kind) state text false false false false (is_item_too_many (DependName kind) state.head.items) false
-    (value_off true text number) (deep_off _ text ((no_sign_word text word).brace)) refl refl (one_more_item (length state.head.items)) refl
+    limit_at (DependName kind) state text false false false false
+    (is_item_too_many (DependName kind) state.head.items) false
+    (value_off true text number) (deep_off _ text ((no_sign_word text word).brace)) refl refl
+    (one_more_item (length state.head.items)) refl
 
-more_limits : (state : State) (kind : DependKind) (text : List ℕ) → length state.head.items ≤ MOST_ITEMS
-    → is_allowed (DependMore kind) state.head.has_if text ≡ true → LimitsSame (DependMore kind) state text
+more_limits : (state : State) (kind : DependKind) (text : List ℕ)
+    → length state.head.items ≤ MOST_ITEMS
+    → is_allowed (DependMore kind) state.head.has_if text ≡ true
+    → LimitsSame (DependMore kind) state text
 more_limits state kind text few allowed =
     bool_cases (is_text text (codes ","))
-    (λ comma. rw (same_text text (codes ",") comma) (passes_no_limit (DependMore kind) state (codes ",") refl few refl refl refl refl))
-    (λ other. rw (same_text text (codes ")") (or_true_right (is_text text (codes ",")) (is_text text (codes ")")) allowed other)) (passes_no_limit (DependMore kind) state (codes ")") refl few refl refl refl refl))
+    (λ comma. rw (same_text text (codes ",") comma)
+    (passes_no_limit (DependMore kind) state (codes ",") refl few refl refl refl refl))
+    (λ other. rw
+    (same_text text (codes ")")
+    (or_true_right (is_text text (codes ",")) (is_text text (codes ")")) allowed other))
+    (passes_no_limit (DependMore kind) state (codes ")") refl few refl refl refl refl))
 
 pub place_limits : (place : Place) (state : State) (text : List ℕ) → is_past_header place ≡ true
     → length state.head.items ≤ MOST_ITEMS → is_allowed place state.head.has_if text ≡ true
@@ -454,20 +650,32 @@ place_limits Header state text past few allowed = absurd cc
 place_limits Version state text past few allowed = absurd cc
 place_limits Statement state text past few allowed = statement_limits state text few allowed
 place_limits WorkNumber state text past few allowed = work_limits state text few allowed
-place_limits GroupBrace state text past few allowed = rw (same_text text (codes "{") allowed) (brace_limits GroupBrace state few refl refl refl)
+place_limits GroupBrace state text past few allowed =
+    rw (same_text text (codes "{") allowed) (brace_limits GroupBrace state few refl refl refl)
 place_limits Clause state text past few allowed = clause_limits state text few allowed
-place_limits IfOpens state text past few allowed = rw (same_text text (codes "(") allowed) (passes_no_limit IfOpens state (codes "(") refl few refl refl refl refl)
+place_limits IfOpens state text past few allowed =
+    rw (same_text text (codes "(") allowed)
+    (passes_no_limit IfOpens state (codes "(") refl few refl refl refl refl)
 place_limits IfNumber state text past few allowed = if_number_limits state text few allowed
-place_limits IfCloses state text past few allowed = rw (same_text text (codes ")") allowed) (passes_no_limit IfCloses state (codes ")") refl few refl refl refl refl)
-place_limits DependOpens state text past few allowed = rw (same_text text (codes "(") allowed) (passes_no_limit DependOpens state (codes "(") refl few refl refl refl refl)
-place_limits DependType state text past few allowed = subst (λ (t : List ℕ). LimitsSame DependType state t) (sym (type_is text allowed)) (type_limits state (type_of text) few)
-place_limits (DependColon kind) state text past few allowed = rw (same_text text (codes ":") allowed) (passes_no_limit (DependColon kind) state (codes ":") refl few refl refl refl refl)
+place_limits IfCloses state text past few allowed =
+    rw (same_text text (codes ")") allowed)
+    (passes_no_limit IfCloses state (codes ")") refl few refl refl refl refl)
+place_limits DependOpens state text past few allowed =
+    rw (same_text text (codes "(") allowed)
+    (passes_no_limit DependOpens state (codes "(") refl few refl refl refl refl)
+place_limits DependType state text past few allowed =
+    subst (λ (t : List ℕ). LimitsSame DependType state t) (sym (type_is text allowed))
+    (type_limits state (type_of text) few)
+place_limits (DependColon kind) state text past few allowed =
+    rw (same_text text (codes ":") allowed)
+    (passes_no_limit (DependColon kind) state (codes ":") refl few refl refl refl refl)
 place_limits (DependName kind) state text past few allowed = name_limits state kind text allowed
 place_limits (DependMore kind) state text past few allowed = more_limits state kind text few allowed
 
 -- ---- the header
 
-pub header_tallies : (place : Place) (state : State) (text : List ℕ) (line : ℕ) → is_past_header place ≡ false
+pub header_tallies : (place : Place) (state : State) (text : List ℕ) (line : ℕ)
+    → is_past_header place ≡ false
     → tally_at place state ≡ tally_now (after_at place (at state place) text line)
 header_tallies Header state text line h = refl
 header_tallies Version state text line h = refl
@@ -483,14 +691,22 @@ version_limits text number value =
     let task = other_text is_number text (codes "task") number refl in
     let wait = other_text is_number text (codes "taskwait") number refl in
     let group = other_text is_number text (codes "taskgroup") number refl in
-    same_table (is_value_too_large false text) (is_too_deep 0 text) (is_task_past false 0 text) (is_segment_past false 1 text) (nat_lt MOST_ITEMS 0) (is_work_past false 0 text)
+    same_table (is_value_too_large false text) (is_too_deep 0 text) (is_task_past false 0 text)
+    (is_segment_past false 1 text) (nat_lt MOST_ITEMS 0) (is_work_past false 0 text)
     false false false false false false
-    (rw (number, value) refl) (deep_off 0 text (other_text is_number text (codes "{") number refl)) (rw task refl) (rw (task, wait, group) refl) refl (rw (number, value) refl)
+    (rw (number, value) refl) (deep_off 0 text (other_text is_number text (codes "{") number refl))
+    (rw task refl) (rw (task, wait, group) refl) refl (rw (number, value) refl)
 
 -- the header passes no limit
-pub header_limits : (place : Place) (text : List ℕ) → is_past_header place ≡ false → is_header place text ≡ true
+pub header_limits : (place : Place) (text : List ℕ)
+    → is_past_header place ≡ false
+    → is_header place text ≡ true
     → limit_fault_after [] text ≡ None
-header_limits Header text past header = ap (λ (t : Tally). limit_of t text) nothing_counted ∙ rw (same_text text (codes "omptasks") header) refl
+header_limits Header text past header =
+    ap (λ (t : Tally). limit_of t text) nothing_counted
+    ∙ rw (same_text text (codes "omptasks") header) refl
 header_limits Version text past header =
-    ap (λ (t : Tally). limit_of t text) nothing_counted ∙ version_limits text (left_is_true (is_number text) _ header) (eqb-true _ _ (right_is_true (is_number text) _ header))
+    ap (λ (t : Tally). limit_of t text) nothing_counted
+    ∙ version_limits text (left_is_true (is_number text) _ header)
+    (eqb-true _ _ (right_is_true (is_number text) _ header))
 header_limits _ text past header = absurd cc

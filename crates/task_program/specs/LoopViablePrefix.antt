@@ -1,5 +1,7 @@
--- The grammar of version 2 without its limits, and the tokens with which what follows the header can begin.
-use Rattle.std.specs.Prelude.{◌≡◌, ℕ, ◌≤◌, Bool, true, false, List, [], ◌∷◌, ◌++◌, All, count_by, codes}
+-- The grammar of version 2 without its limits, and the tokens with which what follows the header
+-- can begin.
+use Rattle.std.specs.Prelude.{◌≡◌, ℕ, ◌≤◌, Bool, true, false, List, [], ◌∷◌, ◌++◌, All, count_by}
+use Rattle.std.specs.Prelude.{codes}
 use Rattle.std.specs.List.{flat_map, list_any}
 use Rattle.std.specs.Str.{bytes_eq}
 use Rattle.program_text.specs.declared.statement.DependKind.{DependKind}
@@ -19,7 +21,8 @@ pub data ItemWritten : Type 0 where
   PlainItem : (name : List ℕ) → ItemWritten
   IndexedItem : (name : List ℕ) (index : IndexWritten) → ItemWritten
 
--- a clause: the number of an `if` or `final`; the type of a `depend`, its items up to the last, and the last
+-- a clause: the number of an `if` or `final`; the type of a `depend`, its items up to the last, and
+-- the last
 pub data LoopClause : Type 0 where
   IfClause : (number : List ℕ) → LoopClause
   FinalClause : (number : List ℕ) → LoopClause
@@ -51,7 +54,8 @@ abbrev pub clause_texts : LoopClause → List (List ℕ)
 clause_texts (IfClause number) = codes "if" ∷ codes "(" ∷ number ∷ codes ")" ∷ []
 clause_texts (FinalClause number) = codes "final" ∷ codes "(" ∷ number ∷ codes ")" ∷ []
 clause_texts (DependClause kind items last) =
-    codes "depend" ∷ codes "(" ∷ type_word kind ∷ codes ":" ∷ (flat_map item_and_comma items ++ (item_texts last ++ codes ")" ∷ []))
+    codes "depend" ∷ codes "(" ∷ type_word kind ∷ codes ":"
+    ∷ (flat_map item_and_comma items ++ (item_texts last ++ codes ")" ∷ []))
 
 abbrev pub piece_texts : LoopPiece → List (List ℕ)
 piece_texts (WorkPiece number) = codes "work" ∷ number ∷ []
@@ -81,7 +85,8 @@ abbrev pub HasIndexForm : List (List ℕ) → IndexWritten → Type 0
 HasIndexForm variables (NumberIndex number) = IsNumber number
 HasIndexForm variables (MinusIndex number) = IsNumber number
 HasIndexForm variables (VariableIndex variable) = IsVariable variables variable
-HasIndexForm variables (SignIndex variable sign number) = IsVariable variables variable × (is_plus_or_minus sign ≡ true) × IsNumber number
+HasIndexForm variables (SignIndex variable sign number) =
+    IsVariable variables variable × (is_plus_or_minus sign ≡ true) × IsNumber number
 
 abbrev pub HasItemForm : List (List ℕ) → ItemWritten → Type 0
 HasItemForm variables (PlainItem name) = IsWord name
@@ -90,7 +95,8 @@ HasItemForm variables (IndexedItem name index) = IsWord name × HasIndexForm var
 abbrev pub HasLoopClauseForm : List (List ℕ) → LoopClause → Type 0
 HasLoopClauseForm variables (IfClause number) = IsNumber number
 HasLoopClauseForm variables (FinalClause number) = IsNumber number
-HasLoopClauseForm variables (DependClause kind items last) = All (HasItemForm variables) items × HasItemForm variables last
+HasLoopClauseForm variables (DependClause kind items last) =
+    All (HasItemForm variables) items × HasItemForm variables last
 
 abbrev pub is_if : LoopClause → Bool
 is_if (IfClause number) = true
@@ -102,19 +108,31 @@ is_final _ = false
 
 -- one `if` and one `final` at most
 abbrev pub HaveClauseForms : List (List ℕ) → List LoopClause → Type 0
-HaveClauseForms variables clauses = All (HasLoopClauseForm variables) clauses × (count_by is_if clauses ≤ 1) × (count_by is_final clauses ≤ 1)
+HaveClauseForms variables clauses =
+    All (HasLoopClauseForm variables) clauses
+    × (count_by is_if clauses ≤ 1)
+    × (count_by is_final clauses ≤ 1)
 
--- Pieces inside loops with these variables, which end each block that they begin and those that were open before: for each of
--- these, the innermost first, the variables of the loops around it.
-abbrev pub HaveLoopForms : List LoopPiece → (variables : List (List ℕ)) → (around : List (List (List ℕ))) → Type 0
+-- Pieces inside loops with these variables, which end each block that they begin and those that
+-- were open before: for each of these, the innermost first, the variables of the loops around it.
+abbrev pub HaveLoopForms : List LoopPiece
+    → (variables : List (List ℕ))
+    → (around : List (List (List ℕ)))
+    → Type 0
 HaveLoopForms [] variables [] = Unit {0}
 HaveLoopForms [] variables (outer ∷ around) = ⊥
-HaveLoopForms (WorkPiece number ∷ pieces) variables around = IsNumber number × HaveLoopForms pieces variables around
-HaveLoopForms (TaskPiece clauses ∷ pieces) variables around = HaveClauseForms variables clauses × HaveLoopForms pieces variables (variables ∷ around)
+HaveLoopForms (WorkPiece number ∷ pieces) variables around =
+    IsNumber number × HaveLoopForms pieces variables around
+HaveLoopForms (TaskPiece clauses ∷ pieces) variables around =
+    HaveClauseForms variables clauses × HaveLoopForms pieces variables (variables ∷ around)
 HaveLoopForms (WaitPiece ∷ pieces) variables around = HaveLoopForms pieces variables around
-HaveLoopForms (GroupPiece ∷ pieces) variables around = HaveLoopForms pieces variables (variables ∷ around)
+HaveLoopForms (GroupPiece ∷ pieces) variables around =
+    HaveLoopForms pieces variables (variables ∷ around)
 HaveLoopForms (ForPiece variable first last ∷ pieces) variables around =
-    IsNewVariable variables variable × IsNumber first × IsNumber last × HaveLoopForms pieces (variable ∷ variables) (variables ∷ around)
+    IsNewVariable variables variable
+    × IsNumber first
+    × IsNumber last
+    × HaveLoopForms pieces (variable ∷ variables) (variables ∷ around)
 HaveLoopForms (EndPiece ∷ pieces) variables [] = ⊥
 HaveLoopForms (EndPiece ∷ pieces) variables (outer ∷ around) = HaveLoopForms pieces outer around
 

@@ -1,16 +1,23 @@
--- What the tokens after the header amount to, counted on the tokens alone, and which limit one token more passes. A text
--- of version 1 has parentheses in its clauses only, and one `:` or `,` before each depend item.
-use Rattle.std.specs.Prelude.{ℕ, ◌+◌, Bool, true, false, not, ◌&&◌, ◌||◌, nat_lt, nat_le, if◌then◌else◌, List, [], ◌∷◌, length, drop, fold, sum_by, Option, Some, None, codes}
+-- What the tokens after the header amount to, counted on the tokens alone, and which limit one
+-- token more passes. A text of version 1 has parentheses in its clauses only, and one `:` or `,`
+-- before each depend item.
+use Rattle.std.specs.Prelude.{ℕ, ◌+◌, Bool, true, false, not, ◌&&◌, ◌||◌, nat_lt, nat_le}
+use Rattle.std.specs.Prelude.{if◌then◌else◌, List, [], ◌∷◌, length, drop, fold, sum_by, Option}
+use Rattle.std.specs.Prelude.{Some, None, codes}
 use Rattle.program_text.specs.declared.fault.ReadKind.{ReadKind}
-use Rattle.program_text.specs.declared.fault.ReadKind.TheVariants.{BadNumber, TooDeep, TooManyTasks, TooManySegments, TooManyItems, WorkTooLarge}
-use Rattle.program_text.specs.declared.limits.TheConstants.{MOST_TASKS, MOST_SEGMENTS, MOST_NESTING, MOST_ITEMS, LARGEST_COST, MOST_WORK}
+use Rattle.program_text.specs.declared.fault.ReadKind.TheVariants.{BadNumber, TooDeep, TooManyTasks}
+use Rattle.program_text.specs.declared.fault.ReadKind.TheVariants.{TooManySegments, TooManyItems}
+use Rattle.program_text.specs.declared.fault.ReadKind.TheVariants.{WorkTooLarge}
+use Rattle.program_text.specs.declared.limits.TheConstants.{MOST_TASKS, MOST_SEGMENTS, MOST_NESTING}
+use Rattle.program_text.specs.declared.limits.TheConstants.{MOST_ITEMS, LARGEST_COST, MOST_WORK}
 use Rattle.program_text.specs.Tokens.{Token, texts}
 use Rattle.program_text.specs.Words.{is_text, is_number, value_of}
 
 -- ---- parentheses
 
 abbrev pub inside_after : (inside : Bool) → List ℕ → Bool
-inside_after inside text = if is_text text (codes "(") then true else (if is_text text (codes ")") then false else inside)
+inside_after inside text =
+    if is_text text (codes "(") then true else (if is_text text (codes ")") then false else inside)
 
 -- a `(` is open
 abbrev pub is_inside : List (List ℕ) → Bool
@@ -55,9 +62,13 @@ work_in texts = sum_by work_by (outside texts)
 -- ---- items
 
 abbrev pub items_after : ℕ → List ℕ → ℕ
-items_after items text = if is_text text (codes "{") then 0 else (if is_text text (codes ":") || is_text text (codes ",") then items + 1 else items)
+items_after items text =
+    if is_text text (codes "{")
+    then 0
+    else (if is_text text (codes ":") || is_text text (codes ",") then items + 1 else items)
 
--- the `:` and `,` since the last `{`: of the task whose clauses are read, the items, the one that comes included
+-- the `:` and `,` since the last `{`: of the task whose clauses are read, the items, the one that
+-- comes included
 abbrev pub items_in : List (List ℕ) → ℕ
 items_in texts = fold items_after 0 texts
 
@@ -65,7 +76,9 @@ items_in texts = fold items_after 0 texts
 
 abbrev pub braces_after : List ℕ → Token → List ℕ
 braces_after braces token =
-    if is_text token.text (codes "{") then token.line ∷ braces else (if is_text token.text (codes "}") then drop 1 braces else braces)
+    if is_text token.text (codes "{")
+    then token.line ∷ braces
+    else (if is_text token.text (codes "}") then drop 1 braces else braces)
 
 -- the lines of the `{` that no `}` has closed, the innermost first
 abbrev pub open_braces : List Token → List ℕ
@@ -75,23 +88,32 @@ open_braces tokens = fold braces_after [] tokens
 
 -- the number of an `if` stands in parentheses, that of a `work` outside
 abbrev pub is_value_too_large : (inside : Bool) → List ℕ → Bool
-is_value_too_large inside text = is_number text && (if inside then nat_lt 1 (value_of text) else nat_lt LARGEST_COST (value_of text))
+is_value_too_large inside text =
+    is_number text
+    && (if inside then nat_lt 1 (value_of text) else nat_lt LARGEST_COST (value_of text))
 
 abbrev pub is_too_deep : (open_blocks : ℕ) → List ℕ → Bool
 is_too_deep open_blocks text = is_text text (codes "{") && nat_le MOST_NESTING open_blocks
 
 abbrev pub is_task_past : (inside : Bool) → (tasks : ℕ) → List ℕ → Bool
-is_task_past inside tasks text = not inside && (is_text text (codes "task") && nat_le MOST_TASKS tasks)
+is_task_past inside tasks text =
+    not inside && (is_text text (codes "task") && nat_le MOST_TASKS tasks)
 
 abbrev pub is_segment_past : (inside : Bool) → (segments : ℕ) → List ℕ → Bool
 is_segment_past inside segments text =
-    not inside && ((is_text text (codes "task") && nat_lt MOST_SEGMENTS (segments + 2)) || (is_waiting text && nat_lt MOST_SEGMENTS (segments + 1)))
+    not inside
+    && ((is_text text (codes "task") && nat_lt MOST_SEGMENTS (segments + 2))
+    || (is_waiting text && nat_lt MOST_SEGMENTS (segments + 1)))
 
 abbrev pub is_work_past : (inside : Bool) → (work : ℕ) → List ℕ → Bool
-is_work_past inside work text = not inside && (is_number text && nat_lt MOST_WORK (work + value_of text))
+is_work_past inside work text =
+    not inside && (is_number text && nat_lt MOST_WORK (work + value_of text))
 
 -- the first limit that is passed with this token
-abbrev pub limit_by : (inside : Bool) → (tasks segments work items open_blocks : ℕ) → List ℕ → Option ReadKind
+abbrev pub limit_by : (inside : Bool)
+    → (tasks segments work items open_blocks : ℕ)
+    → List ℕ
+    → Option ReadKind
 limit_by inside tasks segments work items open_blocks text =
     if is_value_too_large inside text then Some BadNumber
     else (if is_too_deep open_blocks text then Some TooDeep
@@ -105,4 +127,5 @@ limit_by inside tasks segments work items open_blocks text =
 abbrev pub limit_fault_after : (body : List Token) → List ℕ → Option ReadKind
 limit_fault_after body text =
     let before = texts body in
-    limit_by (is_inside before) (tasks_in before) (segments_in before) (work_in before) (items_in before) (length (open_braces body)) text
+    limit_by (is_inside before) (tasks_in before) (segments_in before) (work_in before)
+    (items_in before) (length (open_braces body)) text

@@ -1,9 +1,12 @@
--- The grammar of version 1 without its limits, and the tokens with which a text of that grammar can begin.
-use Rattle.std.specs.Prelude.{◌≡◌, ℕ, zero, suc, ◌≤◌, true, List, [], ◌∷◌, ◌++◌, All, count_by, codes}
+-- The grammar of version 1 without its limits, and the tokens with which a text of that grammar can
+-- begin.
+use Rattle.std.specs.Prelude.{◌≡◌, ℕ, zero, suc, ◌≤◌, true, List, [], ◌∷◌, ◌++◌, All, count_by}
+use Rattle.std.specs.Prelude.{codes}
 use Rattle.std.specs.List.{flat_map}
 use Rattle.task_program.specs.Grammar.{Clause, Written, texts_of, is_if}
 use Rattle.task_program.specs.Grammar.Clause.{IfClause, DependClause}
-use Rattle.task_program.specs.Grammar.Written.{WorkWritten, TaskWritten, WaitWritten, GroupWritten, EndWritten}
+use Rattle.task_program.specs.Grammar.Written.{WorkWritten, TaskWritten, WaitWritten, GroupWritten}
+use Rattle.task_program.specs.Grammar.Written.{EndWritten}
 use Rattle.program_text.specs.Words.{is_word, is_number, value_of}
 
 abbrev pub IsWord : List ℕ → Type 0
@@ -31,7 +34,8 @@ EndBlocks (EndWritten ∷ pieces) (suc more) = EndBlocks pieces more
 EndBlocks (WorkWritten number ∷ pieces) more = EndBlocks pieces more
 EndBlocks (WaitWritten ∷ pieces) more = EndBlocks pieces more
 
--- the texts of tokens that are derived by the grammar: the header, and pieces that end each block that they begin
+-- the texts of tokens that are derived by the grammar: the header, and pieces that end each block
+-- that they begin
 pub record IsSentence (texts : List (List ℕ)) : Type 0 where
   pub version : List ℕ
   pub written : List Written

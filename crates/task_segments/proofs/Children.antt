@@ -1,26 +1,37 @@
--- The children of a task, numbered from 0 in the order of their creation: each number below a count is a child's.
-use Rattle.std.proofs.Common.{◌≡◌, ℕ, ◌+◌, ◌-◌, ◌<◌, true, cond, eqb, ◌&&◌, List, [], ◌∷◌, Some, length, get_or, drop, refl, sym, ap, subst, ◌∙◌, inl, inr, arith}
+-- The children of a task, numbered from 0 in the order of their creation: each number below a count
+-- is a child's.
+use Rattle.std.proofs.Common.{◌≡◌, ℕ, ◌+◌, ◌-◌, ◌<◌, true, cond, eqb, ◌&&◌, List, [], ◌∷◌, Some}
+use Rattle.std.proofs.Common.{length, get_or, drop, refl, sym, ap, subst, ◌∙◌, inl, inr, arith}
 use Rattle.std.proofs.lemmas.Bool.Decides.{nat_tests}
 use Rattle.std.proofs.lemmas.Bool.{cases_lt, cases_Bool}
 use Rattle.std.proofs.lemmas.Option.{same_Some}
 use Rattle.task_program.specs.Marks.{Mark}
 use Rattle.task_program.specs.Marks.Mark.{Begins, Ends, Works, Waits, GroupBegins, GroupEnds}
 use Rattle.task_segments.specs.declared.table.Closing.TheVariants as closings
-use Rattle.task_segments.specs.Moments.{begins_task, opens, OpenGroup, segments_so_far, tasks_so_far, open_tasks, open_groups, running_task, runs, is_innermost, opening_of, beginning_of, children_of, closing_of, before_group, innermost_children_before, last_moment, IsProper}
+use Rattle.task_segments.specs.Moments.{begins_task, opens, OpenGroup, segments_so_far}
+use Rattle.task_segments.specs.Moments.{tasks_so_far, open_tasks, open_groups, running_task, runs}
+use Rattle.task_segments.specs.Moments.{is_innermost, opening_of, beginning_of, children_of}
+use Rattle.task_segments.specs.Moments.{closing_of, before_group, innermost_children_before}
+use Rattle.task_segments.specs.Moments.{last_moment, IsProper}
 use Rattle.task_segments.specs.Table.{Table, segment, task, table_at}
 use Rattle.task_segments.specs.Precedence.{IsSegment, IsTask, Continues, IsEarlierChild}
 use Rattle.task_segments.specs.Programs.{IsProgramTable}
 use Rattle.task_program.proofs.Nested.{is_nested}
-use Rattle.task_segments.proofs.Steps.{count-cons, task_has_begun, running_below, tasks_begins, beginning_of-old, beginning_of-new}
+use Rattle.task_segments.proofs.Steps.{count-cons, task_has_begun, running_below, tasks_begins}
+use Rattle.task_segments.proofs.Steps.{beginning_of-old, beginning_of-new}
 use Rattle.task_segments.proofs.Places.{after_end}
-use Rattle.task_segments.proofs.Grouping.{IsGrouped, before_task, innermost_of, no_group, children_are_counted, closes_with, groups_at_later_moment}
-use Rattle.task_segments.proofs.Facts.{IsLast, nested, row, segment-at, segments-at, tasks-at, owner-at, continues, nothing_before, beginning_within}
+use Rattle.task_segments.proofs.Grouping.{IsGrouped, before_task, innermost_of, no_group}
+use Rattle.task_segments.proofs.Grouping.{children_are_counted, closes_with, groups_at_later_moment}
+use Rattle.task_segments.proofs.Facts.{IsLast, nested, row, segment-at, segments-at, tasks-at}
+use Rattle.task_segments.proofs.Facts.{owner-at, continues, nothing_before, beginning_within}
 use Rattle.task_segments.proofs.Order.{OpensAfter, not_root}
 use Rattle.task_segments.proofs.Groups.{child}
 use Rattle.task_segments.proofs.Programs.{last_of_nested}
 
 -- which task runs, by the test
-innermost_is : (p : ℕ) (stack : List ℕ) → is_innermost p stack ≡ true → (0 < length stack) × (get_or stack 0 0 ≡ p)
+innermost_is : (p : ℕ) (stack : List ℕ)
+    → is_innermost p stack ≡ true
+    → (0 < length stack) × (get_or stack 0 0 ≡ p)
 innermost_is p [] h = absurd cc
 innermost_is p (x ∷ stack) h = (omega arith, grind (arith, nat_tests))
 
@@ -62,26 +73,38 @@ nth_child (Begins d i ∷ e) p k l = elim (cases_lt k (children_of p e)) [
   | inl older ↦ (
       let child = nth_child e p k older in
       let same : before_task child.0 (Begins d i ∷ e) ≡ before_task child.0 e =
-      ap (drop 1) (beginning_of-old (Begins d i) e child.0 child.1.has_begun) in
-      (child.0, child_from e (Begins d i ∷ e) p k child.0 same (omega (arith, child.1.has_begun, tasks_begins d i e)) child.1))
+      ap (drop 1) (beginning_of-old (Begins d i) e child.0 child.1.has_begun) in (
+        child.0,
+        child_from e (Begins d i ∷ e) p k child.0 same
+            (omega (arith, child.1.has_begun, tasks_begins d i e)) child.1,
+      ))
   | inr newest ↦ elim (cases_Bool (runs p e)) [
     | inl now ↦ (
         let one : ◌≡◌ {A = ℕ} (cond (runs p e) 1 0) 1 = rw now refl in
-        let count : children_of p e ≡ k = omega arith in
-        (tasks_so_far e, subst (λ n. IsChildAt (Begins d i ∷ e) p n (tasks_so_far e)) count (newest_child (Begins d i) e p refl now)))
-    | inr other ↦ absurd (let none : ◌≡◌ {A = ℕ} (cond (runs p e) 1 0) 0 = rw other refl in omega arith)
+        let count : children_of p e ≡ k = omega arith in (
+          tasks_so_far e,
+          subst (λ n. IsChildAt (Begins d i ∷ e) p n (tasks_so_far e)) count
+              (newest_child (Begins d i) e p refl now),
+        ))
+    | inr other ↦
+        absurd (let none : ◌≡◌ {A = ℕ} (cond (runs p e) 1 0) 0 = rw other refl in omega arith)
   ]
 ]
 nth_child (Ends ∷ e) p k l =
-    let child = nth_child e p k l in (child.0, child_from e (Ends ∷ e) p k child.0 refl child.1.has_begun child.1)
+    let child = nth_child e p k l in
+    (child.0, child_from e (Ends ∷ e) p k child.0 refl child.1.has_begun child.1)
 nth_child (Works cost ∷ e) p k l =
-    let child = nth_child e p k l in (child.0, child_from e (Works cost ∷ e) p k child.0 refl child.1.has_begun child.1)
+    let child = nth_child e p k l in
+    (child.0, child_from e (Works cost ∷ e) p k child.0 refl child.1.has_begun child.1)
 nth_child (Waits ∷ e) p k l =
-    let child = nth_child e p k l in (child.0, child_from e (Waits ∷ e) p k child.0 refl child.1.has_begun child.1)
+    let child = nth_child e p k l in
+    (child.0, child_from e (Waits ∷ e) p k child.0 refl child.1.has_begun child.1)
 nth_child (GroupBegins ∷ e) p k l =
-    let child = nth_child e p k l in (child.0, child_from e (GroupBegins ∷ e) p k child.0 refl child.1.has_begun child.1)
+    let child = nth_child e p k l in
+    (child.0, child_from e (GroupBegins ∷ e) p k child.0 refl child.1.has_begun child.1)
 nth_child (GroupEnds ∷ e) p k l =
-    let child = nth_child e p k l in (child.0, child_from e (GroupEnds ∷ e) p k child.0 refl child.1.has_begun child.1)
+    let child = nth_child e p k l in
+    (child.0, child_from e (GroupEnds ∷ e) p k child.0 refl child.1.has_begun child.1)
 
 -- a child's row has its parent and its number among its siblings
 row_of_child : (e : List Mark) → IsLast e → (p k u : ℕ) → IsChildAt e p k u
@@ -110,26 +133,44 @@ pub record HasChildAt (table : Table) (t k : ℕ) : Type 0 where
 
 pub record IsNumbered (table : Table) : Type 0 where
   -- siblings are numbered from 0 in the order of their creation
-  pub siblings : (u k : ℕ) → IsTask table u → k < (task table u).siblings_before → HasSiblingAt table u k
+  pub siblings : (u k : ℕ)
+      → IsTask table u
+      → k < (task table u).siblings_before
+      → HasSiblingAt table u k
   pub ascend : (u v : ℕ) → u < v → IsTask table v → (task table u).parent ≡ (task table v).parent
       → (task table u).siblings_before < (task table v).siblings_before
-  -- only a segment after the end of a group counts children, and no more than its task has generated
-  pub children : (t k : ℕ) → IsSegment table t → k < (segment table t).children_before → HasChildAt table t k
+  -- only a segment after the end of a group counts children, and no more than its task has
+  -- generated
+  pub children : (t k : ℕ)
+      → IsSegment table t
+      → k < (segment table t).children_before
+      → HasChildAt table t k
 
 -- where a task began, seen from where a later one did
-before_within : (e : List Mark) (u v : ℕ) (before : List Mark) → u < v → v < tasks_so_far e → before_task v e ≡ before
+before_within : (e : List Mark) (u v : ℕ) (before : List Mark)
+    → u < v
+    → v < tasks_so_far e
+    → before_task v e ≡ before
     → before_task u e ≡ before_task u before
 before_within e u v before a l is = ap (drop 1) (beginning_within e u v a l) ∙ ap (before_task u) is
 
 -- the root has no siblings
-root_siblings : (e : List Mark) → IsProper e → 0 < tasks_so_far e → (task (table_at e) 0).siblings_before ≡ 0
+root_siblings : (e : List Mark)
+    → IsProper e
+    → 0 < tasks_so_far e
+    → (task (table_at e) 0).siblings_before ≡ 0
 root_siblings e p l =
     let b = task_has_begun e p 0 l in
     let none : b.earlier ≡ [] = nothing_before b.earlier b.proper (sym b.number) in
-    ap (λ r. r.siblings_before) (row e 0 l b) ∙ ap (λ (xs : List Mark). children_of (running_task xs) xs) none
+    ap (λ r. r.siblings_before) (row e 0 l b)
+    ∙ ap (λ (xs : List Mark). children_of (running_task xs) xs) none
 
 -- each number below the number of siblings before a task is that of an earlier one
-siblings_at : (e : List Mark) → IsLast e → (u k : ℕ) → u < tasks_so_far e → k < (task (table_at e) u).siblings_before
+siblings_at : (e : List Mark)
+    → IsLast e
+    → (u k : ℕ)
+    → u < tasks_so_far e
+    → k < (task (table_at e) u).siblings_before
     → HasSiblingAt (table_at e) u k
 siblings_at e h u k l less = elim (cases_lt 0 u) [
   | inl above ↦ (
@@ -139,7 +180,8 @@ siblings_at e h u k l less = elim (cases_lt 0 u) [
       let v = found.0 in
       let earlier : v < u = omega (arith, found.1.has_begun, c.number) in
       let here =
-      child_from c.before e p k v (before_within e v u c.before earlier l c.is_before) (omega arith) found.1 in
+      child_from c.before e p k v (before_within e v u c.before earlier l c.is_before) (omega arith)
+      found.1 in
       let is = row_of_child e h p k v here in
       record { sibling = v; earlier = earlier; of_parent = is.0 ∙ sym c.parent; count = is.1 })
   | inr root ↦ absurd (
@@ -154,18 +196,32 @@ siblings_ascend : (e : List Mark) → IsLast e → (u v : ℕ) → u < v → v <
     → (task (table_at e) u).siblings_before < (task (table_at e) v).siblings_before
 siblings_ascend e h u v a l same =
     let later = child e h v (omega arith) l in
-    let above = not_root (table_at e) (nested e h) u (running_task later.before) (same ∙ later.parent) in
+    let above =
+    not_root (table_at e) (nested e h) u (running_task later.before) (same ∙ later.parent) in
     let earlier = child e h u above (omega arith) in
     let parent : running_task earlier.before ≡ running_task later.before =
     same_Some _ _ (sym earlier.parent ∙ same ∙ later.parent) in
-    let since = groups_at_later_moment later.before later.proper later.grouped u above (omega (arith, later.number)) in
+    let since = groups_at_later_moment later.before later.proper later.grouped u above
+    (omega (arith, later.number)) in
     let at : before_task u later.before ≡ earlier.before =
     sym (before_within e u v later.before a l later.is_before) ∙ earlier.is_before in
-    let more = subst (λ (xs : List Mark). children_of (running_task xs) xs < children_of (running_task xs) later.before) at since.more in
-    omega (arith, more, ap (λ (p : ℕ). children_of p later.before) parent, earlier.siblings, later.siblings)
+    let more = subst
+    (λ (xs : List Mark).
+    children_of (running_task xs) xs < children_of (running_task xs) later.before)
+    at since.more in
+    omega (
+      arith,
+      more,
+      ap (λ (p : ℕ). children_of p later.before) parent,
+      earlier.siblings,
+      later.siblings,
+    )
 
 -- what holds at a moment and at those before it holds where a segment opened
-at_opening : (P : List Mark → Type 0) → ((m : Mark) (e : List Mark) → P (m ∷ e) → P e) → (e : List Mark) (t : ℕ) → P e
+at_opening : (P : List Mark → Type 0)
+    → ((m : Mark) (e : List Mark) → P (m ∷ e) → P e)
+    → (e : List Mark) (t : ℕ)
+    → P e
     → P (opening_of t e)
 at_opening P back [] t h = h
 at_opening P back (m ∷ e) t h = elim (cases_Bool (opens m && eqb (segments_so_far e) t)) [
@@ -174,7 +230,8 @@ at_opening P back (m ∷ e) t h = elim (cases_Bool (opens m && eqb (segments_so_
 ]
 
 -- a segment's number is how many had opened before it
-opening_number : (e : List Mark) (t : ℕ) (m : Mark) (before : List Mark) → opening_of t e ≡ m ∷ before
+opening_number : (e : List Mark) (t : ℕ) (m : Mark) (before : List Mark)
+    → opening_of t e ≡ m ∷ before
     → segments_so_far before ≡ t
 opening_number [] t m before o = absurd cc
 opening_number (n ∷ e) t m before o = elim (cases_Bool (opens n && eqb (segments_so_far e) t)) [
@@ -197,35 +254,51 @@ begun_by_opening (m ∷ e) t u l = elim (cases_Bool (opens m && eqb (segments_so
 ]
 
 -- of the open groups the innermost counts
-innermost_count : (groups : List OpenGroup) → innermost_children_before groups ≡ (innermost_of groups).children_before
+innermost_count : (groups : List OpenGroup)
+    → innermost_children_before groups ≡ (innermost_of groups).children_before
 innermost_count [] = refl
 innermost_count (g ∷ groups) = refl
 
 -- a segment that opens with the end of a group goes on after it
-after_group_end : (e : List Mark) → IsLast e → (t : ℕ) (before : List Mark) → 0 < t → t < segments_so_far e
-    → opening_of t e ≡ GroupEnds ∷ before → OpensAfter (table_at e) closings.EndsGroup t
+after_group_end : (e : List Mark)
+    → IsLast e
+    → (t : ℕ) (before : List Mark)
+    → 0 < t
+    → t < segments_so_far e
+    → opening_of t e ≡ GroupEnds ∷ before
+    → OpensAfter (table_at e) closings.EndsGroup t
 after_group_end e h t before above l o =
     let closing : closing_of (t - 1) e ≡ closings.EndsGroup = closes_with e t before above l o in
     let same : t - 1 + 1 ≡ t = omega arith in (
       t - 1,
       ap (λ r. r.closing) (segment-at e (t - 1) (omega arith)) ∙ closing,
-      subst (λ (n : ℕ). Continues (table_at e) (t - 1) n) same (continues e (t - 1) (after_end e h.proper (t - 1) closing)),
+      subst (λ (n : ℕ). Continues (table_at e) (t - 1) n) same
+          (continues e (t - 1) (after_end e h.proper (t - 1) closing)),
     )
 
-proper_opening : (e : List Mark) (t : ℕ) (xs : List Mark) → IsProper e → opening_of t e ≡ xs → IsProper xs
+proper_opening : (e : List Mark) (t : ℕ) (xs : List Mark) → IsProper e → opening_of t e ≡ xs
+    → IsProper xs
 proper_opening e t xs p o =
     subst (λ (xs : List Mark). IsProper xs) o (at_opening (λ xs. IsProper xs) (λ m x p. p.1) e t p)
 
-grouped_opening : (e : List Mark) (t : ℕ) (xs : List Mark) → IsGrouped e → opening_of t e ≡ xs → IsGrouped xs
+grouped_opening : (e : List Mark) (t : ℕ) (xs : List Mark) → IsGrouped e → opening_of t e ≡ xs
+    → IsGrouped xs
 grouped_opening e t xs g o =
-    subst (λ (xs : List Mark). IsGrouped xs) o (at_opening (λ xs. IsGrouped xs) (λ m x p. p.2) e t g)
+    subst (λ (xs : List Mark). IsGrouped xs) o
+    (at_opening (λ xs. IsGrouped xs) (λ m x p. p.2) e t g)
 
 -- a child that its task had generated before the end of a group
-child_before_end : (e : List Mark) → IsLast e → (t k u : ℕ) (before : List Mark)
-    → t < segments_so_far e → opening_of t e ≡ GroupEnds ∷ before → IsChildAt before (running_task before) k u → HasChildAt (table_at e) t k
+child_before_end : (e : List Mark)
+    → IsLast e
+    → (t k u : ℕ) (before : List Mark)
+    → t < segments_so_far e
+    → opening_of t e ≡ GroupEnds ∷ before
+    → IsChildAt before (running_task before) k u
+    → HasChildAt (table_at e) t k
 child_before_end e h t k u before l o found =
     let proper = proper_opening e t (GroupEnds ∷ before) h.proper o in
-    let whole = begun_by_opening e t u (subst (λ (xs : List Mark). u < tasks_so_far xs) (sym o) found.has_begun) in
+    let whole = begun_by_opening e t u
+    (subst (λ (xs : List Mark). u < tasks_so_far xs) (sym o) found.has_begun) in
     let at : before_task u e ≡ before_task u before = ap (drop 1) whole.1 ∙ ap (before_task u) o in
     let here = child_from before e (running_task before) k u at whole.0 found in
     let is = row_of_child e h (running_task before) k u here in
@@ -249,12 +322,19 @@ child_before_end e h t k u before l o found =
     }
 
 -- a group begins where its task had generated no more children than where it ends
-group_children : (e : List Mark) (t k : ℕ) (before : List Mark) → IsGrouped e → opening_of t e ≡ GroupEnds ∷ before
-    → k < before_group (GroupEnds ∷ before) → k < children_of (running_task before) before
+group_children : (e : List Mark) (t k : ℕ) (before : List Mark)
+    → IsGrouped e
+    → opening_of t e ≡ GroupEnds ∷ before
+    → k < before_group (GroupEnds ∷ before)
+    → k < children_of (running_task before) before
 group_children e t k before g o less =
     let grouped = grouped_opening e t (GroupEnds ∷ before) g o in
     let own = ap (λ (q : ℕ). children_of q before) grouped.1.1 in
-    omega (arith, children_are_counted before 0 no_group grouped.1.0, innermost_count (open_groups before))
+    omega (
+      arith,
+      children_are_counted before 0 no_group grouped.1.0,
+      innermost_count (open_groups before),
+    )
 
 -- each number that a segment counts is that of a child generated before it
 children_at : (e : List Mark) → IsLast e → (t k : ℕ) → t < segments_so_far e
@@ -262,7 +342,10 @@ children_at : (e : List Mark) → IsLast e → (t k : ℕ) → t < segments_so_f
 children_at e h t k l less =
     by_mark (opening_of t e) refl (omega (arith, ap (λ r. r.children_before) (segment-at e t l)))
   where
-    by_mark : (moment : List Mark) → opening_of t e ≡ moment → k < before_group moment → HasChildAt (table_at e) t k
+    by_mark : (moment : List Mark)
+        → opening_of t e ≡ moment
+        → k < before_group moment
+        → HasChildAt (table_at e) t k
     by_mark [] o few = absurd (omega arith)
     by_mark (Begins d i ∷ before) o few = absurd (omega arith)
     by_mark (Ends ∷ before) o few = absurd (omega arith)
@@ -270,7 +353,8 @@ children_at e h t k l less =
     by_mark (Waits ∷ before) o few = absurd (omega arith)
     by_mark (GroupBegins ∷ before) o few = absurd (omega arith)
     by_mark (GroupEnds ∷ before) o few =
-        let found = nth_child before (running_task before) k (group_children e t k before h.grouped o few) in
+        let found =
+        nth_child before (running_task before) k (group_children e t k before h.grouped o few) in
         child_before_end e h t k found.0 before l o found.1
 
 is_numbered : (e : List Mark) → IsLast e → IsNumbered (table_at e)

@@ -1,31 +1,42 @@
 -- A nested table with its groups is read in place.
-use Rattle.std.proofs.Common.{◌≡◌, ◌⊎◌, ℕ, zero, suc, ◌+◌, ◌-◌, ◌<◌, ◌≤◌, Option, Some, None, length, refl, sym, ap, subst, ◌∙◌, inl, inr, arith}
+use Rattle.std.proofs.Common.{◌≡◌, ◌⊎◌, ℕ, zero, suc, ◌+◌, ◌-◌, ◌<◌, ◌≤◌, Option, Some, None}
+use Rattle.std.proofs.Common.{length, refl, sym, ap, subst, ◌∙◌, inl, inr, arith}
 use Rattle.std.proofs.lemmas.Bool.{cases_lt}
 use Rattle.std.proofs.lemmas.Option.{same_Some}
 use Rattle.task_segments.specs.declared.table.Closing.{Closing}
-use Rattle.task_segments.specs.declared.table.Closing.TheVariants.{Creates, Waits, EndsGroup, EndsTask}
+use Rattle.task_segments.specs.declared.table.Closing.TheVariants.{Creates, Waits, EndsGroup}
+use Rattle.task_segments.specs.declared.table.Closing.TheVariants.{EndsTask}
 use Rattle.task_segments.specs.Table.{Table, Task, segment, task, no_task}
-use Rattle.task_segments.specs.Precedence.{IsSegment, IsTask, Continues, Creation, IsEarlierChild, Encloses}
+use Rattle.task_segments.specs.Precedence.{IsSegment, IsTask, Continues, Creation, IsEarlierChild}
+use Rattle.task_segments.specs.Precedence.{Encloses}
 use Rattle.task_segments.specs.Schedule.{IsJoined}
 use Rattle.task_segments.specs.Nesting.{IsChild, IsNestedTable, IsGroupedTable, HasInnermost}
 use Rattle.task_segments.specs.InPlace.{EndsBefore, IsOf, IsCreated, Opens, IsReadInPlace}
 use Rattle.task_segments.proofs.Reaches.{reached_is_joined}
-use Rattle.task_segments.proofs.Along.{reaches_along_task, has_next, next_is_nearest, is_owner, is_last}
-use Rattle.task_segments.proofs.Order.{after_child, after_created, continues_up, creator_within, last_of_all, next_is, none_next, not_root, not_root_made, one_next, continues_or_is_created, same_place, siblings_apart}
+use Rattle.task_segments.proofs.Along.{reaches_along_task, has_next, next_is_nearest, is_owner}
+use Rattle.task_segments.proofs.Along.{is_last}
+use Rattle.task_segments.proofs.Order.{after_child, after_created, continues_up, creator_within}
+use Rattle.task_segments.proofs.Order.{last_of_all, next_is, none_next, not_root, not_root_made}
+use Rattle.task_segments.proofs.Order.{one_next, continues_or_is_created, same_place}
+use Rattle.task_segments.proofs.Order.{siblings_apart}
 use Rattle.std.proofs.lemmas.List.{get_or_past}
 
 pub with_parent : (table : Table) (u p : ℕ) → (task table u).parent ≡ Some p → IsTask table u
 with_parent table u p e =
     elim (cases_lt u (length table.tasks)) [
       | inl within ↦ within
-      | inr past ↦ let none : None ≡ Some p = sym (ap (λ (row : Task). row.parent) (get_or_past table.tasks u no_task past)) ∙ e in cc
+      | inr past ↦ let none : None ≡ Some p =
+          sym (ap (λ (row : Task). row.parent) (get_or_past table.tasks u no_task past)) ∙ e in
+          cc
     ]
 
 pub with_creator : (table : Table) (u s : ℕ) → (task table u).creator ≡ Some s → IsTask table u
 with_creator table u s e =
     elim (cases_lt u (length table.tasks)) [
       | inl within ↦ within
-      | inr past ↦ let none : None ≡ Some s = sym (ap (λ (row : Task). row.creator) (get_or_past table.tasks u no_task past)) ∙ e in cc
+      | inr past ↦ let none : None ≡ Some s =
+          sym (ap (λ (row : Task). row.creator) (get_or_past table.tasks u no_task past)) ∙ e in
+          cc
     ]
 
 -- there is a segment
@@ -33,7 +44,8 @@ pub some_segment : (table : Table) → IsNestedTable table → IsSegment table 0
 some_segment table h = let k = (h.segments 0 h.root.is_task).is_last in omega arith
 
 -- no segment comes after the root's last
-pub root_last : (table : Table) → IsNestedTable table → (s : ℕ) → IsSegment table s → s ≤ (task table 0).last
+pub root_last : (table : Table) → IsNestedTable table → (s : ℕ) → IsSegment table s
+    → s ≤ (task table 0).last
 root_last table h s i =
     let u = (segment table s).task in
     let is_u = h.tasks s i in
@@ -41,13 +53,20 @@ root_last table h s i =
     let above = last_of_all (suc u) table h u (omega arith) is_u in
     omega arith
 
-pub from_first : (table : Table) → IsNestedTable table → (u s : ℕ) → IsOf table u s → (task table u).first ≤ s
-from_first table h u s i = ((h.segments u (is_owner table h u s i)).between s i.is_segment i.of_task).0
+pub from_first : (table : Table) → IsNestedTable table → (u s : ℕ) → IsOf table u s
+    → (task table u).first ≤ s
+from_first table h u s i =
+    ((h.segments u (is_owner table h u s i)).between s i.is_segment i.of_task).0
 
-pub to_last : (table : Table) → IsNestedTable table → (u s : ℕ) → IsOf table u s → s ≤ (task table u).last
+pub to_last : (table : Table) → IsNestedTable table → (u s : ℕ) → IsOf table u s
+    → s ≤ (task table u).last
 to_last table h u s i = ((h.segments u (is_owner table h u s i)).between s i.is_segment i.of_task).1
 
-pub first_of : (table : Table) → IsNestedTable table → (u : ℕ) → IsTask table u → IsOf table u (task table u).first
+pub first_of : (table : Table)
+    → IsNestedTable table
+    → (u : ℕ)
+    → IsTask table u
+    → IsOf table u (task table u).first
 first_of table h u i =
     let k = h.segments u i in
     let order = k.in_order in
@@ -59,7 +78,8 @@ pub last_followed : (table : Table) → IsNestedTable table → (u t : ℕ) → 
     → Continues table (task table u).last t → ⊥
 last_followed table h u t i next =
     let up = continues_up table h (task table u).last t next in
-    let below = to_last table h u t (record { is_segment = next.is_to; of_task = next.same_task ∙ (h.segments u i).of_last }) in
+    let below = to_last table h u t
+    (record { is_segment = next.is_to; of_task = next.same_task ∙ (h.segments u i).of_last }) in
     omega arith
 
 -- a segment is followed, where it does not end its task
@@ -84,19 +104,34 @@ last_ends table h u i =
     ]
 
 -- a segment is the first of one task
-pub first_of_one : (table : Table) → IsNestedTable table → (u v : ℕ) → IsTask table u → IsTask table v
-    → (task table u).first ≡ (task table v).first → u ≡ v
+pub first_of_one : (table : Table)
+    → IsNestedTable table
+    → (u v : ℕ)
+    → IsTask table u
+    → IsTask table v
+    → (task table u).first ≡ (task table v).first
+    → u ≡ v
 first_of_one table h u v i j same =
-    sym (first_of table h u i).of_task ∙ ap (λ (s : ℕ). (segment table s).task) same ∙ (first_of table h v j).of_task
+    sym (first_of table h u i).of_task
+    ∙ ap (λ (s : ℕ). (segment table s).task) same
+    ∙ (first_of table h v j).of_task
 
 -- and the last of one
-pub last_of_one : (table : Table) → IsNestedTable table → (u v : ℕ) → IsTask table u → IsTask table v
-    → (task table u).last ≡ (task table v).last → u ≡ v
+pub last_of_one : (table : Table)
+    → IsNestedTable table
+    → (u v : ℕ)
+    → IsTask table u
+    → IsTask table v
+    → (task table u).last ≡ (task table v).last
+    → u ≡ v
 last_of_one table h u v i j same =
-    sym (is_last table h u i).of_task ∙ ap (λ (s : ℕ). (segment table s).task) same ∙ (is_last table h v j).of_task
+    sym (is_last table h u i).of_task
+    ∙ ap (λ (s : ℕ). (segment table s).task) same
+    ∙ (is_last table h v j).of_task
 
 -- a segment follows one
-pub follows_one : (table : Table) → IsNestedTable table → (a b t : ℕ) → Continues table a t → Continues table b t
+pub follows_one : (table : Table) → IsNestedTable table → (a b t : ℕ) → Continues table a t
+    → Continues table b t
     → a ≡ b
 follows_one table h a b t x y =
     let same = x.next in
@@ -108,36 +143,55 @@ pub first_follows : (table : Table) → IsNestedTable table → (u s : ℕ) → 
     → Continues table s (task table u).first → ⊥
 first_follows table h u s i x =
     let up = continues_up table h s (task table u).first x in
-    let from = from_first table h u s (record { is_segment = x.is_from; of_task = sym x.same_task ∙ (first_of table h u i).of_task }) in
+    let from = from_first table h u s (record {
+      is_segment = x.is_from;
+      of_task = sym x.same_task ∙ (first_of table h u i).of_task;
+    }) in
     omega arith
 
 pub next_is_least : (table : Table) → IsNestedTable table → (s t other : ℕ) → Continues table s t
     → IsOf table (segment table s).task other → s < other → t ≤ other
 next_is_least table h s t other x o l = next_is_nearest table h s t other x o.is_segment o.of_task l
 
-pub is_joined_within_task : (table : Table) → IsNestedTable table → (u a b : ℕ) → IsOf table u a → IsOf table u b → a < b
+pub is_joined_within_task : (table : Table)
+    → IsNestedTable table
+    → (u a b : ℕ)
+    → IsOf table u a
+    → IsOf table u b
+    → a < b
     → IsJoined (Continues table) a b
-is_joined_within_task table h u a b i j l = reached_is_joined (reaches_along_task (b - a) table h a b u i j (omega arith) (omega arith))
+is_joined_within_task table h u a b i j l =
+    reached_is_joined (reaches_along_task (b - a) table h a b u i j (omega arith) (omega arith))
 
 -- what a creator tells of a task
 record Made (table : Table) (u s : ℕ) : Type 0 where
   child : IsChild table u
   creator : child.creator ≡ s
 
-creator_makes : (table : Table) → IsNestedTable table → (u s : ℕ) → IsTask table u → (task table u).creator ≡ Some s
+creator_makes : (table : Table)
+    → IsNestedTable table
+    → (u s : ℕ)
+    → IsTask table u
+    → (task table u).creator ≡ Some s
     → Made table u s
 creator_makes table h u s i e =
     let k = h.children u (not_root_made table h u s e) i in
     record { child = k; creator = same_Some _ _ (sym k.is_creator ∙ e) }
 
-pub after_task : (table : Table) → IsNestedTable table → (u s : ℕ) → IsTask table u → (task table u).creator ≡ Some s
+pub after_task : (table : Table)
+    → IsNestedTable table
+    → (u s : ℕ)
+    → IsTask table u
+    → (task table u).creator ≡ Some s
     → Continues table s ((task table u).last + 1)
 after_task table h u s i e =
-    let m = creator_makes table h u s i e in subst (λ n. Continues table n ((task table u).last + 1)) m.creator m.child.resumes
+    let m = creator_makes table h u s i e in
+    subst (λ n. Continues table n ((task table u).last + 1)) m.creator m.child.resumes
 
 pub first_created : (table : Table) → IsNestedTable table → (u s : ℕ) → IsTask table u
     → (task table u).creator ≡ Some s → (task table u).first ≡ s + 1
-first_created table h u s i e = let m = creator_makes table h u s i e in m.child.first ∙ ap (λ (n : ℕ). n + 1) m.creator
+first_created table h u s i e =
+    let m = creator_makes table h u s i e in m.child.first ∙ ap (λ (n : ℕ). n + 1) m.creator
 
 pub created_before : (table : Table) → IsNestedTable table → (u s : ℕ) → IsTask table u
     → (task table u).creator ≡ Some s → s < (task table u).last
@@ -146,7 +200,8 @@ created_before table h u s i e =
     let order = (h.segments u i).in_order in
     omega arith
 
-pub below_root : (table : Table) → IsNestedTable table → (u : ℕ) → 0 < u → IsTask table u → IsCreated table u
+pub below_root : (table : Table) → IsNestedTable table → (u : ℕ) → 0 < u → IsTask table u
+    → IsCreated table u
 below_root table h u l i =
     let k = h.children u l i in
     record {
@@ -155,15 +210,28 @@ below_root table h u l i =
       lower = k.lower;
       creator = k.creator;
       is_creator = k.is_creator;
-      of_parent = record { is_segment = creator_within table h u k.creator i k.is_creator; of_task = k.of_creator };
+      of_parent = record {
+        is_segment = creator_within table h u k.creator i k.is_creator;
+        of_task = k.of_creator;
+      };
     }
 
-pub has_creator : (table : Table) → IsNestedTable table → (u p : ℕ) → IsTask table u → (task table u).parent ≡ Some p
+pub has_creator : (table : Table)
+    → IsNestedTable table
+    → (u p : ℕ)
+    → IsTask table u
+    → (task table u).parent ≡ Some p
     → (s : ℕ) × ((task table u).creator ≡ Some s)
-has_creator table h u p i e = let k = h.children u (not_root table h u p e) i in (k.creator, k.is_creator)
+has_creator table h u p i e =
+    let k = h.children u (not_root table h u p e) i in (k.creator, k.is_creator)
 
-pub creator_of : (table : Table) → IsNestedTable table → (u p s : ℕ) → IsTask table u → (task table u).parent ≡ Some p
-    → (task table u).creator ≡ Some s → IsOf table p s
+pub creator_of : (table : Table)
+    → IsNestedTable table
+    → (u p s : ℕ)
+    → IsTask table u
+    → (task table u).parent ≡ Some p
+    → (task table u).creator ≡ Some s
+    → IsOf table p s
 creator_of table h u p s i e f =
     let m = creator_makes table h u s i f in
     let same : m.child.parent ≡ p = same_Some _ _ (sym m.child.is_parent ∙ e) in
@@ -172,28 +240,39 @@ creator_of table h u p s i e f =
       of_task = ap (λ (n : ℕ). (segment table n).task) (sym m.creator) ∙ m.child.of_creator ∙ same;
     }
 
-first_follows_none : (table : Table) → IsNestedTable table → (a b t : ℕ) → Continues table a t → Creation table b t
+first_follows_none : (table : Table) → IsNestedTable table → (a b t : ℕ) → Continues table a t
+    → Creation table b t
     → ⊥
 first_follows_none table h a b t next creation =
-    first_follows table h creation.child a creation.is_child (subst (Continues table a) (sym creation.first) next)
+    first_follows table h creation.child a creation.is_child
+    (subst (Continues table a) (sym creation.first) next)
 
-creation_once : (table : Table) → IsNestedTable table → (a b t : ℕ) → Creation table a t → Creation table b t → a ≡ b
+creation_once : (table : Table) → IsNestedTable table → (a b t : ℕ) → Creation table a t
+    → Creation table b t → a ≡ b
 creation_once table h a b t x y =
     let same = first_of_one table h x.child y.child x.is_child y.is_child (x.first ∙ sym y.first) in
     same_Some _ _ (sym x.creator ∙ ap (λ (u : ℕ). (task table u).creator) same ∙ y.creator)
 
 -- a segment opens at the end of one
-pub opens_once : (table : Table) → IsNestedTable table → (a b t : ℕ) → Opens table a t → Opens table b t → a ≡ b
+pub opens_once : (table : Table) → IsNestedTable table → (a b t : ℕ) → Opens table a t
+    → Opens table b t → a ≡ b
 opens_once table h a b t (inl x) (inl y) = follows_one table h a b t x y
 opens_once table h a b t (inl x) (inr y) = absurd (first_follows_none table h a b t x y)
 opens_once table h a b t (inr x) (inl y) = absurd (first_follows_none table h b a t y x)
 opens_once table h a b t (inr x) (inr y) = creation_once table h a b t x y
 
--- the segment after the creator is the child's first: so the creator does not go on with that number
-next_other : (table : Table) → IsNestedTable table → (u s : ℕ) → IsTask table u → (task table u).creator ≡ Some s
-    → Continues table s (s + 1) → ⊥
+-- the segment after the creator is the child's first: so the creator does not go on with that
+-- number
+next_other : (table : Table)
+    → IsNestedTable table
+    → (u s : ℕ)
+    → IsTask table u
+    → (task table u).creator ≡ Some s
+    → Continues table s (s + 1)
+    → ⊥
 next_other table h u s i e next =
-    let same = one_next table h s ((task table u).last + 1) (s + 1) (after_task table h u s i e) next in
+    let same =
+    one_next table h s ((task table u).last + 1) (s + 1) (after_task table h u s i e) next in
     let later = created_before table h u s i e in
     omega arith
 
@@ -205,63 +284,101 @@ closing_creates table h s child i e = by_closing (segment table s).closing refl
     is_s : IsSegment table s
     is_s = creator_within table h child s i e
 
-    by_closing : (closing : Closing) → (segment table s).closing ≡ closing → (segment table s).closing ≡ Creates child
+    by_closing : (closing : Closing)
+        → (segment table s).closing ≡ closing
+        → (segment table s).closing ≡ Creates child
     by_closing (Creates other) c =
         let k = h.creates s other is_s c in
         let first = first_created table h other s k.0 k.1 in
-        let same = first_of_one table h other child k.0 i (first ∙ sym (first_created table h child s i e)) in
+        let same =
+        first_of_one table h other child k.0 i (first ∙ sym (first_created table h child s i e)) in
         c ∙ ap Creates same
     by_closing Waits c = absurd (next_other table h child s i e (h.after_wait s is_s c))
     by_closing EndsGroup c = absurd (next_other table h child s i e (h.after_group s is_s c))
-    by_closing EndsTask c = absurd (none_next table h s ((task table child).last + 1) c (after_task table h child s i e))
+    by_closing EndsTask c =
+        absurd
+        (none_next table h s ((task table child).last + 1) c (after_task table h child s i e))
 
 -- a child generated before a segment of its parent has ended before it
-pub children : (table : Table) → IsNestedTable table → (u p s t : ℕ) → (task table u).parent ≡ Some p
-    → (task table u).creator ≡ Some s → IsOf table p t → s < t → (task table u).last < t
+pub children : (table : Table)
+    → IsNestedTable table
+    → (u p s t : ℕ)
+    → (task table u).parent ≡ Some p
+    → (task table u).creator ≡ Some s
+    → IsOf table p t
+    → s < t
+    → (task table u).last < t
 children table h u p s t e f o l =
     let m = creator_makes table h u s (with_parent table u p e) f in
     let same : m.child.parent ≡ p = same_Some _ _ (sym m.child.is_parent ∙ e) in
     let c = m.creator in
     after_child table h u m.child t (o.of_task ∙ sym same) (omega arith)
 
--- a child generated before t has ended before the segment that t follows by one, where that one does not create it
-ended_before : (table : Table) → IsNestedTable table → (child before : ℕ) → IsEarlierChild table child (before + 1)
-    → Continues table before (before + 1) → (task table child).last < before
+-- a child generated before t has ended before the segment that t follows by one, where that one
+-- does not create it
+ended_before : (table : Table)
+    → IsNestedTable table
+    → (child before : ℕ)
+    → IsEarlierChild table child (before + 1)
+    → Continues table before (before + 1)
+    → (task table child).last < before
 ended_before table h child before generated next =
     let earlier = generated.earlier in
     let parent : (task table child).parent ≡ Some (segment table before).task =
     generated.parent ∙ ap Some next.same_task in
     elim (cases_lt generated.creator before) [
-      | inl less ↦ children table h child (segment table before).task generated.creator before parent generated.is_creator (record { is_segment = next.is_from; of_task = refl }) less
+      | inl less ↦ children table h child (segment table before).task generated.creator before
+          parent generated.is_creator (record { is_segment = next.is_from; of_task = refl }) less
       | inr same ↦
           let e : generated.creator ≡ before = omega arith in
-          absurd (next_other table h child before generated.is_child (generated.is_creator ∙ ap Some e) next)
+          absurd (next_other table h child before generated.is_child
+          (generated.is_creator ∙ ap Some e) next)
     ]
 
-next_ended : (table : Table) → IsNestedTable table → (child before t : ℕ) → IsEarlierChild table child t
-    → Continues table before t → Continues table before (before + 1) → (task table child).last < before
+next_ended : (table : Table)
+    → IsNestedTable table
+    → (child before t : ℕ)
+    → IsEarlierChild table child t
+    → Continues table before t
+    → Continues table before (before + 1)
+    → (task table child).last < before
 next_ended table h child before t generated after next =
-    ended_before table h child before (subst (λ n. IsEarlierChild table child n) (next_is table h before t after next) generated) next
+    ended_before table h child before
+    (subst (λ n. IsEarlierChild table child n) (next_is table h before t after next) generated) next
 
-pub child_ends_before_wait : (table : Table) → IsNestedTable table → (child before t : ℕ) → IsEarlierChild table child t
-    → Continues table before t → (segment table before).closing ≡ Waits → (task table child).last < before
+pub child_ends_before_wait : (table : Table)
+    → IsNestedTable table
+    → (child before t : ℕ)
+    → IsEarlierChild table child t
+    → Continues table before t
+    → (segment table before).closing ≡ Waits
+    → (task table child).last < before
 child_ends_before_wait table h child before t generated after waits =
     next_ended table h child before t generated after (h.after_wait before after.is_from waits)
 
-pub child_ends_before_group : (table : Table) → IsNestedTable table → (child t : ℕ) → (encloses : Encloses table t child)
+pub child_ends_before_group : (table : Table)
+    → IsNestedTable table
+    → (child t : ℕ)
+    → (encloses : Encloses table t child)
     → (task table child).last < encloses.before
 child_ends_before_group table h child t e =
-    next_ended table h child e.before t e.generated e.opens (h.after_group e.before e.opens.is_from e.ends_group)
+    next_ended table h child e.before t e.generated e.opens
+    (h.after_group e.before e.opens.is_from e.ends_group)
 
 -- the end of a task's innermost group, which comes after the task
 pub record EndsAfter (table : Table) (u t : ℕ) : Type 0 where
   pub ends : EndsBefore table t
   pub later : (task table u).last < ends.before
 
-last_lower : (table : Table) → IsNestedTable table → (u : ℕ) → (c : IsChild table u) → IsTask table u
+last_lower : (table : Table)
+    → IsNestedTable table
+    → (u : ℕ)
+    → (c : IsChild table u)
+    → IsTask table u
     → (task table u).last < (task table c.parent).last
 last_lower table h u c i =
-    let within = to_last table h c.parent ((task table u).last + 1) (record { is_segment = c.resumes.is_to; of_task = c.resumes.same_task ∙ c.of_creator }) in
+    let within = to_last table h c.parent ((task table u).last + 1)
+    (record { is_segment = c.resumes.is_to; of_task = c.resumes.same_task ∙ c.of_creator }) in
     omega arith
 
 own_group : (table : Table) → IsNestedTable table → (u t : ℕ) → HasInnermost table u
@@ -270,12 +387,23 @@ own_group table h u t g e =
     let same : g.group ≡ t = same_Some _ _ (sym g.is_group ∙ e) in
     let c = g.encloses in
     subst (λ n. EndsAfter table u n) same (record {
-      ends = record { before = c.before; is_before = c.opens.is_from; ends_group = c.ends_group; after = c.opens };
+      ends = record {
+        before = c.before;
+        is_before = c.opens.is_from;
+        ends_group = c.ends_group;
+        after = c.opens;
+      };
       later = child_ends_before_group table h u g.group c;
     })
 
-group_from : (fuel : ℕ) (table : Table) → IsNestedTable table → IsGroupedTable table → (u t : ℕ) → u < fuel
-    → IsTask table u → (task table u).innermost_group ≡ Some t → EndsAfter table u t
+group_from : (fuel : ℕ) (table : Table)
+    → IsNestedTable table
+    → IsGroupedTable table
+    → (u t : ℕ)
+    → u < fuel
+    → IsTask table u
+    → (task table u).innermost_group ≡ Some t
+    → EndsAfter table u t
 group_from zero table h g u t below i e = absurd (omega arith)
 group_from (suc fuel) table h g u t below i e =
     elim (cases_lt 0 u) [
@@ -284,9 +412,12 @@ group_from (suc fuel) table h g u t below i e =
         | inr inherits ↦
             let c = h.children u above i in
             let parent_lower = c.lower in
-            let same : inherits.parent ≡ c.parent = same_Some _ _ (sym inherits.is_parent ∙ c.is_parent) in
+            let same : inherits.parent ≡ c.parent =
+            same_Some _ _ (sym inherits.is_parent ∙ c.is_parent) in
             let parents : (task table c.parent).innermost_group ≡ Some t =
-            ap (λ (n : ℕ). (task table n).innermost_group) (sym same) ∙ sym inherits.inherited ∙ e in
+            ap (λ (n : ℕ). (task table n).innermost_group) (sym same)
+            ∙ sym inherits.inherited
+            ∙ e in
             let up = group_from fuel table h g c.parent t (omega arith) (omega arith) parents in
             let later = up.later in
             let lower = last_lower table h u c i in
@@ -299,12 +430,19 @@ group_from (suc fuel) table h g u t below i e =
           cc
     ]
 
-pub group : (table : Table) → IsNestedTable table → IsGroupedTable table → (u t : ℕ) → IsTask table u
-    → (task table u).innermost_group ≡ Some t → (ends : EndsBefore table t) × ((task table u).last < ends.before)
-group table h g u t i e = let k = group_from (suc u) table h g u t (omega arith) i e in (k.ends, k.later)
+pub group : (table : Table)
+    → IsNestedTable table
+    → IsGroupedTable table
+    → (u t : ℕ)
+    → IsTask table u
+    → (task table u).innermost_group ≡ Some t
+    → (ends : EndsBefore table t) × ((task table u).last < ends.before)
+group table h g u t i e =
+    let k = group_from (suc u) table h g u t (omega arith) i e in (k.ends, k.later)
 
 -- a nested table with its groups is read in place
-pub read_in_place : (table : Table) → IsNestedTable table → IsGroupedTable table → IsReadInPlace table
+pub read_in_place : (table : Table) → IsNestedTable table → IsGroupedTable table
+    → IsReadInPlace table
 read_in_place table h g = record {
   root = h.root.is_task;
   root_parent = h.root.parent;
@@ -342,7 +480,8 @@ read_in_place table h g = record {
   first_created = first_created table h;
   created_before = created_before table h;
   creates = h.creates;
-  created = λ s child i e. (creator_within table h child s i e, closing_creates table h s child i e);
+  created = λ s child i e.
+      (creator_within table h child s i e, closing_creates table h s child i e);
   opens = continues_or_is_created table h;
   opens_once = opens_once table h;
   siblings = siblings_apart table h;

@@ -31,31 +31,72 @@ task_counted GroupEnds = refl
 
 pub tasks_counted : (marks : List Mark) → tasks_of marks ≡ count_by begins_task marks
 tasks_counted [] = refl
-tasks_counted (mark ∷ marks) = omega (arith, task_counted mark, tasks_counted marks, sum_by-cons tasks_begun mark marks, count-cons begins_task mark marks)
+tasks_counted (mark ∷ marks) =
+    omega (
+      arith,
+      task_counted mark,
+      tasks_counted marks,
+      sum_by-cons tasks_begun mark marks,
+      count-cons begins_task mark marks,
+    )
 
 -- a block's body between its two marks
 between : (f : Mark → ℕ) (begins ends : Mark) (body rest : List Mark)
     → sum_by f (begins ∷ (body ++ ends ∷ rest)) ≡ f begins + sum_by f body + f ends + sum_by f rest
-between f begins ends body rest = omega (arith, sum_by-cons f begins (body ++ ends ∷ rest), sum_by-append f body (ends ∷ rest), sum_by-cons f ends rest)
+between f begins ends body rest =
+    omega (
+      arith,
+      sum_by-cons f begins (body ++ ends ∷ rest),
+      sum_by-append f body (ends ∷ rest),
+      sum_by-cons f ends rest,
+    )
 
 opens_count : Mark → ℕ
 opens_count mark = cond (opens mark) 1 0
 
-segments_same : (marks : List Mark) → IsNested marks → sum_by segments_opened marks ≡ sum_by opens_count marks
+segments_same : (marks : List Mark)
+    → IsNested marks
+    → sum_by segments_opened marks ≡ sum_by opens_count marks
 unfolding opens_count
 segments_same _ Nothing = refl
-segments_same _ (Work cost rest h) = omega (arith, segments_same rest h, sum_by-cons segments_opened (Works cost) rest, sum_by-cons opens_count (Works cost) rest)
+segments_same _ (Work cost rest h) =
+    omega (
+      arith,
+      segments_same rest h,
+      sum_by-cons segments_opened (Works cost) rest,
+      sum_by-cons opens_count (Works cost) rest,
+    )
 segments_same _ (Wait rest h) =
-    omega (arith, segments_same rest h, sum_by-cons segments_opened Waits rest, sum_by-cons opens_count Waits rest)
+    omega (
+      arith,
+      segments_same rest h,
+      sum_by-cons segments_opened Waits rest,
+      sum_by-cons opens_count Waits rest,
+    )
 segments_same _ (Task d i body rest g h) =
-    omega (arith, segments_same body g, segments_same rest h, between segments_opened (Begins d i) Ends body rest, between opens_count (Begins d i) Ends body rest)
+    omega (
+      arith,
+      segments_same body g,
+      segments_same rest h,
+      between segments_opened (Begins d i) Ends body rest,
+      between opens_count (Begins d i) Ends body rest,
+    )
 segments_same _ (Group body rest g h) =
-    omega (arith, segments_same body g, segments_same rest h, between segments_opened GroupBegins GroupEnds body rest, between opens_count GroupBegins GroupEnds body rest)
+    omega (
+      arith,
+      segments_same body g,
+      segments_same rest h,
+      between segments_opened GroupBegins GroupEnds body rest,
+      between opens_count GroupBegins GroupEnds body rest,
+    )
 
-pub segments_counted : (marks : List Mark) → IsNested marks → segments_of marks ≡ count_by opens marks + 1
+pub segments_counted : (marks : List Mark)
+    → IsNested marks
+    → segments_of marks ≡ count_by opens marks + 1
 unfolding opens_count
 segments_counted marks h =
-    let same : sum_by segments_opened marks ≡ count_by opens marks = segments_same marks h in omega arith
+    let same : sum_by segments_opened marks ≡ count_by opens marks = segments_same marks h in
+    omega arith
 
 pub reading : (program : ProgramMarks) → IsProgram program → IsReading program.marks
 reading program h =

@@ -1,18 +1,22 @@
 -- Where a test of two rows is true.
-use Rattle.std.proofs.Common.{◌≡◌, ℕ, Bool, true, eqb, List, Option, refl, sym, ap, subst, ◌∙◌, rules, Some, None}
+use Rattle.std.proofs.Common.{◌≡◌, ℕ, Bool, true, eqb, List, Option, refl, sym, ap, subst, ◌∙◌}
+use Rattle.std.proofs.Common.{rules, Some, None}
 use Rattle.std.specs.Option.{option_eq}
 use Rattle.std.specs.Cmp.{booleans_Decides}
 use mathlib.Core.Bool.{beq}
 use Rattle.std.specs.Bool.{Decides}
 use Rattle.std.proofs.lemmas.Bool.Decides.{Decides-and, Decides-eqb}
 use Rattle.program_text.specs.declared.statement.DependKind.{DependKind}
-use Rattle.program_text.specs.declared.statement.DependKind.TheVariants.{DependIn, DependOut, DependInOut, DependInOutSet}
+use Rattle.program_text.specs.declared.statement.DependKind.TheVariants.{DependIn, DependOut}
+use Rattle.program_text.specs.declared.statement.DependKind.TheVariants.{DependInOut}
+use Rattle.program_text.specs.declared.statement.DependKind.TheVariants.{DependInOutSet}
 use Rattle.program_text.specs.declared.statement.Item.{Item}
 use Rattle.program_text.specs.contracts.statement.DependKind as kinds
 use Rattle.program_text.specs.contracts.statement.DependKindPartialEq.TheImpl as kind_eq
 use Rattle.program_text.specs.contracts.statement.ItemPartialEq.TheImpl as item_eq
 use Rattle.task_segments.specs.declared.table.Closing.{Closing}
-use Rattle.task_segments.specs.declared.table.Closing.TheVariants.{Creates, Waits, EndsGroup, EndsTask}
+use Rattle.task_segments.specs.declared.table.Closing.TheVariants.{Creates, Waits, EndsGroup}
+use Rattle.task_segments.specs.declared.table.Closing.TheVariants.{EndsTask}
 use Rattle.task_segments.specs.declared.table.Segment.{Segment}
 use Rattle.task_segments.specs.contracts.table.ClosingPartialEq.TheImpl as closing_eq
 use Rattle.task_segments.specs.contracts.table.SegmentPartialEq.TheImpl as segment_eq
@@ -26,7 +30,8 @@ pub decides_equivalent : {P Q : Type 0} (b : Bool) → (P → Q) → (Q → P) �
 decides_equivalent b to from (p, q) = (λ e. to (p e), λ x. q (from x))
 
 closing_decides : (a b : Closing) → Decides (closing_eq.ghosts.eq a b) (a ≡ b)
-closing_decides (Creates t) (Creates u) = decides_equivalent (eqb t u) (λ e. ap Creates e) (λ e. cc) (Decides-eqb t u)
+closing_decides (Creates t) (Creates u) =
+    decides_equivalent (eqb t u) (λ e. ap Creates e) (λ e. cc) (Decides-eqb t u)
 closing_decides (Creates t) Waits = (λ e. cc, λ e. cc)
 closing_decides (Creates t) EndsGroup = (λ e. cc, λ e. cc)
 closing_decides (Creates t) EndsTask = (λ e. cc, λ e. cc)
@@ -44,18 +49,32 @@ closing_decides EndsTask EndsGroup = (λ e. cc, λ e. cc)
 closing_decides EndsTask EndsTask = (λ e. refl, λ e. refl)
 
 abbrev AreEqual : Segment → Segment → Type 0
-AreEqual a b = (a.task ≡ b.task) × ((a.index ≡ b.index) × ((a.cost ≡ b.cost) × ((a.closing ≡ b.closing) × (a.children_before ≡ b.children_before))))
+AreEqual a b =
+    (a.task ≡ b.task)
+    × ((a.index ≡ b.index)
+    × ((a.cost ≡ b.cost) × ((a.closing ≡ b.closing) × (a.children_before ≡ b.children_before))))
 
 pub same_segment : (a b : Segment) → AreEqual a b → a ≡ b
 same_segment a b (t, (i, (c, (l, n)))) =
     ap (λ (v : ℕ). record a { task = v }) t
     ∙ ap (λ (v : ℕ). record a { task = b.task; index = v }) i
     ∙ ap (λ (v : ℕ). record a { task = b.task; index = b.index; cost = v }) c
-    ∙ ap (λ (v : Closing). record a { task = b.task; index = b.index; cost = b.cost; closing = v }) l
+    ∙ ap (λ (v : Closing). record a { task = b.task; index = b.index; cost = b.cost; closing = v })
+    l
     ∙ ap (λ (v : ℕ). record b { children_before = v }) n
 
 fields_of : (a b : Segment) → a ≡ b → AreEqual a b
-fields_of a b e = (ap (λ (r : Segment). r.task) e, (ap (λ (r : Segment). r.index) e, (ap (λ (r : Segment). r.cost) e, (ap (λ (r : Segment). r.closing) e, ap (λ (r : Segment). r.children_before) e))))
+fields_of a b e = (
+  ap (λ (r : Segment). r.task) e,
+  (
+    ap (λ (r : Segment). r.index)
+        e,
+    (
+      ap (λ (r : Segment). r.cost) e,
+      (ap (λ (r : Segment). r.closing) e, ap (λ (r : Segment). r.children_before) e),
+    ),
+  ),
+)
 
 pub segment_decides : (a b : Segment) → Decides (segment_eq.ghosts.eq a b) (a ≡ b)
 segment_decides a b =
@@ -63,7 +82,8 @@ segment_decides a b =
     (Decides-and (eqb a.task b.task) _ (Decides-eqb a.task b.task)
     (Decides-and (eqb a.index b.index) _ (Decides-eqb a.index b.index)
     (Decides-and (eqb a.cost b.cost) _ (Decides-eqb a.cost b.cost)
-    (Decides-and (closing_eq.ghosts.eq a.closing b.closing) _ (closing_decides a.closing b.closing) (Decides-eqb a.children_before b.children_before)))))
+    (Decides-and (closing_eq.ghosts.eq a.closing b.closing) _ (closing_decides a.closing b.closing)
+    (Decides-eqb a.children_before b.children_before)))))
 
 kind_self : (a : DependKind) → kind_eq.ghosts.eq a a ≡ true
 kind_self DependIn = refl
@@ -72,37 +92,81 @@ kind_self DependInOut = refl
 kind_self DependInOutSet = refl
 
 kind_decides : (a b : DependKind) → Decides (kind_eq.ghosts.eq a b) (a ≡ b)
-kind_decides a b = (λ e. same_true kinds.the_type (search rules) a b e, λ e. subst (λ (k : DependKind). kind_eq.ghosts.eq a k ≡ true) e (kind_self a))
+kind_decides a b = (
+  λ e. same_true kinds.the_type (search rules) a b e,
+  λ e. subst (λ (k : DependKind). kind_eq.ghosts.eq a k ≡ true) e (kind_self a),
+)
 
 same_item : (a b : Item) → (a.kind ≡ b.kind) × (a.name ≡ b.name) → a ≡ b
-same_item a b (k, n) = ap (λ (v : DependKind). record a { kind = v }) k ∙ ap (λ (v : ℕ). record b { name = v }) n
+same_item a b (k, n) =
+    ap (λ (v : DependKind). record a { kind = v }) k ∙ ap (λ (v : ℕ). record b { name = v }) n
 
 pub item_decides : (a b : Item) → Decides (item_eq.ghosts.eq a b) (a ≡ b)
 item_decides a b =
-    decides_equivalent (item_eq.ghosts.eq a b) (same_item a b) (λ e. (ap (λ (i : Item). i.kind) e, ap (λ (i : Item). i.name) e))
-    (Decides-and (kind_eq.ghosts.eq a.kind b.kind) _ (kind_decides a.kind b.kind) (Decides-eqb a.name b.name))
+    decides_equivalent (item_eq.ghosts.eq a b) (same_item a b)
+    (λ e. (ap (λ (i : Item). i.kind) e, ap (λ (i : Item). i.name) e))
+    (Decides-and (kind_eq.ghosts.eq a.kind b.kind) _ (kind_decides a.kind b.kind)
+    (Decides-eqb a.name b.name))
 
 pub option_decides : (a b : Option ℕ) → Decides (option_eq eqb a b) (a ≡ b)
 option_decides None None = (λ e. refl, λ e. refl)
 option_decides None (Some y) = (λ e. cc, λ e. cc)
 option_decides (Some x) None = (λ e. cc, λ e. cc)
-option_decides (Some x) (Some y) = decides_equivalent (eqb x y) (λ e. ap Some e) (λ e. cc) (Decides-eqb x y)
+option_decides (Some x) (Some y) =
+    decides_equivalent (eqb x y) (λ e. ap Some e) (λ e. cc) (Decides-eqb x y)
 
 abbrev HaveSameFacts : TaskFacts → TaskFacts → Type 0
-HaveSameFacts a b = (a.parent ≡ b.parent) × ((a.creator ≡ b.creator) × ((a.undeferred ≡ b.undeferred) × ((a.first ≡ b.first) × ((a.last ≡ b.last) × ((a.innermost_group ≡ b.innermost_group) × (a.siblings_before ≡ b.siblings_before))))))
+HaveSameFacts a b =
+    (a.parent ≡ b.parent)
+    × ((a.creator ≡ b.creator)
+    × ((a.undeferred ≡ b.undeferred)
+    × ((a.first ≡ b.first)
+    × ((a.last ≡ b.last)
+    × ((a.innermost_group ≡ b.innermost_group) × (a.siblings_before ≡ b.siblings_before))))))
 
 pub same_facts : (a b : TaskFacts) → HaveSameFacts a b → a ≡ b
 same_facts a b (p, (c, (d, (f, (l, (g, n)))))) =
     ap (λ (v : Option ℕ). record a { parent = v }) p
     ∙ ap (λ (v : Option ℕ). record a { parent = b.parent; creator = v }) c
     ∙ ap (λ (v : Bool). record a { parent = b.parent; creator = b.creator; undeferred = v }) d
-    ∙ ap (λ (v : ℕ). record b { first = v; last = a.last; innermost_group = a.innermost_group; siblings_before = a.siblings_before }) f
-    ∙ ap (λ (v : ℕ). record b { last = v; innermost_group = a.innermost_group; siblings_before = a.siblings_before }) l
+    ∙ ap
+    (λ (v : ℕ). record b {
+      first = v;
+      last = a.last;
+      innermost_group = a.innermost_group;
+      siblings_before = a.siblings_before;
+    })
+    f
+    ∙ ap
+    (λ (v : ℕ). record b {
+      last = v;
+      innermost_group = a.innermost_group;
+      siblings_before = a.siblings_before;
+    })
+    l
     ∙ ap (λ (v : Option ℕ). record b { innermost_group = v; siblings_before = a.siblings_before }) g
     ∙ ap (λ (v : ℕ). record b { siblings_before = v }) n
 
 parts_of : (a b : TaskFacts) → a ≡ b → HaveSameFacts a b
-parts_of a b e = (ap (λ (r : TaskFacts). r.parent) e, (ap (λ (r : TaskFacts). r.creator) e, (ap (λ (r : TaskFacts). r.undeferred) e, (ap (λ (r : TaskFacts). r.first) e, (ap (λ (r : TaskFacts). r.last) e, (ap (λ (r : TaskFacts). r.innermost_group) e, ap (λ (r : TaskFacts). r.siblings_before) e))))))
+parts_of a b e = (
+  ap (λ (r : TaskFacts). r.parent) e,
+  (
+    ap (λ (r : TaskFacts). r.creator) e,
+    (
+      ap (λ (r : TaskFacts). r.undeferred) e,
+      (
+        ap (λ (r : TaskFacts). r.first) e,
+        (
+          ap (λ (r : TaskFacts). r.last) e,
+          (
+            ap (λ (r : TaskFacts). r.innermost_group) e,
+            ap (λ (r : TaskFacts). r.siblings_before) e,
+          ),
+        ),
+      ),
+    ),
+  ),
+)
 
 facts_decide : (a b : TaskFacts) → Decides (facts_eq.ghosts.eq a b) (a ≡ b)
 facts_decide a b =
@@ -112,16 +176,34 @@ facts_decide a b =
     (Decides-and (beq a.undeferred b.undeferred) _ (booleans_Decides a.undeferred b.undeferred)
     (Decides-and (eqb a.first b.first) _ (Decides-eqb a.first b.first)
     (Decides-and (eqb a.last b.last) _ (Decides-eqb a.last b.last)
-    (Decides-and (option_eq eqb a.innermost_group b.innermost_group) _ (option_decides a.innermost_group b.innermost_group) (Decides-eqb a.siblings_before b.siblings_before)))))))
+    (Decides-and (option_eq eqb a.innermost_group b.innermost_group) _
+    (option_decides a.innermost_group b.innermost_group)
+    (Decides-eqb a.siblings_before b.siblings_before)))))))
 
 pub same_row : (a b : Task) → facts_of a ≡ facts_of b → a.items ≡ b.items → a ≡ b
 same_row a b e i =
-    let row : TaskFacts → List Item → Task = λ p items. record { parent = p.parent; creator = p.creator; undeferred = p.undeferred; items = items; first = p.first; last = p.last; innermost_group = p.innermost_group; siblings_before = p.siblings_before } in
+    let row : TaskFacts → List Item → Task = λ p items. record {
+      parent = p.parent;
+      creator = p.creator;
+      undeferred = p.undeferred;
+      items = items;
+      first = p.first;
+      last = p.last;
+      innermost_group = p.innermost_group;
+      siblings_before = p.siblings_before;
+    } in
     ap (λ (p : TaskFacts). row p a.items) e ∙ ap (λ (items : List Item). row (facts_of b) items) i
 
 -- two tasks of which the same facts hold are the same where their items are
-pub same_task : (a b : Task) (p q : TaskFacts) (xs ys : List Item) (r : Bool) → p ≡ facts_of a → q ≡ facts_of b
-    → true ≡ facts_eq.ghosts.eq p q → xs ≡ a.items → ys ≡ b.items → Decides r (xs ≡ ys) → Decides r (a ≡ b)
+pub same_task : (a b : Task) (p q : TaskFacts) (xs ys : List Item) (r : Bool)
+    → p ≡ facts_of a
+    → q ≡ facts_of b
+    → true ≡ facts_eq.ghosts.eq p q
+    → xs ≡ a.items
+    → ys ≡ b.items
+    → Decides r (xs ≡ ys)
+    → Decides r (a ≡ b)
 same_task a b p q xs ys r u v e x y d =
     let facts : facts_of a ≡ facts_of b = sym u ∙ (facts_decide p q).0 (sym e) ∙ v in
-    decides_equivalent r (λ i. same_row a b facts (sym x ∙ i ∙ y)) (λ i. x ∙ ap (λ (t : Task). t.items) i ∙ sym y) d
+    decides_equivalent r (λ i. same_row a b facts (sym x ∙ i ∙ y))
+    (λ i. x ∙ ap (λ (t : Task). t.items) i ∙ sym y) d

@@ -19,24 +19,72 @@ use Rattle.task_segments.proofs.Work.{all_work}
 
 -- what one more mark adds
 one_more : (m : Mark) (marks : List Mark)
-    → segments_opened m + (2 * tasks_in marks + waits_in marks + groups_in marks) ≡ 2 * tasks_in (m ∷ marks) + waits_in (m ∷ marks) + groups_in (m ∷ marks)
-one_more (Begins d i) marks = omega (arith, count-cons begins_task (Begins d i) marks, count-cons is_wait (Begins d i) marks, count-cons begins_group (Begins d i) marks)
-one_more Ends marks = omega (arith, count-cons begins_task Ends marks, count-cons is_wait Ends marks, count-cons begins_group Ends marks)
-one_more (Works cost) marks = omega (arith, count-cons begins_task (Works cost) marks, count-cons is_wait (Works cost) marks, count-cons begins_group (Works cost) marks)
-one_more Waits marks = omega (arith, count-cons begins_task Waits marks, count-cons is_wait Waits marks, count-cons begins_group Waits marks)
-one_more GroupBegins marks = omega (arith, count-cons begins_task GroupBegins marks, count-cons is_wait GroupBegins marks, count-cons begins_group GroupBegins marks)
-one_more GroupEnds marks = omega (arith, count-cons begins_task GroupEnds marks, count-cons is_wait GroupEnds marks, count-cons begins_group GroupEnds marks)
+    → segments_opened m + (2 * tasks_in marks + waits_in marks + groups_in marks)
+    ≡ 2 * tasks_in (m ∷ marks) + waits_in (m ∷ marks) + groups_in (m ∷ marks)
+one_more (Begins d i) marks =
+    omega (
+      arith,
+      count-cons begins_task (Begins d i) marks,
+      count-cons is_wait (Begins d i) marks,
+      count-cons begins_group (Begins d i) marks,
+    )
+one_more Ends marks =
+    omega (
+      arith,
+      count-cons begins_task Ends marks,
+      count-cons is_wait Ends marks,
+      count-cons begins_group Ends marks,
+    )
+one_more (Works cost) marks =
+    omega (
+      arith,
+      count-cons begins_task (Works cost) marks,
+      count-cons is_wait (Works cost) marks,
+      count-cons begins_group (Works cost) marks,
+    )
+one_more Waits marks =
+    omega (
+      arith,
+      count-cons begins_task Waits marks,
+      count-cons is_wait Waits marks,
+      count-cons begins_group Waits marks,
+    )
+one_more GroupBegins marks =
+    omega (
+      arith,
+      count-cons begins_task GroupBegins marks,
+      count-cons is_wait GroupBegins marks,
+      count-cons begins_group GroupBegins marks,
+    )
+one_more GroupEnds marks =
+    omega (
+      arith,
+      count-cons begins_task GroupEnds marks,
+      count-cons is_wait GroupEnds marks,
+      count-cons begins_group GroupEnds marks,
+    )
 
-opened_in : (marks : List Mark) → sum_by segments_opened marks ≡ 2 * tasks_in marks + waits_in marks + groups_in marks
+opened_in : (marks : List Mark)
+    → sum_by segments_opened marks ≡ 2 * tasks_in marks + waits_in marks + groups_in marks
 opened_in [] = refl
-opened_in (m ∷ marks) = omega (arith, sum_by-cons segments_opened m marks, opened_in marks, one_more m marks)
+opened_in (m ∷ marks) =
+    omega (arith, sum_by-cons segments_opened m marks, opened_in marks, one_more m marks)
 
 -- the table of a program has all of it
-pub has_all : (program : ProgramMarks) → IsProgram program → HasAllOf program.marks (table_of program.marks)
+pub has_all : (program : ProgramMarks)
+    → IsProgram program
+    → HasAllOf program.marks (table_of program.marks)
 has_all program h =
     let e = last_moment program.marks in
     record {
-      tasks = omega (arith, tasks-at e, count_read begins_task (Begins false [] ∷ []) program.marks);
-      segments = omega (arith, segments-at e, count_read opens (Begins false [] ∷ []) program.marks, segments_counted program.marks (is_nested program h), opened_in program.marks);
+      tasks =
+          omega (arith, tasks-at e, count_read begins_task (Begins false [] ∷ []) program.marks);
+      segments = omega (
+        arith,
+        segments-at e,
+        count_read opens (Begins false [] ∷ []) program.marks,
+        segments_counted program.marks (is_nested program h),
+        opened_in program.marks,
+      );
       work = all_work program h;
     }

@@ -1,5 +1,6 @@
 -- The costs of all segments together are the work of the program.
-use Rattle.std.proofs.Common.{◌≡◌, ℕ, zero, suc, ◌+◌, ◌-◌, ◌<◌, ◌≤◌, inl, inr, true, false, List, [], ◌∷◌, map, refl, ap, ◌∙◌, arith}
+use Rattle.std.proofs.Common.{◌≡◌, ℕ, zero, suc, ◌+◌, ◌-◌, ◌<◌, ◌≤◌, inl, inr, true, false, List}
+use Rattle.std.proofs.Common.{[], ◌∷◌, map, refl, ap, ◌∙◌, arith}
 use Rattle.std.specs.List.{range_with_len, sum, sum_by}
 use Rattle.std.proofs.lemmas.Bool.{cases_eq}
 use Rattle.std.proofs.lemmas.Bool.Decides.{nat_tests}
@@ -12,7 +13,8 @@ use Rattle.task_program.specs.ProgramMarks.{ProgramMarks}
 use Rattle.task_program.specs.Programs.{IsProgram}
 use Rattle.task_program.proofs.Nested.{is_nested}
 use Rattle.task_segments.specs.declared.table.Segment.{Segment}
-use Rattle.task_segments.specs.Moments.{segments_so_far, opening_of, opens, cost_of, is_latest, moment_after, last_moment, IsProper}
+use Rattle.task_segments.specs.Moments.{segments_so_far, opening_of, opens, cost_of, is_latest}
+use Rattle.task_segments.specs.Moments.{moment_after, last_moment, IsProper}
 use Rattle.task_segments.specs.Programs.{IsProgramTable}
 use Rattle.task_segments.specs.Table.{Table, costs_of, segment_row, table_at, table_of}
 use Rattle.task_segments.proofs.Facts.{begun_some_segment}
@@ -27,13 +29,19 @@ total e zero = 0
 total e (suc n) = total e n + cost_of n e
 
 total_is : (e : List Mark) (n : ℕ)
-    → sum_by (λ (row : Segment). row.cost) (map (λ s. segment_row e s (opening_of s e)) (range_with_len 0 n)) ≡ total e n
+    → sum_by (λ (row : Segment). row.cost)
+    (map (λ s. segment_row e s (opening_of s e)) (range_with_len 0 n))
+    ≡ total e n
 unfolding total
 total_is e zero = refl
 total_is e (suc n) =
     let next : suc n ≡ n + 1 = omega arith in
-    ap (λ (k : ℕ). sum_by (λ (row : Segment). row.cost) (map (λ s. segment_row e s (opening_of s e)) (range_with_len 0 k))) next
-    ∙ sum_by-map-range_with_len_more (λ (row : Segment). row.cost) (λ s. segment_row e s (opening_of s e)) 0 n n (omega arith)
+    ap
+    (λ (k : ℕ). sum_by (λ (row : Segment). row.cost)
+    (map (λ s. segment_row e s (opening_of s e)) (range_with_len 0 k)))
+    next
+    ∙ sum_by-map-range_with_len_more (λ (row : Segment). row.cost)
+    (λ s. segment_row e s (opening_of s e)) 0 n n (omega arith)
     ∙ ap (λ k. k + cost_of n e) (total_is e n)
 
 none : (n : ℕ) → total [] n ≤ 0
@@ -42,7 +50,9 @@ none zero = omega arith
 none (suc n) = omega (arith, none n)
 
 -- work counts for the latest segment alone
-gains : (cost : ℕ) (e : List Mark) (n : ℕ) → n < segments_so_far e → total (Works cost ∷ e) n ≡ total e n
+gains : (cost : ℕ) (e : List Mark) (n : ℕ)
+    → n < segments_so_far e
+    → total (Works cost ∷ e) n ≡ total e n
 unfolding total
 gains cost e zero l = refl
 gains cost e (suc n) l =
@@ -80,18 +90,23 @@ sums [] n = none n
 sums (Begins d i ∷ e) n =
     omega (arith, same (Begins d i) e (λ s. refl) n, sums e n, sum_by-cons work_done (Begins d i) e)
 sums (Ends ∷ e) n = omega (arith, same Ends e (λ s. refl) n, sums e n, sum_by-cons work_done Ends e)
-sums (Works cost ∷ e) n = omega (arith, adds cost e n, sums e n, sum_by-cons work_done (Works cost) e)
-sums (Waits ∷ e) n = omega (arith, same Waits e (λ s. refl) n, sums e n, sum_by-cons work_done Waits e)
+sums (Works cost ∷ e) n =
+    omega (arith, adds cost e n, sums e n, sum_by-cons work_done (Works cost) e)
+sums (Waits ∷ e) n =
+    omega (arith, same Waits e (λ s. refl) n, sums e n, sum_by-cons work_done Waits e)
 sums (GroupBegins ∷ e) n =
     omega (arith, same GroupBegins e (λ s. refl) n, sums e n, sum_by-cons work_done GroupBegins e)
-sums (GroupEnds ∷ e) n = omega (arith, same GroupEnds e (λ s. refl) n, sums e n, sum_by-cons work_done GroupEnds e)
+sums (GroupEnds ∷ e) n =
+    omega (arith, same GroupEnds e (λ s. refl) n, sums e n, sum_by-cons work_done GroupEnds e)
 
 total_more : (e : List Mark) (n : ℕ) → total e (n + 1) ≡ total e n + cost_of n e
 unfolding total
 total_more e n = let next : n + 1 ≡ suc n = omega arith in ap (total e) next
 
 -- a case of the next sum: one more segment, with no cost yet
-opens_same : (m : Mark) (e : List Mark) → opens m ≡ true → ((s : ℕ) → cost_of s (m ∷ e) ≡ cost_of s e)
+opens_same : (m : Mark) (e : List Mark)
+    → opens m ≡ true
+    → ((s : ℕ) → cost_of s (m ∷ e) ≡ cost_of s e)
     → total (m ∷ e) (segments_so_far (m ∷ e)) ≡ total e (segments_so_far e)
 opens_same m e one_more h =
     let n = segments_so_far e in
@@ -111,7 +126,12 @@ sums_all : (e : List Mark) → IsProper e → total e (segments_so_far e) ≡ wo
 unfolding total
 sums_all [] p = refl
 sums_all (Begins d i ∷ e) p =
-    omega (arith, opens_same (Begins d i) e refl (λ s. refl), sums_all e p.1, sum_by-cons work_done (Begins d i) e)
+    omega (
+      arith,
+      opens_same (Begins d i) e refl (λ s. refl),
+      sums_all e p.1,
+      sum_by-cons work_done (Begins d i) e,
+    )
 sums_all (Ends ∷ e) p =
     omega (arith, opens_same Ends e refl (λ s. refl), sums_all e p.1, sum_by-cons work_done Ends e)
 sums_all (Works cost ∷ e) p =
@@ -119,12 +139,31 @@ sums_all (Works cost ∷ e) p =
     let one_open = p.0 in
     let some = begun_some_segment e p.1 (omega (arith, open_below e 0 0 (omega arith))) in
     let last : n ≡ (n - 1) + 1 = omega arith in
-    omega (arith, ap (total (Works cost ∷ e)) last, works cost e (n - 1) last, ap (total e) last, sums_all e p.1, sum_by-cons work_done (Works cost) e)
+    omega (
+      arith,
+      ap (total (Works cost ∷ e)) last,
+      works cost e (n - 1) last,
+      ap (total e) last,
+      sums_all e p.1,
+      sum_by-cons work_done (Works cost) e,
+    )
 sums_all (Waits ∷ e) p =
-    omega (arith, opens_same Waits e refl (λ s. refl), sums_all e p.1, sum_by-cons work_done Waits e)
-sums_all (GroupBegins ∷ e) p = omega (arith, same GroupBegins e (λ s. refl) (segments_so_far e), sums_all e p.1, sum_by-cons work_done GroupBegins e)
+    omega
+    (arith, opens_same Waits e refl (λ s. refl), sums_all e p.1, sum_by-cons work_done Waits e)
+sums_all (GroupBegins ∷ e) p =
+    omega (
+      arith,
+      same GroupBegins e (λ s. refl) (segments_so_far e),
+      sums_all e p.1,
+      sum_by-cons work_done GroupBegins e,
+    )
 sums_all (GroupEnds ∷ e) p =
-    omega (arith, opens_same GroupEnds e refl (λ s. refl), sums_all e p.1, sum_by-cons work_done GroupEnds e)
+    omega (
+      arith,
+      opens_same GroupEnds e refl (λ s. refl),
+      sums_all e p.1,
+      sum_by-cons work_done GroupEnds e,
+    )
 
 work_read : (e marks : List Mark) → work_of (moment_after e marks) ≡ work_of e + work_of marks
 work_read e [] = omega arith
@@ -137,7 +176,15 @@ pub little_work : (table : Table) → IsProgramTable table
 little_work table h =
     let e = last_moment h.program.marks in
     let k = ap (λ (t : Table). sum (map (λ (row : Segment). row.cost) t.segments)) h.is in
-    omega (arith, k, sum-map (λ (row : Segment). row.cost) (table_at e).segments, total_is e (segments_so_far e), sums e (segments_so_far e), work_read (Begins false [] ∷ []) h.program.marks, h.is_program.work)
+    omega (
+      arith,
+      k,
+      sum-map (λ (row : Segment). row.cost) (table_at e).segments,
+      total_is e (segments_so_far e),
+      sums e (segments_so_far e),
+      work_read (Begins false [] ∷ []) h.program.marks,
+      h.is_program.work,
+    )
 
 -- a table has all work of its program
 pub all_work : (program : ProgramMarks) → IsProgram program
@@ -145,4 +192,10 @@ pub all_work : (program : ProgramMarks) → IsProgram program
 all_work program h =
     let e = last_moment program.marks in
     let proper = (last_of_nested program.marks (is_nested program h)).proper in
-    omega (arith, sum-map (λ (row : Segment). row.cost) (table_at e).segments, total_is e (segments_so_far e), sums_all e proper, work_read (Begins false [] ∷ []) program.marks)
+    omega (
+      arith,
+      sum-map (λ (row : Segment). row.cost) (table_at e).segments,
+      total_is e (segments_so_far e),
+      sums_all e proper,
+      work_read (Begins false [] ∷ []) program.marks,
+    )

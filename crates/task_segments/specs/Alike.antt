@@ -3,7 +3,8 @@ use Rattle.std.specs.Prelude.{ℕ, ◌≡◌, ◌↔◌, length}
 use Rattle.task_segments.specs.Table.{Table, segment, task}
 use Rattle.task_segments.specs.Precedence.{IsSegment, IsTask, Continues, MustPrecede}
 
--- what the calls of a table answer, but for `copy` and `same`: of the whole, of each segment, each task and each pair
+-- what the calls of a table answer, but for `copy` and `same`: of the whole, of each segment, each
+-- task and each pair
 pub record AnswerAlike (one other : Table) : Type 0 where
   pub len : length one.segments ≡ length other.segments
   pub tasks : length one.tasks ≡ length other.tasks
@@ -18,5 +19,10 @@ pub record AnswerAlike (one other : Table) : Type 0 where
   pub creator : (u : ℕ) → IsTask one u → (task one u).creator ≡ (task other u).creator
   pub undeferred : (u : ℕ) → IsTask one u → (task one u).undeferred ≡ (task other u).undeferred
   pub items : (u : ℕ) → IsTask one u → (task one u).items ≡ (task other u).items
-  pub innermost_group : (u : ℕ) → IsTask one u → (task one u).innermost_group ≡ (task other u).innermost_group
-  pub must_precede : (s t : ℕ) → IsSegment one s → IsSegment one t → MustPrecede one s t ↔ MustPrecede other s t
+  pub innermost_group : (u : ℕ)
+      → IsTask one u
+      → (task one u).innermost_group ≡ (task other u).innermost_group
+  pub must_precede : (s t : ℕ)
+      → IsSegment one s
+      → IsSegment one t
+      → MustPrecede one s t ↔ MustPrecede other s t

@@ -1,9 +1,11 @@
--- What follows for the segments of every table from each child being read in place: facts of two or three numbers
--- each, in the form in which steps through a table ask for them.
+-- What follows for the segments of every table from each child being read in place: facts of two or
+-- three numbers each, in the form in which steps through a table ask for them.
 use Rattle.std.specs.Prelude.{ℕ, ◌+◌, ◌<◌, ◌≤◌, ◌≡◌, ◌⊎◌, Some, None}
 use Rattle.task_segments.specs.Table.{Table, segment, task}
-use Rattle.task_segments.specs.declared.table.Closing.TheVariants.{Creates, Waits, EndsGroup, EndsTask}
-use Rattle.task_segments.specs.Precedence.{IsSegment, IsTask, Continues, Creation, IsEarlierChild, Encloses}
+use Rattle.task_segments.specs.declared.table.Closing.TheVariants.{Creates, Waits, EndsGroup}
+use Rattle.task_segments.specs.declared.table.Closing.TheVariants.{EndsTask}
+use Rattle.task_segments.specs.Precedence.{IsSegment, IsTask, Continues, Creation, IsEarlierChild}
+use Rattle.task_segments.specs.Precedence.{Encloses}
 use Rattle.task_segments.specs.Schedule.{IsJoined}
 
 -- the segment before t in its task ends a group
@@ -50,42 +52,121 @@ pub record IsReadInPlace (table : Table) : Type 0 where
   pub first_of : (u : ℕ) → IsTask table u → IsOf table u (task table u).first
   pub last_of : (u : ℕ) → IsTask table u → IsOf table u (task table u).last
   pub last_ends : (u : ℕ) → IsTask table u → (segment table (task table u).last).closing ≡ EndsTask
-  pub ends_last : (s : ℕ) → IsSegment table s → (segment table s).closing ≡ EndsTask → (task table (segment table s).task).last ≡ s
+  pub ends_last : (s : ℕ)
+      → IsSegment table s
+      → (segment table s).closing ≡ EndsTask
+      → (task table (segment table s).task).last ≡ s
   -- tasks are numbered as their first segments are
-  pub firsts_ascend : (u v : ℕ) → u < v → IsTask table v → (task table u).first < (task table v).first
-  pub first_of_one : (u v : ℕ) → IsTask table u → IsTask table v → (task table u).first ≡ (task table v).first → u ≡ v
-  pub last_of_one : (u v : ℕ) → IsTask table u → IsTask table v → (task table u).last ≡ (task table v).last → u ≡ v
-  -- a segment follows at most one of its task, and the first of a task none; at most one follows it, and none the last
+  pub firsts_ascend : (u v : ℕ)
+      → u < v
+      → IsTask table v
+      → (task table u).first < (task table v).first
+  pub first_of_one : (u v : ℕ)
+      → IsTask table u
+      → IsTask table v
+      → (task table u).first ≡ (task table v).first
+      → u ≡ v
+  pub last_of_one : (u v : ℕ)
+      → IsTask table u
+      → IsTask table v
+      → (task table u).last ≡ (task table v).last
+      → u ≡ v
+  -- a segment follows at most one of its task, and the first of a task none; at most one follows
+  -- it, and none the last
   pub follows_one : (a b t : ℕ) → Continues table a t → Continues table b t → a ≡ b
   pub one_follows : (s a b : ℕ) → Continues table s a → Continues table s b → a ≡ b
   pub first_follows : (u s : ℕ) → IsTask table u → Continues table s (task table u).first → ⊥
   pub last_followed : (u t : ℕ) → IsTask table u → Continues table (task table u).last t → ⊥
   pub follows_later : (s t : ℕ) → Continues table s t → s < t
-  -- between a segment and the next of its task lies none of that task, and a chain leads along the task
-  pub nearest : (s t other : ℕ) → Continues table s t → IsOf table (segment table s).task other → s < other → t ≤ other
-  pub between : (u a b : ℕ) → IsOf table u a → IsOf table u b → a < b → IsJoined (Continues table) a b
-  -- each segment but the last of its task is followed: by the next number after a wait and after the end of a group,
-  -- and where it creates a task by the number after the last of that task
-  pub followed : (s : ℕ) → IsSegment table s → s < (task table (segment table s).task).last → (t : ℕ) × Continues table s t
-  pub after_wait : (s : ℕ) → IsSegment table s → (segment table s).closing ≡ Waits → Continues table s (s + 1)
-  pub after_group : (s : ℕ) → IsSegment table s → (segment table s).closing ≡ EndsGroup → Continues table s (s + 1)
-  pub after_task : (u s : ℕ) → IsTask table u → (task table u).creator ≡ Some s → Continues table s ((task table u).last + 1)
-  -- each task but the root has a parent, and a segment of the parent that creates it just before its first segment
+  -- between a segment and the next of its task lies none of that task, and a chain leads along the
+  -- task
+  pub nearest : (s t other : ℕ)
+      → Continues table s t
+      → IsOf table (segment table s).task other
+      → s < other
+      → t ≤ other
+  pub between : (u a b : ℕ)
+      → IsOf table u a
+      → IsOf table u b
+      → a < b
+      → IsJoined (Continues table) a b
+  -- each segment but the last of its task is followed: by the next number after a wait and after
+  -- the end of a group, and where it creates a task by the number after the last of that task
+  pub followed : (s : ℕ)
+      → IsSegment table s
+      → s < (task table (segment table s).task).last
+      → (t : ℕ) × Continues table s t
+  pub after_wait : (s : ℕ)
+      → IsSegment table s
+      → (segment table s).closing ≡ Waits
+      → Continues table s (s + 1)
+  pub after_group : (s : ℕ)
+      → IsSegment table s
+      → (segment table s).closing ≡ EndsGroup
+      → Continues table s (s + 1)
+  pub after_task : (u s : ℕ)
+      → IsTask table u
+      → (task table u).creator ≡ Some s
+      → Continues table s ((task table u).last + 1)
+  -- each task but the root has a parent, and a segment of the parent that creates it just before
+  -- its first segment
   pub below_root : (u : ℕ) → 0 < u → IsTask table u → IsCreated table u
-  pub has_creator : (u p : ℕ) → IsTask table u → (task table u).parent ≡ Some p → (s : ℕ) × ((task table u).creator ≡ Some s)
-  pub creator_of : (u p s : ℕ) → IsTask table u → (task table u).parent ≡ Some p → (task table u).creator ≡ Some s → IsOf table p s
-  pub first_created : (u s : ℕ) → IsTask table u → (task table u).creator ≡ Some s → (task table u).first ≡ s + 1
-  pub created_before : (u s : ℕ) → IsTask table u → (task table u).creator ≡ Some s → s < (task table u).last
-  pub creates : (s child : ℕ) → IsSegment table s → (segment table s).closing ≡ Creates child → IsTask table child × ((task table child).creator ≡ Some s)
-  pub created : (s child : ℕ) → IsTask table child → (task table child).creator ≡ Some s → IsSegment table s × ((segment table s).closing ≡ Creates child)
-  -- each segment but the first opens at the end of one segment: of the one before it in its task, or of its task's creator
+  pub has_creator : (u p : ℕ)
+      → IsTask table u
+      → (task table u).parent ≡ Some p
+      → (s : ℕ) × ((task table u).creator ≡ Some s)
+  pub creator_of : (u p s : ℕ)
+      → IsTask table u
+      → (task table u).parent ≡ Some p
+      → (task table u).creator ≡ Some s
+      → IsOf table p s
+  pub first_created : (u s : ℕ)
+      → IsTask table u
+      → (task table u).creator ≡ Some s
+      → (task table u).first ≡ s + 1
+  pub created_before : (u s : ℕ)
+      → IsTask table u
+      → (task table u).creator ≡ Some s
+      → s < (task table u).last
+  pub creates : (s child : ℕ)
+      → IsSegment table s
+      → (segment table s).closing ≡ Creates child
+      → IsTask table child × ((task table child).creator ≡ Some s)
+  pub created : (s child : ℕ)
+      → IsTask table child
+      → (task table child).creator ≡ Some s
+      → IsSegment table s × ((segment table s).closing ≡ Creates child)
+  -- each segment but the first opens at the end of one segment: of the one before it in its task,
+  -- or of its task's creator
   pub opens : (t : ℕ) → 0 < t → IsSegment table t → (s : ℕ) × Opens table s t
   pub opens_once : (a b t : ℕ) → Opens table a t → Opens table b t → a ≡ b
-  -- of two siblings the earlier one has ended where the later one is created, and a child where its parent goes on
-  pub siblings : (u v p s : ℕ) → u < v → IsTask table v → (task table u).parent ≡ Some p → (task table v).parent ≡ Some p → (task table v).creator ≡ Some s → (task table u).last < s
-  pub children : (u p s t : ℕ) → (task table u).parent ≡ Some p → (task table u).creator ≡ Some s → IsOf table p t → s < t → (task table u).last < t
-  -- a child generated before a wait, or inside a group, has ended before the segment that waits, or that ends the group
-  pub waited : (child before t : ℕ) → IsEarlierChild table child t → Continues table before t → (segment table before).closing ≡ Waits → (task table child).last < before
-  pub enclosed : (child t : ℕ) → (encloses : Encloses table t child) → (task table child).last < encloses.before
+  -- of two siblings the earlier one has ended where the later one is created, and a child where its
+  -- parent goes on
+  pub siblings : (u v p s : ℕ)
+      → u < v
+      → IsTask table v
+      → (task table u).parent ≡ Some p
+      → (task table v).parent ≡ Some p
+      → (task table v).creator ≡ Some s
+      → (task table u).last < s
+  pub children : (u p s t : ℕ)
+      → (task table u).parent ≡ Some p
+      → (task table u).creator ≡ Some s
+      → IsOf table p t
+      → s < t
+      → (task table u).last < t
+  -- a child generated before a wait, or inside a group, has ended before the segment that waits, or
+  -- that ends the group
+  pub waited : (child before t : ℕ)
+      → IsEarlierChild table child t
+      → Continues table before t
+      → (segment table before).closing ≡ Waits
+      → (task table child).last < before
+  pub enclosed : (child t : ℕ)
+      → (encloses : Encloses table t child)
+      → (task table child).last < encloses.before
   -- and so has each task that the group holds, through enclosing tasks too
-  pub group : (u t : ℕ) → IsTask table u → (task table u).innermost_group ≡ Some t → (ends : EndsBefore table t) × ((task table u).last < ends.before)
+  pub group : (u t : ℕ)
+      → IsTask table u
+      → (task table u).innermost_group ≡ Some t
+      → (ends : EndsBefore table t) × ((task table u).last < ends.before)

@@ -20,7 +20,8 @@ waits_in marks = count_by is_wait marks
 abbrev pub groups_in : List Mark → ℕ
 groups_in marks = count_by begins_group marks
 
--- the root is a task too and has one segment; a task adds one of its own and one of its parent, a wait and a group one each
+-- the root is a task too and has one segment; a task adds one of its own and one of its parent, a
+-- wait and a group one each
 pub record HasAllOf (marks : List Mark) (table : Table) : Type 0 where
   pub tasks : length table.tasks ≡ 1 + tasks_in marks
   pub segments : length table.segments ≡ 1 + 2 * tasks_in marks + waits_in marks + groups_in marks

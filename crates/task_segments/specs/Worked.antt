@@ -3,7 +3,8 @@ use Rattle.std.specs.Prelude.{◌≡◌, ℕ, Bool, true, false, List, [], ◌�
 use Rattle.task_program.specs.Marks.{Mark}
 use Rattle.task_program.specs.Marks.Mark.{Begins, Ends, Works, Waits, GroupBegins, GroupEnds}
 use Rattle.program_text.specs.declared.statement.DependKind.{DependKind}
-use Rattle.program_text.specs.declared.statement.DependKind.TheVariants.{DependIn, DependOut, DependInOutSet}
+use Rattle.program_text.specs.declared.statement.DependKind.TheVariants.{DependIn, DependOut}
+use Rattle.program_text.specs.declared.statement.DependKind.TheVariants.{DependInOutSet}
 use Rattle.program_text.specs.declared.statement.Item.{Item}
 use Rattle.task_segments.specs.declared.table.Closing.{Closing}
 use Rattle.task_segments.specs.declared.table.Closing.TheVariants.{Creates, EndsGroup, EndsTask}
@@ -16,10 +17,27 @@ abbrev pub item : DependKind → ℕ → Item
 item kind name = record { kind = kind; name = name }
 
 abbrev pub row : ℕ → ℕ → ℕ → Closing → ℕ → Segment
-row task index cost closing children_before = record { task = task; index = index; cost = cost; closing = closing; children_before = children_before }
+row task index cost closing
+    children_before = record {
+      task = task;
+      index = index;
+      cost = cost;
+      closing = closing;
+      children_before = children_before;
+    }
 
 abbrev pub root : ℕ → Task
-root last = record { parent = None; creator = None; undeferred = false; items = []; first = 0; last = last; innermost_group = None; siblings_before = 0 }
+root
+    last = record {
+      parent = None;
+      creator = None;
+      undeferred = false;
+      items = [];
+      first = 0;
+      last = last;
+      innermost_group = None;
+      siblings_before = 0;
+    }
 
 abbrev pub child : ℕ → ℕ → Bool → List Item → ℕ → ℕ → Option ℕ → ℕ → Task
 child parent creator undeferred items first last innermost_group siblings_before = record {
@@ -77,15 +95,18 @@ group_then_wait_table = record {
 -- five siblings at one name
 abbrev pub siblings : List Mark
 siblings = Begins false (item DependInOutSet 0 ∷ []) ∷ Works 4 ∷ Ends ∷
-    Begins false (item DependInOutSet 0 ∷ []) ∷ Works 6 ∷ Ends ∷ Begins false (item DependIn 0 ∷ []) ∷
+    Begins false (item DependInOutSet 0 ∷ []) ∷ Works 6 ∷ Ends ∷ Begins false (item DependIn 0 ∷ [])
+    ∷
     Works 1 ∷ Ends ∷ Begins false (item DependInOutSet 0 ∷ []) ∷ Works 2 ∷ Ends ∷
     Begins false (item DependOut 0 ∷ []) ∷ Works 1 ∷ Ends ∷ []
 
 abbrev pub siblings_table : Table
 siblings_table = record {
   segments = row 0 0 0 (Creates 1) 0 ∷ row 1 0 4 EndsTask 0 ∷ row 0 1 0 (Creates 2) 0 ∷
-      row 2 0 6 EndsTask 0 ∷ row 0 2 0 (Creates 3) 0 ∷ row 3 0 1 EndsTask 0 ∷ row 0 3 0 (Creates 4) 0 ∷
-      row 4 0 2 EndsTask 0 ∷ row 0 4 0 (Creates 5) 0 ∷ row 5 0 1 EndsTask 0 ∷ row 0 5 0 EndsTask 0 ∷ [];
+      row 2 0 6 EndsTask 0 ∷ row 0 2 0 (Creates 3) 0 ∷ row 3 0 1 EndsTask 0
+      ∷ row 0 3 0 (Creates 4) 0 ∷
+      row 4 0 2 EndsTask 0 ∷ row 0 4 0 (Creates 5) 0 ∷ row 5 0 1 EndsTask 0 ∷ row 0 5 0 EndsTask 0
+      ∷ [];
   tasks = root 10 ∷ child 0 0 false (item DependInOutSet 0 ∷ []) 1 1 None 0 ∷
       child 0 2 false (item DependInOutSet 0 ∷ []) 3 3 None 1 ∷
       child 0 4 false (item DependIn 0 ∷ []) 5 5 None 2 ∷
@@ -121,7 +142,8 @@ undeferred_reader_table = record {
 
 -- an undeferred task with a child
 abbrev pub undeferred_parent : List Mark
-undeferred_parent = Begins true [] ∷ Begins false [] ∷ Works 8 ∷ Ends ∷ Works 1 ∷ Ends ∷ Works 2 ∷ []
+undeferred_parent =
+    Begins true [] ∷ Begins false [] ∷ Works 8 ∷ Ends ∷ Works 1 ∷ Ends ∷ Works 2 ∷ []
 
 abbrev pub undeferred_parent_table : Table
 undeferred_parent_table = record {
@@ -143,7 +165,8 @@ waited_grandchild_table = record {
 
 -- a group and a grandchild
 abbrev pub grouped_grandchild : List Mark
-grouped_grandchild = GroupBegins ∷ Begins false [] ∷ Begins false [] ∷ Works 8 ∷ Ends ∷ Ends ∷ GroupEnds ∷
+grouped_grandchild =
+    GroupBegins ∷ Begins false [] ∷ Begins false [] ∷ Works 8 ∷ Ends ∷ Ends ∷ GroupEnds ∷
     Works 2 ∷ []
 
 abbrev pub grouped_grandchild_table : Table
@@ -167,43 +190,55 @@ before_group_table = record {
 
 -- children of two parents
 abbrev pub cousins : List Mark
-cousins = Begins false [] ∷ Begins false (item DependOut 0 ∷ []) ∷ Works 5 ∷ Ends ∷ Ends ∷ Begins false [] ∷
+cousins =
+    Begins false [] ∷ Begins false (item DependOut 0 ∷ []) ∷ Works 5 ∷ Ends ∷ Ends ∷ Begins false []
+    ∷
     Begins false (item DependIn 0 ∷ []) ∷ Works 5 ∷ Ends ∷ Ends ∷ []
 
 abbrev pub cousins_table : Table
 cousins_table = record {
   segments = row 0 0 0 (Creates 1) 0 ∷ row 1 0 0 (Creates 2) 0 ∷ row 2 0 5 EndsTask 0 ∷
-      row 1 1 0 EndsTask 0 ∷ row 0 1 0 (Creates 3) 0 ∷ row 3 0 0 (Creates 4) 0 ∷ row 4 0 5 EndsTask 0 ∷
+      row 1 1 0 EndsTask 0 ∷ row 0 1 0 (Creates 3) 0 ∷ row 3 0 0 (Creates 4) 0
+      ∷ row 4 0 5 EndsTask 0 ∷
       row 3 1 0 EndsTask 0 ∷ row 0 2 0 EndsTask 0 ∷ [];
-  tasks = root 8 ∷ child 0 0 false [] 1 3 None 0 ∷ child 1 1 false (item DependOut 0 ∷ []) 2 2 None 0 ∷
+  tasks =
+      root 8 ∷ child 0 0 false [] 1 3 None 0 ∷ child 1 1 false (item DependOut 0 ∷ []) 2 2 None 0 ∷
       child 0 4 false [] 5 7 None 1 ∷ child 3 5 false (item DependIn 0 ∷ []) 6 6 None 0 ∷ [];
 }
 
 -- three siblings
 abbrev pub three : List Mark
-three = Begins false [] ∷ Works 1 ∷ Ends ∷ Begins false [] ∷ Works 1 ∷ Ends ∷ Begins false [] ∷ Works 2 ∷
+three =
+    Begins false [] ∷ Works 1 ∷ Ends ∷ Begins false [] ∷ Works 1 ∷ Ends ∷ Begins false [] ∷ Works 2
+    ∷
     Ends ∷ []
 
 abbrev pub three_table : Table
 three_table = record {
   segments = row 0 0 0 (Creates 1) 0 ∷ row 1 0 1 EndsTask 0 ∷ row 0 1 0 (Creates 2) 0 ∷
-      row 2 0 1 EndsTask 0 ∷ row 0 2 0 (Creates 3) 0 ∷ row 3 0 2 EndsTask 0 ∷ row 0 3 0 EndsTask 0 ∷ [];
+      row 2 0 1 EndsTask 0 ∷ row 0 2 0 (Creates 3) 0 ∷ row 3 0 2 EndsTask 0 ∷ row 0 3 0 EndsTask 0
+      ∷ [];
   tasks = root 6 ∷ child 0 0 false [] 1 1 None 0 ∷ child 0 2 false [] 3 3 None 1 ∷
       child 0 4 false [] 5 5 None 2 ∷ [];
 }
 
 -- groups one inside another
 abbrev pub nested_groups : List Mark
-nested_groups = Begins false [] ∷ Ends ∷ GroupBegins ∷ Begins false [] ∷ GroupBegins ∷ Begins false [] ∷
-    Ends ∷ GroupEnds ∷ Begins false [] ∷ Ends ∷ Waits ∷ Ends ∷ GroupBegins ∷ GroupEnds ∷ Begins false [] ∷
+nested_groups =
+    Begins false [] ∷ Ends ∷ GroupBegins ∷ Begins false [] ∷ GroupBegins ∷ Begins false [] ∷
+    Ends ∷ GroupEnds ∷ Begins false [] ∷ Ends ∷ Waits ∷ Ends ∷ GroupBegins ∷ GroupEnds
+    ∷ Begins false [] ∷
     Ends ∷ GroupEnds ∷ Begins false [] ∷ Ends ∷ []
 
 abbrev pub nested_groups_table : Table
 nested_groups_table = record {
   segments = row 0 0 0 (Creates 1) 0 ∷ row 1 0 0 EndsTask 0 ∷ row 0 1 0 (Creates 2) 0 ∷
-      row 2 0 0 (Creates 3) 0 ∷ row 3 0 0 EndsTask 0 ∷ row 2 1 0 EndsGroup 0 ∷ row 2 2 0 (Creates 4) 0 ∷
-      row 4 0 0 EndsTask 0 ∷ row 2 3 0 closings.Waits 0 ∷ row 2 4 0 EndsTask 0 ∷ row 0 2 0 EndsGroup 0 ∷
-      row 0 3 0 (Creates 5) 2 ∷ row 5 0 0 EndsTask 0 ∷ row 0 4 0 EndsGroup 0 ∷ row 0 5 0 (Creates 6) 1 ∷
+      row 2 0 0 (Creates 3) 0 ∷ row 3 0 0 EndsTask 0 ∷ row 2 1 0 EndsGroup 0
+      ∷ row 2 2 0 (Creates 4) 0 ∷
+      row 4 0 0 EndsTask 0 ∷ row 2 3 0 closings.Waits 0 ∷ row 2 4 0 EndsTask 0
+      ∷ row 0 2 0 EndsGroup 0 ∷
+      row 0 3 0 (Creates 5) 2 ∷ row 5 0 0 EndsTask 0 ∷ row 0 4 0 EndsGroup 0
+      ∷ row 0 5 0 (Creates 6) 1 ∷
       row 6 0 0 EndsTask 0 ∷ row 0 6 0 EndsTask 0 ∷ [];
   tasks = root 16 ∷ child 0 0 false [] 1 1 None 0 ∷ child 0 2 false [] 3 9 (Some 14) 1 ∷
       child 2 3 false [] 4 4 (Some 6) 0 ∷ child 2 6 false [] 7 7 (Some 14) 1 ∷

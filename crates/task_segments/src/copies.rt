@@ -31,8 +31,8 @@ impl SegTable {
         })
     }
 
-    /// Whether two tables are equal: exactly where all other calls but `copy` answer the same of both
-    /// (`laws::equal_where_alike`).
+    /// Whether two tables are equal: exactly where all other calls but `copy` answer the same of
+    /// both (`laws::equal_where_alike`).
     pub fn same(&self, other: &SegTable) -> bool
         ensures { IsTrue result ↔ (self.now ≡ other.now) }
     {

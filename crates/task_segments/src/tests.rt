@@ -1,4 +1,5 @@
-//! Worked programs: their tables and the pairs that must precede, as the rules of tasks give them by hand.
+//! Worked programs: their tables and the pairs that must precede, as the rules of tasks give them
+//! by hand.
 
 use crate::cutter::cut;
 use crate::table::{Closing, SegTable};
@@ -16,8 +17,8 @@ struct Worked {
     text: &'static str,
     /// Of each segment: its task and place, its cost, how it ends and the next segment of its task.
     segments: &'static str,
-    /// Of each task: its parent, its creator, whether it is undeferred, its first and last segment, its innermost
-    /// group and its items.
+    /// Of each task: its parent, its creator, whether it is undeferred, its first and last segment,
+    /// its innermost group and its items.
     tasks: &'static str,
     /// The pairs of segments of which the first must precede the second.
     pairs: &'static str,
@@ -54,21 +55,27 @@ static WORKED: [Worked; 14] = [
     },
     Worked {
         name: "five siblings at one name",
-        text: "omptasks 1\ntask depend(inoutset: x) { work 4 } task depend(inoutset: x) { work 6 } task depend(in: x) { work 1 } task depend(inoutset: x) { work 2 } task depend(out: x) { work 1 }",
-        segments: "0.0 0 c1 2; 1.0 4 e -; 0.1 0 c2 4; 2.0 6 e -; 0.2 0 c3 6; 3.0 1 e -; 0.3 0 c4 8; 4.0 2 e -; 0.4 0 c5 10; 5.0 1 e -; 0.5 0 e -; ",
-        tasks: " - - d 0 10 -; 0 0 d 1 1 - set0; 0 2 d 3 3 - set0; 0 4 d 5 5 - in0; 0 6 d 7 7 - set0; 0 8 d 9 9 - out0;",
+        text: "omptasks 1\ntask depend(inoutset: x) { work 4 } task depend(inoutset: x) { work 6 } \
+            task depend(in: x) { work 1 } task depend(inoutset: x) { work 2 } task depend(out: x) \
+            { work 1 }",
+        segments: "0.0 0 c1 2; 1.0 4 e -; 0.1 0 c2 4; 2.0 6 e -; 0.2 0 c3 6; 3.0 1 e -; 0.3 0 c4 \
+            8; 4.0 2 e -; 0.4 0 c5 10; 5.0 1 e -; 0.5 0 e -; ",
+        tasks: " - - d 0 10 -; 0 0 d 1 1 - set0; 0 2 d 3 3 - set0; 0 4 d 5 5 - in0; 0 6 d 7 7 - \
+            set0; 0 8 d 9 9 - out0;",
         pairs: "0-1 0-2 1-5 1-9 2-3 2-4 3-5 3-9 4-5 4-6 5-7 5-9 6-7 6-8 7-9 8-9 8-10 ",
     },
     Worked {
         name: "two siblings that read and set",
-        text: "omptasks 1\ntask depend(in: x) depend(inoutset: x) { work 3 } task depend(in: x) depend(inoutset: x) { work 3 }",
+        text: "omptasks 1\ntask depend(in: x) depend(inoutset: x) { work 3 } task depend(in: x) \
+            depend(inoutset: x) { work 3 }",
         segments: "0.0 0 c1 2; 1.0 3 e -; 0.1 0 c2 4; 2.0 3 e -; 0.2 0 e -; ",
         tasks: " - - d 0 4 -; 0 0 d 1 1 - in0 set0; 0 2 d 3 3 - in0 set0;",
         pairs: "0-1 0-2 1-3 2-3 2-4 ",
     },
     Worked {
         name: "an undeferred task that depends",
-        text: "omptasks 1\ntask depend(out: x) { work 9 } task if(0) depend(in: x) { work 1 } work 1",
+        text: "omptasks 1\ntask depend(out: x) { work 9 } task if(0) depend(in: x) { work 1 } work \
+            1",
         segments: "0.0 0 c1 2; 1.0 9 e -; 0.1 0 c2 4; 2.0 1 e -; 0.2 1 e -; ",
         tasks: " - - d 0 4 -; 0 0 d 1 1 - out0; 0 2 u 3 3 - in0;",
         pairs: "0-1 0-2 1-3 2-3 2-4 3-4 ",
@@ -103,24 +110,32 @@ static WORKED: [Worked; 14] = [
     },
     Worked {
         name: "children of different parents",
-        text: "omptasks 1\ntask { task depend(out: x) { work 5 } } task { task depend(in: x) { work 5 } }",
-        segments: "0.0 0 c1 4; 1.0 0 c2 3; 2.0 5 e -; 1.1 0 e -; 0.1 0 c3 8; 3.0 0 c4 7; 4.0 5 e -; 3.1 0 e -; 0.2 0 e -; ",
+        text: "omptasks 1\ntask { task depend(out: x) { work 5 } } task { task depend(in: x) { \
+            work 5 } }",
+        segments: "0.0 0 c1 4; 1.0 0 c2 3; 2.0 5 e -; 1.1 0 e -; 0.1 0 c3 8; 3.0 0 c4 7; 4.0 5 e \
+            -; 3.1 0 e -; 0.2 0 e -; ",
         tasks: " - - d 0 8 -; 0 0 d 1 3 -; 1 1 d 2 2 - out0; 0 4 d 5 7 -; 3 5 d 6 6 - in0;",
         pairs: "0-1 0-4 1-2 1-3 4-5 4-8 5-6 5-7 ",
     },
     Worked {
         name: "three siblings",
         text: "omptasks 1\ntask { work 1 } task { work 1 } task { work 2 }",
-        segments: "0.0 0 c1 2; 1.0 1 e -; 0.1 0 c2 4; 2.0 1 e -; 0.2 0 c3 6; 3.0 2 e -; 0.3 0 e -; ",
+        segments: "0.0 0 c1 2; 1.0 1 e -; 0.1 0 c2 4; 2.0 1 e -; 0.2 0 c3 6; 3.0 2 e -; 0.3 0 e \
+            -; ",
         tasks: " - - d 0 6 -; 0 0 d 1 1 -; 0 2 d 3 3 -; 0 4 d 5 5 -;",
         pairs: "0-1 0-2 2-3 2-4 4-5 4-6 ",
     },
     Worked {
         name: "groups one inside another",
-        text: "omptasks 1\ntask { } taskgroup { task { taskgroup { task { } } task { } taskwait } taskgroup { } task { } } task { }",
-        segments: "0.0 0 c1 2; 1.0 0 e -; 0.1 0 c2 10; 2.0 0 c3 5; 3.0 0 e -; 2.1 0 g 6; 2.2 0 c4 8; 4.0 0 e -; 2.3 0 w 9; 2.4 0 e -; 0.2 0 g 11; 0.3 0 c5 13; 5.0 0 e -; 0.4 0 g 14; 0.5 0 c6 16; 6.0 0 e -; 0.6 0 e -; ",
-        tasks: " - - d 0 16 -; 0 0 d 1 1 -; 0 2 d 3 9 14; 2 3 d 4 4 6; 2 6 d 7 7 14; 0 11 d 12 12 14; 0 14 d 15 15 -;",
-        pairs: "0-1 0-2 2-3 2-10 3-4 3-5 4-6 4-9 4-14 5-6 6-7 6-8 7-9 7-14 8-9 9-14 10-11 11-12 11-13 12-14 13-14 14-15 14-16 ",
+        text: "omptasks 1\ntask { } taskgroup { task { taskgroup { task { } } task { } taskwait } \
+            taskgroup { } task { } } task { }",
+        segments: "0.0 0 c1 2; 1.0 0 e -; 0.1 0 c2 10; 2.0 0 c3 5; 3.0 0 e -; 2.1 0 g 6; 2.2 0 c4 \
+            8; 4.0 0 e -; 2.3 0 w 9; 2.4 0 e -; 0.2 0 g 11; 0.3 0 c5 13; 5.0 0 e -; 0.4 0 g 14; \
+            0.5 0 c6 16; 6.0 0 e -; 0.6 0 e -; ",
+        tasks: " - - d 0 16 -; 0 0 d 1 1 -; 0 2 d 3 9 14; 2 3 d 4 4 6; 2 6 d 7 7 14; 0 11 d 12 12 \
+            14; 0 14 d 15 15 -;",
+        pairs: "0-1 0-2 2-3 2-10 3-4 3-5 4-6 4-9 4-14 5-6 6-7 6-8 7-9 7-14 8-9 9-14 10-11 11-12 \
+            11-13 12-14 13-14 14-15 14-16 ",
     },
 ];
 

@@ -1,4 +1,5 @@
-//! Calls the libraries: reads a program and prints it, tells what each segment has to wait for, and replays a log.
+//! Calls the libraries: reads a program and prints it, tells what each segment has to wait for, and
+//! replays a log.
 #![tactic(auto)]
 
 mod printing;

@@ -13,7 +13,8 @@ use std::alloc::Global;
 use task_program::AllocFault;
 use task_segments::table::SegTable;
 
-/// What a run recorded of a segment: its predecessors by kept edges, ascending, or none if the segment is not open.
+/// What a run recorded of a segment: its predecessors by kept edges, ascending, or none if the
+/// segment is not open.
 pub fn record_of(
     alloc: Global,
     table: SegTable,

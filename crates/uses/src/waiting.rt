@@ -11,7 +11,8 @@ use task_segments::table::SegTable;
 /// The segments that must precede a segment, ascending.
 pub fn waits_of(alloc: Global, table: &SegTable, segment: u32) -> Result<Vec<u32>, AllocFault>
     requires { segment < length table.now.segments }
-    ensures { IfOk result (λ waits. Lists (λ before. MustPrecede table.now before segment) waits.items) }
+    ensures { IfOk result (λ waits.
+        Lists (λ before. MustPrecede table.now before segment) waits.items) }
 {
     goes_up(table);
     let mut waits = Vec::new(alloc);

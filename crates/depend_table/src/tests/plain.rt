@@ -1,5 +1,5 @@
-//! The kept siblings by their definition: all siblings, each item with its task's rank at the item's name. The tests compare
-//! the table with it.
+//! The kept siblings by their definition: all siblings, each item with its task's rank at the
+//! item's name. The tests compare the table with it.
 use std::alloc::Global;
 use task_program::AllocFault;
 use task_program::statement::{Item, conflicts};
@@ -54,7 +54,8 @@ impl PlainTable {
         Ok(kept)
     }
 
-    /// One more than the greatest rank at the name among the siblings that conflict there with these items, else 0.
+    /// One more than the greatest rank at the name among the siblings that conflict there with
+    /// these items, else 0.
     fn rank(&self, name: u32, items: &[Item]) -> u32 {
         let mut rank = 0;
         for earlier in &self.tasks {

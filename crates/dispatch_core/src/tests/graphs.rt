@@ -7,17 +7,21 @@ use crate::kernel::{Kernel, KernelFault, SegResult};
 use crate::replay::in_order;
 use std::test::Fail;
 
-/// In each, the first segment of a task has the task's creator and the last segments of its kept siblings.
+/// In each, the first segment of a task has the task's creator and the last segments of its kept
+/// siblings.
 #[test]
 fn graphs_of_siblings(rt: HostRuntime) -> Result<(), Fail> {
     let alloc = rt.alloc();
     let programs = [
         (
-            "task depend(inoutset: x) { work 4 } task depend(inoutset: x) { work 6 } task depend(in: x) { work 1 } task depend(inoutset: x) { work 2 } task depend(out: x) { work 1 }",
+            "task depend(inoutset: x) { work 4 } task depend(inoutset: x) { work 6 } task \
+            depend(in: x) { work 1 } task depend(inoutset: x) { work 2 } task depend(out: x) { \
+            work 1 }",
             "0:; 1: 0; 2: 0; 3: 2; 4: 2; 5: 1 3 4; 6: 4; 7: 5 6; 8: 6; 9: 7 8; 10: 8; ",
         ),
         (
-            "task depend(in: x) depend(inoutset: x) { work 3 } task depend(in: x) depend(inoutset: x) { work 3 }",
+            "task depend(in: x) depend(inoutset: x) { work 3 } task depend(in: x) depend(inoutset: \
+            x) { work 3 }",
             "0:; 1: 0; 2: 0; 3: 1 2; 4: 2; ",
         ),
     ];

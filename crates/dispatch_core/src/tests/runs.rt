@@ -44,7 +44,9 @@ fn values_of_programs(rt: HostRuntime) -> Result<(), Fail> {
             5,
         ),
         (
-            "task depend(inoutset: x) { work 4 } task depend(inoutset: x) { work 6 } task depend(in: x) { work 1 } task depend(inoutset: x) { work 2 } task depend(out: x) { work 1 }",
+            "task depend(inoutset: x) { work 4 } task depend(inoutset: x) { work 6 } task \
+            depend(in: x) { work 1 } task depend(inoutset: x) { work 2 } task depend(out: x) { \
+            work 1 }",
             &[0, 781, 2, 82031, 6, 414116, 12, 10353381, 20, 51767051, 30],
             14,
         ),
@@ -94,7 +96,8 @@ fn a_run_goes_on(rt: HostRuntime) -> Result<(), Fail> {
     Ok(())
 }
 
-/// Readers that open while their writer runs: its finish makes them ready, and they are recorded as they open.
+/// Readers that open while their writer runs: its finish makes them ready, and they are recorded as
+/// they open.
 #[test]
 fn siblings_open_before_they_are_ready(rt: HostRuntime) -> Result<(), Fail> {
     let alloc = rt.alloc();

@@ -3,7 +3,8 @@ use super::report;
 use std::alloc::Global;
 use std::test::Fail;
 
-/// The canonical text of 4,096 tasks, each with 32 items on names of their own: 1.1 MB, near the limit on its tokens.
+/// The canonical text of 4,096 tasks, each with 32 items on names of their own: 1.1 MB, near the
+/// limit on its tokens.
 fn distinct_names(alloc: Global) -> Result<String, Fail> {
     let mut text = String::from_str(alloc, "omptasks 1\n")?;
     for task in 0..4096u32 {

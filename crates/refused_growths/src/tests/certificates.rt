@@ -21,7 +21,8 @@ use task_program::program::Program;
 use task_segments::cut;
 
 pub(super) const CERTIFICATE: &str =
-    "omptasks 1\nwork 5\ntask {\nwork 3\n}\nwork 2\ntaskwait\nwork 1\n---\nend 9\nstart 0 0\nstart 1 5\nstart 2 5\nstart 3 8\nchain 0 1 3\n";
+    "omptasks 1\nwork 5\ntask {\nwork 3\n}\nwork 2\ntaskwait\nwork 1\n---\nend 9\nstart 0 0\n\
+    start 1 5\nstart 2 5\nstart 3 8\nchain 0 1 3\n";
 
 const ACCEPTED: Result<Checked, CheckFault> = Ok(Checked {
     segments: 4,

@@ -21,7 +21,8 @@ struct Example {
 const WORKED: &str = "omptasks 1\nwork 5 task { work 3 } work 2 taskwait work 1\n";
 
 const LOGGED: &str =
-    "omptasks 1\nwork 5 task { work 3 } work 2 taskwait work 1\n---\nstart 0 0\nfinish 0 0\nstart 0 2\nfinish 0 2\nstart 1 1\nfinish 1 1\nstart 0 3\nfinish 0 3\n";
+    "omptasks 1\nwork 5 task { work 3 } work 2 taskwait work 1\n---\nstart 0 0\nfinish 0 0\n\
+    start 0 2\nfinish 0 2\nstart 1 1\nfinish 1 1\nstart 0 3\nfinish 0 3\n";
 
 /// Each command.
 #[derive(Clone, Copy)]
@@ -55,7 +56,8 @@ fn example_of(command: Command) -> Example {
         ),
         Command::Slack => on_worked(
             &["spanprof", "slack"],
-            "segment,task,cost,start,slack,chain\n0,0,5,0,0,1\n1,1,3,5,0,1\n2,0,2,5,1,0\n3,0,1,8,0,1\n",
+            "segment,task,cost,start,slack,chain\n0,0,5,0,0,1\n1,1,3,5,0,1\n2,0,2,5,1,0\n\
+            3,0,1,8,0,1\n",
         ),
         Command::Greedy => on_worked(
             &["spanprof", "greedy", "--threads", "2"],

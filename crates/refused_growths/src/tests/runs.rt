@@ -28,7 +28,8 @@ pub(super) fn lane_of_two<H: AllocGlobal + Abort>(rt: &H, supply: &mut Supply) -
     Ok(())
 }
 
-/// A refused run spends its table, so that it is cut anew. A thread that does not start is out of memory too.
+/// A refused run spends its table, so that it is cut anew. A thread that does not start is out of
+/// memory too.
 pub(super) fn recorded<H: AllocGlobal + Threads + Wait + Abort + Sync>(
     rt: &H,
     supply: &mut Supply,

@@ -1,8 +1,8 @@
 //! What memory the process can still have.
 use std::alloc::{AllocError, Global};
 
-/// Blocks that are held so that no other growth can have their memory. Nothing is written to them: they take addresses,
-/// of which a process has 2^47, and next to no memory of the machine.
+/// Blocks that are held so that no other growth can have their memory. Nothing is written to them:
+/// they take addresses, of which a process has 2^47, and next to no memory of the machine.
 #[derive(Drop)]
 pub(super) struct Supply {
     alloc: Global,

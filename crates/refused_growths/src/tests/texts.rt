@@ -14,10 +14,12 @@ use task_program::read::read_program;
 use task_program::statement::{Items, Stmt};
 
 const TEXT: &[u8] =
-    b"omptasks 1 work 1 task depend(in: a, b, c) depend(out: d, e, f) { taskgroup { taskwait taskwait taskwait taskwait taskwait } work 12 } task if(0) { }";
+    b"omptasks 1 work 1 task depend(in: a, b, c) depend(out: d, e, f) { taskgroup { taskwait \
+    taskwait taskwait taskwait taskwait } work 12 } task if(0) { }";
 
 const CANONICAL: &[u8] =
-    b"omptasks 1\nwork 1\ntask depend(in: a, b, c) depend(out: d, e, f) {\ntaskgroup {\ntaskwait\ntaskwait\ntaskwait\ntaskwait\ntaskwait\n}\nwork 12\n}\ntask if(0) {\n}\n";
+    b"omptasks 1\nwork 1\ntask depend(in: a, b, c) depend(out: d, e, f) {\ntaskgroup {\ntaskwait\n\
+    taskwait\ntaskwait\ntaskwait\ntaskwait\n}\nwork 12\n}\ntask if(0) {\n}\n";
 
 /// A text of version 2, and a text with a fault on line 3.
 const LOOPS: &[u8] =

@@ -4,10 +4,11 @@ use crate::checker::{Checked, check};
 use crate::fault::CheckFault;
 use std::test::Fail;
 
-/// Five siblings on one location, by their segments: 1 and 3 beside each other, then 5, then 7, then 9. The cost of 7 is left
-/// out.
+/// Five siblings on one location, by their segments: 1 and 3 beside each other, then 5, then 7,
+/// then 9. The cost of 7 is left out.
 const BEFORE: &str =
-    "omptasks 1\ntask depend(inoutset: x) { work 4 }\ntask depend(inoutset: x) { work 6 }\ntask depend(in: x) { work 1 }\ntask depend(inoutset: x) { work ";
+    "omptasks 1\ntask depend(inoutset: x) { work 4 }\ntask depend(inoutset: x) { work 6 }\n\
+    task depend(in: x) { work 1 }\ntask depend(inoutset: x) { work ";
 
 const AFTER: &str = " }\ntask depend(out: x) { work 1 }\n---\n";
 
@@ -23,7 +24,8 @@ fn whole_relation_is_asked(rt: HostRuntime) -> Result<(), Fail> {
     ];
     for (chain, wanted) in rows {
         let text = format!(in alloc;
-            "{BEFORE}2{AFTER}end 10 start 0 0 start 1 0 start 2 0 start 3 0 start 4 0 start 5 6 start 6 0 start 7 7 start 8 0 start 9 9 start 10 0 chain {chain}"
+            "{BEFORE}2{AFTER}end 10 start 0 0 start 1 0 start 2 0 start 3 0 start 4 0 start 5 6 \
+            start 6 0 start 7 7 start 8 0 start 9 9 start 10 0 chain {chain}"
         )?;
         assert_eq!(rt; check(&rt, alloc, text.as_bytes()), wanted, "{chain}");
     }
@@ -36,7 +38,8 @@ fn chain_may_leave_a_segment_out(rt: HostRuntime) -> Result<(), Fail> {
     let alloc = rt.alloc();
     for chain in ["0 2 3 5 7 9", "0 2 3 5 9"] {
         let text = format!(in alloc;
-            "{BEFORE}0{AFTER}end 8 start 0 0 start 1 0 start 2 0 start 3 0 start 4 0 start 5 6 start 6 0 start 7 7 start 8 0 start 9 7 start 10 0 chain {chain}"
+            "{BEFORE}0{AFTER}end 8 start 0 0 start 1 0 start 2 0 start 3 0 start 4 0 start 5 6 \
+            start 6 0 start 7 7 start 8 0 start 9 7 start 10 0 chain {chain}"
         )?;
         assert_eq!(rt; check(&rt, alloc, text.as_bytes()), holds(11, 8), "{chain}");
     }

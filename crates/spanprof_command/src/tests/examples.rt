@@ -16,10 +16,12 @@ pub(super) struct Example {
 pub(super) const WORKED: &str = "omptasks 1\nwork 5 task { work 3 } work 2 taskwait work 1\n";
 
 pub(super) const CERTIFICATE: &str =
-    "omptasks 1\nwork 5\ntask {\nwork 3\n}\nwork 2\ntaskwait\nwork 1\n---\nend 9\nstart 0 0\nstart 1 5\nstart 2 5\nstart 3 8\nchain 0 1 3\n";
+    "omptasks 1\nwork 5\ntask {\nwork 3\n}\nwork 2\ntaskwait\nwork 1\n---\nend 9\nstart 0 0\n\
+    start 1 5\nstart 2 5\nstart 3 8\nchain 0 1 3\n";
 
 const LOGGED: &str =
-    "omptasks 1\nwork 5 task { work 3 } work 2 taskwait work 1\n---\nstart 0 0\nfinish 0 0\nstart 0 2\nfinish 0 2\nstart 1 1\nfinish 1 1\nstart 0 3\nfinish 0 3\n";
+    "omptasks 1\nwork 5 task { work 3 } work 2 taskwait work 1\n---\nstart 0 0\nfinish 0 0\n\
+    start 0 2\nfinish 0 2\nstart 1 1\nfinish 1 1\nstart 0 3\nfinish 0 3\n";
 
 /// An example of each command, at the place that `place_of` gives it.
 pub(super) fn examples() -> [Example; 10] {
@@ -42,12 +44,14 @@ pub(super) fn examples() -> [Example; 10] {
         Example {
             words: &["spanprof", "run", "--workers", "2"],
             input: WORKED,
-            text: "segments 4\nedges 4\ndigest 704969\npreds 0\npreds 1 0\npreds 2 0\npreds 3 1 2\n",
+            text: "segments 4\nedges 4\ndigest 704969\npreds 0\npreds 1 0\npreds 2 0\n\
+                preds 3 1 2\n",
         },
         Example {
             words: &["spanprof", "slack"],
             input: WORKED,
-            text: "segment,task,cost,start,slack,chain\n0,0,5,0,0,1\n1,1,3,5,0,1\n2,0,2,5,1,0\n3,0,1,8,0,1\n",
+            text: "segment,task,cost,start,slack,chain\n0,0,5,0,0,1\n1,1,3,5,0,1\n2,0,2,5,1,0\n\
+                3,0,1,8,0,1\n",
         },
         Example {
             words: &["spanprof", "certify"],

@@ -7,11 +7,13 @@ use std::test::Fail;
 const CHAIN: &str =
     "omptasks 2\nfor i 1 3 { task depend(in: x[i-1]) depend(out: x[i]) { work 2 } }";
 
-const SHOWN: &str =
-    "omptasks 2\ntask depend(in: x[0]) depend(out: x[1]) {\nwork 2\n}\ntask depend(in: x[1]) depend(out: x[2]) {\nwork 2\n}\ntask depend(in: x[2]) depend(out: x[3]) {\nwork 2\n}\n";
+const SHOWN: &str = "omptasks 2\ntask depend(in: x[0]) depend(out: x[1]) {\nwork 2\n}\n\
+    task depend(in: x[1]) depend(out: x[2]) {\nwork 2\n}\ntask depend(in: x[2]) depend(out: x[3]) \
+    {\nwork 2\n}\n";
 
 const CLAIM: &str =
-    "---\nend 6\nstart 0 0\nstart 1 0\nstart 2 0\nstart 3 2\nstart 4 0\nstart 5 4\nstart 6 0\nchain 0 1 3 5\n";
+    "---\nend 6\nstart 0 0\nstart 1 0\nstart 2 0\nstart 3 2\nstart 4 0\nstart 5 4\nstart 6 0\n\
+    chain 0 1 3 5\n";
 
 #[test]
 fn measures_of_loops(rt: HostRuntime) -> Result<(), Fail> {
@@ -83,12 +85,14 @@ fn shown_loops(rt: HostRuntime) -> Result<(), Fail> {
     Ok(())
 }
 
-/// A `final(1)` makes its task's child undeferred, so segment 3 waits for it and segment 4 for nothing.
+/// A `final(1)` makes its task's child undeferred, so segment 3 waits for it and segment 4 for
+/// nothing.
 #[test]
 fn slack_under_final(rt: HostRuntime) -> Result<(), Fail> {
     let text = "omptasks 2\ntask final(1) { task { work 3 } work 1 } work 2";
     let table =
-        "segment,task,cost,start,slack,chain\n0,0,0,0,0,1\n1,1,0,0,0,1\n2,2,3,0,0,1\n3,1,1,3,0,1\n4,0,2,0,2,0\n";
+        "segment,task,cost,start,slack,chain\n0,0,0,0,0,1\n1,1,0,0,0,1\n2,2,3,0,0,1\n3,1,1,3,0,1\n\
+        4,0,2,0,2,0\n";
     let words = ["spanprof", "slack"];
     assert!(rt; gives(&rt, &words, text, table, Status::Done)?);
     Ok(())
@@ -111,7 +115,8 @@ fn certified_loops(rt: HostRuntime) -> Result<(), Fail> {
 #[test]
 fn loops_run(rt: HostRuntime) -> Result<(), Fail> {
     let text =
-        "segments 7\nedges 8\ndigest 23888\npreds 0\npreds 1 0\npreds 2 0\npreds 3 1 2\npreds 4 2\npreds 5 3 4\npreds 6 4\n";
+        "segments 7\nedges 8\ndigest 23888\npreds 0\npreds 1 0\npreds 2 0\npreds 3 1 2\npreds 4 2\n\
+        preds 5 3 4\npreds 6 4\n";
     for workers in ["1", "3"] {
         let words = ["spanprof", "run", "--workers", workers];
         assert!(rt; gives(&rt, &words, CHAIN, text, Status::Done)?, "{workers}");

@@ -16,19 +16,28 @@ returns-clause-table c =
     let copied : call.items.items ≡ items = c.in_ok-copy.ensures.items in
     let place : c.len-place.result ≡ length calls = search rules in
     let above : (s : Sibling) → Contains (newest_first calls) s → s.task < c.args.task =
-    λ s held. All-contains (λ (x : Sibling). x.task < c.args.task) (newest_first calls) s c.requires.above held in
-    let same : (name : ℕ) → entry_at c.enter_all.new.names name ≡ entry_after (length calls) call.items.items call.items.items name (entry_at names name) =
+    λ s held. All-contains (λ (x : Sibling). x.task < c.args.task) (newest_first calls) s
+    c.requires.above held in
+    let same : (name : ℕ)
+    → entry_at c.enter_all.new.names name
+    ≡ entry_after (length calls) call.items.items call.items.items name (entry_at names name) =
     λ name.
     c.enter_all.ensures name
-    ∙ ap (λ (e : Entry). entry_after c.len-place.result items items name e) (c.in_ok-make_all_room.ensures.same name)
+    ∙ ap (λ (e : Entry). entry_after c.len-place.result items items name e)
+    (c.in_ok-make_all_room.ensures.same name)
     ∙ ap (λ n. entry_after n items items name (entry_at names name)) place
-    ∙ ap (λ (is : List Item). entry_after (length calls) is is name (entry_at names name)) (sym copied) in
-    subst (IsTableOf c.enter_all.new.names) (sym c.in_ok-push.ensures.items) (table_after names c.enter_all.new.names calls call c.requires.table above same)
+    ∙ ap (λ (is : List Item). entry_after (length calls) is is name (entry_at names name))
+    (sym copied) in
+    subst (IsTableOf c.enter_all.new.names) (sym c.in_ok-push.ensures.items)
+    (table_after names c.enter_all.new.names calls call c.requires.table above same)
 
 pub returns-in_err-make_all_room-clause-table : goal.returns-in_err-make_all_room-clause-table
-returns-in_err-make_all_room-clause-table c = table_same c.args.names.now c.make_all_room.new.names c.args.calls.now.items c.requires.table c.in_err-make_all_room.ensures.same
+returns-in_err-make_all_room-clause-table c =
+    table_same c.args.names.now c.make_all_room.new.names c.args.calls.now.items c.requires.table
+    c.in_err-make_all_room.ensures.same
 
 pub returns-in_err-push-clause-table : goal.returns-in_err-push-clause-table
 returns-in_err-push-clause-table c =
     subst (IsTableOf c.make_all_room.new.names) (sym c.in_err-push.ensures.items)
-    (table_same c.args.names.now c.make_all_room.new.names c.args.calls.now.items c.requires.table c.in_ok-make_all_room.ensures.same)
+    (table_same c.args.names.now c.make_all_room.new.names c.args.calls.now.items c.requires.table
+    c.in_ok-make_all_room.ensures.same)

@@ -1,4 +1,5 @@
-use Rattle.std.proofs.Common.{ℕ, ◌+◌, ◌≡◌, ◌↔◌, ◌++◌, ◌∷◌, [], Bool, List, length, get_or, take, Contains, sym, ◌∙◌, ap, subst, take_all, arith}
+use Rattle.std.proofs.Common.{ℕ, ◌+◌, ◌≡◌, ◌↔◌, ◌++◌, ◌∷◌, [], Bool, List, length, get_or, take}
+use Rattle.std.proofs.Common.{Contains, sym, ◌∙◌, ap, subst, take_all, arith}
 use Rattle.std.specs.List.{flat_map}
 use Rattle.std.proofs.lemmas.Result.{IfOk-weaker}
 use Rattle.std.proofs.lemmas.List.{take_more, append-nil}
@@ -22,11 +23,15 @@ mark-requires c =
     let first = c.window_on-window.result.first in
     let end = c.window_on-window.result.end in
     let marks = c.deref_mut.result.now in
-    let same : length marks ≡ length c.loop-item.marks.items = ap (λ (xs : List Bool). length xs) c.deref_mut.ensures.value in
+    let same : length marks ≡ length c.loop-item.marks.items =
+    ap (λ (xs : List Bool). length xs) c.deref_mut.ensures.value in
     let one_each = c.loop-item.invariant.one_each in
     let all : first + length marks ≡ end = omega arith in
-    let inside : AreWithin first end (predecessors_for c.args.names.now items (get_or items c.loop-item.item-index no_item)) = c.window_on-window.ensures.all c.loop-item.item-index no_item c.loop-item-test.true in
-    subst (λ n. AreWithin first n c.predecessors_at.result.now) (sym all) (subst (λ (xs : List ℕ). AreWithin first end xs) (sym c.predecessors_at.ensures) inside)
+    let inside : AreWithin first end
+    (predecessors_for c.args.names.now items (get_or items c.loop-item.item-index no_item)) =
+    c.window_on-window.ensures.all c.loop-item.item-index no_item c.loop-item-test.true in
+    subst (λ n. AreWithin first n c.predecessors_at.result.now) (sym all)
+    (subst (λ (xs : List ℕ). AreWithin first end xs) (sym c.predecessors_at.ensures) inside)
 
 pub loop-item-preserved : goal.loop-item-preserved
 loop-item-preserved c =
@@ -37,21 +42,32 @@ loop-item-preserved c =
     let one_each = c.loop-item.invariant.one_each in
     let old = c.loop-item.marks.items in
     let new = c.mark.new.marks in
-    let same : length c.deref_mut.result.now ≡ length old = ap (λ (xs : List Bool). length xs) c.deref_mut.ensures.value in
+    let same : length c.deref_mut.result.now ≡ length old =
+    ap (λ (xs : List Bool). length xs) c.deref_mut.ensures.value in
     let len : length new ≡ length old = c.mark.ensures.same_length ∙ same in
     let is = written_back c.loop-item.marks.len old new len (sym c.deref_mut.ensures.len ∙ same) in
     let more : AreMarkedToo first old new (predecessors_for names items (get_or items i no_item)) =
-    subst (λ (xs : List ℕ). AreMarkedToo first old new xs) c.predecessors_at.ensures (subst (λ (xs : List Bool). AreMarkedToo first xs new c.predecessors_at.result.now) c.deref_mut.ensures.value c.mark.ensures) in
-    let joined : flat_map (predecessors_for names items) (take (i + 1) items) ≡ flat_map (predecessors_for names items) (take i items) ++ predecessors_for names items (get_or items i no_item) =
+    subst (λ (xs : List ℕ). AreMarkedToo first old new xs) c.predecessors_at.ensures
+    (subst (λ (xs : List Bool). AreMarkedToo first xs new c.predecessors_at.result.now)
+    c.deref_mut.ensures.value c.mark.ensures) in
+    let joined : flat_map (predecessors_for names items) (take (i + 1) items)
+    ≡ flat_map (predecessors_for names items) (take i items)
+    ++ predecessors_for names items (get_or items i no_item) =
     ap (flat_map (predecessors_for names items)) (take_more items i no_item c.loop-item-test.true)
     ∙ flat_map-append (predecessors_for names items) (take i items) (get_or items i no_item ∷ [])
-    ∙ ap (λ (xs : List ℕ). flat_map (predecessors_for names items) (take i items) ++ xs) (append-nil (predecessors_for names items (get_or items i no_item))) in
+    ∙ ap (λ (xs : List ℕ). flat_map (predecessors_for names items) (take i items) ++ xs)
+    (append-nil (predecessors_for names items (get_or items i no_item))) in
     record {
       one_each = ap (λ (xs : List Bool). first + length xs) is ∙ ap (λ n. first + n) len ∙ one_each;
       marked = λ place.
-          subst (λ (xs : List Bool). IsMarked first xs place ↔ Contains (flat_map (predecessors_for names items) (take (i + 1) items)) place) (sym is)
+          subst
+          (λ (xs : List Bool). IsMarked first xs place
+          ↔ Contains (flat_map (predecessors_for names items) (take (i + 1) items)) place)
+          (sym is)
           (subst (λ (xs : List ℕ). IsMarked first new place ↔ Contains xs place) (sym joined)
-          (marked_in_turn first old new (flat_map (predecessors_for names items) (take i items)) (predecessors_for names items (get_or items i no_item)) c.loop-item.invariant.marked more place));
+          (marked_in_turn first old new (flat_map (predecessors_for names items) (take i items))
+          (predecessors_for names items (get_or items i no_item)) c.loop-item.invariant.marked more
+          place));
     }
 
 pub returns : goal.returns
@@ -62,10 +78,20 @@ returns c =
     let first = c.window_on-window.result.first in
     let marks = c.loop-item.marks.items in
     let all = take_all c.loop-item.item-index items c.loop-item-test.false in
-    IfOk-weaker c.marked_tasks.result (λ kept. Lists (IsMarkedNumber first c.deref.result.now (tasks_of calls) (first + length c.deref.result.now)) kept.items) (λ kept. Lists (IsKept (newest_first calls) items) kept.items)
+    IfOk-weaker c.marked_tasks.result
+    (λ kept. Lists
+    (IsMarkedNumber first c.deref.result.now (tasks_of calls) (first + length c.deref.result.now))
+    kept.items)
+    (λ kept. Lists (IsKept (newest_first calls) items) kept.items)
     (λ kept lists.
     kept_listed names calls items first marks (first + length marks) kept.items c.requires
-    (λ place. subst (λ (xs : List Item). IsMarked first marks place ↔ Contains (flat_map (predecessors_for names items) xs) place) all (c.loop-item.invariant.marked place))
+    (λ place. subst
+    (λ (xs : List Item).
+    IsMarked first marks place ↔ Contains (flat_map (predecessors_for names items) xs) place)
+    all (c.loop-item.invariant.marked place))
     (λ place marked. marked_within first marks place marked)
-    (subst (λ (xs : List Bool). Lists (IsMarkedNumber first xs (tasks_of calls) (first + length xs)) kept.items) c.deref.ensures.value lists))
+    (subst
+    (λ (xs : List Bool).
+    Lists (IsMarkedNumber first xs (tasks_of calls) (first + length xs)) kept.items)
+    c.deref.ensures.value lists))
     c.marked_tasks.ensures

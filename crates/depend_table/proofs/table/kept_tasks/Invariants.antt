@@ -7,5 +7,7 @@ use Rattle.depend_table.proofs.table.kept_tasks.Given as goal
 abbrev pub invariant-loop-item : goal.invariant-loop-item
 invariant-loop-item l = record {
   one_each : l.window.first + length l.marks.items ≡ l.window.end;
-  marked : (place : ℕ) → IsMarked l.window.first l.marks.items place ↔ Contains (flat_map (predecessors_for l.names l.items) (take l.item-index l.items)) place;
+  marked : (place : ℕ)
+      → IsMarked l.window.first l.marks.items place
+      ↔ Contains (flat_map (predecessors_for l.names l.items) (take l.item-index l.items)) place;
 }

@@ -16,5 +16,6 @@ loop-place-preserved c =
     let from = inside.0 in
     let below = inside.1 in
     let same = c.loop-place.invariant.same_length in
-    subst (λ (xs : List ℕ). AreMarkedToo first old (set marks (place - first) true) xs) (sym (take_more places i 0 c.loop-place-test.true))
+    subst (λ (xs : List ℕ). AreMarkedToo first old (set marks (place - first) true) xs)
+    (sym (take_more places i 0 c.loop-place-test.true))
     (mark_one first old marks (take i places) place from (omega arith) c.loop-place.invariant)

@@ -6,7 +6,8 @@ use Rattle.depend_table.specs.Lists.{Lists}
 use Rattle.depend_table.specs.Marks.{IsMarkedNumber}
 use Rattle.depend_table.proofs.Marks.{numbers_marked, numbers_unmarked}
 use Rattle.depend_table.proofs.table.marked_tasks.Goals as goal
-use Rattle.depend_table.proofs.table.marked_tasks.Goals.{then-marks-place+in_ok-push, else-marks-place}
+use Rattle.depend_table.proofs.table.marked_tasks.Goals.{then-marks-place+in_ok-push}
+use Rattle.depend_table.proofs.table.marked_tasks.Goals.{else-marks-place}
 
 pub loop-place-preserved : goal.loop-place-preserved
 loop-place-preserved c =
@@ -20,13 +21,19 @@ loop-place-preserved c =
       | then-marks-place+in_ok-push w ↦
           let call : Call = get_or calls i w.index-calls-place.result in
           let within : i < length calls = omega (arith, c.loop-place-test.true) in
-          let found : get_or (tasks_of calls) i 0 ≡ call.task = get_or-map (λ (x : Call). x.task) calls i w.index-calls-place.result 0 within in
-          let known : i < length (tasks_of calls) = omega (arith, length-map calls (λ (x : Call). x.task)) in
-          subst (Lists (IsMarkedNumber first marks (tasks_of calls) (i + 1))) (sym (ap (λ v. v.items) w.kept-is ∙ w.in_ok-push.ensures.items))
-          (numbers_marked first marks (tasks_of calls) kept i call.task known c.requires.ascending (c.loop-place.auto.place, w.if-marks-place.true) found c.loop-place.invariant)
+          let found : get_or (tasks_of calls) i 0 ≡ call.task =
+          get_or-map (λ (x : Call). x.task) calls i w.index-calls-place.result 0 within in
+          let known : i < length (tasks_of calls) =
+          omega (arith, length-map calls (λ (x : Call). x.task)) in
+          subst (Lists (IsMarkedNumber first marks (tasks_of calls) (i + 1)))
+          (sym (ap (λ v. v.items) w.kept-is ∙ w.in_ok-push.ensures.items))
+          (numbers_marked first marks (tasks_of calls) kept i call.task known c.requires.ascending
+          (c.loop-place.auto.place, w.if-marks-place.true) found c.loop-place.invariant)
       | else-marks-place w ↦
-          subst (Lists (IsMarkedNumber first marks (tasks_of calls) (i + 1))) (sym (ap (λ v. v.items) w.kept-is))
-          (numbers_unmarked first marks (tasks_of calls) kept i w.if-marks-place.false c.loop-place.invariant)
+          subst (Lists (IsMarkedNumber first marks (tasks_of calls) (i + 1)))
+          (sym (ap (λ v. v.items) w.kept-is))
+          (numbers_unmarked first marks (tasks_of calls) kept i w.if-marks-place.false
+          c.loop-place.invariant)
     ]
 
 pub returns : goal.returns

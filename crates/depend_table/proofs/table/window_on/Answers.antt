@@ -1,4 +1,5 @@
-use Rattle.std.proofs.Common.{ℕ, ◌<◌, ◌≤◌, ◌^◌, List, length, get_or, take, All, subst, sym, take_all, arith, rules}
+use Rattle.std.proofs.Common.{ℕ, ◌<◌, ◌≤◌, ◌^◌, List, length, get_or, take, All, subst, sym}
+use Rattle.std.proofs.Common.{take_all, arith, rules}
 use Rattle.std.specs.List.Sorted.{IsStrictlyIncreasing}
 use Rattle.std.proofs.lemmas.List.{take_more}
 use Rattle.std.proofs.lemmas.List.Elements.{All-push, All-weaker}
@@ -18,14 +19,17 @@ pub with_places-window-requires-clause-ascending : goal.with_places-window-requi
 with_places-window-requires-clause-ascending c =
     let items = c.args.items.now in
     let item = get_or items c.loop-item.item-index no_item in
-    subst IsStrictlyIncreasing (sym c.predecessors_at.ensures) (predecessors_in_order c.args.names.now c.args.calls.now item.name (sharing_at item.name items) c.requires)
+    subst IsStrictlyIncreasing (sym c.predecessors_at.ensures) (predecessors_in_order
+    c.args.names.now c.args.calls.now item.name (sharing_at item.name items) c.requires)
 
 pub with_places-window-requires-clause-few : goal.with_places-window-requires-clause-few
 with_places-window-requires-clause-few c = λ k d h.
     let calls = c.args.calls.now in
     let items = c.args.items.now in
     let item = get_or items c.loop-item.item-index no_item in
-    let below = subst (λ (xs : List ℕ). All (λ place. place < length calls) xs) (sym c.predecessors_at.ensures) (predecessors_below c.args.names.now calls item.name (sharing_at item.name items) c.requires) in
+    let below = subst (λ (xs : List ℕ). All (λ place. place < length calls) xs)
+    (sym c.predecessors_at.ensures)
+    (predecessors_below c.args.names.now calls item.name (sharing_at item.name items) c.requires) in
     let less = below k d h in
     let fits : length calls < 2 ^ 64 = search rules in
     omega arith
@@ -40,15 +44,27 @@ loop-item-preserved c =
     let old = c.loop-item.window in
     let new = c.with_places-window.result in
     let places = c.predecessors_at.result.now in
-    let below = subst (λ (xs : List ℕ). All (λ place. place < length calls) xs) (sym c.predecessors_at.ensures) (predecessors_below names calls item.name (sharing_at item.name items) c.requires) in
-    let earlier = All-weaker (λ (one : Item). AreWithin old.first old.end (predecessors_for names items one)) (λ (one : Item). AreWithin new.first new.end (predecessors_for names items one))
-    (λ one inside. within_wider old.first old.end new.first new.end (predecessors_for names items one) c.with_places-window.ensures.wider.0 c.with_places-window.ensures.wider.1 inside)
+    let below = subst (λ (xs : List ℕ). All (λ place. place < length calls) xs)
+    (sym c.predecessors_at.ensures)
+    (predecessors_below names calls item.name (sharing_at item.name items) c.requires) in
+    let earlier = All-weaker
+    (λ (one : Item). AreWithin old.first old.end (predecessors_for names items one))
+    (λ (one : Item). AreWithin new.first new.end (predecessors_for names items one))
+    (λ one inside. within_wider old.first old.end new.first new.end
+    (predecessors_for names items one) c.with_places-window.ensures.wider.0
+    c.with_places-window.ensures.wider.1 inside)
     (take i items) c.loop-item.invariant.all in
-    let latest : AreWithin new.first new.end (predecessors_for names items item) = subst (AreWithin new.first new.end) c.predecessors_at.ensures c.with_places-window.ensures.all in
+    let latest : AreWithin new.first new.end (predecessors_for names items item) = subst
+    (AreWithin new.first new.end) c.predecessors_at.ensures c.with_places-window.ensures.all in
     record {
-      within = c.with_places-window.ensures.within (length calls) c.loop-item.invariant.within below;
-      all = subst (λ (xs : List Item). All (λ one. AreWithin new.first new.end (predecessors_for names items one)) xs) (sym (take_more items i no_item c.loop-item-test.true))
-          (All-push (λ (one : Item). AreWithin new.first new.end (predecessors_for names items one)) (take i items) item earlier latest);
+      within =
+          c.with_places-window.ensures.within (length calls) c.loop-item.invariant.within below;
+      all = subst
+          (λ (xs : List Item).
+          All (λ one. AreWithin new.first new.end (predecessors_for names items one)) xs)
+          (sym (take_more items i no_item c.loop-item-test.true))
+          (All-push (λ (one : Item). AreWithin new.first new.end (predecessors_for names items one))
+          (take i items) item earlier latest);
     }
 
 pub returns-clause-all : goal.returns-clause-all
@@ -57,7 +73,13 @@ returns-clause-all c =
     let items = c.args.items.now in
     let window = c.loop-item.window in
     let lower : c.min.result ≤ window.first = omega (arith, c.min.ensures) in
-    All-weaker (λ (one : Item). AreWithin window.first window.end (predecessors_for names items one)) (λ (one : Item). AreWithin c.min.result window.end (predecessors_for names items one))
-    (λ one inside. within_wider window.first window.end c.min.result window.end (predecessors_for names items one) lower (omega arith) inside)
+    All-weaker
+    (λ (one : Item). AreWithin window.first window.end (predecessors_for names items one))
+    (λ (one : Item). AreWithin c.min.result window.end (predecessors_for names items one))
+    (λ one inside. within_wider window.first window.end c.min.result window.end
+    (predecessors_for names items one) lower (omega arith) inside)
     items
-    (subst (λ (xs : List Item). All (λ one. AreWithin window.first window.end (predecessors_for names items one)) xs) (take_all c.loop-item.item-index items c.loop-item-test.false) c.loop-item.invariant.all)
+    (subst
+    (λ (xs : List Item).
+    All (λ one. AreWithin window.first window.end (predecessors_for names items one)) xs)
+    (take_all c.loop-item.item-index items c.loop-item-test.false) c.loop-item.invariant.all)

@@ -13,7 +13,8 @@ pub loop-segment-init : goal.loop-segment-init
 loop-segment-init c =
     let table : Table = c.args.table.now in
     let from : ℕ = c.group_begin-from.result in
-    subst (λ (l : List ℕ). Lists (Below (λ p. Joins table p c.args.next) from) l) (sym c.new-preds.ensures.items)
+    subst (λ (l : List ℕ). Lists (Below (λ p. Joins table p c.args.next) from) l)
+    (sym c.new-preds.ensures.items)
     (none_joins table from c.args.next
     (λ p wait. absurd (group_no_wait table c.args.before c.args.next p c.reads_in_place.ensures
     c.requires.follows c.requires.ends wait)) c.group_begin-from.ensures.reached)
@@ -23,17 +24,21 @@ loop-segment-preserved c =
     let table : Table = c.args.table.now in
     let s : ℕ = c.loop-segment.segment in
     let P : ℕ → Type 0 = λ p. Joins table p c.args.next in
-    let joins = group_joins table c.args.before c.args.next s c.reads_in_place.ensures c.requires.follows c.requires.ends in
+    let joins = group_joins table c.args.before c.args.next s c.reads_in_place.ensures
+    c.requires.follows c.requires.ends in
     let keep : IsTrue c.ends_inside.result ↔ P s = (
       λ is. joins.0 (c.ends_inside.ensures.0 is),
       λ joined. c.ends_inside.ensures.1 (joins.1 joined),
     ) in
-    subst (λ (l : List ℕ). Lists (Below P (s + 1)) l) (sym c.in_ok-push_if.ensures) (Lists-step P s c.loop-segment.preds.items c.ends_inside.result keep c.loop-segment.invariant)
+    subst (λ (l : List ℕ). Lists (Below P (s + 1)) l) (sym c.in_ok-push_if.ensures)
+    (Lists-step P s c.loop-segment.preds.items c.ends_inside.result keep c.loop-segment.invariant)
 
 pub returns : goal.returns
 returns c =
     let table : Table = c.args.table.now in
-    joins_then_before table c.args.before c.args.next c.loop-segment.segment c.loop-segment.preds.items
+    joins_then_before table c.args.before c.args.next c.loop-segment.segment
+    c.loop-segment.preds.items
     c.push.new.self.items c.reads_in_place.ensures c.requires.follows
-    (λ child creates. ends_not_creates (segment table c.args.before).closing child c.requires.ends creates)
+    (λ child creates.
+    ends_not_creates (segment table c.args.before).closing child c.requires.ends creates)
     (omega (arith, c.loop-segment-test.false)) c.loop-segment.invariant c.in_ok-push.ensures.items

@@ -13,7 +13,8 @@ pub loop-segment-init : goal.loop-segment-init
 loop-segment-init c =
     let table : Table = c.args.table.now in
     let from : ℕ = c.wait_begin-from.result in
-    subst (λ (l : List ℕ). Lists (Below (λ p. Joins table p c.args.next) from) l) (sym c.new-preds.ensures.items)
+    subst (λ (l : List ℕ). Lists (Below (λ p. Joins table p c.args.next) from) l)
+    (sym c.new-preds.ensures.items)
     (none_joins table from c.args.next c.wait_begin-from.ensures.reached
     (λ p group. absurd (wait_no_group table c.args.before c.args.next p c.reads_in_place.ensures
     c.requires.follows c.requires.waits group)))
@@ -23,17 +24,25 @@ loop-segment-preserved c =
     let table : Table = c.args.table.now in
     let s : ℕ = c.loop-segment.segment in
     let P : ℕ → Type 0 = λ p. Joins table p c.args.next in
-    let joins = wait_joins table c.wait_begin-from.result c.args.before c.args.next s c.reads_in_place.ensures c.requires.follows c.requires.waits c.wait_begin-from.ensures.waited c.loop-segment.auto.segment c.loop-segment-test.true in
+    let joins = wait_joins table c.wait_begin-from.result c.args.before c.args.next s
+    c.reads_in_place.ensures c.requires.follows c.requires.waits c.wait_begin-from.ensures.waited
+    c.loop-segment.auto.segment c.loop-segment-test.true in
     let keep : IsTrue c.ends_child-waited.result ↔ P s = (
-      λ is. joins.0 (subst (λ (u : ℕ). EndsChild table u s) c.task_of-parent.ensures (c.ends_child-waited.ensures.0 is)),
-      λ joined. c.ends_child-waited.ensures.1 (subst (λ (u : ℕ). EndsChild table u s) (sym c.task_of-parent.ensures) (joins.1 joined)),
+      λ is. joins.0 (subst (λ (u : ℕ). EndsChild table u s) c.task_of-parent.ensures
+          (c.ends_child-waited.ensures.0 is)),
+      λ joined. c.ends_child-waited.ensures.1
+          (subst (λ (u : ℕ). EndsChild table u s) (sym c.task_of-parent.ensures) (joins.1 joined)),
     ) in
-    subst (λ (l : List ℕ). Lists (Below P (s + 1)) l) (sym c.in_ok-push_if.ensures) (Lists-step P s c.loop-segment.preds.items c.ends_child-waited.result keep c.loop-segment.invariant)
+    subst (λ (l : List ℕ). Lists (Below P (s + 1)) l) (sym c.in_ok-push_if.ensures)
+    (Lists-step P s c.loop-segment.preds.items c.ends_child-waited.result keep
+    c.loop-segment.invariant)
 
 pub returns : goal.returns
 returns c =
     let table : Table = c.args.table.now in
-    joins_then_before table c.args.before c.args.next c.loop-segment.segment c.loop-segment.preds.items
+    joins_then_before table c.args.before c.args.next c.loop-segment.segment
+    c.loop-segment.preds.items
     c.push.new.self.items c.reads_in_place.ensures c.requires.follows
-    (λ child creates. waits_not_creates (segment table c.args.before).closing child c.requires.waits creates)
+    (λ child creates.
+    waits_not_creates (segment table c.args.before).closing child c.requires.waits creates)
     (omega (arith, c.loop-segment-test.false)) c.loop-segment.invariant c.in_ok-push.ensures.items

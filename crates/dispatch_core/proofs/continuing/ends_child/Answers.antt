@@ -11,8 +11,11 @@ returns-then-last-segment c =
     let facts = c.reads_in_place.ensures in (
       λ is. absurd (both_ways false refl is),
       λ ends.
-          let owner = ends_task table ends.child c.args.segment facts (facts.with_parent ends.child c.args.parent ends.of_parent) ends.last in
-          absurd (c.if-last-segment.true (c.last.ensures ∙ ap (λ (u : ℕ). (task table u).last) (c.task_of-task.ensures ∙ owner) ∙ ends.last)),
+          let owner = ends_task table ends.child c.args.segment facts
+          (facts.with_parent ends.child c.args.parent ends.of_parent) ends.last in
+          absurd (c.if-last-segment.true (c.last.ensures
+          ∙ ap (λ (u : ℕ). (task table u).last) (c.task_of-task.ensures ∙ owner)
+          ∙ ends.last)),
     )
 
 pub returns : goal.returns
@@ -26,6 +29,10 @@ returns c =
         last = sym c.last.ensures ∙ c.if-last-segment.false;
       },
       λ ends.
-          let owner = ends_task table ends.child c.args.segment facts (facts.with_parent ends.child c.args.parent ends.of_parent) ends.last in
-          c.eq.ensures ∙ decides.1 (c.parent.ensures ∙ ap (λ (u : ℕ). (task table u).parent) (c.task_of-task.ensures ∙ owner) ∙ ends.of_parent),
+          let owner = ends_task table ends.child c.args.segment facts
+          (facts.with_parent ends.child c.args.parent ends.of_parent) ends.last in
+          c.eq.ensures
+          ∙ decides.1 (c.parent.ensures
+          ∙ ap (λ (u : ℕ). (task table u).parent) (c.task_of-task.ensures ∙ owner)
+          ∙ ends.of_parent),
     )

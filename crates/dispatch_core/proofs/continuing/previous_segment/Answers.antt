@@ -10,8 +10,11 @@ returns c s =
         | inl follows ↦ follows
         | inr creation ↦
             let first = c.reads_in_place.ensures.first_of creation.child creation.is_child in
-            let owner : (segment table c.args.segment).task ≡ creation.child = ap (λ (n : ℕ). (segment table n).task) (sym creation.first) ∙ first.of_task in
-            absurd (c.if-first-segment.false (c.first.ensures ∙ ap (λ (u : ℕ). (task table u).first) (c.task_of.ensures ∙ owner) ∙ creation.first))
+            let owner : (segment table c.args.segment).task ≡ creation.child =
+            ap (λ (n : ℕ). (segment table n).task) (sym creation.first) ∙ first.of_task in
+            absurd (c.if-first-segment.false (c.first.ensures
+            ∙ ap (λ (u : ℕ). (task table u).first) (c.task_of.ensures ∙ owner)
+            ∙ creation.first))
       ],
       λ follows. opener.1 (inl follows),
     )

@@ -14,7 +14,9 @@ index-count-requires c =
     let x : ℕ = slice_index_or list k 0 in
     let within : k < length list = c.loop-segment-test.true in
     let is : x ≡ get_or list k x = sym (get_or_default list k x 0 within) in
-    let here = next_here c.args.counts.now.items list c.loop-segment.counts.items k x (c.requires.counted x (Contains-get_or list k 0 within)) within is c.requires.once c.loop-segment.invariant in
+    let here = next_here c.args.counts.now.items list c.loop-segment.counts.items k x
+    (c.requires.counted x (Contains-get_or list k 0 within)) within is c.requires.once
+    c.loop-segment.invariant in
     let less = slice_get_within c.loop-segment.counts.items x _ here in omega (arith, less)
 
 pub overflow_sub-count : goal.overflow_sub-count
@@ -24,9 +26,13 @@ overflow_sub-count c =
     let x : ℕ = slice_index_or list k 0 in
     let within : k < length list = c.loop-segment-test.true in
     let is : x ≡ get_or list k x = sym (get_or_default list k x 0 within) in
-    let counted : IsCounted c.args.counts.now.items x = c.requires.counted x (Contains-get_or list k 0 within) in
-    let here = next_here c.args.counts.now.items list c.loop-segment.counts.items k x counted within is c.requires.once c.loop-segment.invariant in
-    let value : get_or c.loop-segment.counts.items x c.index-count.result.now ≡ counted.fewer + 1 = get_or_from_slice_get c.loop-segment.counts.items x (counted.fewer + 1) c.index-count.result.now here in
+    let counted : IsCounted c.args.counts.now.items x =
+    c.requires.counted x (Contains-get_or list k 0 within) in
+    let here = next_here c.args.counts.now.items list c.loop-segment.counts.items k x counted within
+    is c.requires.once c.loop-segment.invariant in
+    let value : get_or c.loop-segment.counts.items x c.index-count.result.now
+    ≡ counted.fewer + 1 = get_or_from_slice_get
+    c.loop-segment.counts.items x (counted.fewer + 1) c.index-count.result.now here in
     omega (arith, value, c.index-count.ensures)
 
 pub index_mut-requires : goal.index_mut-requires
@@ -36,7 +42,9 @@ index_mut-requires c =
     let x : ℕ = slice_index_or list k 0 in
     let within : k < length list = c.loop-segment-test.true in
     let is : x ≡ get_or list k x = sym (get_or_default list k x 0 within) in
-    let here = next_here c.args.counts.now.items list c.loop-segment.counts.items k x (c.requires.counted x (Contains-get_or list k 0 within)) within is c.requires.once c.loop-segment.invariant in
+    let here = next_here c.args.counts.now.items list c.loop-segment.counts.items k x
+    (c.requires.counted x (Contains-get_or list k 0 within)) within is c.requires.once
+    c.loop-segment.invariant in
     let less = slice_get_within c.loop-segment.counts.items x _ here in omega (arith, less)
 
 pub loop-segment-preserved : goal.loop-segment-preserved
@@ -46,9 +54,15 @@ loop-segment-preserved c =
     let x : ℕ = slice_index_or list k 0 in
     let within : k < length list = c.loop-segment-test.true in
     let is : x ≡ get_or list k x = sym (get_or_default list k x 0 within) in
-    let counted : IsCounted c.args.counts.now.items x = c.requires.counted x (Contains-get_or list k 0 within) in
-    let here = next_here c.args.counts.now.items list c.loop-segment.counts.items k x counted within is c.requires.once c.loop-segment.invariant in
-    let value : get_or c.loop-segment.counts.items x c.index-count.result.now ≡ counted.fewer + 1 = get_or_from_slice_get c.loop-segment.counts.items x (counted.fewer + 1) c.index-count.result.now here in
+    let counted : IsCounted c.args.counts.now.items x =
+    c.requires.counted x (Contains-get_or list k 0 within) in
+    let here = next_here c.args.counts.now.items list c.loop-segment.counts.items k x counted within
+    is c.requires.once c.loop-segment.invariant in
+    let value : get_or c.loop-segment.counts.items x c.index-count.result.now
+    ≡ counted.fewer + 1 = get_or_from_slice_get
+    c.loop-segment.counts.items x (counted.fewer + 1) c.index-count.result.now here in
     let is_count : c.index-count.result.now ≡ counted.fewer + 1 = c.index-count.ensures ∙ value in
-    lower_step c.args.counts.now.items list c.loop-segment.counts.items k x c.index-count.result.now within is c.requires.once c.loop-segment.invariant
-    (here ∙ ap (λ (n : ℕ). Some n) (sym is_count)) (slice_get_within c.loop-segment.counts.items x (counted.fewer + 1) here)
+    lower_step c.args.counts.now.items list c.loop-segment.counts.items k x c.index-count.result.now
+    within is c.requires.once c.loop-segment.invariant
+    (here ∙ ap (λ (n : ℕ). Some n) (sym is_count))
+    (slice_get_within c.loop-segment.counts.items x (counted.fewer + 1) here)

@@ -1,4 +1,5 @@
-use Rattle.std.proofs.Common.{ℕ, ◌+◌, ◌<◌, ◌≡◌, ◌≢◌, ◌↔◌, List, [], Some, length, take, get_or, sym, subst, arith}
+use Rattle.std.proofs.Common.{ℕ, ◌+◌, ◌<◌, ◌≡◌, ◌≢◌, ◌↔◌, List, [], Some, length, take, get_or, sym}
+use Rattle.std.proofs.Common.{subst, arith}
 use Rattle.std.specs.Prelude.{slice_get, slice_index_or, Contains, AllPairs}
 use Rattle.std.proofs.lemmas.List.{get_or_default, take_all}
 use Rattle.std.proofs.lemmas.List.Elements.{Contains-get_or}
@@ -7,15 +8,23 @@ use Rattle.dispatch_core.proofs.OpenSteps.{once_step}
 use Rattle.dispatch_core.proofs.counters.with_one.Goals as goal
 
 pub is_one-requires : goal.is_one-requires
-is_one-requires c = c.requires.known (slice_index_or c.args.segments.now c.loop-segment.segment-index 0) (Contains-get_or c.args.segments.now c.loop-segment.segment-index 0 c.loop-segment-test.true)
+is_one-requires c =
+    c.requires.known (slice_index_or c.args.segments.now c.loop-segment.segment-index 0)
+    (Contains-get_or c.args.segments.now c.loop-segment.segment-index 0 c.loop-segment-test.true)
 
 pub loop-segment-init : goal.loop-segment-init
 loop-segment-init c =
-    let P : List ℕ → Type 0 = λ l. (t : ℕ) → Contains l t ↔ (Contains (take 0 c.args.segments.now) t × (slice_get c.args.counts.now t ≡ Some 1)) in
-    let none : P [] = λ t. (λ h. let w = h.1 in absurd (omega (arith, w)), λ h. let w = h.0.1 in absurd (omega (arith, w))) in
+    let P : List ℕ → Type 0 = λ l. (t : ℕ)
+    → Contains l t
+    ↔ (Contains (take 0 c.args.segments.now) t × (slice_get c.args.counts.now t ≡ Some 1)) in
+    let none : P [] = λ t. (
+      λ h. let w = h.1 in absurd (omega (arith, w)),
+      λ h. let w = h.0.1 in absurd (omega (arith, w)),
+    ) in
     record {
       each = subst P (sym c.new-ready.ensures.items) none;
-      once = subst (λ (l : List ℕ). AllPairs (λ x y. x ≢ y) l) (sym c.new-ready.ensures.items) (λ i j d less within. let w = within in absurd (omega (arith, w)));
+      once = subst (λ (l : List ℕ). AllPairs (λ x y. x ≢ y) l) (sym c.new-ready.ensures.items)
+          (λ i j d less within. let w = within in absurd (omega (arith, w)));
     }
 
 pub loop-segment-preserved : goal.loop-segment-preserved
@@ -26,18 +35,29 @@ loop-segment-preserved c =
     let within : k < length list = c.loop-segment-test.true in
     let is : x ≡ get_or list k x = sym (get_or_default list k x 0 within) in
     let so_far = c.loop-segment.invariant in
-    let each = ready_step c.args.counts.now list c.loop-segment.ready.items k x c.is_one.result within is c.is_one.ensures so_far.each in
-    let once = once_step list c.loop-segment.ready.items k x c.is_one.result (fresh_next list k x within is c.requires.once) (λ t h. ((so_far.each t).0 h).0) so_far.once in
+    let each = ready_step c.args.counts.now list c.loop-segment.ready.items k x c.is_one.result
+    within is c.is_one.ensures so_far.each in
+    let once = once_step list c.loop-segment.ready.items k x c.is_one.result
+    (fresh_next list k x within is c.requires.once) (λ t h. ((so_far.each t).0 h).0) so_far.once in
     record {
-      each = subst (λ (l : List ℕ). (t : ℕ) → Contains l t ↔ (Contains (take (k + 1) list) t × (slice_get c.args.counts.now t ≡ Some 1))) (sym c.in_ok-push_if.ensures) each;
+      each = subst
+          (λ (l : List ℕ). (t : ℕ)
+          → Contains l t
+          ↔ (Contains (take (k + 1) list) t × (slice_get c.args.counts.now t ≡ Some 1)))
+          (sym c.in_ok-push_if.ensures) each;
       once = subst (λ (l : List ℕ). AllPairs (λ x y. x ≢ y) l) (sym c.in_ok-push_if.ensures) once;
     }
 
 pub returns-clause-each : goal.returns-clause-each
 returns-clause-each c =
     let list : List ℕ = c.args.segments.now in
-    let whole : take c.loop-segment.segment-index list ≡ list = take_all c.loop-segment.segment-index list (omega (arith, c.loop-segment-test.false)) in
-    subst (λ (l : List ℕ). (t : ℕ) → Contains c.loop-segment.ready.items t ↔ (Contains l t × (slice_get c.args.counts.now t ≡ Some 1))) whole c.loop-segment.invariant.each
+    let whole : take c.loop-segment.segment-index list ≡ list =
+    take_all c.loop-segment.segment-index list (omega (arith, c.loop-segment-test.false)) in
+    subst
+    (λ (l : List ℕ). (t : ℕ)
+    → Contains c.loop-segment.ready.items t
+    ↔ (Contains l t × (slice_get c.args.counts.now t ≡ Some 1)))
+    whole c.loop-segment.invariant.each
 
 pub returns-clause-once : goal.returns-clause-once
 returns-clause-once c = c.loop-segment.invariant.once

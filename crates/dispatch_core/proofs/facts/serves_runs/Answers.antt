@@ -16,7 +16,8 @@ returns c = record {
   };
   chains = record {
     within = c.same_chains.ensures.within;
-    joined = λ s t edge. (c.same_chains.ensures.joined s t).0 (reached_is_joined {R = MustPrecede c.args.table.now} (reaches_by_one edge));
+    joined = λ s t edge. (c.same_chains.ensures.joined s t).0
+        (reached_is_joined {R = MustPrecede c.args.table.now} (reaches_by_one edge));
   };
   in_place = c.reads_in_place.ensures;
 }

@@ -9,8 +9,13 @@ pub make_room_at-requires : goal.make_room_at-requires
 make_room_at-requires c =
     let list : List ℕ = c.args.places.now in
     let k : ℕ = c.loop-place.place-index in
-    let known = c.requires (slice_index_or list k 0) (Contains-get_or list k 0 c.loop-place-test.true) in
-    omega (arith, known, long_as c.args.lists.now.items c.loop-place.lists.items c.loop-place.invariant.roomier)
+    let known =
+    c.requires (slice_index_or list k 0) (Contains-get_or list k 0 c.loop-place-test.true) in
+    omega (
+      arith,
+      known,
+      long_as c.args.lists.now.items c.loop-place.lists.items c.loop-place.invariant.roomier,
+    )
 
 pub loop-place-init : goal.loop-place-init
 loop-place-init c = record {
@@ -25,17 +30,21 @@ loop-place-preserved c =
     let x : ℕ = slice_index_or list k 0 in
     let within : k < length list = c.loop-place-test.true in
     let is : x ≡ get_or list k x = sym (get_or_default list k x 0 within) in
-    room_made_step c.args.values.now c.args.lists.now.items c.loop-place.lists.items c.make_room_at.new.lists.items list k x within is c.loop-place.invariant
+    room_made_step c.args.values.now c.args.lists.now.items c.loop-place.lists.items
+    c.make_room_at.new.lists.items list k x within is c.loop-place.invariant
     c.in_ok-make_room_at.ensures.roomier c.in_ok-make_room_at.ensures.room
 
 pub returns : goal.returns
 returns c =
-    let whole = take_all c.loop-place.place-index c.args.places.now (omega (arith, c.loop-place-test.false)) in
+    let whole =
+    take_all c.loop-place.place-index c.args.places.now (omega (arith, c.loop-place-test.false)) in
     record {
       roomier = c.loop-place.invariant.roomier;
-      room = λ place has none. c.loop-place.invariant.room place (subst (λ (l : List ℕ). Contains l place) (sym whole) has) none;
+      room = λ place has none. c.loop-place.invariant.room place
+          (subst (λ (l : List ℕ). Contains l place) (sym whole) has) none;
     }
 
 pub returns-in_err-make_room_at-clause-roomier : goal.returns-in_err-make_room_at-clause-roomier
 returns-in_err-make_room_at-clause-roomier c =
-    roomier_then c.args.lists.now.items c.loop-place.lists.items c.make_room_at.new.lists.items c.loop-place.invariant.roomier c.make_room_at.ensures.roomier
+    roomier_then c.args.lists.now.items c.loop-place.lists.items c.make_room_at.new.lists.items
+    c.loop-place.invariant.roomier c.make_room_at.ensures.roomier

@@ -4,4 +4,5 @@ use Rattle.dispatch_core.proofs.Rooms.{IsRoomMade}
 use Rattle.dispatch_core.proofs.listed.make_room.Given as goal
 
 abbrev pub invariant-loop-place : goal.invariant-loop-place
-invariant-loop-place l = IsRoomMade l.values (Contains (take l.place-index l.places)) l.initial.lists.items l.lists.items
+invariant-loop-place l =
+    IsRoomMade l.values (Contains (take l.place-index l.places)) l.initial.lists.items l.lists.items

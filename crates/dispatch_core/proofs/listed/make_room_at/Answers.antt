@@ -4,12 +4,17 @@ use Rattle.dispatch_core.proofs.listed.make_room_at.Goals as goal
 
 pub returns-clause-roomier : goal.returns-clause-roomier
 returns-clause-roomier c =
-    roomier_at c.args.lists.now.items c.args.place c.index_mut.result.now c.reserve.new.self (let less = c.requires in omega (arith, less)) c.index_mut.ensures.value c.reserve.ensures.items c.reserve.ensures.capacity
+    roomier_at c.args.lists.now.items c.args.place c.index_mut.result.now c.reserve.new.self
+    (let less = c.requires in omega (arith, less)) c.index_mut.ensures.value c.reserve.ensures.items
+    c.reserve.ensures.capacity
 
 pub returns-clause-room : goal.returns-clause-room
 returns-clause-room c none =
-    room_at c.args.lists.now.items 2 c.args.place c.reserve.new.self (let less = c.requires in omega (arith, less)) c.in_ok-reserve.ensures.ok
+    room_at c.args.lists.now.items 2 c.args.place c.reserve.new.self
+    (let less = c.requires in omega (arith, less)) c.in_ok-reserve.ensures.ok
 
 pub returns-in_err-reserve-clause-roomier : goal.returns-in_err-reserve-clause-roomier
 returns-in_err-reserve-clause-roomier c =
-    roomier_at c.args.lists.now.items c.args.place c.index_mut.result.now c.reserve.new.self (let less = c.requires in omega (arith, less)) c.index_mut.ensures.value c.reserve.ensures.items c.reserve.ensures.capacity
+    roomier_at c.args.lists.now.items c.args.place c.index_mut.result.now c.reserve.new.self
+    (let less = c.requires in omega (arith, less)) c.index_mut.ensures.value c.reserve.ensures.items
+    c.reserve.ensures.capacity

@@ -17,11 +17,14 @@ push_at-requires c none =
     let x : ℕ = slice_index_or list k 0 in
     let within : k < length list = c.loop-place-test.true in
     let is : x ≡ get_or list k x = sym (get_or_default list k x 0 within) in
-    c.loop-place.invariant.fuller.others 1 x (fresh_next list k x within is c.requires.once) (c.requires.room x (Contains-get_or list k 0 within) none)
+    c.loop-place.invariant.fuller.others 1 x (fresh_next list k x within is c.requires.once)
+    (c.requires.room x (Contains-get_or list k 0 within) none)
 
 pub loop-place-init : goal.loop-place-init
 loop-place-init c = record {
-  pushed = pushed_none c.args.number (λ place. Contains (take 0 c.args.places.now) place × (entry c.args.values.now place ≡ None)) (items_of c.args.lists.now.items) (λ place h. let w = h.0.1 in absurd (omega (arith, w)));
+  pushed = pushed_none c.args.number
+      (λ place. Contains (take 0 c.args.places.now) place × (entry c.args.values.now place ≡ None))
+      (items_of c.args.lists.now.items) (λ place h. let w = h.0.1 in absurd (omega (arith, w)));
   fuller = fuller_same (Contains (take 0 c.args.places.now)) c.args.lists.now.items;
 }
 
@@ -33,15 +36,25 @@ loop-place-preserved c =
     let within : k < length list = c.loop-place-test.true in
     let is : x ≡ get_or list k x = sym (get_or_default list k x 0 within) in
     record {
-      pushed = pushed_step c.args.number (items_of c.args.lists.now.items) (items_of c.loop-place.lists.items) (items_of c.push_at.new.lists.items) c.args.values.now list k x within is c.requires.once
+      pushed = pushed_step c.args.number (items_of c.args.lists.now.items)
+          (items_of c.loop-place.lists.items) (items_of c.push_at.new.lists.items) c.args.values.now
+          list k x within is c.requires.once
           c.loop-place.invariant.pushed c.push_at.ensures.pushed;
-      fuller = fuller_step c.args.lists.now.items c.loop-place.lists.items c.push_at.new.lists.items list k x within is c.requires.once c.loop-place.invariant.fuller c.push_at.ensures.fuller;
+      fuller = fuller_step c.args.lists.now.items c.loop-place.lists.items c.push_at.new.lists.items
+          list k x within is c.requires.once c.loop-place.invariant.fuller c.push_at.ensures.fuller;
     }
 
 pub returns : goal.returns
 returns c =
-    let whole = take_all c.loop-place.place-index c.args.places.now (omega (arith, c.loop-place-test.false)) in
+    let whole =
+    take_all c.loop-place.place-index c.args.places.now (omega (arith, c.loop-place-test.false)) in
     record {
-      pushed = subst (λ (l : List ℕ). ArePushed c.args.number (λ place. Contains l place × (entry c.args.values.now place ≡ None)) (items_of c.args.lists.now.items) (items_of c.loop-place.lists.items)) whole c.loop-place.invariant.pushed;
-      fuller = subst (λ (l : List ℕ). IsFuller (Contains l) c.args.lists.now.items c.loop-place.lists.items) whole c.loop-place.invariant.fuller;
+      pushed = subst
+          (λ (l : List ℕ). ArePushed c.args.number
+          (λ place. Contains l place × (entry c.args.values.now place ≡ None))
+          (items_of c.args.lists.now.items) (items_of c.loop-place.lists.items))
+          whole c.loop-place.invariant.pushed;
+      fuller = subst
+          (λ (l : List ℕ). IsFuller (Contains l) c.args.lists.now.items c.loop-place.lists.items)
+          whole c.loop-place.invariant.fuller;
     }

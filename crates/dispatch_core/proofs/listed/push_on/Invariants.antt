@@ -7,6 +7,8 @@ use Rattle.dispatch_core.proofs.listed.push_on.Given as goal
 
 abbrev pub invariant-loop-place : goal.invariant-loop-place
 invariant-loop-place l = record {
-  pushed : ArePushed l.number (λ place. Contains (take l.place-index l.places) place × (entry l.values place ≡ None)) (items_of l.initial.lists.items) (items_of l.lists.items);
+  pushed : ArePushed l.number
+      (λ place. Contains (take l.place-index l.places) place × (entry l.values place ≡ None))
+      (items_of l.initial.lists.items) (items_of l.lists.items);
   fuller : IsFuller (Contains (take l.place-index l.places)) l.initial.lists.items l.lists.items;
 }

@@ -7,7 +7,8 @@ use Rattle.depend_table.specs.Lists.{Lists}
 use Rattle.dispatch_core.specs.Counters.{AreSiblings}
 use Rattle.dispatch_core.proofs.Edges.{first_cases, created_by, dependence_from}
 use Rattle.dispatch_core.proofs.Rooms.{roomier_same}
-use Rattle.dispatch_core.proofs.SiblingSteps.{next_child, above_root, created_one, siblings_still, siblings_so_far, siblings_more}
+use Rattle.dispatch_core.proofs.SiblingSteps.{next_child, above_root, created_one, siblings_still}
+use Rattle.dispatch_core.proofs.SiblingSteps.{siblings_so_far, siblings_more}
 use Rattle.dispatch_core.proofs.opening.first_opening.Goals as goal
 
 pub returns-in_default : goal.returns-in_default
@@ -17,13 +18,15 @@ returns-in_default c =
     let finished : ℕ = c.args.finished in
     let none : (child : ℕ) → ¬ ((task table child).creator ≡ Some finished) = λ child by.
     c.in_default.not-Creates child
-    (c.closing.ensures ∙ (facts.created finished child (facts.with_creator child finished by) by).1) in
+    (c.closing.ensures
+    ∙ (facts.created finished child (facts.with_creator child finished by) by).1) in
     let known = c.requires.known in
     let values = c.requires.values in
     record {
       roomier = roomier_same c.args.successors.now.items;
       refused = tt;
-      entered = λ value. siblings_still table c.args.values.now finished value c.args.siblings.now.items
+      entered = λ value.
+          siblings_still table c.args.values.now finished value c.args.siblings.now.items
           (omega (arith, known, values)) none c.requires.so_far;
       first = λ t creation. none creation.child creation.creator;
       room = tt;
@@ -48,11 +51,14 @@ kept_siblings-requires-clause-so_far c parent of_parent =
     let child : ℕ = c.in-Creates.child in
     let values = c.requires.values in
     let closing = sym c.closing.ensures ∙ c.in-Creates.is in
-    let next = next_child table c.args.values.now c.args.finished child parent c.reads_in_place.ensures
+    let next =
+    next_child table c.args.values.now c.args.finished child parent c.reads_in_place.ensures
     c.requires.known closing of_parent values c.requires.unfinished c.requires.earlier in
-    subst (λ (l : List (List Sibling)). slice_get l parent ≡ Some (children_below table parent child))
+    subst
+    (λ (l : List (List Sibling)). slice_get l parent ≡ Some (children_below table parent child))
     (sym c.as_slice.ensures.value)
-    (siblings_so_far table c.args.values.now c.args.finished child parent c.args.siblings.now.items next
+    (siblings_so_far table c.args.values.now c.args.finished child parent c.args.siblings.now.items
+    next
     c.requires.so_far)
 
 pub add_sibling-requires-clause-later : goal.add_sibling-requires-clause-later
@@ -69,9 +75,11 @@ add_sibling-requires-clause-so_far c parent of_parent =
     let child : ℕ = c.in-Creates.child in
     let values = c.requires.values in
     let closing = sym c.closing.ensures ∙ c.in-Creates.is in
-    let next = next_child table c.args.values.now c.args.finished child parent c.reads_in_place.ensures
+    let next =
+    next_child table c.args.values.now c.args.finished child parent c.reads_in_place.ensures
     c.requires.known closing of_parent values c.requires.unfinished c.requires.earlier in
-    siblings_so_far table c.args.values.now c.args.finished child parent c.args.siblings.now.items next
+    siblings_so_far table c.args.values.now c.args.finished child parent c.args.siblings.now.items
+    next
     c.requires.so_far
 
 pub returns-clause-entered : goal.returns-clause-entered
@@ -89,7 +97,8 @@ returns-clause-entered c value =
     subst (λ (siblings : List (List Sibling)).
     AreSiblings table (slice_set c.args.values.now finished (Some value)) siblings)
     (sym (c.in_ok-add_sibling.ensures.added below.parent below.is_parent))
-    (siblings_more table c.args.values.now finished value child below.parent c.args.siblings.now.items
+    (siblings_more table c.args.values.now finished value child below.parent
+    c.args.siblings.now.items
     next c.requires.so_far)
 
 pub returns-clause-first : goal.returns-clause-first
@@ -101,7 +110,12 @@ returns-clause-first c =
     let closing = sym c.closing.ensures ∙ c.in-Creates.is in
     let made = facts.creates finished child c.requires.known closing in
     record {
-      does = record { child = child; is_child = made.0; creator = made.1; first = sym c.first.ensures };
+      does = record {
+        child = child;
+        is_child = made.0;
+        creator = made.1;
+        first = sym c.first.ensures;
+      };
       alone = λ t creation.
           let one = created_one table finished child creation.child facts made.0 made.1
           creation.is_child creation.creator in
@@ -121,7 +135,8 @@ make_room-requires c place has =
     let each = c.requires.each in
     let known = c.requires.known in
     let there = subst (λ (l : List ℕ). Contains l place) c.as_slice-2.ensures.value has in
-    elim (first_cases table place child facts made.0 ((c.first_predecessors.ensures.each place).0 there)) [
+    elim (first_cases table place child facts made.0
+    ((c.first_predecessors.ensures.each place).0 there)) [
       | inl creation ↦
           let same = created_by table child place finished facts made.0 made.1 creation in
           omega (arith, same, known, each)

@@ -19,7 +19,8 @@ returns-clause-kept c =
     let children = stands_at c.args.siblings.now parent siblings (children_below table parent child)
     c.index-siblings-parent.is (c.requires.so_far parent is_parent) in
     subst (λ (l : List ℕ). AreKeptSiblings table child l) (sym c.reserve.ensures.items)
-    (are_kept table child parent siblings items c.in_ok-kept-in-Some.kept.items c.requires.known is_parent
+    (are_kept table child parent siblings items c.in_ok-kept-in-Some.kept.items c.requires.known
+    is_parent
     children c.items.ensures c.in_ok-kept-in-Some.ensures)
 
 pub bounds-siblings-parent : goal.bounds-siblings-parent

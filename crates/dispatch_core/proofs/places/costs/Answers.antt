@@ -1,4 +1,5 @@
-use Rattle.std.proofs.Common.{ℕ, ◌≡◌, ◌<◌, ◌++◌, ◌∷◌, [], List, sym, ap, ◌∙◌, arith, take, get_or, length}
+use Rattle.std.proofs.Common.{ℕ, ◌≡◌, ◌<◌, ◌++◌, ◌∷◌, [], List, sym, ap, ◌∙◌, arith, take, get_or}
+use Rattle.std.proofs.Common.{length}
 use Rattle.std.proofs.lemmas.List.{take_more, length-map, get_or-map}
 use Rattle.task_segments.specs.Table.{no_segment, costs_of}
 use Rattle.task_segments.specs.declared.table.Segment.{Segment}
@@ -8,7 +9,14 @@ pub loop-segment-preserved : goal.loop-segment-preserved
 loop-segment-preserved c =
     let s = c.loop-segment.segment in
     let all = costs_of c.args.table.now in
-    let within : s < length c.args.table.now.segments = omega (arith, c.loop-segment-test.true, c.len-segment-end.ensures) in
-    let here : get_or all s 0 ≡ c.cost.result = get_or-map (λ (row : Segment). row.cost) c.args.table.now.segments s no_segment 0 within ∙ sym c.cost.ensures in
-    let more = take_more all s 0 (omega (arith, within, length-map c.args.table.now.segments (λ (row : Segment). row.cost))) in
-    c.in_ok-push.ensures.items ∙ ap (λ (l : List ℕ). l ++ c.cost.result ∷ []) c.loop-segment.invariant ∙ ap (λ n. take s all ++ n ∷ []) (sym here) ∙ sym more
+    let within : s < length c.args.table.now.segments =
+    omega (arith, c.loop-segment-test.true, c.len-segment-end.ensures) in
+    let here : get_or all s 0 ≡ c.cost.result = get_or-map (λ (row : Segment). row.cost)
+    c.args.table.now.segments s no_segment 0 within
+    ∙ sym c.cost.ensures in
+    let more = take_more all s 0
+    (omega (arith, within, length-map c.args.table.now.segments (λ (row : Segment). row.cost))) in
+    c.in_ok-push.ensures.items
+    ∙ ap (λ (l : List ℕ). l ++ c.cost.result ∷ []) c.loop-segment.invariant
+    ∙ ap (λ n. take s all ++ n ∷ []) (sym here)
+    ∙ sym more

@@ -15,13 +15,18 @@ to_last_segments-requires c u has =
 pub returns-in-Some : goal.returns-in-Some
 returns-in-Some c =
     let t : Table = c.args.table.now in
-    let items : c.push_in_room.new.list.items ≡ map (last_segment t) c.args.kept.items ++ c.in-Some.creator ∷ [] =
-    c.push_in_room.ensures.items ∙ ap (λ (list : List ℕ). list ++ c.in-Some.creator ∷ []) c.to_last_segments.ensures.items in
-    subst (λ (list : List ℕ). Lists (λ p. IsKeptEdge t p (task t c.args.child).first) list) (sym items)
-    (Edges.first_edges t c.args.child c.in-Some.creator c.args.kept.items c.requires.kept c.reads_in_place.ensures (sym c.creator.ensures ∙ c.in-Some.is))
+    let items : c.push_in_room.new.list.items
+    ≡ map (last_segment t) c.args.kept.items ++ c.in-Some.creator ∷ [] =
+    c.push_in_room.ensures.items
+    ∙ ap (λ (list : List ℕ). list ++ c.in-Some.creator ∷ []) c.to_last_segments.ensures.items in
+    subst (λ (list : List ℕ). Lists (λ p. IsKeptEdge t p (task t c.args.child).first) list)
+    (sym items)
+    (Edges.first_edges t c.args.child c.in-Some.creator c.args.kept.items c.requires.kept
+    c.reads_in_place.ensures (sym c.creator.ensures ∙ c.in-Some.is))
 
 pub returns-in-None : goal.returns-in-None
 returns-in-None c =
     let given = c.requires.kept in
-    let has = c.reads_in_place.ensures.has_creator c.args.child given.parent given.is_task given.is_parent in
+    let has =
+    c.reads_in_place.ensures.has_creator c.args.child given.parent given.is_task given.is_parent in
     absurd (none-some has.0 (sym (sym c.creator.ensures ∙ c.in-None.is) ∙ has.1))

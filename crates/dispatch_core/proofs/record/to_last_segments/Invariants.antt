@@ -4,4 +4,8 @@ use Rattle.dispatch_core.specs.Places.{last_segment}
 use Rattle.dispatch_core.proofs.record.to_last_segments.Given as goal
 
 abbrev pub invariant-loop-at : goal.invariant-loop-at
-invariant-loop-at l = (l.tasks.items ≡ map (last_segment l.table) (take l.at l.initial.tasks.items) ++ drop l.at l.initial.tasks.items) × (vec_capacity l.initial.tasks ≤ vec_capacity l.tasks)
+invariant-loop-at l =
+    (l.tasks.items
+    ≡ map (last_segment l.table) (take l.at l.initial.tasks.items)
+    ++ drop l.at l.initial.tasks.items)
+    × (vec_capacity l.initial.tasks ≤ vec_capacity l.tasks)

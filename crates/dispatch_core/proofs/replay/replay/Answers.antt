@@ -10,5 +10,8 @@ pub returns-in-Err-make_event-clause-refused : goal.returns-in-Err-make_event-cl
 returns-in-Err-make_event-clause-refused c =
     let P : ReplayFault → Type 0 = λ fault. RefusesReplay c.args.table c.args.events.now fault in
     subst P (sym c.replay_fault.ensures) (
-    refused_there c.args.table c.loop-index.core.table c.args.events.now c.loop-index.core.history c.loop-index.index _ _ c.loop-index.invariant.0 c.loop-index.invariant.1
-    (slice_get-get_or c.args.events.now c.loop-index.index (Start 0 0) (omega (arith, c.loop-index-test.true, c.loop-index.auto.index-end))) c.history.ensures.legal c.in-Err-make_event.ensures.refused)
+    refused_there c.args.table c.loop-index.core.table c.args.events.now c.loop-index.core.history
+    c.loop-index.index _ _ c.loop-index.invariant.0 c.loop-index.invariant.1
+    (slice_get-get_or c.args.events.now c.loop-index.index (Start 0 0)
+    (omega (arith, c.loop-index-test.true, c.loop-index.auto.index-end)))
+    c.history.ensures.legal c.in-Err-make_event.ensures.refused)

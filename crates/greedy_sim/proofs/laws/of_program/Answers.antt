@@ -33,9 +33,11 @@ returns-clause-run c graph p starts threads of =
 
 pub returns-clause-ends_by : goal.returns-clause-ends_by
 returns-clause-ends_by c costs starts p span pos greedy is_span =
-    ends_by costs (MustPrecede c.args.table.now) p span starts (record { up = c.goes_up.ensures }) greedy
+    ends_by costs (MustPrecede c.args.table.now) p span starts (record { up = c.goes_up.ensures })
+    greedy
     is_span.greatest pos
 
 pub returns-clause-near_best : goal.returns-clause-near_best
 returns-clause-near_best c costs starts other p pos greedy on =
-    near_best costs (MustPrecede c.args.table.now) p starts other (record { up = c.goes_up.ensures }) greedy on pos
+    near_best costs (MustPrecede c.args.table.now) p starts other
+    (record { up = c.goes_up.ensures }) greedy on pos

@@ -4,68 +4,146 @@ use Rattle.std.proofs.lemmas.Iterator.Consumers.{YieldsList-turn, YieldsList-end
 use Rattle.std.proofs.lemmas.List.{length_push, get_or_default, length-take}
 use Rattle.program_text.specs.Tokens.{is_line_feed}
 use Rattle.program_text.specs.Document.{lines_of, text_of_lines}
-use Rattle.program_text.proofs.Splitting.{IsLine, line_within, before_line, after_line, next_start, rest_from, finds_divider, still_unmarked, has_no_divider, program_at, rest_at, program_whole, no_rest}
+use Rattle.program_text.proofs.Splitting.{IsLine, line_within, before_line, after_line, next_start}
+use Rattle.program_text.proofs.Splitting.{rest_from, finds_divider, still_unmarked, has_no_divider}
+use Rattle.program_text.proofs.Splitting.{program_at, rest_at, program_whole, no_rest}
 use Rattle.program_text.proofs.document.split_document.Goals as goal
 
 pub overflow_add-after : goal.overflow_add-after
 overflow_add-after c =
-    let t = YieldsList-turn (YieldsList-from_slice_split _ is_line_feed c.args.document.now (cc) (cc) (cc) (λ x b q k. search rules)) c.loop-line.yielded _ c.loop-line.yielded_by _ _ c.in-Some.line c.in-Some.is c.next.ensures.steps in
-    let is : IsLine c.args.document.now (length c.loop-line.yielded) c.loop-line.start c.in-Some.line.now =
-    record { is_there = t.0; is_line = t.1 ∙ get_or_default (lines_of c.args.document.now) (length c.loop-line.yielded) _ [] t.0; starts = c.loop-line.invariant.start } in
+    let t = YieldsList-turn
+    (YieldsList-from_slice_split _ is_line_feed c.args.document.now (cc) (cc) (cc)
+    (λ x b q k. search rules))
+    c.loop-line.yielded _ c.loop-line.yielded_by _ _ c.in-Some.line c.in-Some.is
+    c.next.ensures.steps in
+    let is : IsLine c.args.document.now (length c.loop-line.yielded) c.loop-line.start
+    c.in-Some.line.now =
+    record {
+      is_there = t.0;
+      is_line =
+          t.1 ∙ get_or_default (lines_of c.args.document.now) (length c.loop-line.yielded) _ [] t.0;
+      starts = c.loop-line.invariant.start;
+    } in
     let within = line_within _ _ _ _ is in
     omega arith
 
 pub overflow_add-after-in-loop-line : goal.overflow_add-after-in-loop-line
 overflow_add-after-in-loop-line c =
-    let t = YieldsList-turn (YieldsList-from_slice_split _ is_line_feed c.args.document.now (cc) (cc) (cc) (λ x b q k. search rules)) c.loop-line.yielded _ c.loop-line.yielded_by _ _ c.in-Some.line c.in-Some.is c.next.ensures.steps in
-    let is : IsLine c.args.document.now (length c.loop-line.yielded) c.loop-line.start c.in-Some.line.now =
-    record { is_there = t.0; is_line = t.1 ∙ get_or_default (lines_of c.args.document.now) (length c.loop-line.yielded) _ [] t.0; starts = c.loop-line.invariant.start } in
+    let t = YieldsList-turn
+    (YieldsList-from_slice_split _ is_line_feed c.args.document.now (cc) (cc) (cc)
+    (λ x b q k. search rules))
+    c.loop-line.yielded _ c.loop-line.yielded_by _ _ c.in-Some.line c.in-Some.is
+    c.next.ensures.steps in
+    let is : IsLine c.args.document.now (length c.loop-line.yielded) c.loop-line.start
+    c.in-Some.line.now =
+    record {
+      is_there = t.0;
+      is_line =
+          t.1 ∙ get_or_default (lines_of c.args.document.now) (length c.loop-line.yielded) _ [] t.0;
+      starts = c.loop-line.invariant.start;
+    } in
     let within = line_within _ _ _ _ is in
     omega arith
 
 pub slice_bounds-result-end : goal.slice_bounds-result-end
 slice_bounds-result-end c =
-    let t = YieldsList-turn (YieldsList-from_slice_split _ is_line_feed c.args.document.now (cc) (cc) (cc) (λ x b q k. search rules)) c.loop-line.yielded _ c.loop-line.yielded_by _ _ c.in-Some.line c.in-Some.is c.next.ensures.steps in
-    let is : IsLine c.args.document.now (length c.loop-line.yielded) c.loop-line.start c.in-Some.line.now =
-    record { is_there = t.0; is_line = t.1 ∙ get_or_default (lines_of c.args.document.now) (length c.loop-line.yielded) _ [] t.0; starts = c.loop-line.invariant.start } in
+    let t = YieldsList-turn
+    (YieldsList-from_slice_split _ is_line_feed c.args.document.now (cc) (cc) (cc)
+    (λ x b q k. search rules))
+    c.loop-line.yielded _ c.loop-line.yielded_by _ _ c.in-Some.line c.in-Some.is
+    c.next.ensures.steps in
+    let is : IsLine c.args.document.now (length c.loop-line.yielded) c.loop-line.start
+    c.in-Some.line.now =
+    record {
+      is_there = t.0;
+      is_line =
+          t.1 ∙ get_or_default (lines_of c.args.document.now) (length c.loop-line.yielded) _ [] t.0;
+      starts = c.loop-line.invariant.start;
+    } in
     let within = line_within _ _ _ _ is in
     omega (arith, length-take {A = ℕ})
 
 pub returns-then-is_mark-clause-program : goal.returns-then-is_mark-clause-program
 returns-then-is_mark-clause-program c =
-    let t = YieldsList-turn (YieldsList-from_slice_split _ is_line_feed c.args.document.now (cc) (cc) (cc) (λ x b q k. search rules)) c.loop-line.yielded _ c.loop-line.yielded_by _ _ c.in-Some.line c.in-Some.is c.next.ensures.steps in
-    let is : IsLine c.args.document.now (length c.loop-line.yielded) c.loop-line.start c.in-Some.line.now =
-    record { is_there = t.0; is_line = t.1 ∙ get_or_default (lines_of c.args.document.now) (length c.loop-line.yielded) _ [] t.0; starts = c.loop-line.invariant.start } in
-    let first = finds_divider c.args.document.now (length c.loop-line.yielded) c.in-Some.line.now is.is_there is.is_line c.loop-line.invariant.unmarked (search rules) in
-    before_line _ _ _ _ is ∙ sym (program_at c.args.document.now (length c.loop-line.yielded) first.0 first.1)
+    let t = YieldsList-turn
+    (YieldsList-from_slice_split _ is_line_feed c.args.document.now (cc) (cc) (cc)
+    (λ x b q k. search rules))
+    c.loop-line.yielded _ c.loop-line.yielded_by _ _ c.in-Some.line c.in-Some.is
+    c.next.ensures.steps in
+    let is : IsLine c.args.document.now (length c.loop-line.yielded) c.loop-line.start
+    c.in-Some.line.now =
+    record {
+      is_there = t.0;
+      is_line =
+          t.1 ∙ get_or_default (lines_of c.args.document.now) (length c.loop-line.yielded) _ [] t.0;
+      starts = c.loop-line.invariant.start;
+    } in
+    let first = finds_divider c.args.document.now (length c.loop-line.yielded) c.in-Some.line.now
+    is.is_there is.is_line c.loop-line.invariant.unmarked (search rules) in
+    before_line _ _ _ _ is
+    ∙ sym (program_at c.args.document.now (length c.loop-line.yielded) first.0 first.1)
 
 pub returns-then-is_mark-clause-rest : goal.returns-then-is_mark-clause-rest
 returns-then-is_mark-clause-rest c =
-    let t = YieldsList-turn (YieldsList-from_slice_split _ is_line_feed c.args.document.now (cc) (cc) (cc) (λ x b q k. search rules)) c.loop-line.yielded _ c.loop-line.yielded_by _ _ c.in-Some.line c.in-Some.is c.next.ensures.steps in
-    let is : IsLine c.args.document.now (length c.loop-line.yielded) c.loop-line.start c.in-Some.line.now =
-    record { is_there = t.0; is_line = t.1 ∙ get_or_default (lines_of c.args.document.now) (length c.loop-line.yielded) _ [] t.0; starts = c.loop-line.invariant.start } in
-    let first = finds_divider c.args.document.now (length c.loop-line.yielded) c.in-Some.line.now is.is_there is.is_line c.loop-line.invariant.unmarked (search rules) in
-    ap (λ (text : List ℕ). Some text) (rest_from _ (c.loop-line.start + (length c.in-Some.line.now + 1)) _ (search rules) ∙ after_line _ _ _ _ is) ∙ sym (rest_at c.args.document.now (length c.loop-line.yielded) first.0 first.1)
+    let t = YieldsList-turn
+    (YieldsList-from_slice_split _ is_line_feed c.args.document.now (cc) (cc) (cc)
+    (λ x b q k. search rules))
+    c.loop-line.yielded _ c.loop-line.yielded_by _ _ c.in-Some.line c.in-Some.is
+    c.next.ensures.steps in
+    let is : IsLine c.args.document.now (length c.loop-line.yielded) c.loop-line.start
+    c.in-Some.line.now =
+    record {
+      is_there = t.0;
+      is_line =
+          t.1 ∙ get_or_default (lines_of c.args.document.now) (length c.loop-line.yielded) _ [] t.0;
+      starts = c.loop-line.invariant.start;
+    } in
+    let first = finds_divider c.args.document.now (length c.loop-line.yielded) c.in-Some.line.now
+    is.is_there is.is_line c.loop-line.invariant.unmarked (search rules) in
+    ap (λ (text : List ℕ). Some text) (rest_from _
+    (c.loop-line.start + (length c.in-Some.line.now + 1)) _ (search rules)
+    ∙ after_line _ _ _ _ is)
+    ∙ sym (rest_at c.args.document.now (length c.loop-line.yielded) first.0 first.1)
 
 pub loop-line-preserved : goal.loop-line-preserved
 loop-line-preserved c =
-    let t = YieldsList-turn (YieldsList-from_slice_split _ is_line_feed c.args.document.now (cc) (cc) (cc) (λ x b q k. search rules)) c.loop-line.yielded _ c.loop-line.yielded_by _ _ c.in-Some.line c.in-Some.is c.next.ensures.steps in
-    let is : IsLine c.args.document.now (length c.loop-line.yielded) c.loop-line.start c.in-Some.line.now =
-    record { is_there = t.0; is_line = t.1 ∙ get_or_default (lines_of c.args.document.now) (length c.loop-line.yielded) _ [] t.0; starts = c.loop-line.invariant.start } in
+    let t = YieldsList-turn
+    (YieldsList-from_slice_split _ is_line_feed c.args.document.now (cc) (cc) (cc)
+    (λ x b q k. search rules))
+    c.loop-line.yielded _ c.loop-line.yielded_by _ _ c.in-Some.line c.in-Some.is
+    c.next.ensures.steps in
+    let is : IsLine c.args.document.now (length c.loop-line.yielded) c.loop-line.start
+    c.in-Some.line.now =
+    record {
+      is_there = t.0;
+      is_line =
+          t.1 ∙ get_or_default (lines_of c.args.document.now) (length c.loop-line.yielded) _ [] t.0;
+      starts = c.loop-line.invariant.start;
+    } in
     let e = length_push c.loop-line.yielded c.in-Some.line in
     record {
-      start = next_start _ _ _ _ is ∙ ap (λ k. length (text_of_lines (take k (lines_of c.args.document.now)))) (sym e);
-      unmarked = still_unmarked c.args.document.now (length c.loop-line.yielded) _ c.in-Some.line.now e is.is_line c.loop-line.invariant.unmarked (search rules);
+      start = next_start _ _ _ _ is
+          ∙ ap (λ k. length (text_of_lines (take k (lines_of c.args.document.now)))) (sym e);
+      unmarked = still_unmarked c.args.document.now (length c.loop-line.yielded) _
+          c.in-Some.line.now e is.is_line c.loop-line.invariant.unmarked (search rules);
     }
 
 pub returns-clause-program : goal.returns-clause-program
 returns-clause-program c =
-    let t = YieldsList-end (YieldsList-from_slice_split _ is_line_feed c.args.document.now (cc) (cc) (cc) (λ x b q k. search rules)) c.loop-line.yielded _ c.loop-line.yielded_by _ _ c.in-None.is c.next.ensures.steps in
-    let none = has_no_divider c.args.document.now (length c.loop-line.yielded) t.1 c.loop-line.invariant.unmarked in
+    let t = YieldsList-end
+    (YieldsList-from_slice_split _ is_line_feed c.args.document.now (cc) (cc) (cc)
+    (λ x b q k. search rules))
+    c.loop-line.yielded _ c.loop-line.yielded_by _ _ c.in-None.is c.next.ensures.steps in
+    let none = has_no_divider c.args.document.now (length c.loop-line.yielded) t.1
+    c.loop-line.invariant.unmarked in
     sym (program_whole c.args.document.now none)
 
 pub returns-clause-rest : goal.returns-clause-rest
 returns-clause-rest c =
-    let t = YieldsList-end (YieldsList-from_slice_split _ is_line_feed c.args.document.now (cc) (cc) (cc) (λ x b q k. search rules)) c.loop-line.yielded _ c.loop-line.yielded_by _ _ c.in-None.is c.next.ensures.steps in
-    let none = has_no_divider c.args.document.now (length c.loop-line.yielded) t.1 c.loop-line.invariant.unmarked in
+    let t = YieldsList-end
+    (YieldsList-from_slice_split _ is_line_feed c.args.document.now (cc) (cc) (cc)
+    (λ x b q k. search rules))
+    c.loop-line.yielded _ c.loop-line.yielded_by _ _ c.in-None.is c.next.ensures.steps in
+    let none = has_no_divider c.args.document.now (length c.loop-line.yielded) t.1
+    c.loop-line.invariant.unmarked in
     sym (no_rest c.args.document.now none)

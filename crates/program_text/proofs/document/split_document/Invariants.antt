@@ -6,5 +6,7 @@ use Rattle.program_text.proofs.document.split_document.Given as goal
 abbrev pub invariant-loop-line : goal.invariant-loop-line
 invariant-loop-line l = record {
   start : l.start ≡ length (text_of_lines (take (length l.yielded) (lines_of l.document)));
-  unmarked : (k : ℕ) → k < length l.yielded → is_divider (get_or (lines_of l.document) k []) ≡ false;
+  unmarked : (k : ℕ)
+      → k < length l.yielded
+      → is_divider (get_or (lines_of l.document) k []) ≡ false;
 }

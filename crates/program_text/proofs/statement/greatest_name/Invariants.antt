@@ -4,4 +4,5 @@ use Rattle.program_text.proofs.statement.greatest_name.Given as goal
 
 -- of the items so far
 abbrev pub invariant-loop-item : goal.invariant-loop-item
-invariant-loop-item l = (k : ℕ) (other : Item) → k < l.item-index → (slice_index_or l.items k other).name ≤ l.greatest
+invariant-loop-item l =
+    (k : ℕ) (other : Item) → k < l.item-index → (slice_index_or l.items k other).name ≤ l.greatest

@@ -6,14 +6,18 @@ use Rattle.span_cert.proofs.rows.broken_in_column.Goals as goal
 pub returns-in-Some : goal.returns-in-Some
 returns-in-Some c =
     let row = c.in-Some.ensures in
-    found_in_column c.args.table.now (moments_of_starts c.args.starts.now) c.args.column c.in-Some.s c.loop-t.t c.loop-t.invariant.1 row
+    found_in_column c.args.table.now (moments_of_starts c.args.starts.now) c.args.column c.in-Some.s
+    c.loop-t.t c.loop-t.invariant.1 row
 
 pub loop-t-preserved : goal.loop-t-preserved
 loop-t-preserved c =
     let here = c.loop-t.invariant.0 in (
       next_in_column c.args.column c.loop-t.t here,
-      one_row_more c.args.table.now (moments_of_starts c.args.starts.now) c.args.column c.loop-t.t here c.loop-t.invariant.1 (search rules),
+      one_row_more c.args.table.now (moments_of_starts c.args.starts.now) c.args.column c.loop-t.t
+          here c.loop-t.invariant.1 (search rules),
     )
 
 pub returns : goal.returns
-returns c = none_in_column c.args.table.now (moments_of_starts c.args.starts.now) c.args.column c.loop-t.t (search rules) c.loop-t.invariant.1
+returns c =
+    none_in_column c.args.table.now (moments_of_starts c.args.starts.now) c.args.column c.loop-t.t
+    (search rules) c.loop-t.invariant.1

@@ -6,7 +6,8 @@ use Rattle.span_cert.proofs.rows.broken_in_column.Given as goal
 
 -- t stands in the column, and no segment of the column before it is broken
 abbrev pub invariant-loop-t : goal.invariant-loop-t
-invariant-loop-t l = InColumn l.column l.t × NoneInColumn l.table (moments_of_starts l.starts) l.column l.t
+invariant-loop-t l =
+    InColumn l.column l.t × NoneInColumn l.table (moments_of_starts l.starts) l.column l.t
 
 abbrev pub decreases-loop-t : goal.decreases-loop-t
 decreases-loop-t l = length l.table.segments - l.t

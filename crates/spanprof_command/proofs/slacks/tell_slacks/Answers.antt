@@ -5,4 +5,5 @@ use Rattle.spanprof_command.proofs.slacks.tell_slacks.Goals as goal
 pub slack_table-requires-clause-ascending : goal.slack_table-requires-clause-ascending
 slack_table-requires-clause-ascending c =
     let known = c.in_ok-found.ensures in
-    chain_ascends (Precedes c.in_ok-found.field-0-0) known.is_graph.smaller c.in_ok-found.found.chain known.is_analysis.findings.linked
+    chain_ascends (Precedes c.in_ok-found.field-0-0) known.is_graph.smaller
+    c.in_ok-found.found.chain known.is_analysis.findings.linked

@@ -15,7 +15,9 @@ loop-before-preserved c =
       | then-must_precede+in_ok-push w ↦
           let pushed = Lists-push Precedes c.loop-before.before c.loop-before.waits.items
           (w.if-must_precede.ensures.0 refl) c.loop-before.invariant in
-          subst IsListed (sym (ap (λ (waits : Vec ℕ Global). waits.items) w.waits-is ∙ w.in_ok-push.ensures.items)) pushed
+          subst IsListed
+          (sym (ap (λ (waits : Vec ℕ Global). waits.items) w.waits-is ∙ w.in_ok-push.ensures.items))
+          pushed
       | else-must_precede w ↦
           let skipped = Lists-skip Precedes c.loop-before.before c.loop-before.waits.items
           (λ h. both_ways false refl (w.if-must_precede.ensures.1 h)) c.loop-before.invariant in
@@ -26,5 +28,6 @@ pub returns : goal.returns
 returns c =
     Lists-all (λ before. MustPrecede c.args.table.now before c.args.segment) c.loop-before.before
     c.loop-before.waits.items
-    (λ before h. let up = c.goes_up.ensures before c.args.segment h in omega (arith, c.loop-before-test.false))
+    (λ before h.
+    let up = c.goes_up.ensures before c.args.segment h in omega (arith, c.loop-before-test.false))
     c.loop-before.invariant

@@ -4,4 +4,5 @@ use Rattle.task_segments.specs.Precedence.{MustPrecede}
 use Rattle.uses.proofs.waiting.waits_of.Given as goal
 
 abbrev pub invariant-loop-before : goal.invariant-loop-before
-invariant-loop-before l = Lists (Below (λ before. MustPrecede l.table before l.segment) l.before) l.waits.items
+invariant-loop-before l =
+    Lists (Below (λ before. MustPrecede l.table before l.segment) l.before) l.waits.items

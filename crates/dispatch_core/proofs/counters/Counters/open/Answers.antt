@@ -12,7 +12,9 @@ use Rattle.dispatch_core.proofs.counters.Counters.open.Goals as goal
 
 pub push_on-requires-clause-room : goal.push_on-requires-clause-room
 push_on-requires-clause-room c place has none =
-    let can : CanOpen c.args.values.now c.args.self.now c.args.ready.now c.in-Some.opened = subst (λ (o : Option Opening). IsRoomToOpen c.args.values.now c.args.self.now o c.args.ready.now) c.in-Some.is c.requires.room in
+    let can : CanOpen c.args.values.now c.args.self.now c.args.ready.now c.in-Some.opened = subst
+    (λ (o : Option Opening). IsRoomToOpen c.args.values.now c.args.self.now o c.args.ready.now)
+    c.in-Some.is c.requires.room in
     can.room place (subst (λ (l : List ℕ). Contains l place) c.as_slice-2.ensures.value has) none
 
 pub returns-clause-opened : goal.returns-clause-opened
@@ -26,9 +28,15 @@ returns-clause-opened c =
     } in
     let adds : AddsOpen c.args.values.now c.in-Some.opened c.args.self.now after = record {
       preds = items_set c.args.self.now.preds.items t c.in-Some.opened.preds;
-      counts = ap (λ (n : ℕ). slice_set c.args.self.now.counts.items t n) (c.count_unfinished-count.ensures ∙ ap (λ (l : List ℕ). unfinished_count c.args.values.now l) c.as_slice.ensures.value);
-      successors = subst (λ (l : List ℕ). ArePushed t (λ p. Contains l p × (entry c.args.values.now p ≡ None)) (items_of c.args.self.now.successors.items) (items_of c.push_on.new.lists.items)) c.as_slice-2.ensures.value c.push_on.ensures.pushed;
+      counts = ap (λ (n : ℕ). slice_set c.args.self.now.counts.items t n)
+          (c.count_unfinished-count.ensures
+          ∙ ap (λ (l : List ℕ). unfinished_count c.args.values.now l) c.as_slice.ensures.value);
+      successors = subst
+          (λ (l : List ℕ). ArePushed t (λ p. Contains l p × (entry c.args.values.now p ≡ None))
+          (items_of c.args.self.now.successors.items) (items_of c.push_on.new.lists.items))
+          c.as_slice-2.ensures.value c.push_on.ensures.pushed;
       room = λ count place room. c.push_on.ensures.fuller.one_less count place room;
       siblings = refl;
     } in
-    subst (λ (o : Option Opening). IsOpened c.args.values.now o c.args.self.now after) (sym c.in-Some.is) adds
+    subst (λ (o : Option Opening). IsOpened c.args.values.now o c.args.self.now after)
+    (sym c.in-Some.is) adds

@@ -10,13 +10,20 @@ pub push_event-requires : goal.push_event-requires
 push_event-requires g c =
     let KnownHere : Run → Type 0 = λ run. c.args.segment < length run.table.segments in
     let FreshHere : Run → Type 0 = λ run. ¬ HasStarted run.history c.args.segment in
-    let room = has_room _ _ _ _ _ _ _ _ _ c.args.segment c.self.invariant (subst KnownHere (sym c.self.view_is) c.requires.ready.known) (subst FreshHere (sym c.self.view_is) c.requires.ready.not_started) in
+    let room = has_room _ _ _ _ _ _ _ _ _ c.args.segment c.self.invariant
+    (subst KnownHere (sym c.self.view_is) c.requires.ready.known)
+    (subst FreshHere (sym c.self.view_is) c.requires.ready.not_started) in
     omega (arith, room)
 
 pub invariant_of-self : goal.invariant_of-self
 invariant_of-self g c =
-    let MayHere : Run → Type 0 = λ run. MayStart run.table run.history c.args.worker c.args.segment in
-    let P : List Event → Type 0 = λ history. IsSound g.K.Kernel.value_of c.self.inside.table history (vec_capacity c.push_event.new.history) (slice_set c.self.inside.started.items c.args.segment true)
-    (slice_set c.self.inside.running.items c.args.worker (Some c.args.segment)) c.self.inside.values.items c.self.inside.counters c.self.inside.costs.items in
+    let MayHere : Run → Type 0 = λ run.
+    MayStart run.table run.history c.args.worker c.args.segment in
+    let P : List Event → Type 0 = λ history. IsSound g.K.Kernel.value_of c.self.inside.table history
+    (vec_capacity c.push_event.new.history)
+    (slice_set c.self.inside.started.items c.args.segment true)
+    (slice_set c.self.inside.running.items c.args.worker (Some c.args.segment))
+    c.self.inside.values.items c.self.inside.counters c.self.inside.costs.items in
     subst P (sym c.push_event.ensures.items)
-    (sound_after_start _ _ _ _ _ _ _ _ _ _ _ _ c.self.invariant (subst MayHere (sym c.self.view_is) c.requires) c.push_event.ensures.capacity)
+    (sound_after_start _ _ _ _ _ _ _ _ _ _ _ _ c.self.invariant
+    (subst MayHere (sym c.self.view_is) c.requires) c.push_event.ensures.capacity)

@@ -13,4 +13,11 @@ pub returns-clause-short : goal.returns-clause-short
 returns-clause-short g c =
     let sound = c.self.invariant in
     let P : Run → Type 0 = λ run. length run.history ≤ 2 * length run.table.segments in
-    subst P c.self.view_is (omega (arith, sound.counted, sound.are_started.each, sound.are_values.tell.each, count_by-le-length (λ b. b) c.self.inside.started.items, count_by-le-length is_some c.self.inside.values.items))
+    subst P c.self.view_is (omega (
+      arith,
+      sound.counted,
+      sound.are_started.each,
+      sound.are_values.tell.each,
+      count_by-le-length (λ b. b) c.self.inside.started.items,
+      count_by-le-length is_some c.self.inside.values.items,
+    ))

@@ -1,4 +1,5 @@
-use Rattle.std.proofs.Common.{ℕ, ◌≡◌, ◌<◌, ◌%◌, ◌^◌, List, Option, sym, subst, ap, ◌∙◌, length, arith, sum_by}
+use Rattle.std.proofs.Common.{ℕ, ◌≡◌, ◌<◌, ◌%◌, ◌^◌, List, Option, sym, subst, ap, ◌∙◌, length}
+use Rattle.std.proofs.Common.{arith, sum_by}
 use Rattle.std.specs.Prelude.{unwrap_or}
 use Rattle.task_segments.specs.Precedence.{MustPrecede}
 use Rattle.dispatch_core.specs.Entry.{entry}
@@ -17,11 +18,20 @@ preds-requires g c =
 
 pub returns : goal.returns
 returns g c =
-    let P : Run → Type 0 = λ run. IsInput run.table g.K.Kernel.value_of c.args.segment c.sum_at.result in
+    let P : Run → Type 0 = λ run.
+    IsInput run.table g.K.Kernel.value_of c.args.segment c.sum_at.result in
     let KnownHere : Run → Type 0 = λ run. c.args.segment < length run.table.segments in
-    let AfterHere : Run → Type 0 = λ run. (pred : ℕ) → MustPrecede run.table pred c.args.segment → HasFinished run.history pred in
+    let AfterHere : Run → Type 0 = λ run.
+    (pred : ℕ) → MustPrecede run.table pred c.args.segment → HasFinished run.history pred in
     let sound = c.self.invariant in
-    let sums : c.sum_at.result ≡ sum_by (λ at. unwrap_or (entry c.self.inside.values.items at) 0) c.preds.result.now % 2 ^ 64 =
-    c.sum_at.ensures ∙ ap (λ (values : List (Option ℕ)). sum_by (λ at. unwrap_or (entry values at) 0) c.preds.result.now % 2 ^ 64) c.as_slice.ensures.value in
-    subst P c.self.view_is (input_known _ _ _ _ _ c.args.segment c.preds.result.now sound.sound_table sound.are_values sound.up_to_date (subst KnownHere (sym c.self.view_is) c.requires.known)
+    let sums : c.sum_at.result
+    ≡ sum_by (λ at. unwrap_or (entry c.self.inside.values.items at) 0) c.preds.result.now % 2 ^ 64 =
+    c.sum_at.ensures
+    ∙ ap
+    (λ (values : List (Option ℕ)).
+    sum_by (λ at. unwrap_or (entry values at) 0) c.preds.result.now % 2 ^ 64)
+    c.as_slice.ensures.value in
+    subst P c.self.view_is (input_known _ _ _ _ _ c.args.segment c.preds.result.now
+    sound.sound_table sound.are_values sound.up_to_date
+    (subst KnownHere (sym c.self.view_is) c.requires.known)
     (subst AfterHere (sym c.self.view_is) c.requires.after) c.preds.ensures c.sum_at.result sums)

@@ -12,22 +12,31 @@ pub make_graph-requires : goal.make_graph-requires
 make_graph-requires g c =
     let sound = c.self.invariant in
     let F : Run → Type 0 = λ run. IsFinished run.table run.history in
-    let finished = subst F (sym c.self.view_is) (c.is_finished.ensures.0 c.if-not-is_finished.false) in
-    let G : Vec (Vec ℕ Global) Global → Type 0 = λ lists. IsGraphOf c.self.inside.table (record { costs = c.self.inside.costs.items; predecessors = items_of lists.items }) in
+    let finished =
+    subst F (sym c.self.view_is) (c.is_finished.ensures.0 c.if-not-is_finished.false) in
+    let G : Vec (Vec ℕ Global) Global → Type 0 = λ lists. IsGraphOf c.self.inside.table
+    (record { costs = c.self.inside.costs.items; predecessors = items_of lists.items }) in
     graph_of_program c.self.inside.table _ sound.sound_table (subst G (sym c.into_preds.ensures)
-    (graph_at_end c.self.inside.table c.self.inside.history.items c.self.inside.values.items c.self.inside.counters c.self.inside.costs.items sound.sound_table.goes_up sound.are_values.tell finished sound.up_to_date sound.are_costs))
+    (graph_at_end c.self.inside.table c.self.inside.history.items c.self.inside.values.items
+    c.self.inside.counters c.self.inside.costs.items sound.sound_table.goes_up sound.are_values.tell
+    finished sound.up_to_date sound.are_costs))
 
 pub returns : goal.returns
 returns g c =
     let sound = c.self.invariant in
     let F : Run → Type 0 = λ run. IsFinished run.table run.history in
-    let finished = subst F (sym c.self.view_is) (c.is_finished.ensures.0 c.if-not-is_finished.false) in
+    let finished =
+    subst F (sym c.self.view_is) (c.is_finished.ensures.0 c.if-not-is_finished.false) in
     let P : Run → Type 0 = λ run. IsGraphOf run.table c.make_graph.result in
     let Q : RecordedGraph → Type 0 = λ graph. IsGraphOf c.self.inside.table graph in
-    let G : Vec (Vec ℕ Global) Global → Type 0 = λ lists. IsGraphOf c.self.inside.table (record { costs = c.self.inside.costs.items; predecessors = items_of lists.items }) in
+    let G : Vec (Vec ℕ Global) Global → Type 0 = λ lists. IsGraphOf c.self.inside.table
+    (record { costs = c.self.inside.costs.items; predecessors = items_of lists.items }) in
     record {
-      ok = subst P c.self.view_is (subst Q (sym c.make_graph.ensures) (subst G (sym c.into_preds.ensures)
-          (graph_at_end c.self.inside.table c.self.inside.history.items c.self.inside.values.items c.self.inside.counters c.self.inside.costs.items sound.sound_table.goes_up sound.are_values.tell finished sound.up_to_date sound.are_costs)));
+      ok = subst P c.self.view_is
+          (subst Q (sym c.make_graph.ensures) (subst G (sym c.into_preds.ensures)
+          (graph_at_end c.self.inside.table c.self.inside.history.items c.self.inside.values.items
+          c.self.inside.counters c.self.inside.costs.items sound.sound_table.goes_up
+          sound.are_values.tell finished sound.up_to_date sound.are_costs)));
       finished = c.is_finished.ensures.0 c.if-not-is_finished.false;
       err = tt;
       back = tt;

@@ -7,6 +7,10 @@ use Rattle.dispatch_core.proofs.dispatch.Core.is_busy.Goals as goal
 
 pub returns : goal.returns
 returns g c =
-    let P : Run → Type 0 = λ run. IsTrue c.is_some.result ↔ ((segment : ℕ) × Runs run.history c.args.worker segment) in
-    let Q : Bool → Type 0 = λ b. IsTrue b ↔ ((segment : ℕ) × Runs c.self.inside.history.items c.args.worker segment) in
-    subst P c.self.view_is (subst Q (sym c.is_some.ensures) (busy_known _ _ _ _ c.self.invariant.are_running (c.worker_entry.ensures ∙ ap (λ list. entry list c.args.worker) c.as_slice.ensures.value)))
+    let P : Run → Type 0 = λ run.
+    IsTrue c.is_some.result ↔ ((segment : ℕ) × Runs run.history c.args.worker segment) in
+    let Q : Bool → Type 0 = λ b.
+    IsTrue b ↔ ((segment : ℕ) × Runs c.self.inside.history.items c.args.worker segment) in
+    subst P c.self.view_is (subst Q (sym c.is_some.ensures) (busy_known _ _ _ _
+    c.self.invariant.are_running
+    (c.worker_entry.ensures ∙ ap (λ list. entry list c.args.worker) c.as_slice.ensures.value)))

@@ -6,8 +6,12 @@ use Rattle.dispatch_core.proofs.dispatch.Core.is_open.Goals as goal
 
 pub returns-in-Some : goal.returns-in-Some
 returns-in-Some g c =
-    let P : Run → Type 0 = λ run. (s : ℕ) → (c.opener.result ≡ Some s) ↔ (Continues run.table s c.args.segment ⊎ Creation run.table s c.args.segment) in
-    let both = open_by c.args.self.now.table c.args.self.now.history c.args.segment c.in-Some.before c.opener.result (subst P c.self.view_is c.opener.ensures.some) c.opener.ensures.none c.in-Some.is in
+    let P : Run → Type 0 = λ run. (s : ℕ)
+    → (c.opener.result ≡ Some s)
+    ↔ (Continues run.table s c.args.segment ⊎ Creation run.table s c.args.segment) in
+    let both = open_by c.args.self.now.table c.args.self.now.history c.args.segment c.in-Some.before
+    c.opener.result (subst P c.self.view_is c.opener.ensures.some) c.opener.ensures.none
+    c.in-Some.is in
     (λ h. both.0 (c.has_finished.ensures.0 h), λ is_open. c.has_finished.ensures.1 (both.1 is_open))
 
 pub returns-in-None : goal.returns-in-None

@@ -9,7 +9,8 @@ use Rattle.dispatch_core.proofs.dispatch.Core.may_finish.Goals as goal
 
 pub cost-requires : goal.cost-requires
 cost-requires g c =
-    runs_stored _ c.args.self.now c.args.worker c.segment-segment.result c.self.view_is c.self.invariant.legal
+    runs_stored _ c.args.self.now c.args.worker c.segment-segment.result c.self.view_is
+    c.self.invariant.legal
     (c.runs.ensures.0 c.if-not-runs.false)
 
 pub returns-then-cost : goal.returns-then-cost
@@ -19,19 +20,23 @@ returns-then-cost g c =
     let CostHere : Run → Type 0 = λ run. IsCost run.table s c.args.outcome.now.cost in (
       subst RunsHere c.segment-segment.ensures (c.runs.ensures.0 c.if-not-runs.false),
       λ is.
-          let cost : IsCost c.self.inside.table s c.args.outcome.now.cost = subst CostHere (sym c.self.view_is) is in
-          c.if-cost.true (c.cost.ensures ∙ ap (λ (t : ℕ). (segment c.self.inside.table t).cost) c.segment-segment.ensures
+          let cost : IsCost c.self.inside.table s c.args.outcome.now.cost =
+          subst CostHere (sym c.self.view_is) is in
+          c.if-cost.true (c.cost.ensures
+          ∙ ap (λ (t : ℕ). (segment c.self.inside.table t).cost) c.segment-segment.ensures
           ∙ sym cost.costs ∙ sym c.cost-2.ensures),
     )
 
 pub input_of-requires-clause-known : goal.input_of-requires-clause-known
 input_of-requires-clause-known g c κs lives =
-    runs_known _ c.args.self.now c.args.worker c.segment-segment.result c.self.view_is c.self.invariant.legal
+    runs_known _ c.args.self.now c.args.worker c.segment-segment.result c.self.view_is
+    c.self.invariant.legal
     (c.runs.ensures.0 c.if-not-runs.false)
 
 pub input_of-requires-clause-after : goal.input_of-requires-clause-after
 input_of-requires-clause-after g c κs lives =
-    runs_after _ c.args.self.now c.args.worker c.segment-segment.result c.self.view_is c.self.invariant.legal
+    runs_after _ c.args.self.now c.args.worker c.segment-segment.result c.self.view_is
+    c.self.invariant.legal
     (c.runs.ensures.0 c.if-not-runs.false)
 
 pub returns-then-input_of-input : goal.returns-then-input_of-input
@@ -42,12 +47,15 @@ returns-then-input_of-input g c =
     let CostHere : ℕ → Type 0 = λ t. IsCost table t c.args.outcome.now.cost in
     let InputHere : ℕ → Type 0 = λ t. IsInput table g.K.Kernel.value_of t c.input_of.result in
     let runs = c.runs.ensures.0 c.if-not-runs.false in
-    let cost = runs_cost _ c.args.self.now c.args.worker c.segment-segment.result c.args.outcome.now.cost
-    c.self.view_is c.self.invariant.legal runs (sym c.cost-2.ensures ∙ sym c.if-cost.false ∙ c.cost.ensures) in
+    let cost =
+    runs_cost _ c.args.self.now c.args.worker c.segment-segment.result c.args.outcome.now.cost
+    c.self.view_is c.self.invariant.legal runs
+    (sym c.cost-2.ensures ∙ sym c.if-cost.false ∙ c.cost.ensures) in
     let input = subst InputHere c.segment-segment.ensures c.input_of.ensures in (
       subst RunsHere c.segment-segment.ensures runs,
       subst CostHere c.segment-segment.ensures cost,
-      λ is. c.if-input_of-input.true (one_input table g.K.Kernel.value_of s c.input_of.result c.args.outcome.now.input
+      λ is. c.if-input_of-input.true
+          (one_input table g.K.Kernel.value_of s c.input_of.result c.args.outcome.now.input
           input is ∙ sym c.input.ensures),
     )
 
@@ -58,12 +66,15 @@ returns g c =
     let CostHere : ℕ → Type 0 = λ t. IsCost table t c.args.outcome.now.cost in
     let InputHere : ℕ → Type 0 = λ t. IsInput table g.K.Kernel.value_of t c.input_of.result in
     let runs = c.runs.ensures.0 c.if-not-runs.false in
-    let same : c.input_of.result ≡ c.args.outcome.now.input = c.if-input_of-input.false ∙ c.input.ensures in
+    let same : c.input_of.result ≡ c.args.outcome.now.input =
+    c.if-input_of-input.false ∙ c.input.ensures in
     record {
       runs = subst RunsHere c.segment-segment.ensures runs;
       cost = subst CostHere c.segment-segment.ensures
-          (runs_cost _ c.args.self.now c.args.worker c.segment-segment.result c.args.outcome.now.cost c.self.view_is
-          c.self.invariant.legal runs (sym c.cost-2.ensures ∙ sym c.if-cost.false ∙ c.cost.ensures));
+          (runs_cost _ c.args.self.now c.args.worker c.segment-segment.result
+          c.args.outcome.now.cost c.self.view_is
+          c.self.invariant.legal runs
+          (sym c.cost-2.ensures ∙ sym c.if-cost.false ∙ c.cost.ensures));
       input = subst (IsInput table g.K.Kernel.value_of c.args.outcome.now.segment) same
           (subst InputHere c.segment-segment.ensures c.input_of.ensures);
     }

@@ -17,10 +17,12 @@ returns-in-None g c =
     let same = ap (λ (run : Run). length run.table.segments) c.self.view_is in
     record {
       known = omega arith;
-      idle = λ other h. both_ways c.is_busy.result c.if-is_busy.false (c.is_busy.ensures.1 (other, h));
+      idle = λ other h.
+          both_ways c.is_busy.result c.if-is_busy.false (c.is_busy.ensures.1 (other, h));
       ready = record {
         known = omega (arith, same, c.len.ensures);
-        not_started = λ h. both_ways c.has_started.result c.if-has_started.false (c.has_started.ensures.1 h);
+        not_started = λ h.
+            both_ways c.has_started.result c.if-has_started.false (c.has_started.ensures.1 h);
         after = c.in-None.ensures;
       };
     }
@@ -35,5 +37,7 @@ returns-then-has_started g c =
 
 pub returns-then-is_busy : goal.returns-then-is_busy
 returns-then-is_busy g c =
-    let same = ap (λ (run : Run). length run.table.segments) c.self.view_is in
-    (record { worker_known = omega arith; segment_known = omega (arith, same, c.len.ensures) }, c.is_busy.ensures.0 c.if-is_busy.true)
+    let same = ap (λ (run : Run). length run.table.segments) c.self.view_is in (
+      record { worker_known = omega arith; segment_known = omega (arith, same, c.len.ensures) },
+      c.is_busy.ensures.0 c.if-is_busy.true,
+    )

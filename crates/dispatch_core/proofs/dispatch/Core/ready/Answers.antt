@@ -6,10 +6,16 @@ use Rattle.dispatch_core.proofs.dispatch.Core.ready.Goals as goal
 
 pub loop-segment-preserved : goal.loop-segment-preserved
 loop-segment-preserved g c =
-    let P : List ℕ → Type 0 = λ list. Lists (Below (IsReady c.args.self.now.table c.args.self.now.history) (c.loop-segment.segment + 1)) list in
-    subst P (sym c.in_ok-push_if.ensures) (Lists-step (IsReady c.args.self.now.table c.args.self.now.history) c.loop-segment.segment c.loop-segment.ready.items c.is_ready.result c.is_ready.ensures c.loop-segment.invariant)
+    let P : List ℕ → Type 0 = λ list. Lists
+    (Below (IsReady c.args.self.now.table c.args.self.now.history) (c.loop-segment.segment + 1))
+    list in
+    subst P (sym c.in_ok-push_if.ensures) (Lists-step
+    (IsReady c.args.self.now.table c.args.self.now.history) c.loop-segment.segment
+    c.loop-segment.ready.items c.is_ready.result c.is_ready.ensures c.loop-segment.invariant)
 
 pub returns : goal.returns
 returns g c =
     let same = ap (λ (run : Run). length run.table.segments) c.self.view_is in
-    Lists-all (IsReady c.args.self.now.table c.args.self.now.history) c.loop-segment.segment c.loop-segment.ready.items (λ n h. omega (arith, h.known, same, c.len-segment-end.ensures)) c.loop-segment.invariant
+    Lists-all (IsReady c.args.self.now.table c.args.self.now.history) c.loop-segment.segment
+    c.loop-segment.ready.items (λ n h. omega (arith, h.known, same, c.len-segment-end.ensures))
+    c.loop-segment.invariant

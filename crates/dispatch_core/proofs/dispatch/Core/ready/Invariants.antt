@@ -4,4 +4,5 @@ use Rattle.dispatch_core.proofs.ListLemmas.{Below}
 use Rattle.dispatch_core.proofs.dispatch.Core.ready.Given as goal
 
 abbrev pub invariant-loop-segment : goal.invariant-loop-segment
-invariant-loop-segment g l = Lists (Below (IsReady l.self.table l.self.history) l.segment) l.ready.items
+invariant-loop-segment g l =
+    Lists (Below (IsReady l.self.table l.self.history) l.segment) l.ready.items

@@ -6,7 +6,9 @@ use Rattle.program_text.specs.declared.limits.TheConstants.{MOST_NESTING}
 
 abbrev pub invariant-variables : goal.invariant-variables
 invariant-variables l = record {
-  same : number_further_out l.number (variable_number (variables_of (reverse l.blocks)) l.token.text.now) ≡ variable_number (variables_of l.fn.self.blocks) l.token.text.now;
+  same : number_further_out l.number
+      (variable_number (variables_of (reverse l.blocks)) l.token.text.now)
+      ≡ variable_number (variables_of l.fn.self.blocks) l.token.text.now;
   fits : l.number + length l.blocks ≤ MOST_NESTING;
 }
 

@@ -8,4 +8,6 @@ pub returns : goal.returns
 returns c =
     let a = ap (λ (t : Table). t.segments) c.self.view_is in
     let b = ap (λ (t : Table). t.segments) c.other.view_is in
-    decides_equivalent c.eq.result (λ e. sym a ∙ e ∙ b) (λ e. a ∙ e ∙ sym b) (slice_eq-Decides segment_decides c.self.inside.segments.items c.other.inside.segments.items c.eq.result c.eq.ensures)
+    decides_equivalent c.eq.result (λ e. sym a ∙ e ∙ b) (λ e. a ∙ e ∙ sym b)
+    (slice_eq-Decides segment_decides c.self.inside.segments.items c.other.inside.segments.items
+    c.eq.result c.eq.ensures)
