@@ -52,7 +52,7 @@ alike_back a b x =
       task_of = λ s l. sym (x.task_of s (segment_of s l));
       index = λ s l. sym (x.index s (segment_of s l));
       closing = λ s l. sym (x.closing s (segment_of s l));
-      next = λ s t l. (let k = x.next s t (segment_of s l) in (k.1, k.0));
+      next = λ s t l. (let other = x.next s t (segment_of s l) in (other.1, other.0));
       first = λ u l. sym (x.first u (task_of u l));
       last = λ u l. sym (x.last u (task_of u l));
       parent = λ u l. sym (x.parent u (task_of u l));
@@ -61,7 +61,7 @@ alike_back a b x =
       items = λ u l. sym (x.items u (task_of u l));
       innermost_group = λ u l. sym (x.innermost_group u (task_of u l));
       must_precede = λ s t l m.
-          (let k = x.must_precede s t (segment_of s l) (segment_of t m) in (k.1, k.0));
+          (let other = x.must_precede s t (segment_of s l) (segment_of t m) in (other.1, other.0));
     }
 
 -- where the earlier tasks have the same numbers among their siblings, u has no smaller one in one
@@ -76,12 +76,12 @@ no_fewer_siblings : (a b : Table)
     → (task a u).siblings_before < (task b u).siblings_before
     → ⊥
 no_fewer_siblings a b one other x u is_u below less =
-    let s = other.siblings u (task a u).siblings_before (omega (arith, x.tasks)) less in
-    let v = s.sibling in
-    let earlier = s.earlier in
-    let parent : (task a v).parent ≡ (task a u).parent =
-    x.parent v (omega arith) ∙ s.of_parent ∙ sym (x.parent u is_u) in
-    omega (arith, one.ascend v u earlier is_u parent, below v earlier, s.count)
+    let found = other.siblings u (task a u).siblings_before (omega (arith, x.tasks)) less in
+    let sibling = found.sibling in
+    let earlier = found.earlier in
+    let parent : (task a sibling).parent ≡ (task a u).parent =
+    x.parent sibling (omega arith) ∙ found.of_parent ∙ sym (x.parent u is_u) in
+    omega (arith, one.ascend sibling u earlier is_u parent, below sibling earlier, found.count)
 
 abbrev SameSiblings : Table → Table → Type 0
 SameSiblings a b = (u : ℕ) → IsTask a u → (task a u).siblings_before ≡ (task b u).siblings_before
@@ -131,22 +131,23 @@ generated_inside table h u t o g (inr (inl r)) =
     absurd (first_follows table h r.child o.0 r.is_child
     (subst (λ (n : ℕ). Continues table o.0 n) (sym r.first) o.2))
 generated_inside table h u t o g (inr (inr (inl r))) =
-    absurd (let k = closing_of_one table h t r.creator (Creates r.child) o r.resumes
+    absurd (let is_group_end = closing_of_one table h t r.creator (Creates r.child) o r.resumes
     (closing_creates table h r.creator r.child r.is_child r.is_creator) in
     cc)
 generated_inside table h u t o g (inr (inr (inr (inl r)))) =
     absurd (first_follows table h r.later o.0 r.is_later
     (subst (λ (n : ℕ). Continues table o.0 n) (sym r.first) o.2))
 generated_inside table h u t o g (inr (inr (inr (inr (inl r))))) =
-    absurd (let k = closing_of_one table h t r.before closings.Waits o r.opens r.waits in cc)
+    absurd (let is_group_end = closing_of_one table h t r.before closings.Waits o r.opens r.waits in
+    cc)
 generated_inside table h u t o g (inr (inr (inr (inr (inr r))))) =
-    let e = r.encloses in
+    let encloses = r.encloses in
     let same : r.descendant ≡ u =
     last_of_one table h r.descendant u r.is_descendant g.is_child r.last in
     let descends = subst (λ (d : ℕ). Descends table d r.child) same r.descends in
     let is : u ≡ r.child = one_branch table h u (segment table t).task r.child g.parent
-    e.generated.is_child e.generated.parent descends in
-    omega (arith, e.inside, ap (λ (v : ℕ). (task table v).siblings_before) is)
+    encloses.generated.is_child encloses.generated.parent descends in
+    omega (arith, encloses.inside, ap (λ (v : ℕ). (task table v).siblings_before) is)
 
 -- a group that ended before t did not begin earlier in one table than in the other: else a child
 -- has to be waited for in the one alone
@@ -160,41 +161,41 @@ no_earlier_group : (a b : Table)
     → (segment a t).children_before < (segment b t).children_before
     → ⊥
 no_earlier_group a b h other x same t is_t less =
-    let k = other.children t (segment a t).children_before (omega (arith, x.len)) less in
-    let u = k.child in
-    let g = k.generated in
-    let before = k.opens_after.0 in
-    let is_u : IsTask a u = omega (arith, x.tasks, g.is_child) in
-    let is_before : IsSegment a before = omega (arith, x.len, k.opens_after.2.is_from) in
-    let encloses : Encloses a t u = record {
+    let found = other.children t (segment a t).children_before (omega (arith, x.len)) less in
+    let child = found.child in
+    let generated = found.generated in
+    let before = found.opens_after.0 in
+    let is_child : IsTask a child = omega (arith, x.tasks, generated.is_child) in
+    let is_before : IsSegment a before = omega (arith, x.len, found.opens_after.2.is_from) in
+    let encloses : Encloses a t child = record {
       before = before;
-      ends_group = x.closing before is_before ∙ k.opens_after.1;
-      opens = (x.next before t is_before).1 k.opens_after.2;
+      ends_group = x.closing before is_before ∙ found.opens_after.1;
+      opens = (x.next before t is_before).1 found.opens_after.2;
       generated = record {
-        is_child = is_u;
-        parent = x.parent u is_u ∙ g.parent ∙ ap Some (sym (x.task_of t is_t));
-        creator = g.creator;
-        is_creator = x.creator u is_u ∙ g.is_creator;
-        earlier = g.earlier;
+        is_child = is_child;
+        parent = x.parent child is_child ∙ generated.parent ∙ ap Some (sym (x.task_of t is_t));
+        creator = generated.creator;
+        is_creator = x.creator child is_child ∙ generated.is_creator;
+        earlier = generated.earlier;
       };
-      inside = omega (arith, k.count, same u is_u);
+      inside = omega (arith, found.count, same child is_child);
     } in
-    let last = (task a u).last in
+    let last = (task a child).last in
     let ends : GroupEnd a last t = record {
-      child = u;
+      child = child;
       encloses = encloses;
-      descendant = u;
-      is_descendant = is_u;
-      descends = Itself u;
+      descendant = child;
+      is_descendant = is_child;
+      descends = Itself child;
       last = refl;
     } in
     let pair : MustPrecede a last t = inr (inr (inr (inr (inr ends)))) in
     let is_last : IsSegment a last =
-    omega (arith, x.len, x.last u is_u, (h.segments u g.is_child).is_last) in
+    omega (arith, x.len, x.last child is_child, (h.segments child generated.is_child).is_last) in
     let other_pair =
-    subst (λ (s : ℕ). MustPrecede b s t) (x.last u is_u)
+    subst (λ (s : ℕ). MustPrecede b s t) (x.last child is_child)
     ((x.must_precede last t is_last is_t).0 pair) in
-    omega (arith, generated_inside b h u t k.opens_after g other_pair, k.count)
+    omega (arith, generated_inside b h child t found.opens_after generated other_pair, found.count)
 
 -- where groups began follows from the pairs that have to wait for their ends
 same_children : (a b : Table)

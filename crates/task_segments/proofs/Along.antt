@@ -27,7 +27,7 @@ next_is_nearest table nested s t other next is_other of_task after =
     let up = nested.places s other after is_other (sym of_task) in
     elim (cases_lt other t) [
       | inr fine ↦ fine
-      | inl before ↦ let h =
+      | inl before ↦ let before_next =
           nested.places other t before next.is_to (of_task ∙ sym next.same_task) in
           absurd (omega arith)
     ]

@@ -110,10 +110,10 @@ nth_child (GroupEnds ∷ e) p k l =
 row_of_child : (e : List Mark) → IsLast e → (p k u : ℕ) → IsChildAt e p k u
     → ((task (table_at e) u).parent ≡ Some p) × ((task (table_at e) u).siblings_before ≡ k)
 row_of_child e h p k u c =
-    let r = child e h u c.above c.has_begun in
-    let at = sym r.is_before in (
-      r.parent ∙ ap (λ (xs : List Mark). Some (running_task xs)) at ∙ ap Some c.parent,
-      r.siblings ∙ ap (λ (xs : List Mark). children_of (running_task xs) xs) at
+    let facts = child e h u c.above c.has_begun in
+    let at = sym facts.is_before in (
+      facts.parent ∙ ap (λ (xs : List Mark). Some (running_task xs)) at ∙ ap Some c.parent,
+      facts.siblings ∙ ap (λ (xs : List Mark). children_of (running_task xs) xs) at
           ∙ ap (λ (q : ℕ). children_of q (before_task u e)) c.parent ∙ c.count,
     )
 
@@ -160,9 +160,10 @@ root_siblings : (e : List Mark)
     → 0 < tasks_so_far e
     → (task (table_at e) 0).siblings_before ≡ 0
 root_siblings e p l =
-    let b = task_has_begun e p 0 l in
-    let none : b.earlier ≡ [] = nothing_before b.earlier b.proper (sym b.number) in
-    ap (λ r. r.siblings_before) (row e 0 l b)
+    let beginning = task_has_begun e p 0 l in
+    let none : beginning.earlier ≡ [] =
+    nothing_before beginning.earlier beginning.proper (sym beginning.number) in
+    ap (λ r. r.siblings_before) (row e 0 l beginning)
     ∙ ap (λ (xs : List Mark). children_of (running_task xs) xs) none
 
 -- each number below the number of siblings before a task is that of an earlier one
@@ -174,16 +175,22 @@ siblings_at : (e : List Mark)
     → HasSiblingAt (table_at e) u k
 siblings_at e h u k l less = elim (cases_lt 0 u) [
   | inl above ↦ (
-      let c = child e h u above l in
-      let p = running_task c.before in
-      let found = nth_child c.before p k (omega (arith, c.siblings)) in
-      let v = found.0 in
-      let earlier : v < u = omega (arith, found.1.has_begun, c.number) in
+      let of_child = child e h u above l in
+      let parent = running_task of_child.before in
+      let found = nth_child of_child.before parent k (omega (arith, of_child.siblings)) in
+      let sibling = found.0 in
+      let earlier : sibling < u = omega (arith, found.1.has_begun, of_child.number) in
       let here =
-      child_from c.before e p k v (before_within e v u c.before earlier l c.is_before) (omega arith)
+      child_from of_child.before e parent k sibling
+      (before_within e sibling u of_child.before earlier l of_child.is_before) (omega arith)
       found.1 in
-      let is = row_of_child e h p k v here in
-      record { sibling = v; earlier = earlier; of_parent = is.0 ∙ sym c.parent; count = is.1 })
+      let is = row_of_child e h parent k sibling here in
+      record {
+        sibling = sibling;
+        earlier = earlier;
+        of_parent = is.0 ∙ sym of_child.parent;
+        count = is.1;
+      })
   | inr root ↦ absurd (
       let is : u ≡ 0 = omega arith in
       let none = ap (λ (n : ℕ). (task (table_at e) n).siblings_before) is in
@@ -249,8 +256,9 @@ begun_by_opening [] t u l = (l, refl)
 begun_by_opening (m ∷ e) t u l = elim (cases_Bool (opens m && eqb (segments_so_far e) t)) [
   | inl here ↦ (rw here at l, rw here refl)
   | inr before ↦ (
-      let k = begun_by_opening e t u (rw before at l) in
-      (omega (arith, k.0, count-cons begins_task m e), beginning_of-old m e u k.0 ∙ rw before k.1))
+      let earlier = begun_by_opening e t u (rw before at l) in
+      (omega (arith, earlier.0, count-cons begins_task m e), beginning_of-old m e u earlier.0
+      ∙ rw before earlier.1))
 ]
 
 -- of the open groups the innermost counts
@@ -302,21 +310,21 @@ child_before_end e h t k u before l o found =
     let at : before_task u e ≡ before_task u before = ap (drop 1) whole.1 ∙ ap (before_task u) o in
     let here = child_from before e (running_task before) k u at whole.0 found in
     let is = row_of_child e h (running_task before) k u here in
-    let c = child e h u here.above here.has_begun in
-    let b = task_has_begun before proper.1 u found.has_begun in
-    let first : segments_so_far c.before ≡ segments_so_far b.earlier =
-    ap segments_so_far (sym c.is_before) ∙ ap segments_so_far at
-    ∙ ap (λ (xs : List Mark). segments_so_far (drop 1 xs)) b.begins in
+    let of_child = child e h u here.above here.has_begun in
+    let beginning = task_has_begun before proper.1 u found.has_begun in
+    let first : segments_so_far of_child.before ≡ segments_so_far beginning.earlier =
+    ap segments_so_far (sym of_child.is_before) ∙ ap segments_so_far at
+    ∙ ap (λ (xs : List Mark). segments_so_far (drop 1 xs)) beginning.begins in
     let number = opening_number e t GroupEnds before o in
     record {
-      opens_after = after_group_end e h t before (omega (arith, b.before)) l o;
+      opens_after = after_group_end e h t before (omega (arith, beginning.before)) l o;
       child = u;
       generated = record {
         is_child = omega (arith, whole.0, tasks-at e);
         parent = is.0 ∙ ap Some (sym (owner-at e t l ∙ ap running_task o));
-        creator = segments_so_far c.before - 1;
-        is_creator = c.creator;
-        earlier = omega (arith, b.before, c.opened);
+        creator = segments_so_far of_child.before - 1;
+        is_creator = of_child.creator;
+        earlier = omega (arith, beginning.before, of_child.opened);
       };
       count = is.1;
     }

@@ -41,16 +41,16 @@ with_creator table u s e =
 
 -- there is a segment
 pub some_segment : (table : Table) → IsNestedTable table → IsSegment table 0
-some_segment table h = let k = (h.segments 0 h.root.is_task).is_last in omega arith
+some_segment table h = let last = (h.segments 0 h.root.is_task).is_last in omega arith
 
 -- no segment comes after the root's last
 pub root_last : (table : Table) → IsNestedTable table → (s : ℕ) → IsSegment table s
     → s ≤ (task table 0).last
 root_last table h s i =
-    let u = (segment table s).task in
-    let is_u = h.tasks s i in
-    let within = ((h.segments u is_u).between s i refl).1 in
-    let above = last_of_all (suc u) table h u (omega arith) is_u in
+    let owner = (segment table s).task in
+    let is_task = h.tasks s i in
+    let within = ((h.segments owner is_task).between s i refl).1 in
+    let above = last_of_all (suc owner) table h owner (omega arith) is_task in
     omega arith
 
 pub from_first : (table : Table) → IsNestedTable table → (u s : ℕ) → IsOf table u s
@@ -68,10 +68,10 @@ pub first_of : (table : Table)
     → IsTask table u
     → IsOf table u (task table u).first
 first_of table h u i =
-    let k = h.segments u i in
-    let order = k.in_order in
-    let within = k.is_last in
-    record { is_segment = omega arith; of_task = k.of_first }
+    let segments = h.segments u i in
+    let order = segments.in_order in
+    let within = segments.is_last in
+    record { is_segment = omega arith; of_task = segments.of_first }
 
 -- nothing follows the last segment of a task
 pub last_followed : (table : Table) → IsNestedTable table → (u t : ℕ) → IsTask table u
@@ -175,8 +175,8 @@ creator_makes : (table : Table)
     → (task table u).creator ≡ Some s
     → Made table u s
 creator_makes table h u s i e =
-    let k = h.children u (not_root_made table h u s e) i in
-    record { child = k; creator = same_Some _ _ (sym k.is_creator ∙ e) }
+    let as_child = h.children u (not_root_made table h u s e) i in
+    record { child = as_child; creator = same_Some _ _ (sym as_child.is_creator ∙ e) }
 
 pub after_task : (table : Table)
     → IsNestedTable table
@@ -185,13 +185,14 @@ pub after_task : (table : Table)
     → (task table u).creator ≡ Some s
     → Continues table s ((task table u).last + 1)
 after_task table h u s i e =
-    let m = creator_makes table h u s i e in
-    subst (λ n. Continues table n ((task table u).last + 1)) m.creator m.child.resumes
+    let made = creator_makes table h u s i e in
+    subst (λ n. Continues table n ((task table u).last + 1)) made.creator made.child.resumes
 
 pub first_created : (table : Table) → IsNestedTable table → (u s : ℕ) → IsTask table u
     → (task table u).creator ≡ Some s → (task table u).first ≡ s + 1
 first_created table h u s i e =
-    let m = creator_makes table h u s i e in m.child.first ∙ ap (λ (n : ℕ). n + 1) m.creator
+    let made = creator_makes table h u s i e in
+    made.child.first ∙ ap (λ (n : ℕ). n + 1) made.creator
 
 pub created_before : (table : Table) → IsNestedTable table → (u s : ℕ) → IsTask table u
     → (task table u).creator ≡ Some s → s < (task table u).last
@@ -203,16 +204,16 @@ created_before table h u s i e =
 pub below_root : (table : Table) → IsNestedTable table → (u : ℕ) → 0 < u → IsTask table u
     → IsCreated table u
 below_root table h u l i =
-    let k = h.children u l i in
+    let as_child = h.children u l i in
     record {
-      parent = k.parent;
-      is_parent = k.is_parent;
-      lower = k.lower;
-      creator = k.creator;
-      is_creator = k.is_creator;
+      parent = as_child.parent;
+      is_parent = as_child.is_parent;
+      lower = as_child.lower;
+      creator = as_child.creator;
+      is_creator = as_child.is_creator;
       of_parent = record {
-        is_segment = creator_within table h u k.creator i k.is_creator;
-        of_task = k.of_creator;
+        is_segment = creator_within table h u as_child.creator i as_child.is_creator;
+        of_task = as_child.of_creator;
       };
     }
 
@@ -223,7 +224,8 @@ pub has_creator : (table : Table)
     → (task table u).parent ≡ Some p
     → (s : ℕ) × ((task table u).creator ≡ Some s)
 has_creator table h u p i e =
-    let k = h.children u (not_root table h u p e) i in (k.creator, k.is_creator)
+    let as_child = h.children u (not_root table h u p e) i in
+    (as_child.creator, as_child.is_creator)
 
 pub creator_of : (table : Table)
     → IsNestedTable table
@@ -233,11 +235,12 @@ pub creator_of : (table : Table)
     → (task table u).creator ≡ Some s
     → IsOf table p s
 creator_of table h u p s i e f =
-    let m = creator_makes table h u s i f in
-    let same : m.child.parent ≡ p = same_Some _ _ (sym m.child.is_parent ∙ e) in
+    let made = creator_makes table h u s i f in
+    let same : made.child.parent ≡ p = same_Some _ _ (sym made.child.is_parent ∙ e) in
     record {
       is_segment = creator_within table h u s i f;
-      of_task = ap (λ (n : ℕ). (segment table n).task) (sym m.creator) ∙ m.child.of_creator ∙ same;
+      of_task =
+      ap (λ (n : ℕ). (segment table n).task) (sym made.creator) ∙ made.child.of_creator ∙ same;
     }
 
 first_follows_none : (table : Table) → IsNestedTable table → (a b t : ℕ) → Continues table a t
@@ -288,10 +291,11 @@ closing_creates table h s child i e = by_closing (segment table s).closing refl
         → (segment table s).closing ≡ closing
         → (segment table s).closing ≡ Creates child
     by_closing (Creates other) c =
-        let k = h.creates s other is_s c in
-        let first = first_created table h other s k.0 k.1 in
+        let created = h.creates s other is_s c in
+        let first = first_created table h other s created.0 created.1 in
         let same =
-        first_of_one table h other child k.0 i (first ∙ sym (first_created table h child s i e)) in
+        first_of_one table h other child created.0 i
+        (first ∙ sym (first_created table h child s i e)) in
         c ∙ ap Creates same
     by_closing Waits c = absurd (next_other table h child s i e (h.after_wait s is_s c))
     by_closing EndsGroup c = absurd (next_other table h child s i e (h.after_group s is_s c))
@@ -309,10 +313,10 @@ pub children : (table : Table)
     → s < t
     → (task table u).last < t
 children table h u p s t e f o l =
-    let m = creator_makes table h u s (with_parent table u p e) f in
-    let same : m.child.parent ≡ p = same_Some _ _ (sym m.child.is_parent ∙ e) in
-    let c = m.creator in
-    after_child table h u m.child t (o.of_task ∙ sym same) (omega arith)
+    let made = creator_makes table h u s (with_parent table u p e) f in
+    let same : made.child.parent ≡ p = same_Some _ _ (sym made.child.is_parent ∙ e) in
+    let creator_is = made.creator in
+    after_child table h u made.child t (o.of_task ∙ sym same) (omega arith)
 
 -- a child generated before t has ended before the segment that t follows by one, where that one
 -- does not create it
@@ -330,9 +334,9 @@ ended_before table h child before generated next =
       | inl less ↦ children table h child (segment table before).task generated.creator before
           parent generated.is_creator (record { is_segment = next.is_from; of_task = refl }) less
       | inr same ↦
-          let e : generated.creator ≡ before = omega arith in
+          let same_creator : generated.creator ≡ before = omega arith in
           absurd (next_other table h child before generated.is_child
-          (generated.is_creator ∙ ap Some e) next)
+          (generated.is_creator ∙ ap Some same_creator) next)
     ]
 
 next_ended : (table : Table)
@@ -385,15 +389,15 @@ own_group : (table : Table) → IsNestedTable table → (u t : ℕ) → HasInner
     → (task table u).innermost_group ≡ Some t → EndsAfter table u t
 own_group table h u t g e =
     let same : g.group ≡ t = same_Some _ _ (sym g.is_group ∙ e) in
-    let c = g.encloses in
+    let encloses = g.encloses in
     subst (λ n. EndsAfter table u n) same (record {
       ends = record {
-        before = c.before;
-        is_before = c.opens.is_from;
-        ends_group = c.ends_group;
-        after = c.opens;
+        before = encloses.before;
+        is_before = encloses.opens.is_from;
+        ends_group = encloses.ends_group;
+        after = encloses.opens;
       };
-      later = child_ends_before_group table h u g.group c;
+      later = child_ends_before_group table h u g.group encloses;
     })
 
 group_from : (fuel : ℕ) (table : Table)
@@ -410,22 +414,23 @@ group_from (suc fuel) table h g u t below i e =
       | inl above ↦ elim (g.tasks u above i) [
         | inl own ↦ own_group table h u t own e
         | inr inherits ↦
-            let c = h.children u above i in
-            let parent_lower = c.lower in
-            let same : inherits.parent ≡ c.parent =
-            same_Some _ _ (sym inherits.is_parent ∙ c.is_parent) in
-            let parents : (task table c.parent).innermost_group ≡ Some t =
+            let as_child = h.children u above i in
+            let parent_lower = as_child.lower in
+            let same : inherits.parent ≡ as_child.parent =
+            same_Some _ _ (sym inherits.is_parent ∙ as_child.is_parent) in
+            let parents : (task table as_child.parent).innermost_group ≡ Some t =
             ap (λ (n : ℕ). (task table n).innermost_group) (sym same)
             ∙ sym inherits.inherited
             ∙ e in
-            let up = group_from fuel table h g c.parent t (omega arith) (omega arith) parents in
+            let up =
+            group_from fuel table h g as_child.parent t (omega arith) (omega arith) parents in
             let later = up.later in
-            let lower = last_lower table h u c i in
+            let lower = last_lower table h u as_child i in
             record { ends = up.ends; later = omega arith }
       ]
       | inr none ↦
           let zero_is : u ≡ 0 = omega arith in
-          let k : ◌≡◌ {A = Option ℕ} None (Some t) =
+          let none_is_some : ◌≡◌ {A = Option ℕ} None (Some t) =
           sym g.root ∙ ap (λ (n : ℕ). (task table n).innermost_group) (sym zero_is) ∙ e in
           cc
     ]
@@ -438,7 +443,8 @@ pub group : (table : Table)
     → (task table u).innermost_group ≡ Some t
     → (ends : EndsBefore table t) × ((task table u).last < ends.before)
 group table h g u t i e =
-    let k = group_from (suc u) table h g u t (omega arith) i e in (k.ends, k.later)
+    let ends_after = group_from (suc u) table h g u t (omega arith) i e in
+    (ends_after.ends, ends_after.later)
 
 -- a nested table with its groups is read in place
 pub read_in_place : (table : Table) → IsNestedTable table → IsGroupedTable table

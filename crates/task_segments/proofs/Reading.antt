@@ -100,10 +100,10 @@ segments_counted marks h =
 
 pub reading : (program : ProgramMarks) → IsProgram program → IsReading program.marks
 reading program h =
-    let n = is_nested program h in
+    let nested = is_nested program h in
     record {
-      nested = n;
+      nested = nested;
       tasks = omega (arith, h.tasks, tasks_counted program.marks);
-      segments = omega (arith, h.segments, segments_counted program.marks n);
+      segments = omega (arith, h.segments, segments_counted program.marks nested);
       work = h.work;
     }

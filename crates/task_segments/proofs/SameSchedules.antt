@@ -187,9 +187,9 @@ module _ (R Q : ℕ → ℕ → Type 0) (forward : (s t : ℕ) → R s t → s <
       → chain_sum costs other ≤ greatest
   at_most costs greatest most [] inside linked = absurd linked
   at_most costs greatest most (s ∷ rest) inside linked =
-      let c = refined costs s rest linked inside in
-      let bound = most (s ∷ c.more) c.inside c.linked in
-      let at_least = c.at_least in
+      let finer = refined costs s rest linked inside in
+      let bound = most (s ∷ finer.more) finer.inside finer.linked in
+      let at_least = finer.at_least in
       omega arith
 
   span_joined : (costs : List ℕ) (span : ℕ) → IsSpan costs Q span → IsSpan costs R span
@@ -212,13 +212,14 @@ module _ (R Q : ℕ → ℕ → Type 0) (forward : (s t : ℕ) → R s t → s <
           → IsSpan costs Q span
       by_chain [] inside linked reached = absurd linked
       by_chain (s ∷ rest) inside linked reached =
-          let c = refined costs s rest linked inside in
-          let at_least = c.at_least in
-          let no_more = h.greatest (s ∷ c.more) c.inside (chain_within (s ∷ c.more) c.linked) in
+          let finer = refined costs s rest linked inside in
+          let at_least = finer.at_least in
+          let no_more =
+          h.greatest (s ∷ finer.more) finer.inside (chain_within (s ∷ finer.more) finer.linked) in
           record {
-            chain = s ∷ c.more;
-            segments = c.inside;
-            linked = c.linked;
+            chain = s ∷ finer.more;
+            segments = finer.inside;
+            linked = finer.linked;
             reached = omega arith;
             greatest = λ other segments chained.
                 h.greatest other segments (chain_within other chained);

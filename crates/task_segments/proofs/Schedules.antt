@@ -52,8 +52,10 @@ IsLegal-by_rule costs R ascending rule h = record {
       let up : s < t = ascending.up s t r in
       let s_in : s < length costs = omega arith in
       let here : rule s + at costs s ≤ rule t = h s t s_in k r in
-      let e : at (by_rule rule (length costs)) s ≡ rule s = at-by_rule rule (length costs) s s_in in
-      let f : at (by_rule rule (length costs)) t ≡ rule t = at-by_rule rule (length costs) t k in
+      let start_of_s : at (by_rule rule (length costs)) s ≡ rule s =
+      at-by_rule rule (length costs) s s_in in
+      let start_of_t : at (by_rule rule (length costs)) t ≡ rule t =
+      at-by_rule rule (length costs) t k in
       omega arith;
 }
 
@@ -61,7 +63,8 @@ pub end_of-by_rule : (costs : List ℕ) (rule : ℕ → ℕ) (end : ℕ)
     → ((s : ℕ) → s < length costs → rule s + at costs s ≤ end)
     → end_of costs (by_rule rule (length costs)) ≤ end
 end_of-by_rule costs rule end h = end_of-least costs (by_rule rule (length costs)) end (λ s k.
-    let e : at (by_rule rule (length costs)) s ≡ rule s = at-by_rule rule (length costs) s k in
+    let start_of_s : at (by_rule rule (length costs)) s ≡ rule s =
+    at-by_rule rule (length costs) s k in
     let here : rule s + at costs s ≤ end = h s k in
     omega arith)
 
@@ -83,7 +86,7 @@ chain_from costs R starts legal s (t ∷ rest) inside linked =
     chain_from costs R starts legal t rest (λ u k. inside u (suc k.0, omega arith, k.2)) linked.1 in
     let step : at starts s + at costs s ≤ at starts t =
     legal.kept s t (inside t (1, omega arith, refl)) linked.0 in
-    let e : chain_sum costs (s ∷ t ∷ rest) ≡ at costs s + chain_sum costs (t ∷ rest) =
+    let one_more : chain_sum costs (s ∷ t ∷ rest) ≡ at costs s + chain_sum costs (t ∷ rest) =
     sum_by-cons (at costs) s (t ∷ rest) in
     omega arith
 
@@ -95,7 +98,7 @@ pub chain-within-end : (costs : List ℕ) (R : ℕ → ℕ → Type 0) (starts c
     → chain_sum costs chain ≤ end_of costs starts
 chain-within-end costs R starts [] legal inside linked = absurd linked
 chain-within-end costs R starts (s ∷ rest) legal inside linked =
-    let h : at starts s + chain_sum costs (s ∷ rest) ≤ end_of costs starts =
+    let within : at starts s + chain_sum costs (s ∷ rest) ≤ end_of costs starts =
     chain_from costs R starts legal s rest inside linked in
     omega arith
 
@@ -110,7 +113,7 @@ end_of-reached (cost ∷ next ∷ costs) (start ∷ starts) long some =
     × (s < length (next ∷ costs))
     × (at starts s + at (next ∷ costs) s ≡ end_of (next ∷ costs) starts) =
     end_of-reached (next ∷ costs) starts (omega arith) (omega arith) in
-    let e : at starts later.0 + at (next ∷ costs) later.0 ≡ end_of (next ∷ costs) starts =
+    let ends_last : at starts later.0 + at (next ∷ costs) later.0 ≡ end_of (next ∷ costs) starts =
     later.2 in
     elim (cases_lt (start + cost) (end_of (next ∷ costs) starts)) [
       | inl less ↦ (suc later.0, omega (arith, later.1), omega arith)
@@ -132,8 +135,10 @@ AreSegments-cons costs s chain s_in inside t has =
 pub span-unique : (costs : List ℕ) (R : ℕ → ℕ → Type 0) (a b : ℕ) → IsSpan costs R a
     → IsSpan costs R b → a ≡ b
 span-unique costs R a b is_a is_b =
-    let h : chain_sum costs is_a.chain ≤ b = is_b.greatest is_a.chain is_a.segments is_a.linked in
-    let k : chain_sum costs is_b.chain ≤ a = is_a.greatest is_b.chain is_b.segments is_b.linked in
+    let at_most : chain_sum costs is_a.chain ≤ b =
+    is_b.greatest is_a.chain is_a.segments is_a.linked in
+    let at_least : chain_sum costs is_b.chain ≤ a =
+    is_a.greatest is_b.chain is_b.segments is_b.linked in
     omega (arith, is_a.reached, is_b.reached)
 
 -- there is one least end
@@ -141,8 +146,8 @@ pub least_end-unique : (costs : List ℕ) (R : ℕ → ℕ → Type 0) (a b : �
     → IsLeastEnd costs R b
     → a ≡ b
 least_end-unique costs R a b is_a is_b =
-    let h : a ≤ end_of costs is_b.starts = is_a.least is_b.starts is_b.legal in
-    let k : b ≤ end_of costs is_a.starts = is_b.least is_a.starts is_a.legal in
+    let at_most : a ≤ end_of costs is_b.starts = is_a.least is_b.starts is_b.legal in
+    let at_least : b ≤ end_of costs is_a.starts = is_b.least is_a.starts is_a.legal in
     omega (arith, is_a.ends, is_b.ends)
 
 -- one least start
@@ -150,8 +155,8 @@ pub least_start-unique : (costs : List ℕ) (R : ℕ → ℕ → Type 0) (s a b 
     → IsLeastStart costs R s a
     → IsLeastStart costs R s b → a ≡ b
 least_start-unique costs R s a b is_a is_b =
-    let h : a ≤ at is_b.starts s = is_a.least is_b.starts is_b.legal in
-    let k : b ≤ at is_a.starts s = is_b.least is_a.starts is_a.legal in
+    let at_most : a ≤ at is_b.starts s = is_a.least is_b.starts is_b.legal in
+    let at_least : b ≤ at is_a.starts s = is_b.least is_a.starts is_a.legal in
     omega (arith, is_a.starts_so, is_b.starts_so)
 
 slack-le : (costs : List ℕ) (R : ℕ → ℕ → Type 0) (s a b : ℕ) → IsSlack costs R s a
@@ -161,7 +166,7 @@ slack-le costs R s a b is_a is_b =
     least_end-unique costs R is_a.end is_b.end is_a.is_least_end is_b.is_least_end in
     let starts : is_a.start ≡ is_b.start =
     least_start-unique costs R s is_a.start is_b.start is_a.is_least_start is_b.is_least_start in
-    let h : at is_a.starts s ≤ is_b.start + b =
+    let at_most : at is_a.starts s ≤ is_b.start + b =
     is_b.greatest is_a.starts is_a.legal (is_a.ends ∙ ends) in
     omega (arith, is_a.delayed)
 

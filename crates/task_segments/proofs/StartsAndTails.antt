@@ -191,7 +191,8 @@ chain_exists costs R starts end ascending earliest (suc bound) t rest below insi
       | inr w ↦
           let up : w.0 < t = ascending.up w.0 t w.1 in
           let just : at starts w.0 + at costs w.0 ≡ at starts t = w.2 in
-          let e : chain_sum costs (w.0 ∷ t ∷ rest) ≡ at costs w.0 + chain_sum costs (t ∷ rest) =
+          let one_more : chain_sum costs (w.0 ∷ t ∷ rest)
+          ≡ at costs w.0 + chain_sum costs (t ∷ rest) =
           sum_by-cons (at costs) w.0 (t ∷ rest) in
           chain_exists costs R starts end ascending earliest bound w.0 (t ∷ rest) (omega arith)
           (AreSegments-cons costs w.0 (t ∷ rest) (omega arith) inside) (w.1, linked) (omega arith)

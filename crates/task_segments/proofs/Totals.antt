@@ -75,13 +75,14 @@ pub has_all : (program : ProgramMarks)
     → IsProgram program
     → HasAllOf program.marks (table_of program.marks)
 has_all program h =
-    let e = last_moment program.marks in
+    let moment = last_moment program.marks in
     record {
       tasks =
-          omega (arith, tasks-at e, count_read begins_task (Begins false [] ∷ []) program.marks);
+          omega (arith, tasks-at moment,
+          count_read begins_task (Begins false [] ∷ []) program.marks);
       segments = omega (
         arith,
-        segments-at e,
+        segments-at moment,
         count_read opens (Begins false [] ∷ []) program.marks,
         segments_counted program.marks (is_nested program h),
         opened_in program.marks,

@@ -56,10 +56,10 @@ gains : (cost : ℕ) (e : List Mark) (n : ℕ)
 unfolding total
 gains cost e zero l = refl
 gains cost e (suc n) l =
-    let k : is_latest n e ≡ false = grind (arith, nat_tests) in
-    let h = gains cost e n (omega arith) in
-    let c : cost_of n (Works cost ∷ e) ≡ cost_of n e = rw k (omega arith) in
-    omega (arith, h, c)
+    let not_latest : is_latest n e ≡ false = grind (arith, nat_tests) in
+    let earlier = gains cost e n (omega arith) in
+    let same_cost : cost_of n (Works cost ∷ e) ≡ cost_of n e = rw not_latest (omega arith) in
+    omega (arith, earlier, same_cost)
 
 -- a case of the sum: one more mark that is no work
 same : (m : Mark) (e : List Mark) → ((s : ℕ) → cost_of s (m ∷ e) ≡ cost_of s e) → (n : ℕ)
@@ -109,10 +109,10 @@ opens_same : (m : Mark) (e : List Mark)
     → ((s : ℕ) → cost_of s (m ∷ e) ≡ cost_of s e)
     → total (m ∷ e) (segments_so_far (m ∷ e)) ≡ total e (segments_so_far e)
 opens_same m e one_more h =
-    let n = segments_so_far e in
+    let count = segments_so_far e in
     ap (total (m ∷ e)) (segments_opens m e one_more)
-    ∙ total_more (m ∷ e) n
-    ∙ omega (arith, same m e h n, h n, cost_none e n (omega arith))
+    ∙ total_more (m ∷ e) count
+    ∙ omega (arith, same m e h count, h count, cost_none e count (omega arith))
 
 works : (cost : ℕ) (e : List Mark) (n : ℕ) → segments_so_far e ≡ n + 1
     → total (Works cost ∷ e) (n + 1) ≡ total e (n + 1) + cost
@@ -135,14 +135,14 @@ sums_all (Begins d i ∷ e) p =
 sums_all (Ends ∷ e) p =
     omega (arith, opens_same Ends e refl (λ s. refl), sums_all e p.1, sum_by-cons work_done Ends e)
 sums_all (Works cost ∷ e) p =
-    let n = segments_so_far e in
+    let count = segments_so_far e in
     let one_open = p.0 in
     let some = begun_some_segment e p.1 (omega (arith, open_below e 0 0 (omega arith))) in
-    let last : n ≡ (n - 1) + 1 = omega arith in
+    let last : count ≡ (count - 1) + 1 = omega arith in
     omega (
       arith,
       ap (total (Works cost ∷ e)) last,
-      works cost e (n - 1) last,
+      works cost e (count - 1) last,
       ap (total e) last,
       sums_all e p.1,
       sum_by-cons work_done (Works cost) e,
@@ -174,14 +174,14 @@ work_read e (m ∷ marks) =
 pub little_work : (table : Table) → IsProgramTable table
     → sum (map (λ (row : Segment). row.cost) table.segments) ≤ MOST_WORK
 little_work table h =
-    let e = last_moment h.program.marks in
-    let k = ap (λ (t : Table). sum (map (λ (row : Segment). row.cost) t.segments)) h.is in
+    let moment = last_moment h.program.marks in
+    let same_costs = ap (λ (t : Table). sum (map (λ (row : Segment). row.cost) t.segments)) h.is in
     omega (
       arith,
-      k,
-      sum-map (λ (row : Segment). row.cost) (table_at e).segments,
-      total_is e (segments_so_far e),
-      sums e (segments_so_far e),
+      same_costs,
+      sum-map (λ (row : Segment). row.cost) (table_at moment).segments,
+      total_is moment (segments_so_far moment),
+      sums moment (segments_so_far moment),
       work_read (Begins false [] ∷ []) h.program.marks,
       h.is_program.work,
     )
@@ -190,12 +190,12 @@ little_work table h =
 pub all_work : (program : ProgramMarks) → IsProgram program
     → sum (costs_of (table_of program.marks)) ≡ work_of program.marks
 all_work program h =
-    let e = last_moment program.marks in
+    let moment = last_moment program.marks in
     let proper = (last_of_nested program.marks (is_nested program h)).proper in
     omega (
       arith,
-      sum-map (λ (row : Segment). row.cost) (table_at e).segments,
-      total_is e (segments_so_far e),
-      sums_all e proper,
+      sum-map (λ (row : Segment). row.cost) (table_at moment).segments,
+      total_is moment (segments_so_far moment),
+      sums_all moment proper,
       work_read (Begins false [] ∷ []) program.marks,
     )

@@ -4,8 +4,8 @@ use Rattle.task_segments.proofs.laws.within_limits.Goals as goal
 
 pub returns-clause-nonempty : goal.returns-clause-nonempty
 returns-clause-nonempty c =
-    let h = c.keeps_nesting.ensures.nested.root.is_task in
-    let s = (c.keeps_nesting.ensures.nested.segments 0 h).is_last in
+    let is_task = c.keeps_nesting.ensures.nested.root.is_task in
+    let last_within = (c.keeps_nesting.ensures.nested.segments 0 is_task).is_last in
     omega arith
 
 pub returns-clause-work : goal.returns-clause-work

@@ -6,8 +6,9 @@ use Rattle.task_segments.proofs.table.SegTable.same_segments.Goals as goal
 
 pub returns : goal.returns
 returns c =
-    let a = ap (λ (t : Table). t.segments) c.self.view_is in
-    let b = ap (λ (t : Table). t.segments) c.other.view_is in
-    decides_equivalent c.eq.result (λ e. sym a ∙ e ∙ b) (λ e. a ∙ e ∙ sym b)
+    let own_rows = ap (λ (t : Table). t.segments) c.self.view_is in
+    let other_rows = ap (λ (t : Table). t.segments) c.other.view_is in
+    decides_equivalent c.eq.result (λ e. sym own_rows ∙ e ∙ other_rows)
+    (λ e. own_rows ∙ e ∙ sym other_rows)
     (slice_eq-Decides segment_decides c.self.inside.segments.items c.other.inside.segments.items
     c.eq.result c.eq.ensures)
