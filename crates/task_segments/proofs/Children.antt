@@ -256,9 +256,11 @@ begun_by_opening [] t u l = (l, refl)
 begun_by_opening (m ∷ e) t u l = elim (cases_Bool (opens m && eqb (segments_so_far e) t)) [
   | inl here ↦ (rw here at l, rw here refl)
   | inr before ↦ (
-      let earlier = begun_by_opening e t u (rw before at l) in
-      (omega (arith, earlier.0, count-cons begins_task m e), beginning_of-old m e u earlier.0
-      ∙ rw before earlier.1))
+      let earlier = begun_by_opening e t u (rw before at l) in (
+        omega (arith, earlier.0, count-cons begins_task m e),
+        beginning_of-old m e u earlier.0
+            ∙ rw before earlier.1,
+      ))
 ]
 
 -- of the open groups the innermost counts

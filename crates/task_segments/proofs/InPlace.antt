@@ -240,7 +240,7 @@ creator_of table h u p s i e f =
     record {
       is_segment = creator_within table h u s i f;
       of_task =
-      ap (λ (n : ℕ). (segment table n).task) (sym made.creator) ∙ made.child.of_creator ∙ same;
+          ap (λ (n : ℕ). (segment table n).task) (sym made.creator) ∙ made.child.of_creator ∙ same;
     }
 
 first_follows_none : (table : Table) → IsNestedTable table → (a b t : ℕ) → Continues table a t

@@ -78,8 +78,11 @@ has_all program h =
     let moment = last_moment program.marks in
     record {
       tasks =
-          omega (arith, tasks-at moment,
-          count_read begins_task (Begins false [] ∷ []) program.marks);
+          omega (
+            arith,
+            tasks-at moment,
+            count_read begins_task (Begins false [] ∷ []) program.marks,
+          );
       segments = omega (
         arith,
         segments-at moment,
