@@ -22,6 +22,7 @@ use Rattle.task_segments.proofs.Order.{OpensAfter, one_branch}
 use Rattle.task_segments.proofs.Programs.{nested_program}
 use Rattle.task_segments.proofs.Same.{same_segment, same_facts, same_row}
 
+-- a table answers as it does itself
 alike_itself : (table : Table) → AnswerAlike table table
 alike_itself table = record {
   len = refl;
@@ -41,6 +42,7 @@ alike_itself table = record {
   must_precede = λ s t l m. (λ r. r, λ r. r);
 }
 
+-- and the other way round
 alike_back : (a b : Table) → AnswerAlike a b → AnswerAlike b a
 alike_back a b x =
     let segment_of : (s : ℕ) → IsSegment b s → IsSegment a s = λ s l. omega (arith, x.len) in
@@ -245,5 +247,6 @@ alike_is_equal a b p q x =
     ap (λ (rows : List Segment). record a { segments = rows }) segments
     ∙ ap (λ (rows : List Task). record b { tasks = rows }) tasks
 
+-- equal tables answer alike
 pub equal_is_alike : (a b : Table) → a ≡ b → AnswerAlike a b
 equal_is_alike a b e = subst (λ (t : Table). AnswerAlike a t) e (alike_itself a)

@@ -131,6 +131,7 @@ pub record HasChildAt (table : Table) (t k : ℕ) : Type 0 where
   pub generated : IsEarlierChild table child t
   pub count : (task table child).siblings_before ≡ k
 
+-- how a table numbers the children of its tasks, and counts them where groups end
 pub record IsNumbered (table : Table) : Type 0 where
   -- siblings are numbered from 0 in the order of their creation
   pub siblings : (u k : ℕ)
@@ -374,6 +375,7 @@ is_numbered e h = record {
   children = λ t k l. children_at e h t k (omega (arith, segments-at e));
 }
 
+-- the table of a program numbers them so
 pub numbered_program : (table : Table) → IsProgramTable table → IsNumbered table
 numbered_program table h =
     let last = last_of_nested h.program.marks (is_nested h.program h.is_program) in

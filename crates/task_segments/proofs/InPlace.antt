@@ -21,6 +21,7 @@ use Rattle.task_segments.proofs.Order.{one_next, continues_or_is_created, same_p
 use Rattle.task_segments.proofs.Order.{siblings_apart}
 use Rattle.std.proofs.lemmas.List.{get_or_past}
 
+-- a number with a parent is a task's
 pub with_parent : (table : Table) (u p : ℕ) → (task table u).parent ≡ Some p → IsTask table u
 with_parent table u p e =
     elim (cases_lt u (length table.tasks)) [
@@ -30,6 +31,7 @@ with_parent table u p e =
           cc
     ]
 
+-- and so is one with a creator
 pub with_creator : (table : Table) (u s : ℕ) → (task table u).creator ≡ Some s → IsTask table u
 with_creator table u s e =
     elim (cases_lt u (length table.tasks)) [
@@ -53,15 +55,18 @@ root_last table h s i =
     let above = last_of_all (suc owner) table h owner (omega arith) is_task in
     omega arith
 
+-- no segment of a task comes before its first
 pub from_first : (table : Table) → IsNestedTable table → (u s : ℕ) → IsOf table u s
     → (task table u).first ≤ s
 from_first table h u s i =
     ((h.segments u (is_owner table h u s i)).between s i.is_segment i.of_task).0
 
+-- and none after its last
 pub to_last : (table : Table) → IsNestedTable table → (u s : ℕ) → IsOf table u s
     → s ≤ (task table u).last
 to_last table h u s i = ((h.segments u (is_owner table h u s i)).between s i.is_segment i.of_task).1
 
+-- the first segment of a task is of it
 pub first_of : (table : Table)
     → IsNestedTable table
     → (u : ℕ)
@@ -149,10 +154,12 @@ first_follows table h u s i x =
     }) in
     omega arith
 
+-- the next segment of a task is the first of its later ones
 pub next_is_least : (table : Table) → IsNestedTable table → (s t other : ℕ) → Continues table s t
     → IsOf table (segment table s).task other → s < other → t ≤ other
 next_is_least table h s t other x o l = next_is_nearest table h s t other x o.is_segment o.of_task l
 
+-- two segments of a task are joined by a chain along it
 pub is_joined_within_task : (table : Table)
     → IsNestedTable table
     → (u a b : ℕ)
@@ -168,6 +175,7 @@ record Made (table : Table) (u s : ℕ) : Type 0 where
   child : IsChild table u
   creator : child.creator ≡ s
 
+-- a task with a creator is the child that this segment creates
 creator_makes : (table : Table)
     → IsNestedTable table
     → (u s : ℕ)
@@ -178,6 +186,7 @@ creator_makes table h u s i e =
     let as_child = h.children u (not_root_made table h u s e) i in
     record { child = as_child; creator = same_Some _ _ (sym as_child.is_creator ∙ e) }
 
+-- the creator of a task goes on after its last segment
 pub after_task : (table : Table)
     → IsNestedTable table
     → (u s : ℕ)
@@ -188,12 +197,14 @@ after_task table h u s i e =
     let made = creator_makes table h u s i e in
     subst (λ n. Continues table n ((task table u).last + 1)) made.creator made.child.resumes
 
+-- the first segment of a task comes right after its creator
 pub first_created : (table : Table) → IsNestedTable table → (u s : ℕ) → IsTask table u
     → (task table u).creator ≡ Some s → (task table u).first ≡ s + 1
 first_created table h u s i e =
     let made = creator_makes table h u s i e in
     made.child.first ∙ ap (λ (n : ℕ). n + 1) made.creator
 
+-- a task's last segment comes after its creator
 pub created_before : (table : Table) → IsNestedTable table → (u s : ℕ) → IsTask table u
     → (task table u).creator ≡ Some s → s < (task table u).last
 created_before table h u s i e =
@@ -201,6 +212,7 @@ created_before table h u s i e =
     let order = (h.segments u i).in_order in
     omega arith
 
+-- each task but the root has a parent that creates it
 pub below_root : (table : Table) → IsNestedTable table → (u : ℕ) → 0 < u → IsTask table u
     → IsCreated table u
 below_root table h u l i =
@@ -217,6 +229,7 @@ below_root table h u l i =
       };
     }
 
+-- a task with a parent has a creator
 pub has_creator : (table : Table)
     → IsNestedTable table
     → (u p : ℕ)
@@ -227,6 +240,7 @@ has_creator table h u p i e =
     let as_child = h.children u (not_root table h u p e) i in
     (as_child.creator, as_child.is_creator)
 
+-- the creator is a segment of the parent
 pub creator_of : (table : Table)
     → IsNestedTable table
     → (u p s : ℕ)
@@ -339,6 +353,7 @@ ended_before table h child before generated next =
           (generated.is_creator ∙ ap Some same_creator) next)
     ]
 
+-- so has one generated before t, where t is the next number
 next_ended : (table : Table)
     → IsNestedTable table
     → (child before t : ℕ)
@@ -350,6 +365,7 @@ next_ended table h child before t generated after next =
     ended_before table h child before
     (subst (λ n. IsEarlierChild table child n) (next_is table h before t after next) generated) next
 
+-- a child generated before a wait has ended before the segment that waits
 pub child_ends_before_wait : (table : Table)
     → IsNestedTable table
     → (child before t : ℕ)
@@ -360,6 +376,7 @@ pub child_ends_before_wait : (table : Table)
 child_ends_before_wait table h child before t generated after waits =
     next_ended table h child before t generated after (h.after_wait before after.is_from waits)
 
+-- a child inside a group has ended before the segment that ends the group
 pub child_ends_before_group : (table : Table)
     → IsNestedTable table
     → (child t : ℕ)
@@ -374,6 +391,7 @@ pub record EndsAfter (table : Table) (u t : ℕ) : Type 0 where
   pub ends : EndsBefore table t
   pub later : (task table u).last < ends.before
 
+-- a child ends before its parent
 last_lower : (table : Table)
     → IsNestedTable table
     → (u : ℕ)
@@ -385,6 +403,7 @@ last_lower table h u c i =
     (record { is_segment = c.resumes.is_to; of_task = c.resumes.same_task ∙ c.of_creator }) in
     omega arith
 
+-- the group that a task is generated in ends after it
 own_group : (table : Table) → IsNestedTable table → (u t : ℕ) → HasInnermost table u
     → (task table u).innermost_group ≡ Some t → EndsAfter table u t
 own_group table h u t g e =
@@ -400,6 +419,7 @@ own_group table h u t g e =
       later = child_ends_before_group table h u g.group encloses;
     })
 
+-- the innermost group ends after the task, be it the parent's group or an outer one
 group_from : (fuel : ℕ) (table : Table)
     → IsNestedTable table
     → IsGroupedTable table
@@ -435,6 +455,7 @@ group_from (suc fuel) table h g u t below i e =
           cc
     ]
 
+-- of a task's innermost group the end is known, and comes after the task
 pub group : (table : Table)
     → IsNestedTable table
     → IsGroupedTable table

@@ -29,6 +29,7 @@ task_counted Waits = refl
 task_counted GroupBegins = refl
 task_counted GroupEnds = refl
 
+-- the tasks that are begun are the marks that begin one
 pub tasks_counted : (marks : List Mark) → tasks_of marks ≡ count_by begins_task marks
 tasks_counted [] = refl
 tasks_counted (mark ∷ marks) =
@@ -54,6 +55,7 @@ between f begins ends body rest =
 opens_count : Mark → ℕ
 opens_count mark = cond (opens mark) 1 0
 
+-- the cuts of a nested program are the marks that open a segment
 segments_same : (marks : List Mark)
     → IsNested marks
     → sum_by segments_opened marks ≡ sum_by opens_count marks
@@ -90,6 +92,7 @@ segments_same _ (Group body rest g h) =
       between opens_count GroupBegins GroupEnds body rest,
     )
 
+-- and the segments are one more than these
 pub segments_counted : (marks : List Mark)
     → IsNested marks
     → segments_of marks ≡ count_by opens marks + 1
@@ -98,6 +101,7 @@ segments_counted marks h =
     let same : sum_by segments_opened marks ≡ count_by opens marks = segments_same marks h in
     omega arith
 
+-- the marks of a program are nested and keep within the limits
 pub reading : (program : ProgramMarks) → IsProgram program → IsReading program.marks
 reading program h =
     let nested = is_nested program h in

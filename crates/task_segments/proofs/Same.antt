@@ -26,9 +26,11 @@ use Rattle.task_segments.specs.contracts.copies.TaskFactsPartialEq.TheImpl as fa
 use Rattle.task_segments.specs.Copies.{facts_of}
 use denote.Enum.Bare.{same_true}
 
+-- a test of a fact tests what is equivalent to it
 pub decides_equivalent : {P Q : Type 0} (b : Bool) → (P → Q) → (Q → P) → Decides b P → Decides b Q
 decides_equivalent b to from (p, q) = (λ e. to (p e), λ x. q (from x))
 
+-- where two closings are equal
 closing_decides : (a b : Closing) → Decides (closing_eq.ghosts.eq a b) (a ≡ b)
 closing_decides (Creates t) (Creates u) =
     decides_equivalent (eqb t u) (λ e. ap Creates e) (λ e. cc) (Decides-eqb t u)
@@ -54,6 +56,7 @@ AreEqual a b =
     × ((a.index ≡ b.index)
     × ((a.cost ≡ b.cost) × ((a.closing ≡ b.closing) × (a.children_before ≡ b.children_before))))
 
+-- segments with the same fields are equal
 pub same_segment : (a b : Segment) → AreEqual a b → a ≡ b
 same_segment a b (t, (i, (c, (l, n)))) =
     ap (λ (v : ℕ). record a { task = v }) t
@@ -63,6 +66,7 @@ same_segment a b (t, (i, (c, (l, n)))) =
     l
     ∙ ap (λ (v : ℕ). record b { children_before = v }) n
 
+-- and the other way round
 fields_of : (a b : Segment) → a ≡ b → AreEqual a b
 fields_of a b e = (
   ap (λ (r : Segment). r.task) e,
@@ -76,6 +80,7 @@ fields_of a b e = (
   ),
 )
 
+-- the test of two segments is true exactly where they are equal
 pub segment_decides : (a b : Segment) → Decides (segment_eq.ghosts.eq a b) (a ≡ b)
 segment_decides a b =
     decides_equivalent (segment_eq.ghosts.eq a b) (same_segment a b) (fields_of a b)
@@ -101,6 +106,7 @@ same_item : (a b : Item) → (a.kind ≡ b.kind) × (a.name ≡ b.name) → a �
 same_item a b (k, n) =
     ap (λ (v : DependKind). record a { kind = v }) k ∙ ap (λ (v : ℕ). record b { name = v }) n
 
+-- and so is that of two items
 pub item_decides : (a b : Item) → Decides (item_eq.ghosts.eq a b) (a ≡ b)
 item_decides a b =
     decides_equivalent (item_eq.ghosts.eq a b) (same_item a b)
@@ -108,6 +114,7 @@ item_decides a b =
     (Decides-and (kind_eq.ghosts.eq a.kind b.kind) _ (kind_decides a.kind b.kind)
     (Decides-eqb a.name b.name))
 
+-- and of two numbers that may be missing
 pub option_decides : (a b : Option ℕ) → Decides (option_eq eqb a b) (a ≡ b)
 option_decides None None = (λ e. refl, λ e. refl)
 option_decides None (Some y) = (λ e. cc, λ e. cc)
@@ -124,6 +131,7 @@ HaveSameFacts a b =
     × ((a.last ≡ b.last)
     × ((a.innermost_group ≡ b.innermost_group) × (a.siblings_before ≡ b.siblings_before))))))
 
+-- facts with the same fields are equal
 pub same_facts : (a b : TaskFacts) → HaveSameFacts a b → a ≡ b
 same_facts a b (p, (c, (d, (f, (l, (g, n)))))) =
     ap (λ (v : Option ℕ). record a { parent = v }) p
@@ -147,6 +155,7 @@ same_facts a b (p, (c, (d, (f, (l, (g, n)))))) =
     ∙ ap (λ (v : Option ℕ). record b { innermost_group = v; siblings_before = a.siblings_before }) g
     ∙ ap (λ (v : ℕ). record b { siblings_before = v }) n
 
+-- and the other way round
 parts_of : (a b : TaskFacts) → a ≡ b → HaveSameFacts a b
 parts_of a b e = (
   ap (λ (r : TaskFacts). r.parent) e,
@@ -168,6 +177,7 @@ parts_of a b e = (
   ),
 )
 
+-- the test of two tasks' facts is true exactly where they are equal
 facts_decide : (a b : TaskFacts) → Decides (facts_eq.ghosts.eq a b) (a ≡ b)
 facts_decide a b =
     decides_equivalent (facts_eq.ghosts.eq a b) (same_facts a b) (parts_of a b)
@@ -180,6 +190,7 @@ facts_decide a b =
     (option_decides a.innermost_group b.innermost_group)
     (Decides-eqb a.siblings_before b.siblings_before)))))))
 
+-- tasks with equal facts and items are equal
 pub same_row : (a b : Task) → facts_of a ≡ facts_of b → a.items ≡ b.items → a ≡ b
 same_row a b e i =
     let row : TaskFacts → List Item → Task = λ p items. record {

@@ -18,6 +18,7 @@ record ChainFrom (costs : List ℕ) (R : ℕ → ℕ → Type 0) (s least : ℕ)
   inside : AreSegments costs (s ∷ more)
   at_least : least ≤ chain_sum costs (s ∷ more)
 
+-- a chain with one more segment in front
 one_more : (costs : List ℕ) (R : ℕ → ℕ → Type 0) (s m least : ℕ) → R s m → s < length costs
     → ChainFrom costs R m least → ChainFrom costs R s (at costs s + least)
 one_more costs R s m least r within c =
@@ -81,6 +82,7 @@ least_end_map costs R Q there back end
       least = λ other legal. h.least other (back other legal);
     }
 
+-- a schedule is legal for both, so the least starts are the same
 pub least_start_map : (costs : List ℕ) (R Q : ℕ → ℕ → Type 0)
     → ((starts : List ℕ) → IsLegal costs R starts → IsLegal costs Q starts)
     → ((starts : List ℕ) → IsLegal costs Q starts → IsLegal costs R starts) → (s start : ℕ)

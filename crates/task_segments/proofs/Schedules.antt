@@ -37,12 +37,15 @@ end_of-least (cost ∷ costs) (start ∷ starts) end h =
 abbrev pub by_rule : (ℕ → ℕ) → ℕ → List ℕ
 by_rule rule n = map rule (range_with_len 0 n)
 
+-- its starts are by the rule
 pub at-by_rule : (rule : ℕ → ℕ) (n s : ℕ) → s < n → at (by_rule rule n) s ≡ rule s
 at-by_rule rule n s h = get_or-map-range_with_len rule 0 n s s 0 h (omega arith)
 
+-- it has one for each segment
 pub length-by_rule : (rule : ℕ → ℕ) (n : ℕ) → length (by_rule rule n) ≡ n
 length-by_rule rule n = length-map-range_with_len rule 0 n
 
+-- it is legal where the rule leaves each cost its room
 pub IsLegal-by_rule : (costs : List ℕ) (R : ℕ → ℕ → Type 0) → IsAscending R → (rule : ℕ → ℕ)
     → ((s t : ℕ) → s < length costs → t < length costs → R s t → rule s + at costs s ≤ rule t)
     → IsLegal costs R (by_rule rule (length costs))
@@ -59,6 +62,7 @@ IsLegal-by_rule costs R ascending rule h = record {
       omega arith;
 }
 
+-- it ends where the rule ends
 pub end_of-by_rule : (costs : List ℕ) (rule : ℕ → ℕ) (end : ℕ)
     → ((s : ℕ) → s < length costs → rule s + at costs s ≤ end)
     → end_of costs (by_rule rule (length costs)) ≤ end
@@ -159,6 +163,7 @@ least_start-unique costs R s a b is_a is_b =
     let at_least : b ≤ at is_a.starts s = is_b.least is_a.starts is_a.legal in
     omega (arith, is_a.starts_so, is_b.starts_so)
 
+-- no slack is greater than another one of the same segment
 slack-le : (costs : List ℕ) (R : ℕ → ℕ → Type 0) (s a b : ℕ) → IsSlack costs R s a
     → IsSlack costs R s b → a ≤ b
 slack-le costs R s a b is_a is_b =

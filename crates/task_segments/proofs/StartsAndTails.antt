@@ -31,12 +31,14 @@ earliest-below costs R starts other ascending earliest legal (suc bound) t below
           omega arith
     ]
 
+-- no legal schedule starts a segment before its earliest start
 pub earliest-le : (costs : List ℕ) (R : ℕ → ℕ → Type 0) (starts other : List ℕ) → IsAscending R
     → IsEarliest costs R starts → IsLegal costs R other → (t : ℕ) → t < length costs
     → at starts t ≤ at other t
 earliest-le costs R starts other ascending earliest legal t inside =
     earliest-below costs R starts other ascending earliest legal (suc t) t (omega arith) inside
 
+-- the earliest starts are the least ones
 pub IsLeastStart-earliest : (costs : List ℕ) (R : ℕ → ℕ → Type 0) (starts : List ℕ) → IsAscending R
     → IsEarliest costs R starts → (s : ℕ) → s < length costs → IsLeastStart costs R s (at starts s)
 IsLeastStart-earliest costs R starts ascending earliest s inside = record {
@@ -57,6 +59,7 @@ earliest-ends costs R starts other ascending earliest legal =
     end_of-covers costs other legal.each s inside in
     omega arith)
 
+-- and the earliest schedule has the least end
 pub IsLeastEnd-earliest : (costs : List ℕ) (R : ℕ → ℕ → Type 0) (starts : List ℕ) → IsAscending R
     → IsEarliest costs R starts → IsLeastEnd costs R (end_of costs starts)
 IsLeastEnd-earliest costs R starts ascending earliest = record {
@@ -104,6 +107,7 @@ tail-above costs R tails other end ascending tailed legal ends (suc left) s abov
           omega arith
     ]
 
+-- in each legal schedule there is room for the tail of each segment before the end
 pub tail-fits : (costs : List ℕ) (R : ℕ → ℕ → Type 0) (tails other : List ℕ) (end : ℕ)
     → IsAscending R
     → IsTails costs R tails
@@ -132,6 +136,7 @@ latest_legal costs R starts tails ascending earliest tailed =
     let covers : at costs t + at tails t ≤ at tails s = tailed.covers s t t_in r in
     omega arith)
 
+-- and its end is the same
 pub latest_end : (costs : List ℕ) (R : ℕ → ℕ → Type 0) (starts tails : List ℕ) → IsAscending R
     → IsEarliest costs R starts → IsTails costs R tails
     → end_of costs (by_rule (latest_start costs tails (end_of costs starts)) (length costs))
@@ -226,6 +231,7 @@ least_end-from_span costs R starts ascending earliest some span is_span =
     (span-unique costs R _ span (IsSpan-earliest costs R starts ascending earliest some) is_span)
     (IsLeastEnd-earliest costs R starts ascending earliest)
 
+-- and the least end is the span
 pub span-from_least_end : (costs : List ℕ) (R : ℕ → ℕ → Type 0) (starts : List ℕ) → IsAscending R
     → IsEarliest costs R starts → 0 < length costs → (end : ℕ) → IsLeastEnd costs R end
     → IsSpan costs R end

@@ -28,6 +28,7 @@ total : List Mark → ℕ → ℕ
 total e zero = 0
 total e (suc n) = total e n + cost_of n e
 
+-- and the same as a sum over the rows
 total_is : (e : List Mark) (n : ℕ)
     → sum_by (λ (row : Segment). row.cost)
     (map (λ s. segment_row e s (opening_of s e)) (range_with_len 0 n))
@@ -68,6 +69,7 @@ unfolding total
 same m e h zero = refl
 same m e h (suc n) = omega (arith, same m e h n, h n)
 
+-- work adds its cost at most once
 adds : (cost : ℕ) (e : List Mark) (n : ℕ) → total (Works cost ∷ e) n ≤ total e n + cost
 unfolding total
 adds cost e zero = omega arith
