@@ -65,6 +65,7 @@ end_cases {costs} {R} {p} {m} {cursor} {next} {starts} {threads} {busy} state fi
           ]
     ]
 
+-- a segment that is ready before the next end is ready at this moment
 ready_then : {costs : List ℕ} {R : ℕ → ℕ → Type 0} {p m cursor next : ℕ} {starts : List ℕ}
     {threads : List (Option ℕ)} {busy : List ℕ}
     → IsAscending R
@@ -248,12 +249,12 @@ begun_by : {costs : List ℕ} {R : ℕ → ℕ → Type 0} {p m cursor : ℕ} {s
 begun_by {costs} {R} {p} {m} {cursor} {starts} {threads} {busy} asc state some early done =
     strong_induction (λ s. s < length costs → at starts s ≤ m) (λ s before h.
     let ready : ReadyBy costs R starts s m = λ r pred.
-    let l : r < length costs = omega (arith, asc.up r s pred) in
-    let first : at starts r ≤ m = before r (asc.up r s pred) l in
+    let inside_too : r < length costs = omega (arith, asc.up r s pred) in
+    let first : at starts r ≤ m = before r (asc.up r s pred) inside_too in
     elim (cases_lt 0 (at costs r)) [
       | inr none ↦ omega arith
       | inl pos ↦
-          elim (state.held r l pos first) [ inl q ↦ q | inr q ↦ omega (arith, q.2, done q.0) ]
+          elim (state.held r inside_too pos first) [ inl q ↦ q | inr q ↦ omega (arith, q.2, done q.0) ]
     ] in
     elim (cases_lt 0 (at costs s)) [
       | inr none ↦ state.at_once s m h (omega arith) (inr (refl, h)) ready

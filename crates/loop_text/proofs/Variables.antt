@@ -45,13 +45,13 @@ last_first : (blocks : List LoopBlock) (d : LoopBlock)
     → reverse blocks
     ≡ get_or blocks (length blocks - 1) d ∷ reverse (take (length blocks - 1) blocks)
 last_first blocks d some_block =
-    let n : ℕ = length blocks - 1 in
-    let all : n + 1 ≡ length blocks = omega (arith, some_block) in
-    let split : blocks ≡ take n blocks ++ get_or blocks n d ∷ [] = sym (take-length blocks)
+    let last : ℕ = length blocks - 1 in
+    let all : last + 1 ≡ length blocks = omega (arith, some_block) in
+    let split : blocks ≡ take last blocks ++ get_or blocks last d ∷ [] = sym (take-length blocks)
     ∙ ap (λ (k : ℕ). take k blocks) (sym all)
-    ∙ take_more blocks n d (omega (arith, some_block)) in
+    ∙ take_more blocks last d (omega (arith, some_block)) in
     ap (λ (bs : List LoopBlock). reverse bs) split
-    ∙ reverse-append (take n blocks) (get_or blocks n d ∷ [])
+    ∙ reverse-append (take last blocks) (get_or blocks last d ∷ [])
 
 variables_are : (blocks : List LoopBlock) (d : LoopBlock) → 1 ≤ length blocks
     → variables_of (reverse blocks)

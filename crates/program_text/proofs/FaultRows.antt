@@ -1,5 +1,5 @@
 -- The rows of a table of faults, none of which is out of memory.
-use Rattle.std.proofs.Common.{◌≡◌, Bool, true, false, cond, Option, Some, None, sym, ap, ◌∙◌}
+use Rattle.std.proofs.Common.{◌≡◌, Bool, true, false, cond, Option, Some, None, refl, sym, ap, ◌∙◌}
 use Rattle.program_text.specs.declared.fault.ReadKind.{ReadKind}
 use Rattle.program_text.specs.Answers.{is_memory}
 
@@ -18,3 +18,17 @@ none_of = None
 
 pub no_row : (kind : ReadKind) → none_of ≡ Some kind → is_memory kind ≡ false
 no_row kind h = absurd cc
+
+-- no row of a table gives a fault: its first test fails, and the rows below give none either
+pub row_passed : (b : Bool) (kind : ReadKind) (others : Option ReadKind)
+    → cond b (Some kind) others ≡ None
+    → (b ≡ false) × (others ≡ None)
+row_passed true kind others h = absurd cc
+row_passed false kind others h = (refl, h)
+
+-- and the other way round
+pub row_passes : (b : Bool) (kind : ReadKind) (others : Option ReadKind)
+    → b ≡ false
+    → others ≡ None
+    → cond b (Some kind) others ≡ None
+row_passes b kind others fails none_below = rw fails none_below

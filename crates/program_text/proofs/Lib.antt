@@ -1,3 +1,4 @@
+pub mod Bools
 pub mod Scanning
 pub mod Runs
 pub mod Numbers

@@ -37,7 +37,7 @@ steps_at_word : {P : Type 0} (step : P → List ℕ → Option P) (p : P) (word 
     → (length word ≡ 0 → ⊥)
     → all_steps step p (filter has_byte (word ∷ rest))
     ≡ all_steps step p (word ∷ filter has_byte rest)
-steps_at_word step p word rest some = let e = ne_eqb (length word) 0 some in rw e refl
+steps_at_word step p word rest some = let not_zero = ne_eqb (length word) 0 some in rw not_zero refl
 
 -- a part without bytes
 pub reads_nothing : {P : Type 0} (step : P → List ℕ → Option P) (begin : P) (parts : List (List ℕ))

@@ -32,7 +32,8 @@ no_pair : (one other : Item)
     → is_read other ≡ true
     → conflicts_with one other ≡ false
 no_pair one other h g =
-    let e = both_read one.kind other.kind h g in rw e (and_no (one.name == other.name))
+    let no_conflict = both_read one.kind other.kind h g in rw no_conflict
+    (and_no (one.name == other.name))
 
 none_with : (one : Item) (others : List Item) → is_read one ≡ true → list_all is_read others ≡ true
     → list_any (conflicts_with one) others ≡ false
@@ -40,8 +41,8 @@ none_with one [] h all = refl
 none_with one (other ∷ others) h all =
     let first : is_read other ≡ true = search rules in
     let rest : list_all is_read others ≡ true = search rules in
-    let e = no_pair one other h first in
-    rw (e, none_with one others h rest) refl
+    let no_conflict = no_pair one other h first in
+    rw (no_conflict, none_with one others h rest) refl
 
 pub reads_apart : (earlier later : List Item)
     → list_all is_read earlier ≡ true
@@ -56,7 +57,7 @@ reads_apart (one ∷ earlier) later all others =
 -- ---- names apart
 
 apart_pair : (one other : Item) → (one.name ≡ other.name → ⊥) → conflicts_with one other ≡ false
-apart_pair one other apart = let e = ne_eqb one.name other.name apart in rw e refl
+apart_pair one other apart = let differ = ne_eqb one.name other.name apart in rw differ refl
 
 apart_with : (one : Item) (others : List Item)
     → ((k : ℕ) (d : Item) → k < length others → one.name ≡ (get_or others k d).name → ⊥)

@@ -1,28 +1,17 @@
 -- How the scanner goes on from byte to byte, and from token to token.
-use Rattle.std.proofs.Common.{◌≡◌, ℕ, suc, ◌-◌, ◌<◌, ◌≤◌, Bool, true, false, ◌&&◌, ◌||◌, cond, List}
+use Rattle.std.proofs.Common.{◌≡◌, ℕ, suc, ◌-◌, ◌<◌, ◌≤◌, Bool, true, false, ◌&&◌, cond, List}
 use Rattle.std.proofs.Common.{[], ◌∷◌, length, take, drop, max, get_or, refl, sym, ap, ◌∙◌, arith}
 use Rattle.std.proofs.Common.{eqb, false-eqb}
 use Rattle.std.specs.Prelude.{count_by}
 use Rattle.std.specs.List.{prefix_len}
-use Rattle.std.proofs.lemmas.Bool.{eqb-true}
+use Rattle.std.proofs.lemmas.Bool.{eqb-true, or_parts}
 use Rattle.std.proofs.lemmas.List.{take_all}
 use Rattle.std.proofs.lemmas.List.Sums.{prefix_len-le-length}
 use Rattle.std.proofs.lemmas.Grind.{common_steps}
 use Rattle.program_text.specs.Tokens.{is_gap, in_comment_after, is_blank, is_line_feed, is_run_byte}
 use Rattle.program_text.specs.Tokens.{line_after, line_at_end, starts_with_run_byte}
 use Rattle.program_text.specs.Tokens.{with_byte_in_front, tokens_from, StandsAtToken}
-
-bool_cases : {P : Type 0} (b : Bool) → (b ≡ true → P) → (b ≡ false → P) → P
-bool_cases true on_true on_false = on_true refl
-bool_cases false on_true on_false = on_false refl
-
-or_false_left : (a b : Bool) → (a || b) ≡ false → a ≡ false
-or_false_left true b h = cc
-or_false_left false b h = refl
-
-or_false_right : (a b : Bool) → (a || b) ≡ false → b ≡ false
-or_false_right true b h = absurd cc
-or_false_right false b h = h
+use Rattle.program_text.proofs.Bools.{bool_cases}
 
 -- what a `[first, rest @ ..]` pattern binds as the rest
 pub rest_of_cons : (b : ℕ) (bytes : List ℕ)
@@ -65,20 +54,21 @@ unfolding tokens_from
 tokens_step line b bytes h = rw h refl
 
 no_hash : (b : ℕ) → is_gap false b ≡ false → in_comment_after false b ≡ false
-no_hash b h = or_false_right (is_blank b) (eqb b 35) h
+no_hash b h = (or_parts (is_blank b) (eqb b 35) h).1
 
 no_feed : (b line : ℕ) → is_gap false b ≡ false → line_after b line ≡ line
-no_feed b line h = let blank = or_false_left (is_blank b) (eqb b 35) h in
-    let feed = or_false_right (eqb b 13) (eqb b 10) (or_false_right _ _ blank) in rw feed refl
+no_feed b line h = let blank = (or_parts (is_blank b) (eqb b 35) h).0 in
+    let feed = (or_parts (eqb b 13) (eqb b 10) (or_parts _ _ blank).1).1 in rw feed refl
 
 -- a run byte differs from a byte that is none
 differs : (k b : ℕ) → is_run_byte k ≡ false → is_run_byte b ≡ true → eqb b k ≡ false
 differs k b k_is_none b_is_one =
     bool_cases (eqb b k)
-    (λ same. absurd (let e : b ≡ k = eqb-true b k same in let f = ap is_run_byte e in cc))
+    (λ same. absurd (let same_byte : b ≡ k = eqb-true b k same in let same_test = ap is_run_byte
+    same_byte in cc))
     (λ other. other)
 
-run_is_no_gap : (b : ℕ) → is_run_byte b ≡ true → is_gap false b ≡ false
+pub run_is_no_gap : (b : ℕ) → is_run_byte b ≡ true → is_gap false b ≡ false
 run_is_no_gap b h =
     rw (
       differs 32 b refl h,
@@ -140,8 +130,7 @@ pub record TakesToken (line : ℕ) (bytes : List ℕ) : Type 0 where
 
 feed_free : (b : ℕ) → is_gap false b ≡ false → is_line_feed b ≡ false
 feed_free b h =
-    or_false_right (eqb b 13) (eqb b 10)
-    (or_false_right _ _ (or_false_left (is_blank b) (eqb b 35) h))
+    (or_parts (eqb b 13) (eqb b 10) (or_parts _ _ (or_parts (is_blank b) (eqb b 35) h).0).1).1
 
 run_has_no_feed : (bytes : List ℕ)
     → count_by is_line_feed (drop (prefix_len is_run_byte bytes) bytes)

@@ -124,9 +124,10 @@ rest_from document after place is =
     let rest = drop place document in
     let all : length document - place ≡ length rest = sym (length-drop place document) in
     ap (λ k. take k rest) all ∙ take-length rest ∙ elim (cases_lt after (length document)) [
-      | inl within ↦ let e : place ≡ after = omega arith in ap (λ k. drop k document) e
+      | inl within ↦ let place_is : place ≡ after = omega arith in ap (λ k. drop k document)
+          place_is
       | inr past ↦
-          let e : place ≡ length document = omega arith in
+          let at_end : place ≡ length document = omega arith in
           drop_of_length-le document (omega arith) ∙ sym (drop_of_length-le document past)
     ]
 

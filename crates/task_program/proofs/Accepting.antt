@@ -6,6 +6,7 @@ use Rattle.std.specs.Prelude.{All, count_by}
 use Rattle.std.specs.List.{flat_map}
 use Rattle.std.proofs.lemmas.List.Elements.{All-head, All-tail}
 use Rattle.std.proofs.lemmas.List.Sums.{sum_by-cons}
+use Rattle.std.proofs.lemmas.Bool.{and_from, eq-eqb}
 use Rattle.task_program.specs.declared.place.Place.{Place}
 use Rattle.task_program.specs.declared.place.Place.TheVariants.{Header, Version, Statement}
 use Rattle.task_program.specs.declared.place.Place.TheVariants.{WorkNumber, GroupBrace, Clause}
@@ -37,10 +38,6 @@ and_parts : (a b : Bool) → (a && b) ≡ true → (a ≡ true) × (b ≡ true)
 and_parts true b h = (refl, h)
 and_parts false b h = absurd cc
 
-and_both : (a b : Bool) → a ≡ true → b ≡ true → (a && b) ≡ true
-and_both true b h g = g
-and_both false b h g = absurd cc
-
 pub accepts_next : (shape : Shape) (text : List ℕ) (texts : List (List ℕ))
     → accepts shape (text ∷ texts) ≡ true
     → (fits shape text ≡ true) × (accepts (lead shape text) texts ≡ true)
@@ -60,7 +57,7 @@ accepts_one_more : (place : Place) (has_if : Bool) (depth : ℕ) (text : List �
     → accepts (shape_at place has_if depth) (text ∷ texts) ≡ true
 unfolding accepts
 accepts_one_more place has_if depth text texts h later =
-    and_both (fits_at place has_if depth text) (accepts (lead_at place has_if depth text) texts) h
+    and_from (fits_at place has_if depth text) (accepts (lead_at place has_if depth text) texts) h
     later
 
 -- ---- names and clauses
@@ -145,7 +142,7 @@ clauses_accepted (DependClause kind names last ∷ clauses) has_if depth texts f
 
 -- ---- pieces
 
-word_fits : (end word : Bool) → end ≡ false → word ≡ true → (not end && (word || end)) ≡ true
+pub word_fits : (end word : Bool) → end ≡ false → word ≡ true → (not end && (word || end)) ≡ true
 word_fits false true no_end is_word = refl
 word_fits false false no_end is_word = absurd cc
 word_fits true word no_end is_word = absurd cc
@@ -218,9 +215,6 @@ version_fits true true h g = refl
 version_fits true false h g = absurd cc
 version_fits false one h g = absurd cc
 
-eqb-one : (n : ℕ) → n ≡ 1 → eqb n 1 ≡ true
-eqb-one n h = rw h refl
-
 -- each sentence is accepted from the start
 pub sentence_accepted : (texts : List (List ℕ))
     → IsSentence texts
@@ -232,5 +226,5 @@ sentence_accepted texts s =
     (accepts_one_more Header false 0 (codes "omptasks") (s.version ∷ rest) refl
     (accepts_one_more Version false 0 s.version rest
     (version_fits (is_number s.version) (eqb (value_of s.version) 1) s.version_is_one.0
-    (eqb-one (value_of s.version) s.version_is_one.1))
+    (eq-eqb (value_of s.version) 1 s.version_is_one.1))
     later))

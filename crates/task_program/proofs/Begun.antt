@@ -3,7 +3,7 @@ use Rattle.std.proofs.Common.{◌≡◌, ℕ, zero, suc, ◌+◌, ◌<◌, ◌�
 use Rattle.std.proofs.Common.{List, [], ◌∷◌, ◌++◌, length, length-append, append_assoc, Option}
 use Rattle.std.proofs.Common.{Some, Ok, refl, sym, ap, subst, ◌∙◌, arith, codes}
 use Rattle.std.specs.Prelude.{sum_by}
-use Rattle.std.proofs.lemmas.List.{append-nil}
+use Rattle.std.proofs.lemmas.List.{append-nil, map_push}
 use Rattle.std.proofs.lemmas.List.Sums.{sum_by-append}
 use Rattle.program_text.specs.declared.fault.ReadKind.{ReadKind}
 use Rattle.task_program.specs.declared.place.Place.{Place}
@@ -14,18 +14,19 @@ use Rattle.task_program.specs.declared.place.Place.TheVariants.{DependOpens, Dep
 use Rattle.task_program.specs.declared.place.Place.TheVariants.{DependColon, DependName, DependMore}
 use Rattle.program_text.specs.declared.statement.DependKind.{DependKind}
 use Rattle.program_text.specs.Marks.{Mark}
-use Rattle.program_text.specs.Tokens.{Token}
+use Rattle.program_text.specs.Tokens.{Token, texts}
 use Rattle.program_text.specs.Words.{is_text}
 use Rattle.task_program.specs.Faults.{State, Block, form_fault, place_fault, is_header}
 use Rattle.task_program.specs.Faults.{closes_nothing, is_allowed, step, after_at, after_end_of}
 use Rattle.task_program.specs.ViablePrefix.{IsSentence, IsViable}
-use Rattle.task_program.proofs.Keeping.{at, passes, bool_cases, unless_ok, ok_is}
+use Rattle.task_program.proofs.Keeping.{at, passes, unless_ok, ok_is}
 use Rattle.task_program.proofs.FoundPlaces.{same_text}
 use Rattle.task_program.proofs.FoundWhole.{bytes_stay}
 use Rattle.task_program.proofs.Shapes.{Shape, shape_at, one_less, closes_none, fits, lead_at, lead}
 use Rattle.task_program.proofs.Shapes.{Follows, FollowsAt, steps_back, nothing_follows}
 use Rattle.task_program.proofs.Shapes.{may_continue}
 use Rattle.task_program.proofs.Accepting.{accepts, is_whole, accepts_next, accepts_none}
+use Rattle.program_text.proofs.Bools.{bool_cases}
 
 abbrev pub shape_of : State → Shape
 shape_of state = shape_at state.place state.head.has_if (length state.tree.blocks)
@@ -187,11 +188,13 @@ pub viable_next : (before : List (List ℕ)) (state : State) (text : List ℕ) �
     → fits (shape_of state) text ≡ true → IsViable (before ++ text ∷ [])
 viable_next before state text b yes_fits =
     let next = lead (shape_of state) text in
-    let c = may_continue next.place next.has_if next.depth in
+    let continued = may_continue next.place next.has_if next.depth in
     let back =
-    steps_back state.place state.head.has_if (length state.tree.blocks) text c.0 yes_fits c.1 in (
-      c.0,
-      subst IsSentence (sym (append_assoc before (text ∷ []) c.0)) (b.follows (text ∷ c.0) back),
+    steps_back state.place state.head.has_if (length state.tree.blocks) text continued.0 yes_fits
+    continued.1 in (
+      continued.0,
+      subst IsSentence (sym (append_assoc before (text ∷ []) continued.0))
+          (b.follows (text ∷ continued.0) back),
     )
 
 pub fits_of : (state : State) (text : List ℕ)
@@ -212,9 +215,9 @@ step_begins before state next token b h =
     let passed = unless_ok (form_fault state.bytes token.text) token.line _ next h in
     let inside : State = record state { bytes = state.bytes + length token.text } in
     let placed = unless_ok (place_fault inside token.text) token.line _ next passed.1 in
-    let p = passes inside token.text placed.0 in
+    let passed = passes inside token.text placed.0 in
     let fits_so : fits (shape_of state) token.text ≡ true =
-    fits_of inside token.text p.header p.unopened p.allowed in
+    fits_of inside token.text passed.header passed.unopened passed.allowed in
     let same = ok_is (after_at state.place inside token.text token.line) next placed.1 in
     let leads : shape_of next ≡ lead (shape_of state) token.text = sym
     (ap (λ (s : State). shape_of s) same)
@@ -289,3 +292,8 @@ pub whole_now : (before : List (List ℕ)) (state : State) → Began before stat
     → is_whole state.place (length state.tree.blocks) ≡ true
 whole_now before state b s =
     accepts_none (shape_of state) (b.accepted [] (subst IsSentence (sym (append-nil before)) s))
+
+-- the texts of one token more
+pub texts_more : (before : List Token) (token : Token)
+    → texts (before ++ token ∷ []) ≡ texts before ++ token.text ∷ []
+texts_more before token = map_push (λ (t : Token). t.text) before token

@@ -1,6 +1,6 @@
 -- The bytes of the canonical text of version 2: those of its tokens are all that are no blanks, and
 -- at most half are blanks.
-use Rattle.std.proofs.Common.{◌≡◌, ℕ, ◌+◌, ◌*◌, ◌≤◌, Bool, true, false, not, ◌||◌, cond, List, []}
+use Rattle.std.proofs.Common.{◌≡◌, ℕ, ◌+◌, ◌*◌, ◌≤◌, Bool, true, false, not, cond, List, []}
 use Rattle.std.proofs.Common.{◌∷◌, ◌++◌, length, length-append, append_assoc, refl, sym, ap, subst}
 use Rattle.std.proofs.Common.{◌∙◌, arith, codes}
 use Rattle.std.specs.Prelude.{All, sum_by}
@@ -9,6 +9,7 @@ use Rattle.std.specs.Char.{is_ascii_digit}
 use Rattle.std.specs.Fmt.{decimal}
 use Rattle.std.proofs.lemmas.List.Elements.{All-head, All-tail}
 use Rattle.std.proofs.lemmas.List.Sums.{sum_by-append, sum_by-cons}
+use Rattle.std.proofs.lemmas.Bool.{and_parts, or_parts}
 use Rattle.program_text.specs.declared.statement.DependKind.{DependKind}
 use Rattle.program_text.specs.declared.statement.DependKind.TheVariants.{DependIn, DependOut}
 use Rattle.program_text.specs.declared.statement.DependKind.TheVariants.{DependInOut}
@@ -25,23 +26,21 @@ use Rattle.task_program.specs.Subscripts.{subscript}
 use Rattle.program_text.specs.declared.limits.TheConstants.{LARGEST_INDEX}
 use Rattle.program_text.specs.Tokens.{is_blank, is_run_byte}
 use Rattle.program_text.specs.Words.{is_run, is_word, begins_with_digit, type_word, is_number}
-use Rattle.task_program.proofs.Keeping.{bool_cases}
 use Rattle.task_program.proofs.Kept.{solid_more}
 use Rattle.task_program.proofs.ReadPieces.{digits_run}
-use Rattle.task_program.proofs.Spelled.{spell, run_no_gap, left_is_true, right_is_true}
+use Rattle.task_program.proofs.Spelled.{spell}
 use Rattle.task_program.proofs.Spelled.{decimal_number, joint_texts, after_texts_by}
 use Rattle.task_program.proofs.Spelled.{depend_texts_by, if_texts, line_texts_by}
 use Rattle.task_program.proofs.Locations.{word_alone, indexed_alone, subscript_texts}
 use Rattle.task_program.proofs.LinesSpelled.{IsLocated, HasLocations}
+use Rattle.program_text.proofs.Bools.{bool_cases}
+use Rattle.task_program.proofs.KeptNames.{solid_bytes-append}
+use Rattle.program_text.proofs.Scanning.{run_is_no_gap}
 
 -- the text has the bytes of these tokens and no more blanks than that
 record Weighs (text : List ℕ) (tokens : List (List ℕ)) : Type 0 where
   solid_is : solid_bytes text ≡ sum_by length tokens
   half : length text ≤ 2 * solid_bytes text
-
-solid-append : (one other : List ℕ)
-    → solid_bytes (one ++ other) ≡ solid_bytes one + solid_bytes other
-solid-append one other = sum_by-append _ one other
 
 weighs_together : (one other : List ℕ) (some more : List (List ℕ))
     → Weighs one some
@@ -50,23 +49,19 @@ weighs_together : (one other : List ℕ) (some more : List (List ℕ))
 weighs_together one other some more h g = record {
   solid_is = let first = h.solid_is in
       let second = g.solid_is in
-      omega (arith, first, second, solid-append one other, sum_by-append length some more);
+      omega (arith, first, second, solid_bytes-append one other, sum_by-append length some more);
   half = let first = h.half in
       let second = g.half in
-      omega (arith, first, second, solid-append one other, length-append one other);
+      omega (arith, first, second, solid_bytes-append one other, length-append one other);
 }
-
-no_blank : (blank hash : Bool) → (blank || hash) ≡ false → blank ≡ false
-no_blank true hash h = absurd cc
-no_blank false hash h = refl
 
 run_solid : (bytes : List ℕ) → list_all is_run_byte bytes ≡ true → solid_bytes bytes ≡ length bytes
 run_solid [] h = omega arith
 run_solid (b ∷ bytes) h =
-    let run : is_run_byte b ≡ true = left_is_true (is_run_byte b) (list_all is_run_byte bytes) h in
+    let run : is_run_byte b ≡ true = (and_parts (is_run_byte b) (list_all is_run_byte bytes) h).0 in
     let others : solid_bytes bytes ≡ length bytes =
-    run_solid bytes (right_is_true (is_run_byte b) (list_all is_run_byte bytes) h) in
-    let is : is_blank b ≡ false = no_blank (is_blank b) _ (run_no_gap b run) in
+    run_solid bytes (and_parts (is_run_byte b) (list_all is_run_byte bytes) h).1 in
+    let is : is_blank b ≡ false = (or_parts (is_blank b) _ (run_is_no_gap b run)).0 in
     let one : solid_bytes (b ∷ bytes) ≡ 1 + solid_bytes bytes = solid_more b bytes ∙ rw is refl in
     omega (arith, one, others)
 
@@ -77,12 +72,12 @@ run_weighs bytes h =
 
 word_run : (word : List ℕ) → is_word word ≡ true → list_all is_run_byte word ≡ true
 word_run word h =
-    right_is_true _ (list_all is_run_byte word)
-    (left_is_true (is_run word) (not (begins_with_digit word)) h)
+    (and_parts _ (list_all is_run_byte word)
+    (and_parts (is_run word) (not (begins_with_digit word)) h).0).1
 
 number_run : (digits : List ℕ) → is_number digits ≡ true → list_all is_run_byte digits ≡ true
 number_run digits h =
-    digits_run digits (right_is_true (begins_with_digit digits) (list_all is_ascii_digit digits) h)
+    digits_run digits (and_parts (begins_with_digit digits) (list_all is_ascii_digit digits) h).1
 
 -- ---- a location
 
@@ -214,9 +209,9 @@ ends_weigh first middle last some more end h one two few =
     first (middle ++ last)
     ∙ ap (λ (n : ℕ). length first + n) (length-append middle last) in
     let solids : solid_bytes (first ++ (middle ++ last))
-    ≡ solid_bytes first + (solid_bytes middle + solid_bytes last) = solid-append
+    ≡ solid_bytes first + (solid_bytes middle + solid_bytes last) = solid_bytes-append
     first (middle ++ last)
-    ∙ ap (λ (n : ℕ). solid_bytes first + n) (solid-append middle last) in
+    ∙ ap (λ (n : ℕ). solid_bytes first + n) (solid_bytes-append middle last) in
     let sums : sum_by length (some ++ (more ++ end))
     ≡ sum_by length some + (sum_by length more + sum_by length end) = sum_by-append
     length some (more ++ end)
@@ -284,7 +279,7 @@ pub text_weighs : (names : List (List ℕ)) (marks : List Mark)
     → TextWeighs (header_line Two ++ flat_map (line_of_mark names) marks)
     (codes "omptasks" ∷ codes "2" ∷ flat_map (line_texts_by (spell false) names) marks)
 text_weighs names marks all =
-    let w = weighs_together (header_line Two) (flat_map (line_of_mark names) marks)
+    let weighed = weighs_together (header_line Two) (flat_map (line_of_mark names) marks)
     (codes "omptasks" ∷ codes "2" ∷ []) (flat_map (line_texts_by (spell false) names) marks)
     header_weighs (lines_weigh names marks all) in
-    record { solid_is = w.solid_is; half = w.half }
+    record { solid_is = weighed.solid_is; half = weighed.half }

@@ -3,8 +3,8 @@ use Rattle.std.proofs.Common.{◌≡◌, ℕ, ◌<◌, ◌+◌, ◌≤◌, Bool,
 use Rattle.std.proofs.Common.{length, append_assoc, Option, Some, None, Result, Ok, Err, refl, sym}
 use Rattle.std.proofs.Common.{ap, subst, ◌∙◌, arith, codes}
 use Rattle.std.specs.Prelude.{sum_by, nat_lt, drop, map}
-use Rattle.std.proofs.lemmas.Bool.{ltb-false, ltb-true}
-use Rattle.std.proofs.lemmas.List.{append-nil, map_push, length-map, drop-append-le}
+use Rattle.std.proofs.lemmas.Bool.{ltb-false, ltb-true, not-false}
+use Rattle.std.proofs.lemmas.List.{append-nil, length-map, drop-append-le}
 use Rattle.program_text.specs.declared.fault.ReadKind.{ReadKind}
 use Rattle.program_text.specs.declared.fault.ReadKind.TheVariants.{TooLong, BadHeader, BadWord}
 use Rattle.program_text.specs.declared.fault.ReadKind.TheVariants.{Unclosed, Unopened}
@@ -33,10 +33,9 @@ use Rattle.task_program.specs.FirstFault.AreRight.{Nothing, More}
 use Rattle.task_program.specs.FirstFault.EndsEarly.{InHeader, BlockOpen, Inside}
 use Rattle.task_program.specs.FirstFault.IsFirstFault.{AtToken, AtEnd}
 use Rattle.task_program.specs.FirstFault.HasFault.{TextTooLong, OfTokens}
-use Rattle.task_program.proofs.Keeping.{at, passes, bool_cases, unless_ok, ok_is, step_keeps}
-use Rattle.task_program.proofs.FoundPlaces.{is_true}
+use Rattle.task_program.proofs.Keeping.{at, passes, unless_ok, ok_is, step_keeps}
 use Rattle.task_program.proofs.FoundWhole.{step_went}
-use Rattle.task_program.proofs.ReadWhole.{of_one}
+use Rattle.task_program.proofs.ReadWhole.{of_one, too_long, same_fault, fault_so}
 use Rattle.task_program.proofs.Shapes.{closes_none, fits_at, FollowsAt, nothing_follows}
 use Rattle.task_program.proofs.Accepting.{is_whole, sentence_accepted}
 use Rattle.task_program.proofs.Tallies.{Tally, tally_of, tally_after, tally_now, limit_of, limits}
@@ -46,7 +45,8 @@ use Rattle.task_program.proofs.Tallies.{nothing_counted}
 use Rattle.task_program.proofs.Begun.{LengthAt, Began, is_not_viable, viable_next, fits_of}
 use Rattle.task_program.proofs.Begun.{step_begins, row_cases, in_header, after_header, closes_at}
 use Rattle.task_program.proofs.Begun.{whole_closes, whole_now, closes_same, no_header, no_close}
-use Rattle.task_program.proofs.Begun.{none_allowed}
+use Rattle.task_program.proofs.Begun.{none_allowed, texts_more}
+use Rattle.program_text.proofs.Bools.{bool_cases}
 
 -- ---- what is known where these tokens were read
 
@@ -172,10 +172,6 @@ tally_goes before state bytes next token c allowed same =
     ∙ header_tallies state.place inside token.text token.line here
     ∙ on)
 
-texts_more : (before : List Token) (token : Token)
-    → texts (before ++ token ∷ []) ≡ texts before ++ token.text ∷ []
-texts_more before token = map_push (λ (t : Token). t.text) before token
-
 -- nothing is wrong with a token after which the reading goes on
 token_right : (before : List Token) (state next : State) (token : Token) → Counts before state
     → step state token ≡ Ok next → IsRight before token.text
@@ -183,16 +179,25 @@ unfolding step
 token_right before state next token c h =
     let passed = unless_ok (form_fault state.bytes token.text) token.line _ next h in
     let inside : State = record state { bytes = state.bytes + length token.text } in
-    let p = passes inside token.text
+    let no_fault = passes inside token.text
     (unless_ok (place_fault inside token.text) token.line _ next passed.1).0 in
     let no_limit : limits state token.text ≡ None =
-    rw (p.number, p.nesting, p.tasks, p.segments, p.items, p.work) refl in
+    rw (
+      no_fault.number,
+      no_fault.nesting,
+      no_fault.tasks,
+      no_fault.segments,
+      no_fault.items,
+      no_fault.work,
+    ) refl in
     record {
       formed = subst (λ (n : ℕ). form_fault n token.text ≡ None) c.began.bytes_are passed.0;
       viable = viable_next (texts before) state token.text c.began
-          (fits_of state token.text p.header p.unopened p.allowed);
+          (fits_of state token.text no_fault.header no_fault.unopened no_fault.allowed);
       within =
-          limits_so before state token.text c (is_true _ p.header) (is_true _ p.allowed) ∙ no_limit;
+          limits_so before state token.text c (not-false _ no_fault.header)
+          (not-false _ no_fault.allowed) ∙
+          no_limit;
     }
 
 counts_more : (before : List Token) (state next : State) (token : Token) → Counts before state
@@ -204,7 +209,7 @@ counts_more before state next token c h =
     let placed = unless_ok (place_fault inside token.text) token.line _ next passed.1 in
     let same = ok_is (after_at state.place inside token.text token.line) next placed.1 in
     let allowed : is_allowed state.place state.head.has_if token.text ≡ true =
-    is_true _ (passes inside token.text placed.0).allowed in
+    not-false _ (passes inside token.text placed.0).allowed in
     record {
       began = subst (λ (ts : List (List ℕ)). Began ts next) (sym (texts_more before token))
           (step_begins (texts before) state next token c.began h);
@@ -218,9 +223,6 @@ counts_more before state next token c h =
 
 -- ---- the fault of a token
 
-abbrev fault_so : ReadKind → ℕ → ReadFault
-fault_so kind line = record { kind = kind; line = line }
-
 -- the fault of a token that is one by itself
 at_place : (before : List Token) (state : State) (text : List ℕ) (kind : ReadKind)
     → Counts before state
@@ -228,7 +230,7 @@ at_place : (before : List Token) (state : State) (text : List ℕ) (kind : ReadK
     → place_fault state text ≡ Some kind
     → IsWrong before text kind
 at_place before state text kind c formed h =
-    let b = c.began in
+    let began = c.began in
     let place = state.place in
     let depth = length state.tree.blocks in
     let header_is = is_header place text in
@@ -238,15 +240,16 @@ at_place before state text kind c formed h =
     closes_same place state.tree.blocks text in
     row_cases (not header_is) BadHeader kind _ h
     (λ bad same. subst (IsWrong before text) same (Misplaced before text BadHeader formed
-    (is_not_viable (texts before) state text b (no_header header_is closes_is allowed_is bad))
-    (OfHeader (texts before) text (in_header place text (length (texts before)) b.length_is bad))))
+    (is_not_viable (texts before) state text began (no_header header_is closes_is allowed_is bad))
+    (OfHeader (texts before) text (in_header place text (length (texts before)) began.length_is
+    bad))))
     (λ header h1. row_cases (closes_nothing place state.tree.blocks text) Unopened kind _ h1
     (λ closes same.
     let whole = closes_at place state.head.has_if depth text (sym closes_so ∙ closes) in
     let sentence : IsSentence (texts before) = subst IsSentence (append-nil (texts before))
-    (b.follows [] whole.1) in
+    (began.follows [] whole.1) in
     subst (IsWrong before text) same (Misplaced before text Unopened formed
-    (is_not_viable (texts before) state text b
+    (is_not_viable (texts before) state text began
     (no_close header_is _ closes_is allowed_is closes closes_so))
     (AfterWhole (texts before) text sentence whole.0)))
     (λ unopened h2. row_cases (not allowed_is) BadWord kind _ h2
@@ -254,17 +257,20 @@ at_place before state text kind c formed h =
     let no_whole : IsSentence (texts before) → text ≡ codes "}"
     → ⊥ = λ s text_is. absurd
     (let wrong : true
-    ≡ false = sym (whole_closes place depth text (whole_now (texts before) state b s) text_is)
+    ≡ false = sym (whole_closes place depth text (whole_now (texts before) state began s) text_is)
     ∙ sym closes_so
     ∙ unopened in cc)
     in
     subst (IsWrong before text) same (Misplaced before text BadWord formed
-    (is_not_viable (texts before) state text b (none_allowed header_is closes_is allowed_is bad))
+    (is_not_viable (texts before) state text began
+    (none_allowed header_is closes_is allowed_is bad))
     (Elsewhere (texts before) text
-    (after_header place state.head.has_if text (length (texts before)) b.length_is bad) no_whole)))
+    (after_header place state.head.has_if text (length (texts before)) began.length_is bad)
+    no_whole)))
     (λ allowed h3. PastLimit before text kind formed
-    (viable_next (texts before) state text b (fits_of state text header unopened allowed))
-    (limits_so before state text c (is_true header_is header) (is_true allowed_is allowed) ∙ h3))))
+    (viable_next (texts before) state text began (fits_of state text header unopened allowed))
+    (limits_so before state text c (not-false header_is header) (not-false allowed_is allowed) ∙
+    h3))))
 
 unless_err : {P : Type 0} (found : Option ReadKind) (line : ℕ) (after : Result State ReadFault)
     (fault : ReadFault)
@@ -452,11 +458,11 @@ ended_ok _ has_if blocks line state program h = absurd cc
 early_at : (all : List Token) (state : State) (end_line : ℕ) (fault : ReadFault) → Counts all state
     → end_at state.place state.tree.blocks end_line ≡ Some fault → EndsEarly all end_line fault
 early_at all state end_line fault c h =
-    let b = c.began in
+    let began = c.began in
     end_by all state.place state.head.has_if state.tree.blocks end_line fault
-    (subst (λ (n : ℕ). LengthAt state.place n) (texts_long all) b.length_is)
-    (ap (λ (t : Tally). t.braces) c.tally_is) (viable_next (texts all) state (codes "}") b)
-    (is_not_viable (texts all) state (codes "}") b) h
+    (subst (λ (n : ℕ). LengthAt state.place n) (texts_long all) began.length_is)
+    (ap (λ (t : Tally). t.braces) c.tally_is) (viable_next (texts all) state (codes "}") began)
+    (is_not_viable (texts all) state (codes "}") began) h
 
 end_is : (state : State) (line : ℕ) (fault : ReadFault) → read_tokens [] line state ≡ Err fault
     → end_at state.place state.tree.blocks line ≡ Some fault
@@ -538,16 +544,6 @@ at_start = record {
   right = Nothing;
 }
 
-too_long : (text : List ℕ)
-    → nat_lt MOST_TEXT_BYTES (length text) ≡ true
-    → program_of text ≡ Err (fault_so TooLong 1)
-too_long text long = rw long refl
-
-same_fault : (read : Result ProgramMarks ReadFault) (one other : ReadFault) → read ≡ Err one
-    → read ≡ Err other
-    → one ≡ other
-same_fault read one other h g = cc
-
 -- ---- and whatever has the fault is refused with it
 
 -- where right tokens were read
@@ -577,18 +573,18 @@ right_read : (before : List Token) → AreRight before → ReadSo before
 right_read before
     Nothing = record { state = start; counts = at_start; goes_on = λ later line. refl }
 right_read before (More others token rights right) =
-    let r = right_read others rights in
-    step_cases (step r.state token)
+    let read_on = right_read others rights in
+    step_cases (step read_on.state token)
     (λ next one. record {
       state = next;
-      counts = counts_more others r.state next token r.counts one;
+      counts = counts_more others read_on.state next token read_on.counts one;
       goes_on = λ later line.
           ap (λ (ts : List Token). read_tokens ts line start)
           (append_assoc others (token ∷ []) later)
-          ∙ r.goes_on (token ∷ later) line
-          ∙ one_on token later line r.state next one;
+          ∙ read_on.goes_on (token ∷ later) line
+          ∙ one_on token later line read_on.state next one;
     })
-    (λ fault stops. let wrong = token_wrong others r.state token fault r.counts stops in
+    (λ fault stops. let wrong = token_wrong others read_on.state token fault read_on.counts stops in
     absurd (right_not_wrong others token.text wrong.0 right wrong.1))
 
 abbrev fault_of_program : ReadFault → Result ProgramMarks ReadFault
@@ -599,18 +595,18 @@ refused_at : (before later : List Token) (token : Token) (line : ℕ) (kind : Re
     → IsWrong before token.text kind
     → read_tokens (before ++ token ∷ later) line start ≡ Err (fault_so kind token.line)
 refused_at before later token line kind rights wrong =
-    let r = right_read before rights in
-    step_cases (step r.state token)
+    let read_on = right_read before rights in
+    step_cases (step read_on.state token)
     (λ next one. absurd (right_not_wrong before token.text kind
-    (token_right before r.state next token r.counts one) wrong))
+    (token_right before read_on.state next token read_on.counts one) wrong))
     (λ fault stops.
-    let told = token_wrong before r.state token fault r.counts stops in
+    let told = token_wrong before read_on.state token fault read_on.counts stops in
     let same : fault
     ≡ fault_so kind token.line = sym told.2
     ∙ ap (λ (k : ReadKind). fault_so k token.line)
     (wrong_once before token.text told.0 kind told.1 wrong) in
-    r.goes_on (token ∷ later) line
-    ∙ one_stops token later line r.state fault stops
+    read_on.goes_on (token ∷ later) line
+    ∙ one_stops token later line read_on.state fault stops
     ∙ ap (λ (f : ReadFault). fault_of_program f) same)
 
 read_cases : {P : Type 0} (read : Result ProgramMarks ReadFault)
@@ -626,12 +622,13 @@ early_once : (all : List Token) (line : ℕ) (one other : ReadFault)
     → read_tokens all line start ≡ Err other
     → one ≡ other
 early_once all line one other rights early h =
-    let r = right_read all rights in
-    let ended_so : read_tokens [] line r.state ≡ Err other = sym (r.goes_on [] line)
+    let read_on = right_read all rights in
+    let ended_so : read_tokens [] line read_on.state ≡ Err other = sym (read_on.goes_on [] line)
     ∙ ap (λ (ts : List Token). read_tokens ts line start) (append-nil all)
     ∙ h in
     ends_once all line one other early
-    (early_at all r.state line other r.counts (end_is r.state line other ended_so))
+    (early_at all read_on.state line other read_on.counts
+    (end_is read_on.state line other ended_so))
 
 refused_end : (all : List Token) (line : ℕ) (fault : ReadFault)
     → AreRight all
@@ -657,14 +654,15 @@ refused_first tokens line fault (AtEnd _ _ _ rights no_sentence early) =
 whole_read : (all : List Token) (line : ℕ) → IsSentence (texts all) → AreRight all
     → (program : ProgramMarks) × (read_tokens all line start ≡ Ok program)
 whole_read all line s rights =
-    let r = right_read all rights in
-    let to_end : read_tokens all line start ≡ read_tokens [] line r.state = ap
+    let read_on = right_read all rights in
+    let to_end : read_tokens all line start ≡ read_tokens [] line read_on.state = ap
     (λ (ts : List Token). read_tokens ts line start) (sym (append-nil all))
-    ∙ r.goes_on [] line in
+    ∙ read_on.goes_on [] line in
     read_cases (read_tokens all line start)
     (λ program h. (program, h))
-    (λ fault h. absurd (whole_ends r.state.place r.state.tree.blocks line fault
-    (whole_now (texts all) r.state r.counts.began s) (end_is r.state line fault (sym to_end ∙ h))))
+    (λ fault h. absurd (whole_ends read_on.state.place read_on.state.tree.blocks line fault
+    (whole_now (texts all) read_on.state read_on.counts.began s)
+    (end_is read_on.state line fault (sym to_end ∙ h))))
 
 short_refused : (text : List ℕ) (fault : ReadFault)
     → length text ≤ MOST_TEXT_BYTES
@@ -687,7 +685,8 @@ told_apart text one short =
       read = (
         λ r. let whole = whole_from (tokens_of text) [] start line r.0 at_start (sym so ∙ r.1) in
             record { text_fits = fits; sentence = whole.0; right = whole.1 },
-        λ w. let r = whole_read (tokens_of text) line w.sentence w.right in (r.0, so ∙ r.1),
+        λ w. let read_whole = whole_read (tokens_of text) line w.sentence w.right in
+            (read_whole.0, so ∙ read_whole.1),
       );
       refused = λ fault. (
         λ h. OfTokens text fault fits

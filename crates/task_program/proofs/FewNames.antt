@@ -1,30 +1,21 @@
 -- Names stay few, piece by piece.
-use Rattle.std.proofs.Common.{◌≡◌, ℕ, ◌+◌, ◌<◌, ◌≤◌, List, [], ◌∷◌, ◌++◌, length, length-append}
+use Rattle.std.proofs.Common.{◌≡◌, ◌+◌, ◌<◌, List, [], ◌∷◌, ◌++◌, length, length-append}
 use Rattle.std.proofs.Common.{None, Ok, subst, arith}
 use Rattle.std.specs.Prelude.{nat_le}
-use Rattle.std.specs.List.{list_any}
-use Rattle.std.specs.Str.{bytes_eq}
 use Rattle.std.proofs.lemmas.Bool.{leb-false}
 use Rattle.program_text.specs.declared.statement.Item.{Item}
 use Rattle.program_text.specs.Marks.Mark.{Begins}
 use Rattle.program_text.specs.Limits.{tasks_begun}
 use Rattle.program_text.specs.declared.limits.TheConstants.{MOST_ITEMS}
-use Rattle.task_program.specs.Names.{number_of_name, with_name}
+use Rattle.task_program.specs.Names.{number_of_name}
 use Rattle.task_program.specs.Expansion.{Piece}
 use Rattle.task_program.specs.Expansion.Piece.{TurnBegins, TaskComes, ItemComes, TaskOpens}
 use Rattle.task_program.specs.Expansion.Piece.{GroupComes, GroupOpens, BlockEnds, WorkIs, WaitIs}
 use Rattle.task_program.specs.SecondPass.{ExpansionState, fault_of, after_piece, take_pieces}
 use Rattle.task_program.specs.FewNames.{HasFewNames}
 use Rattle.task_program.proofs.Allowed.{below_piece, weighs}
-use Rattle.task_program.proofs.Keeping.{bool_cases, with_one}
+use Rattle.task_program.proofs.Keeping.{with_one, one_name_more}
 use Rattle.task_program.proofs.KeptNames.{take_pieces_first, at_end, not_first, is_fault}
-
-one_name_more : (names : List (List ℕ)) (name : List ℕ)
-    → length (with_name names name) ≤ length names + 1
-one_name_more names name =
-    bool_cases (list_any (bytes_eq name) names)
-    (λ known. rw known (omega arith))
-    (λ new. rw new (omega (arith, length-append names (name ∷ []))))
 
 few_piece : (state : ExpansionState) (piece : Piece)
     → fault_of state piece ≡ None

@@ -1,16 +1,17 @@
 -- What is read at each place outside a statement's clauses is spelled so.
-use Rattle.std.proofs.Common.{◌≡◌, ℕ, zero, suc, ◌+◌, ◌≤◌, Bool, true, false, not, ◌&&◌, ◌||◌, cond}
+use Rattle.std.proofs.Common.{◌≡◌, ℕ, zero, suc, ◌+◌, ◌≤◌, Bool, true, false, ◌&&◌, ◌||◌, cond}
 use Rattle.std.proofs.Common.{eqb, List, [], ◌∷◌, ◌++◌, length, map, append_assoc, Option, Some}
 use Rattle.std.proofs.Common.{refl, sym, ap, subst, ◌∙◌, arith, codes}
 use Rattle.std.specs.Prelude.{All, fold, count_by, slice_get}
 use Rattle.std.specs.List.{list_any, flat_map, AllZip}
 use Rattle.std.specs.Str.{bytes_eq}
-use Rattle.std.proofs.lemmas.Bool.{eqb-true}
+use Rattle.std.proofs.lemmas.Bool.{eqb-true, and_parts, not-false}
 use Rattle.std.proofs.lemmas.Slice.Eq.{bytes_eq-Decides}
 use Rattle.std.proofs.lemmas.List.{append-nil, map_push}
 use Rattle.std.proofs.lemmas.List.Sums.{fold-append, sum_by-append}
 use Rattle.std.proofs.lemmas.List.Concat.{flat_map-append}
 use Rattle.std.proofs.lemmas.List.Elements.{All-push}
+use Rattle.std.proofs.Math.Bool.{or-false}
 use Rattle.task_program.specs.declared.place.Place.{Place}
 use Rattle.task_program.specs.declared.place.Place.TheVariants.{Header, Version, Statement}
 use Rattle.task_program.specs.declared.place.Place.TheVariants.{WorkNumber, GroupBrace, Clause}
@@ -31,7 +32,8 @@ use Rattle.task_program.specs.Grammar.Clause.{IfClause, DependClause}
 use Rattle.task_program.specs.Grammar.Written.{WorkWritten, TaskWritten, GroupWritten}
 use Rattle.task_program.specs.Faults.{State, Head, Block, after_at, no_clauses}
 use Rattle.task_program.specs.Faults.Block.{GroupBlock}
-use Rattle.task_program.proofs.Keeping.{at, Passes, bool_cases}
+use Rattle.task_program.proofs.Keeping.{at, Passes}
+use Rattle.program_text.proofs.Bools.{or_true_right, bool_cases}
 
 -- the whole pieces so far, and of the piece that is being read: its whole clauses, and of the
 -- clause that is being read its number, its names with a comma, and the last name
@@ -134,10 +136,6 @@ Explained texts state = (p : Parts) × Explains texts state p
 pub same_text : (text word : List ℕ) → is_text text word ≡ true → text ≡ word
 same_text text word h = (bytes_eq-Decides text word).0 h
 
-pub is_true : (b : Bool) → not b ≡ false → b ≡ true
-is_true true h = refl
-is_true false h = cc
-
 AllZip-more : {A B : Type 0} (R : A → B → Type 0) (xs : List A) (ys : List B) (x : A) (y : B)
     → AllZip R xs ys
     → R x y
@@ -157,21 +155,11 @@ AllZip-weaker R Q f [] (b ∷ ys) all = all
 AllZip-weaker R Q f (a ∷ xs) [] all = all
 AllZip-weaker R Q f (a ∷ xs) (b ∷ ys) all = (f a b all.0, AllZip-weaker R Q f xs ys all.1)
 
-and_true_left : (a b : Bool) → (a && b) ≡ true → a ≡ true
-and_true_left true b h = refl
-and_true_left false b h = h
-
-and_true_right : (a b : Bool) → (a && b) ≡ true → b ≡ true
-and_true_right true b h = h
-and_true_right false b h = absurd cc
-
-pub or_true_right : (a b : Bool) → (a || b) ≡ true → a ≡ false → b ≡ true
-or_true_right true b h no_a = absurd cc
-or_true_right false b h no_a = h
-
-flat_more : {X A : Type 0} (f : X → List A) (xs : List X) (x : X)
+-- one element more at the end
+pub flat_map-push : {X A : Type 0} (f : X → List A) (xs : List X) (x : X)
     → flat_map f (xs ++ x ∷ []) ≡ flat_map f xs ++ f x
-flat_more f xs x = flat_map-append f xs (x ∷ []) ∙ ap (λ ys. flat_map f xs ++ ys) (append-nil (f x))
+flat_map-push f xs x = flat_map-append f xs (x ∷ []) ∙ ap (λ ys. flat_map f xs ++ ys)
+    (append-nil (f x))
 
 -- ---- names
 
@@ -295,14 +283,14 @@ clause_done : (p : Parts) (clause : grammar.Clause)
     ≡ so_far (with_clause p clause) (in_task (with_clause p clause) [])
 unfolding with_clause
 clause_done p clause =
-    ap (λ x. so_far p (codes "task" ∷ x)) (sym (flat_more clause_texts p.clauses clause)
+    ap (λ x. so_far p (codes "task" ∷ x)) (sym (flat_map-push clause_texts p.clauses clause)
     ∙ sym (append-nil (flat_map clause_texts (p.clauses ++ clause ∷ []))))
 
 piece_done : (p : Parts) (piece : Written)
     → so_far p (texts_of piece) ≡ so_far (with_piece p piece) []
 unfolding with_piece
 piece_done p piece =
-    ap (λ x. codes "omptasks" ∷ p.version ∷ x) (sym (flat_more texts_of p.written piece)
+    ap (λ x. codes "omptasks" ∷ p.version ∷ x) (sym (flat_map-push texts_of p.written piece)
     ∙ sym (append-nil (flat_map texts_of (p.written ++ piece ∷ []))))
 
 -- ---- the places
@@ -315,7 +303,7 @@ Goes state place text line before p =
 pub if_opens_goes : (state : State) (text : List ℕ) (line : ℕ) (before : List (List ℕ)) (p : Parts)
     → Goes state IfOpens text line before p
 if_opens_goes state text line before p passes e =
-    let text_is = same_text text (codes "(") (is_true _ passes.allowed) in (
+    let text_is = same_text text (codes "(") (not-false _ passes.allowed) in (
       p,
       record {
         spelled = task_more before p (codes "if" ∷ []) text (codes "(") e.spelled text_is;
@@ -332,7 +320,7 @@ pub work_goes : (state : State) (text : List ℕ) (line : ℕ) (before : List (L
     → Goes state WorkNumber text line before p
 unfolding with_piece
 work_goes state text line before p passes e =
-    let number = is_true _ passes.allowed in (
+    let number = not-false _ passes.allowed in (
       with_piece p (WorkWritten text),
       record {
         spelled = one_more before p (codes "work" ∷ []) text text e.spelled refl
@@ -354,10 +342,6 @@ counts_none [] h = (refl, refl)
 counts_none (IfClause number ∷ clauses) h = absurd cc
 counts_none (DependClause kind names last ∷ clauses) h = counts_none clauses h
 
-pub or_nil : (b : Bool) → (b || false) ≡ b
-or_nil true = refl
-or_nil false = refl
-
 or_assoc : (a b c : Bool) → (a || (b || c)) ≡ ((a || b) || c)
 or_assoc true b c = refl
 or_assoc false b c = refl
@@ -365,7 +349,7 @@ or_assoc false b c = refl
 list_any-push : (test : grammar.Clause → Bool) (clauses : List grammar.Clause)
     (clause : grammar.Clause)
     → list_any test (clauses ++ clause ∷ []) ≡ (list_any test clauses || test clause)
-list_any-push test [] clause = or_nil (test clause)
+list_any-push test [] clause = or-false (test clause)
 list_any-push test (first ∷ clauses) clause =
     ap (λ b. test first || b) (list_any-push test clauses clause)
     ∙ or_assoc (test first) (list_any test clauses) (test clause)
@@ -386,7 +370,7 @@ list_any-same : (test : grammar.Clause → Bool) (clauses : List grammar.Clause)
 list_any-same test clauses clause h =
     list_any-push test clauses clause
     ∙ ap (λ b. list_any test clauses || b) h
-    ∙ or_nil (list_any test clauses)
+    ∙ or-false (list_any test clauses)
 
 count-push : (clauses : List grammar.Clause) (clause : grammar.Clause)
     → count_by is_if (clauses ++ clause ∷ [])
@@ -396,7 +380,7 @@ count-push clauses clause = sum_by-append (λ c. cond (is_if c) 1 0) clauses (cl
 items-if : (clauses : List grammar.Clause) (number : List ℕ)
     → flat_map named_items (clauses ++ IfClause number ∷ []) ≡ flat_map named_items clauses
 items-if clauses number =
-    flat_more named_items clauses (IfClause number) ∙ append-nil (flat_map named_items clauses)
+    flat_map-push named_items clauses (IfClause number) ∙ append-nil (flat_map named_items clauses)
 
 abbrev pub names_after : Parts → List (DependKind × List ℕ) → List (List ℕ)
 names_after p items =
@@ -406,7 +390,7 @@ pub if_closes_goes : (state : State) (text : List ℕ) (line : ℕ) (before : Li
     → Goes state IfCloses text line before p
 unfolding with_clause
 if_closes_goes state text line before p passes e =
-    let text_is = same_text text (codes ")") (is_true _ passes.allowed) in
+    let text_is = same_text text (codes ")") (not-false _ passes.allowed) in
     let clause = IfClause p.number in
     let none = counts_none p.clauses e.head.0 in (
       with_clause p clause,
@@ -433,7 +417,7 @@ pub name_goes : (state : State) (kind : DependKind) (text : List ℕ) (line : �
     (before : List (List ℕ)) (p : Parts)
     → Goes state (DependName kind) text line before p
 name_goes state kind text line before p passes e =
-    let word = is_true (is_word text) passes.allowed in
+    let word = not-false (is_word text) passes.allowed in
     let named : List ℕ → DependKind × List ℕ = λ name. (kind, name) in
     let second : DependKind × List ℕ → List ℕ = λ item. item.1 in
     let here = flat_map named_items p.clauses ++ map named p.names in
@@ -484,7 +468,7 @@ comma_goes state kind text before p text_is e =
             ∙ ap (λ x.
             so_far p (in_task p (codes "depend" ∷ codes "(" ∷ type_word kind ∷ codes ":" ∷ x)))
             (append_assoc (flat_map name_and_comma p.names) (p.last ∷ []) (codes "," ∷ [])
-            ∙ sym (flat_more name_and_comma p.names p.last));
+            ∙ sym (flat_map-push name_and_comma p.names p.last));
         version = e.version;
         means = e.means;
         names_are = e.names_are;
@@ -504,7 +488,7 @@ depend_done_goes state kind text before p text_is e =
     let clause = DependClause kind p.names p.last in
     let items : flat_map named_items p.clauses ++ named_items clause
     ≡ flat_map named_items (p.clauses ++ clause ∷ []) =
-    sym (flat_more named_items p.clauses clause) in (
+    sym (flat_map-push named_items p.clauses clause) in (
       with_clause p clause,
       record {
         spelled = task_more before p
@@ -537,7 +521,7 @@ more_goes state kind text line before p passes e =
     (λ comma. rw comma (comma_goes state kind text before p (same_text text (codes ",") comma) e))
     (λ other. rw other (depend_done_goes state kind text before p
     (same_text text (codes ")") (or_true_right (is_text text (codes ",")) (is_text text (codes ")"))
-    (is_true (is_text text (codes ",") || is_text text (codes ")")) passes.allowed) other))
+    (not-false (is_text text (codes ",") || is_text text (codes ")")) passes.allowed) other))
     e))
 
 -- one more piece that stands for one more mark
@@ -571,7 +555,7 @@ piece_goes state before p piece mark blocks part text word so text_is part_is ve
         version = version;
         means = AllZip-more (Means state.names) p.written state.tree.marks piece mark means one;
         names_are = names_are
-            ∙ ap (λ x. fold with_name [] x) (sym (flat_more names_of_piece p.written piece)
+            ∙ ap (λ x. fold with_name [] x) (sym (flat_map-push names_of_piece p.written piece)
             ∙ sym (append-nil (flat_map names_of_piece (p.written ++ piece ∷ []))));
         items_are = tt;
         clauses = clauses;
@@ -582,7 +566,7 @@ piece_goes state before p piece mark blocks part text word so text_is part_is ve
 pub header_goes : (state : State) (text : List ℕ) (line : ℕ) (before : List (List ℕ)) (p : Parts)
     → Goes state Header text line before p
 header_goes state text line before p passes e =
-    let text_is = same_text text (codes "omptasks") (is_true _ passes.header) in (
+    let text_is = same_text text (codes "omptasks") (not-false _ passes.header) in (
       p,
       record {
         spelled = ap (λ ts. ts ++ text ∷ []) e.spelled ∙ ap (λ t. t ∷ []) text_is;
@@ -598,12 +582,12 @@ header_goes state text line before p passes e =
 pub version_goes : (state : State) (text : List ℕ) (line : ℕ) (before : List (List ℕ)) (p : Parts)
     → Goes state Version text line before p
 version_goes state text line before p passes e =
-    let one = is_true (is_number text && eqb (value_of text) 1) passes.header in (
+    let one = not-false (is_number text && eqb (value_of text) 1) passes.header in (
       record p { version = text },
       record {
         spelled = ap (λ ts. ts ++ text ∷ []) e.spelled
             ∙ ap (λ w. codes "omptasks" ∷ text ∷ (flat_map texts_of w ++ [])) (sym e.version);
-        version = (and_true_left _ _ one, eqb-true _ _ (and_true_right (is_number text) _ one));
+        version = ((and_parts _ _ one).0, eqb-true _ _ (and_parts (is_number text) _ one).1);
         means = e.means;
         names_are = e.names_are;
         items_are = e.items_are;
@@ -615,7 +599,7 @@ version_goes state text line before p passes e =
 pub group_goes : (state : State) (text : List ℕ) (line : ℕ) (before : List (List ℕ)) (p : Parts)
     → Goes state GroupBrace text line before p
 group_goes state text line before p passes e =
-    let text_is = same_text text (codes "{") (is_true _ passes.allowed) in
+    let text_is = same_text text (codes "{") (not-false _ passes.allowed) in
     subst
     (λ head. Explained (before ++ text
     ∷ []) (record {

@@ -1,5 +1,5 @@
 -- Names that grow, and marks that come last, keep what a program keeps.
-use Rattle.std.proofs.Common.{◌≡◌, ℕ, ◌+◌, ◌-◌, ◌<◌, ◌≤◌, Bool, true, false, not, ◌&&◌, cond, List}
+use Rattle.std.proofs.Common.{◌≡◌, ℕ, ◌+◌, ◌-◌, ◌<◌, ◌≤◌, Bool, true, false, ◌&&◌, cond, List}
 use Rattle.std.proofs.Common.{[], ◌∷◌, ◌++◌, length, map, append_assoc, Option, Some, None, Result}
 use Rattle.std.proofs.Common.{Ok, Err, refl, sym, ap, subst, ◌∙◌, arith, codes}
 use Rattle.std.specs.Prelude.{All, fold, nat_lt}
@@ -32,13 +32,14 @@ use Rattle.task_program.specs.Programs.{open_after_mark, open_blocks, IsNamed, F
 use Rattle.task_program.specs.Programs.{IsLocation, names_of_mark}
 use Rattle.task_program.specs.Programs.IsLocation.{Plain, Indexed}
 use Rattle.task_program.specs.Faults.{Block}
-use Rattle.task_program.specs.Expansion.{Piece, is_negative, size_of, fits, index_fits}
+use Rattle.task_program.specs.Expansion.{Piece, is_negative, size_of, index_fits}
 use Rattle.task_program.specs.Expansion.{subscript_of}
 use Rattle.task_program.specs.SecondPass.{ExpansionState, fault_of, after_piece, unless_at_fault}
 use Rattle.task_program.specs.SecondPass.{then_take, take_pieces, fault_if, fault_at}
-use Rattle.task_program.proofs.Keeping.{bool_cases, with_one}
+use Rattle.task_program.proofs.Keeping.{with_one}
 use Rattle.task_program.proofs.Sound.{is_task, opens}
 use Rattle.task_program.proofs.Expanding.{in_turn}
+use Rattle.program_text.proofs.Bools.{bool_cases}
 
 -- what was expanded so far keeps what a program keeps, with blocks open
 pub record IsKept (state : ExpansionState) : Type 0 where
@@ -228,9 +229,10 @@ at_end state next h = cc
 
 -- ---- a mark more
 
-solid-append : (one other : List ℕ)
+-- solid bytes of two texts together
+pub solid_bytes-append : (one other : List ℕ)
     → solid_bytes (one ++ other) ≡ solid_bytes one + solid_bytes other
-solid-append one other = sum_by-append _ one other
+solid_bytes-append one other = sum_by-append _ one other
 
 lines_more : (names : List (List ℕ)) (marks : List Mark) (mark : Mark)
     → solid_bytes (header_line Two ++ flat_map (line_of_mark names) (marks ++ mark ∷ []))
@@ -245,7 +247,7 @@ lines_more names marks mark =
     ap (λ (ts : List ℕ). solid_bytes (header_line Two ++ ts)) all
     ∙ ap solid_bytes (sym (append_assoc (header_line Two) (flat_map (line_of_mark names) marks)
     (line_of_mark names mark)))
-    ∙ solid-append (header_line Two ++ flat_map (line_of_mark names) marks)
+    ∙ solid_bytes-append (header_line Two ++ flat_map (line_of_mark names) marks)
     (line_of_mark names mark)
 
 mentions_more : (names : List (List ℕ)) (marks : List Mark) (mark : Mark) (items before : List Item)
@@ -303,7 +305,3 @@ adds state mark blocks items bytes k a = record {
   bytes_are = omega (arith, lines_more state.names state.tree.marks mark, k.bytes_are, a.bytes_are);
   bytes = a.bytes_fit;
 }
-
-pub is_true : (b : Bool) → not b ≡ false → b ≡ true
-is_true true h = refl
-is_true false h = cc

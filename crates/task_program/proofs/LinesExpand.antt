@@ -1,5 +1,5 @@
 -- A tree without loops expands to its marks and names.
-use Rattle.std.proofs.Common.{◌≡◌, ℕ, ◌+◌, ◌<◌, Bool, true, false, ◌||◌, List, [], ◌∷◌, ◌++◌}
+use Rattle.std.proofs.Common.{◌≡◌, ℕ, ◌+◌, ◌<◌, Bool, false, ◌||◌, List, [], ◌∷◌, ◌++◌}
 use Rattle.std.proofs.Common.{length, map, append_assoc, Some, refl, sym, ap, subst, ◌∙◌, arith}
 use Rattle.std.specs.Prelude.{All, fold, slice_get}
 use Rattle.std.specs.List.{flat_map, AllZip}
@@ -8,6 +8,7 @@ use Rattle.std.proofs.lemmas.Option.{slice_get-get_or, slice_get_within}
 use Rattle.std.proofs.lemmas.List.Sums.{fold-append, sum_by-append}
 use Rattle.std.proofs.lemmas.List.Concat.{flat_map-append}
 use Rattle.std.proofs.lemmas.List.Elements.{All-head, All-tail, All-nil, All-cons, All-append}
+use Rattle.std.proofs.Math.Bool.{or-false}
 use Rattle.program_text.specs.declared.statement.DependKind.{DependKind}
 use Rattle.program_text.specs.declared.statement.Item.{Item}
 use Rattle.loop_text.specs.declared.loops.LoopItem.{LoopItem}
@@ -31,7 +32,7 @@ use Rattle.task_program.proofs.Sound.{fits_more, kept_names}
 use Rattle.task_program.proofs.KeptNames.{line_stays}
 use Rattle.task_program.proofs.NamesOnce.{AreOnce, number_is, names_stay}
 use Rattle.task_program.proofs.LinesSpelled as lines
-use Rattle.task_program.proofs.LinesSpelled.{IsItemOf, Stands}
+use Rattle.task_program.proofs.LinesSpelled.{IsItemOf, Stands, all_front, all_back}
 
 -- ---- each index is in range
 
@@ -302,10 +303,6 @@ block_ends whole done block blocks turns bytes names items marks opened_now same
 
 -- ---- a task up to its `{`
 
-or_false : (b : Bool) → (b || false) ≡ b
-or_false true = refl
-or_false false = refl
-
 -- all names are those of a state and of what is mentioned later
 names_left : (whole : List (List ℕ)) (done later : List Mark) (state : ExpansionState)
     → Prints whole done state
@@ -337,13 +334,13 @@ task_opens whole once done later task items state all fits whole_is p =
     let after : List (List ℕ) = flat_map (names_of_mark whole) later in
     let left : whole ≡ fold with_name state.names (mentions ++ after) =
     names_left whole done (mark ∷ later) state p whole_is in
-    let r = items_expand whole once items task.items all fits.1 after state left in
+    let expanded = items_expand whole once items task.items all fits.1 after state left in
     let middle : ExpansionState = with_items state mentions items in
     let named : List (List ℕ) = middle.names in
     let whole_named : fold with_name named after ≡ whole =
     sym (left ∙ fold-append with_name state.names mentions after) in
     let line : line_of_mark named mark ≡ line_of_mark whole mark = sym
-    (line_grows named after mark (fits.0, r.below))
+    (line_grows named after mark (fits.0, expanded.below))
     ∙ ap (λ (ns : List (List ℕ)). line_of_mark ns mark) whole_named in
     let solids : solid_bytes (line_of_mark named mark) ≡ solid_bytes (line_of_mark whole mark) =
     ap solid_bytes line in
@@ -360,8 +357,8 @@ task_opens whole once done later task items state all fits whole_is p =
     } in
     let next_is : after_pieces state (task_pieces [] false task) ≡ so task.undeferred items =
     fold-append after_piece state (map (item_comes []) task.items) (opens ∷ [])
-    ∙ ap (λ (s : ExpansionState). after_piece s opens) r.next_is
-    ∙ ap (λ (u : Bool). so u (state.items ++ items)) (or_false task.undeferred)
+    ∙ ap (λ (s : ExpansionState). after_piece s opens) expanded.next_is
+    ∙ ap (λ (u : Bool). so u (state.items ++ items)) (or-false task.undeferred)
     ∙ ap (λ (is : List Item). so task.undeferred (is ++ items)) p.no_items in
     subst
     (λ (s : ExpansionState).
@@ -373,16 +370,6 @@ task_opens whole once done later task items state all fits whole_is p =
     })
 
 -- ---- whole trees
-
-marks_front : (P : Mark → Type 0) (one other : List Mark) → All P (one ++ other) → All P one
-marks_front P [] other all = All-nil P
-marks_front P (mark ∷ one) other all =
-    All-cons P mark one (All-head P mark (one ++ other) all)
-    (marks_front P one other (All-tail P mark (one ++ other) all))
-
-marks_back : (P : Mark → Type 0) (one other : List Mark) → All P (one ++ other) → All P other
-marks_back P [] other all = all
-marks_back P (mark ∷ one) other all = marks_back P one other (All-tail P mark (one ++ other) all)
 
 abbrev AllNames : List (List ℕ) → List Mark → Type 0
 AllNames whole marks = whole ≡ fold with_name [] (flat_map (names_of_mark whole) marks)
@@ -449,7 +436,7 @@ expands _ once _ _ (lines.Stands.Work whole marks tree cost line s) fits done la
     p =
     let middle : ExpansionState = after_pieces state (expansion [] false tree) in
     let before : Goes whole (done ++ marks) state.tree.blocks middle = expands whole once marks tree
-    s (marks_front (FitsLimits (length whole)) marks (Works cost ∷ []) fits) done
+    s (all_front (FitsLimits (length whole)) marks (Works cost ∷ []) fits) done
     (Works cost ∷ later) state
     (append_of_block whole (done ++ ((marks ++ Works cost ∷ []) ++ later))
     (done ++ (marks ++ Works cost ∷ later)) (all_but_last done marks (Works cost ∷ []) later)
@@ -469,7 +456,7 @@ expands _ once _ _ (lines.Stands.Work whole marks tree cost line s) fits done la
 expands _ once _ _ (lines.Stands.Wait whole marks tree line s) fits done later state whole_is p =
     let middle : ExpansionState = after_pieces state (expansion [] false tree) in
     let before : Goes whole (done ++ marks) state.tree.blocks middle = expands whole once marks tree
-    s (marks_front (FitsLimits (length whole)) marks (Waits ∷ []) fits) done (Waits ∷ later) state
+    s (all_front (FitsLimits (length whole)) marks (Waits ∷ []) fits) done (Waits ∷ later) state
     (append_of_block whole (done ++ ((marks ++ Waits ∷ []) ++ later))
     (done ++ (marks ++ Waits ∷ later)) (all_but_last done marks (Waits ∷ []) later) whole_is)
     p in
@@ -487,9 +474,9 @@ expands _ once _ _ (lines.Stands.Task whole marks inside tree body task items s 
     let F : Mark → Type 0 = FitsLimits (length whole) in
     let begins : Mark = Begins task.undeferred items in
     let block : List Mark = begins ∷ (inside ++ Ends ∷ []) in
-    let fits_block : All F block = marks_back F marks block fits in
+    let fits_block : All F block = all_back F marks block fits in
     let fits_inside : All F inside =
-    marks_front F inside (Ends ∷ []) (All-tail F begins (inside ++ Ends ∷ []) fits_block) in
+    all_front F inside (Ends ∷ []) (All-tail F begins (inside ++ Ends ∷ []) fits_block) in
     let outer : List Piece = expansion [] false tree in
     let front : List Piece = task_pieces [] false task in
     let inner : List Piece = expansion [] false body in
@@ -502,7 +489,7 @@ expands _ once _ _ (lines.Stands.Task whole marks inside tree body task items s 
     ((done ++ marks) ++ begins ∷ (inside ++ Ends ∷ later))
     (at_block done marks inside later begins Ends) whole_is in
     let one : Goes whole (done ++ marks) state.tree.blocks first = expands whole once marks tree s
-    (marks_front F marks block fits) done (begins ∷ (inside ++ Ends ∷ later)) state
+    (all_front F marks block fits) done (begins ∷ (inside ++ Ends ∷ later)) state
     (append_of_block whole _ (done ++ (marks ++ begins ∷ (inside ++ Ends ∷ later)))
     (append_assoc done marks (begins ∷ (inside ++ Ends ∷ later))) names_one)
     p in
@@ -536,8 +523,8 @@ expands _ once _ _ (lines.Stands.Group whole marks inside tree body line brace_l
     later state whole_is p =
     let F : Mark → Type 0 = FitsLimits (length whole) in
     let block : List Mark = GroupBegins ∷ (inside ++ GroupEnds ∷ []) in
-    let fits_block : All F block = marks_back F marks block fits in
-    let fits_inside : All F inside = marks_front F inside (GroupEnds ∷ [])
+    let fits_block : All F block = all_back F marks block fits in
+    let fits_inside : All F inside = all_front F inside (GroupEnds ∷ [])
     (All-tail F GroupBegins (inside ++ GroupEnds ∷ []) fits_block) in
     let outer : List Piece = expansion [] false tree in
     let front : List Piece = GroupComes line ∷ GroupOpens brace_line ∷ [] in
@@ -551,7 +538,7 @@ expands _ once _ _ (lines.Stands.Group whole marks inside tree body line brace_l
     ((done ++ marks) ++ GroupBegins ∷ (inside ++ GroupEnds ∷ later))
     (at_block done marks inside later GroupBegins GroupEnds) whole_is in
     let one : Goes whole (done ++ marks) state.tree.blocks first = expands whole once marks tree s
-    (marks_front F marks block fits) done (GroupBegins ∷ (inside ++ GroupEnds ∷ later)) state
+    (all_front F marks block fits) done (GroupBegins ∷ (inside ++ GroupEnds ∷ later)) state
     (append_of_block whole _ (done ++ (marks ++ GroupBegins ∷ (inside ++ GroupEnds ∷ later)))
     (append_assoc done marks (GroupBegins ∷ (inside ++ GroupEnds ∷ later))) names_one)
     p in

@@ -8,9 +8,6 @@ use Rattle.std.proofs.lemmas.List.{append-nil}
 use Rattle.std.proofs.lemmas.List.Concat.{flat_map-append}
 use Rattle.std.proofs.lemmas.List.Elements.{All-head, All-tail, All-nil, All-cons}
 use Rattle.program_text.specs.declared.statement.DependKind.{DependKind}
-use Rattle.program_text.specs.declared.statement.DependKind.TheVariants.{DependIn, DependOut}
-use Rattle.program_text.specs.declared.statement.DependKind.TheVariants.{DependInOut}
-use Rattle.program_text.specs.declared.statement.DependKind.TheVariants.{DependInOutSet}
 use Rattle.program_text.specs.declared.statement.Item.{Item}
 use Rattle.loop_text.specs.declared.loops.LoopItem.{LoopItem}
 use Rattle.loop_text.specs.declared.loops.LoopTask.{LoopTask}
@@ -22,20 +19,21 @@ use Rattle.program_text.specs.Marks.Mark.{Begins, Ends, Works, Waits, GroupBegin
 use Rattle.task_program.specs.Canonical.{same_kind, name_of}
 use Rattle.task_program.specs.Programs.{IsLocation}
 use Rattle.program_text.specs.Tokens.{Token}
-use Rattle.program_text.specs.Words.{type_word, is_type, value_of, type_of}
+use Rattle.program_text.specs.Words.{type_word, value_of, type_of}
 use Rattle.loop_text.specs.FirstPass.{no_clauses}
 use Rattle.loop_text.specs.Loops.{Tree}
 use Rattle.loop_text.specs.Loops.Tree.{NoStatement, ThenWork, ThenWait, ThenGroup, ThenTask}
 use Rattle.task_program.specs.LoopGrammar as grammar
 use Rattle.task_program.specs.LoopGrammar.{ItemsSpelled, ClausesSpelled, OpeningSpelled, Spelled}
 use Rattle.task_program.specs.LoopGrammar.{task_of}
-use Rattle.task_program.proofs.Keeping.{bool_cases}
 use Rattle.task_program.proofs.Nested as nested
 use Rattle.task_program.proofs.Nested.{NestsIn}
 use Rattle.task_program.proofs.ReadBack.{same_is}
 use Rattle.task_program.proofs.Spelled.{spell, decimal_value, decimal_number, after_texts_by}
 use Rattle.task_program.proofs.Spelled.{depend_texts_by, if_texts, line_texts_by}
 use Rattle.task_program.proofs.Locations.{with_lines, lines_apart, StandsFor, ItemIs, location_item}
+use Rattle.program_text.proofs.Bools.{bool_cases}
+use Rattle.task_program.proofs.ReadPieces.{is_type_word, type_of_word}
 
 -- ---- items
 
@@ -44,18 +42,6 @@ IsItemOf names item loop = StandsFor item.kind (name_of names item) loop
 
 abbrev pub IsLocated : List (List ℕ) → Item → Type 0
 IsLocated names item = IsLocation (name_of names item)
-
-is_type_word : (kind : DependKind) → is_type (type_word kind) ≡ true
-is_type_word DependIn = refl
-is_type_word DependOut = refl
-is_type_word DependInOut = refl
-is_type_word DependInOutSet = refl
-
-type_of_word : (kind : DependKind) → type_of (type_word kind) ≡ kind
-type_of_word DependIn = refl
-type_of_word DependOut = refl
-type_of_word DependInOut = refl
-type_of_word DependInOutSet = refl
 
 -- the clauses before are followed by these items, and then by more that stand for the rest
 record Clauses (names : List (List ℕ)) (tokens : List Token) (head : LoopHead)
@@ -127,7 +113,7 @@ items_spelled names kind (item ∷ items) before inside a b c d head first lines
     (λ (k : DependKind).
     ItemsSpelled [] (type_of (type_word k)) inside_next (first ++ one.item ∷ []))
     kind_is begun_next in
-    let r = items_spelled names item.kind items before inside_next a b c d head
+    let items_so = items_spelled names item.kind items before inside_next a b c d head
     (first ++ one.item ∷ []) apart.0 clauses begun_so others in
     let tokens_are : before
     ++ depend_front item.kind a b c d (inside_next ++ with_lines after apart.0)
@@ -144,14 +130,16 @@ items_spelled names kind (item ∷ items) before inside a b c d head first lines
     (λ (k : DependKind). StandsFor k (name_of names item) one.item) (type_of_word kind ∙ kind_is)
     one.stands in
     rw same (record {
-      more = one.item ∷ r.more;
-      all = r.all;
-      all_are = r.all_are
+      more = one.item ∷ items_so.more;
+      all = items_so.all;
+      all_are = items_so.all_are
           ∙ ap (λ (is : List LoopItem). head.items ++ is)
-          (append_assoc first (one.item ∷ []) r.more);
-      spelled = subst (λ (ts : List Token). ClausesSpelled [] ts (record head { items = r.all }))
-          tokens_are r.spelled;
-      stand = (stands, r.stand);
+          (append_assoc first (one.item ∷ []) items_so.more);
+      spelled = subst (λ (ts : List Token). ClausesSpelled [] ts (record head {
+        items = items_so.all;
+      }))
+          tokens_are items_so.spelled;
+      stand = (stands, items_so.stand);
     }))
     (λ other.
     let lines_five : ℕ → ℕ = λ i. lines (suc (suc (suc (suc (suc i))))) in
@@ -167,7 +155,8 @@ items_spelled names kind (item ∷ items) before inside a b c d head first lines
     let begun_next : ItemsSpelled [] (type_of (type_word item.kind)) (with_lines name lines_five)
     (one.item ∷ []) = grammar.ItemsSpelled.First
     [] (type_of (type_word item.kind)) (with_lines name lines_five) one.item one.spelled in
-    let r = items_spelled names item.kind items before_next (with_lines name lines_five) (lines 1)
+    let items_so = items_spelled names item.kind items before_next (with_lines name lines_five)
+    (lines 1)
     (lines 2) (lines 3) (lines 4) head_next (one.item ∷ []) apart.0 clauses_next begun_next
     others in
     let later : List Token = depend_front item.kind (lines 1) (lines 2) (lines 3) (lines 4)
@@ -187,12 +176,14 @@ items_spelled names kind (item ∷ items) before inside a b c d head first lines
     (λ (k : DependKind). StandsFor k (name_of names item) one.item) (type_of_word item.kind)
     one.stands in
     rw other (record {
-      more = one.item ∷ r.more;
-      all = r.all;
-      all_are = r.all_are ∙ append_assoc head.items first (one.item ∷ r.more);
-      spelled = subst (λ (ts : List Token). ClausesSpelled [] ts (record head { items = r.all }))
-          tokens_are r.spelled;
-      stand = (stands, r.stand);
+      more = one.item ∷ items_so.more;
+      all = items_so.all;
+      all_are = items_so.all_are ∙ append_assoc head.items first (one.item ∷ items_so.more);
+      spelled = subst (λ (ts : List Token). ClausesSpelled [] ts (record head {
+        items = items_so.all;
+      }))
+          tokens_are items_so.spelled;
+      stand = (stands, items_so.stand);
     }))
 
 -- ---- the clauses of a task
@@ -232,7 +223,7 @@ depends_spelled names (item ∷ items) before head lines clauses not_final none 
     (with_lines name lines_four) = location_item
     (type_of (type_word item.kind)) (name_of names item) lines_four
     (All-head (IsLocated names) item items all) in
-    let r = items_spelled names item.kind items before (with_lines name lines_four) (lines 0)
+    let items_so = items_spelled names item.kind items before (with_lines name lines_four) (lines 0)
     (lines 1) (lines 2) (lines 3) head (one.item ∷ []) apart.0 clauses
     (grammar.ItemsSpelled.First [] (type_of (type_word item.kind)) (with_lines name lines_four)
     one.item one.spelled)
@@ -240,19 +231,19 @@ depends_spelled names (item ∷ items) before head lines clauses not_final none 
     let stands : IsItemOf names item one.item = subst
     (λ (k : DependKind). StandsFor k (name_of names item) one.item) (type_of_word item.kind)
     one.stands in
-    let all_are : r.all ≡ one.item ∷ r.more =
-    r.all_are ∙ ap (λ (is : List LoopItem). is ++ one.item ∷ r.more) none in
+    let all_are : items_so.all ≡ one.item ∷ items_so.more =
+    items_so.all_are ∙ ap (λ (is : List LoopItem). is ++ one.item ∷ items_so.more) none in
     record {
-      head = record head { items = r.all };
+      head = record head { items = items_so.all };
       spelled = subst
           (λ (ts : List Token). ClausesSpelled []
           (before ++ depend_front item.kind (lines 0) (lines 1) (lines 2) (lines 3) ts)
-          (record head { items = r.all }))
-          (sym apart.1) r.spelled;
+          (record head { items = items_so.all }))
+          (sym apart.1) items_so.spelled;
       undeferred_is = refl;
       not_final = not_final;
       stand = subst (λ (is : List LoopItem). AllZip (IsItemOf names) (item ∷ items) is)
-          (sym all_are) (stands, r.stand);
+          (sym all_are) (stands, items_so.stand);
     }
 
 zero_is : (value_of (codes "0") ≤ 1)
@@ -300,7 +291,7 @@ opening_spelled names undeferred items lines all =
     let clauses : List (List ℕ) =
     if_texts undeferred ++ depend_texts_by (spell false) names items in
     let apart = lines_apart clauses (codes "{" ∷ []) (λ i. lines (suc i)) in
-    let h = clauses_spelled names undeferred items (λ i. lines (suc i)) all in
+    let clauses_so = clauses_spelled names undeferred items (λ i. lines (suc i)) all in
     let word : Token = record { text = codes "task"; line = lines 0 } in
     let brace : Token = record { text = codes "{"; line = apart.0 0 } in
     let grouped : clauses ++ codes "{" ∷ []
@@ -315,16 +306,16 @@ opening_spelled names undeferred items lines all =
     ap (λ (ts : List Token). word ∷ ts)
     (sym apart.1 ∙ ap (λ (ts : List (List ℕ)). with_lines ts (λ i. lines (suc i))) grouped) in
     record {
-      task = task_of h.head (lines 0) (apart.0 0);
+      task = task_of clauses_so.head (lines 0) (apart.0 0);
       spelled = subst
           (λ (ts : List Token).
-          OpeningSpelled [] ts (TaskOpening (task_of h.head (lines 0) (apart.0 0))))
+          OpeningSpelled [] ts (TaskOpening (task_of clauses_so.head (lines 0) (apart.0 0))))
           tokens_are
           (grammar.OpeningSpelled.Task [] (with_lines clauses (λ i. lines (suc i))) word brace
-          h.head refl h.spelled refl);
-      undeferred_is = h.undeferred_is;
-      not_final = h.not_final;
-      stand = h.stand;
+          clauses_so.head refl clauses_so.spelled refl);
+      undeferred_is = clauses_so.undeferred_is;
+      not_final = clauses_so.not_final;
+      stand = clauses_so.stand;
     }
 
 -- ---- statements
@@ -460,13 +451,13 @@ no_marks names
       stands = Nothing names;
     }
 
-all_front : (P : Mark → Type 0) (one other : List Mark) → All P (one ++ other) → All P one
+pub all_front : (P : Mark → Type 0) (one other : List Mark) → All P (one ++ other) → All P one
 all_front P [] other all = All-nil P
 all_front P (mark ∷ one) other all =
     All-cons P mark one (All-head P mark (one ++ other) all)
     (all_front P one other (All-tail P mark (one ++ other) all))
 
-all_back : (P : Mark → Type 0) (one other : List Mark) → All P (one ++ other) → All P other
+pub all_back : (P : Mark → Type 0) (one other : List Mark) → All P (one ++ other) → All P other
 all_back P [] other all = all
 all_back P (mark ∷ one) other all = all_back P one other (All-tail P mark (one ++ other) all)
 
@@ -541,29 +532,31 @@ lines_spelled names _ _ (nested.NestsIn.Task room undeferred items body rest ins
     let after : List (List ℕ) = flat_map (words_of names) rest in
     let others : All (HasLocations names) (body ++ Ends ∷ rest) =
     All-tail (HasLocations names) (Begins undeferred items) (body ++ Ends ∷ rest) all in
-    let b = block_lines opens within after lines in
-    let closes : Token = record { text = codes "}"; line = b.close_line } in
-    let o = opening_spelled names undeferred items lines
+    let numbering = block_lines opens within after lines in
+    let closes : Token = record { text = codes "}"; line = numbering.close_line } in
+    let opening = opening_spelled names undeferred items lines
     (All-head (HasLocations names) (Begins undeferred items) (body ++ Ends ∷ rest) all) in
     let in_body = lines_spelled names room body inside
-    (all_front (HasLocations names) body (Ends ∷ rest) others) [] [] b.inside_lines
+    (all_front (HasLocations names) body (Ends ∷ rest) others) [] [] numbering.inside_lines
     (no_marks names room) in
-    let front = task_added names room b.close_line before (with_lines opens lines)
-    (with_lines within b.inside_lines) done body undeferred items h o in_body in
+    let front = task_added names room numbering.close_line before (with_lines opens lines)
+    (with_lines within numbering.inside_lines) done body undeferred items h opening in_body in
     let later = lines_spelled names (suc room) rest n
     (All-tail (HasLocations names) Ends rest
     (all_back (HasLocations names) body (Ends ∷ rest) others))
-    (before ++ (with_lines opens lines ++ (with_lines within b.inside_lines ++ closes ∷ [])))
-    (done ++ (Begins undeferred items ∷ (body ++ Ends ∷ []))) b.rest_lines front in
+    (before ++ (with_lines opens lines ++ (with_lines within numbering.inside_lines ++ closes ∷
+    [])))
+    (done ++ (Begins undeferred items ∷ (body ++ Ends ∷ []))) numbering.rest_lines front in
     let texts_are : opens ++ (within ++ codes "}" ∷ after)
     ≡ flat_map (words_of names) (Begins undeferred items ∷ (body ++ Ends ∷ rest)) = ap
     (λ (ts : List (List ℕ)). opens ++ ts)
     (sym (flat_map-append (words_of names) body (Ends ∷ rest))) in
     has_marks_of_same names (suc room) _ _ _ _
-    (append_of_block before (with_lines opens lines) (with_lines within b.inside_lines) closes
-    (with_lines after b.rest_lines)
+    (append_of_block before (with_lines opens lines) (with_lines within numbering.inside_lines)
+    closes
+    (with_lines after numbering.rest_lines)
     ∙ ap (λ (ts : List Token). before ++ ts)
-    (sym b.tokens_are ∙ ap (λ (ts : List (List ℕ)). with_lines ts lines) texts_are))
+    (sym numbering.tokens_are ∙ ap (λ (ts : List (List ℕ)). with_lines ts lines) texts_are))
     (append_of_block done (Begins undeferred items ∷ []) body Ends rest) later
 lines_spelled names _ _ (nested.NestsIn.Group room body rest inside n) all before done lines h =
     let opens : List (List ℕ) = words_of names GroupBegins in
@@ -571,25 +564,27 @@ lines_spelled names _ _ (nested.NestsIn.Group room body rest inside n) all befor
     let after : List (List ℕ) = flat_map (words_of names) rest in
     let others : All (HasLocations names) (body ++ GroupEnds ∷ rest) =
     All-tail (HasLocations names) GroupBegins (body ++ GroupEnds ∷ rest) all in
-    let b = block_lines opens within after lines in
-    let closes : Token = record { text = codes "}"; line = b.close_line } in
+    let numbering = block_lines opens within after lines in
+    let closes : Token = record { text = codes "}"; line = numbering.close_line } in
     let in_body = lines_spelled names room body inside
-    (all_front (HasLocations names) body (GroupEnds ∷ rest) others) [] [] b.inside_lines
+    (all_front (HasLocations names) body (GroupEnds ∷ rest) others) [] [] numbering.inside_lines
     (no_marks names room) in
-    let front = group_added names room (lines 0) (lines 1) b.close_line before
-    (with_lines within b.inside_lines) done body h in_body in
+    let front = group_added names room (lines 0) (lines 1) numbering.close_line before
+    (with_lines within numbering.inside_lines) done body h in_body in
     let later = lines_spelled names (suc room) rest n
     (All-tail (HasLocations names) GroupEnds rest
     (all_back (HasLocations names) body (GroupEnds ∷ rest) others))
-    (before ++ (with_lines opens lines ++ (with_lines within b.inside_lines ++ closes ∷ [])))
-    (done ++ (GroupBegins ∷ (body ++ GroupEnds ∷ []))) b.rest_lines front in
+    (before ++ (with_lines opens lines ++ (with_lines within numbering.inside_lines ++ closes ∷
+    [])))
+    (done ++ (GroupBegins ∷ (body ++ GroupEnds ∷ []))) numbering.rest_lines front in
     let texts_are : opens ++ (within ++ codes "}" ∷ after)
     ≡ flat_map (words_of names) (GroupBegins ∷ (body ++ GroupEnds ∷ rest)) = ap
     (λ (ts : List (List ℕ)). opens ++ ts)
     (sym (flat_map-append (words_of names) body (GroupEnds ∷ rest))) in
     has_marks_of_same names (suc room) _ _ _ _
-    (append_of_block before (with_lines opens lines) (with_lines within b.inside_lines) closes
-    (with_lines after b.rest_lines)
+    (append_of_block before (with_lines opens lines) (with_lines within numbering.inside_lines)
+    closes
+    (with_lines after numbering.rest_lines)
     ∙ ap (λ (ts : List Token). before ++ ts)
-    (sym b.tokens_are ∙ ap (λ (ts : List (List ℕ)). with_lines ts lines) texts_are))
+    (sym numbering.tokens_are ∙ ap (λ (ts : List (List ℕ)). with_lines ts lines) texts_are))
     (append_of_block done (GroupBegins ∷ []) body GroupEnds rest) later

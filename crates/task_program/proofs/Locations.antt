@@ -245,25 +245,20 @@ negative_item kind word size a b c d e h fits some =
       };
     }
 
-location_lines : (kind : DependKind) (name : List ℕ) (lines : ℕ → ℕ)
+pub location_item : (kind : DependKind) (name : List ℕ) (lines : ℕ → ℕ)
     → IsLocation name
     → ItemIs kind name (with_lines (spell false name) lines)
 unfolding with_lines
-location_lines kind _ lines (Plain word is) =
+location_item kind _ lines (Plain word is) =
     let P : List (List ℕ) → Type 0 = λ ts. ItemIs kind word (with_lines ts lines) in
     subst P (sym (word_alone word is.0)) (plain_item kind word (lines 0) is.0)
-location_lines kind _ lines (Indexed word false size is fits some) =
+location_item kind _ lines (Indexed word false size is fits some) =
     let P : List (List ℕ) → Type 0 = λ ts.
     ItemIs kind (word ++ subscript false size) (with_lines ts lines) in
     subst P (sym (indexed_alone word false size is.0 fits))
     (positive_item kind word size (lines 0) (lines 1) (lines 2) (lines 3) is.0 fits)
-location_lines kind _ lines (Indexed word true size is fits some) =
+location_item kind _ lines (Indexed word true size is fits some) =
     let P : List (List ℕ) → Type 0 = λ ts.
     ItemIs kind (word ++ subscript true size) (with_lines ts lines) in
     subst P (sym (indexed_alone word true size is.0 fits)) (negative_item kind word size (lines 0)
     (lines 1) (lines 2) (lines 3) (lines 4) is.0 fits (some refl))
-
-pub location_item : (kind : DependKind) (name : List ℕ) (lines : ℕ → ℕ)
-    → IsLocation name
-    → ItemIs kind name (with_lines (spell false name) lines)
-location_item kind name lines is = location_lines kind name lines is

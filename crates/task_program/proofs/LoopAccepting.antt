@@ -6,6 +6,7 @@ use Rattle.std.specs.List.{flat_map, list_any}
 use Rattle.std.specs.Str.{bytes_eq}
 use Rattle.std.proofs.lemmas.List.Elements.{All-head, All-tail}
 use Rattle.std.proofs.lemmas.List.Sums.{sum_by-cons}
+use Rattle.std.proofs.lemmas.Bool.{or_left, and_parts, and_from}
 use Rattle.loop_text.specs.declared.loop_place.LoopPlace.{LoopPlace}
 use Rattle.loop_text.specs.declared.loop_place.LoopPlace.TheVariants.{Statement, WorkNumber}
 use Rattle.loop_text.specs.declared.loop_place.LoopPlace.TheVariants.{GroupBrace, ForVariable}
@@ -34,11 +35,11 @@ use Rattle.task_program.specs.LoopViablePrefix.LoopClause.{IfClause, FinalClause
 use Rattle.task_program.specs.LoopViablePrefix.LoopPiece.{WorkPiece, TaskPiece, WaitPiece}
 use Rattle.task_program.specs.LoopViablePrefix.LoopPiece.{GroupPiece, ForPiece, EndPiece}
 use Rattle.task_program.proofs.ReadPieces.{is_type_word, type_of_word}
-use Rattle.task_program.proofs.Shapes.{left_is_true, right_is_true}
 use Rattle.task_program.proofs.Tallies.{other_text, no_digit}
 use Rattle.task_program.proofs.LoopContinued.{depend_texts}
 use Rattle.task_program.proofs.LoopShapes.{LoopShape, shape_at, fits_at, fits, lead_at, lead}
 use Rattle.task_program.proofs.LoopShapes.{lead_item}
+use Rattle.task_program.proofs.Accepting.{word_fits}
 
 abbrev pub is_whole : LoopPlace → List (List (List ℕ)) → Bool
 is_whole Statement [] = true
@@ -50,17 +51,13 @@ unfoldable pub accepts : LoopShape → List (List ℕ) → Bool
 accepts s [] = is_whole s.place s.around
 accepts s (text ∷ texts) = fits s text && accepts (lead s text) texts
 
-and_both : (a b : Bool) → a ≡ true → b ≡ true → (a && b) ≡ true
-and_both true b h g = g
-and_both false b h g = absurd cc
-
 pub accepts_next : (s : LoopShape) (text : List ℕ) (texts : List (List ℕ))
     → accepts s (text ∷ texts) ≡ true
     → (fits s text ≡ true) × (accepts (lead s text) texts ≡ true)
 unfolding accepts
 accepts_next s text texts h = (
-  left_is_true (fits s text) (accepts (lead s text) texts) h,
-  right_is_true (fits s text) (accepts (lead s text) texts) h,
+  (and_parts (fits s text) (accepts (lead s text) texts) h).0,
+  (and_parts (fits s text) (accepts (lead s text) texts) h).1,
 )
 
 pub accepts_none : (s : LoopShape) → accepts s [] ≡ true → is_whole s.place s.around ≡ true
@@ -78,14 +75,10 @@ accepts_one_more : (place : LoopPlace) (hi hf : Bool) (x : List ℕ) (vs : List 
     → Accepted place hi hf x vs us (text ∷ ts)
 unfolding accepts
 accepts_one_more place hi hf x vs us text ts h later =
-    and_both (fits_at place hi hf vs us text) (accepts (lead_at place hi hf x vs us text) ts) h
+    and_from (fits_at place hi hf vs us text) (accepts (lead_at place hi hf x vs us text) ts) h
     later
 
 -- ---- items
-
-or_left : (a b : Bool) → a ≡ true → (a || b) ≡ true
-or_left true b h = refl
-or_left false b h = absurd cc
 
 -- the first token of an index: a number, or a variable
 start_number : (kind : DependKind) (hi hf : Bool) (x : List ℕ) (vs : List (List ℕ))
@@ -268,11 +261,6 @@ clauses_accepted (DependClause kind items last ∷ clauses) hi hf x vs us ts for
     (depend_accepted kind hi hf x vs us _ inside)
 
 -- ---- pieces
-
-word_fits : (end word : Bool) → end ≡ false → word ≡ true → (not end && (word || end)) ≡ true
-word_fits false true no_end is_word_so = refl
-word_fits false false no_end is_word_so = absurd cc
-word_fits true word no_end is_word_so = absurd cc
 
 -- the first word of a statement
 first_fits : (vs : List (List ℕ)) (us : List (List (List ℕ))) (text : List ℕ)

@@ -3,8 +3,8 @@
 use Rattle.std.proofs.Common.{◌≡◌, ℕ, Bool, true, false, not, ◌&&◌, cond, List, [], ◌∷◌, ◌++◌, map}
 use Rattle.std.proofs.Common.{append_assoc, Option, Some, None, Result, Ok, refl, sym, ap, subst}
 use Rattle.std.proofs.Common.{◌∙◌, codes}
-use Rattle.std.proofs.lemmas.List.{map_push}
 use Rattle.std.proofs.lemmas.List.Sums.{fold-append}
+use Rattle.std.proofs.lemmas.Bool.{not-false}
 use Rattle.program_text.specs.declared.fault.ReadKind.{ReadKind}
 use Rattle.program_text.specs.declared.fault.ReadFault.{ReadFault}
 use Rattle.loop_text.specs.declared.loop_place.LoopPlace.{LoopPlace}
@@ -30,14 +30,17 @@ use Rattle.loop_text.specs.OpenBlocks.{variables_of, brace_of}
 use Rattle.loop_text.specs.FirstPass.{State, is_allowed, closes_nothing, form_fault, place_fault}
 use Rattle.loop_text.specs.FirstPass.{unless_fault, step, after_at}
 use Rattle.task_program.specs.LoopViablePrefix.{IsLoopSentence, IsLoopViable}
-use Rattle.task_program.proofs.Keeping.{bool_cases}
-use Rattle.task_program.proofs.FoundPlaces.{same_text, is_true}
+use Rattle.task_program.proofs.FoundPlaces.{same_text}
 use Rattle.task_program.proofs.Tallies.{other_text}
 use Rattle.task_program.proofs.LoopContinued.{steps_back, may_continue}
 use Rattle.task_program.proofs.LoopShapes.{is_loop_end, clause_depend, LoopShape, shape_at}
 use Rattle.task_program.proofs.LoopShapes.{closes_none, allowed_at, fits, lead_end, lead_at, lead}
 use Rattle.task_program.proofs.LoopShapes.{Follows}
 use Rattle.task_program.proofs.LoopAccepting.{accepts, accepts_next}
+use Rattle.program_text.proofs.Bools.{bool_cases}
+use Rattle.program_text.proofs.FaultRows.{row_passed}
+use Rattle.task_program.proofs.Keeping.{ok_is}
+use Rattle.task_program.proofs.Begun.{texts_more}
 
 -- for each open block the variables of the loops around it
 abbrev pub variables_of_each : List LoopBlock → List (List (List ℕ))
@@ -264,16 +267,17 @@ is_not_viable before state text b wrong_here v =
 pub viable_next : (before : List Token) (state : State) (text : List ℕ) → LoopBegan before state
     → fits (shape_of state) text ≡ true → IsLoopViable (texts before ++ text ∷ [])
 viable_next before state text b fits_so =
-    let s = shape_of state in
-    let next = lead s text in
-    let c =
+    let shape = shape_of state in
+    let next = lead shape text in
+    let continued =
     may_continue next.place next.has_if next.has_final next.variable next.variables next.around in
     let back =
-    steps_back s.place s.has_if s.has_final s.variable s.variables s.around text c.0 fits_so
-    c.1 in (
-      c.0,
-      subst IsLoopSentence (sym (append_assoc (texts before) (text ∷ []) c.0))
-          (b.follows (text ∷ c.0) back),
+    steps_back shape.place shape.has_if shape.has_final shape.variable shape.variables shape.around
+    text continued.0 fits_so
+    continued.1 in (
+      continued.0,
+      subst IsLoopSentence (sym (append_assoc (texts before) (text ∷ []) continued.0))
+          (b.follows (text ∷ continued.0) back),
     )
 
 -- ---- open blocks
@@ -394,17 +398,8 @@ unless_cases : {P : Type 0} (found : Option ReadKind) (line : ℕ) (after : Resu
 unless_cases (Some kind) line after next h on = absurd cc
 unless_cases None line after next h on = on refl h
 
-row_passed : (b : Bool) (kind : ReadKind) (others : Option ReadKind)
-    → cond b (Some kind) others ≡ None
-    → (b ≡ false) × (others ≡ None)
-row_passed true kind others h = absurd cc
-row_passed false kind others h = (refl, h)
-
 abbrev ok_state : State → Result State ReadFault
 ok_state state = Ok state
-
-ok_is : (one other : State) → ok_state one ≡ ok_state other → one ≡ other
-ok_is one other e = cc
 
 pub record Passed (state next : State) (token : Token) : Type 0 where
   pub formed : form_fault token.text ≡ None
@@ -419,23 +414,26 @@ step_passes state next token h =
     unless_cases (form_fault token.text) token.line _ next h
     (λ form h1. unless_cases (place_fault state token.text) token.line _ next h1
     (λ place h2.
-    let r1 = row_passed _ _ _ place in
-    let r2 = row_passed _ _ _ r1.1 in
-    record { formed = form; unopened = r1.0; allowed = is_true _ r2.0; next_is = ok_is _ next h2 }))
-
-pub texts_more : (before : List Token) (token : Token)
-    → texts (before ++ token ∷ []) ≡ texts before ++ token.text ∷ []
-texts_more before token = map_push (λ (t : Token). t.text) before token
+    let unopened_row = row_passed _ _ _ place in
+    let allowed_row = row_passed _ _ _ unopened_row.1 in
+    record {
+      formed = form;
+      unopened = unopened_row.0;
+      allowed = not-false _ allowed_row.0;
+      next_is = ok_is _ next h2;
+    }))
 
 pub step_begins : (before : List Token) (state next : State) (token : Token)
     → LoopBegan before state
     → step state token ≡ Ok next
     → LoopBegan (before ++ token ∷ []) next
 step_begins before state next token b h =
-    let p = step_passes state next token h in
-    let s = shape_of state in
-    let fits_so : fits s token.text ≡ true = fits_of state token.text p.unopened p.allowed in
-    let leads : shape_of next ≡ lead s token.text = sym (ap (λ (t : State). shape_of t) p.next_is)
+    let passed = step_passes state next token h in
+    let shape = shape_of state in
+    let fits_so : fits shape token.text ≡ true = fits_of state token.text passed.unopened
+    passed.allowed in
+    let leads : shape_of next ≡ lead shape token.text = sym
+    (ap (λ (t : State). shape_of t) passed.next_is)
     ∙ place_leads state.place state token.text token.line in
     let on : (later : List (List ℕ))
     → texts (before ++ token ∷ []) ++ later ≡ texts before ++ token.text ∷ later =
@@ -444,14 +442,16 @@ step_begins before state next token b h =
     record {
       follows = λ later f.
           subst IsLoopSentence (sym (on later))
-          (b.follows (token.text ∷ later) (steps_back s.place s.has_if s.has_final s.variable
-          s.variables s.around token.text later fits_so
+          (b.follows (token.text ∷ later)
+          (steps_back shape.place shape.has_if shape.has_final shape.variable
+          shape.variables shape.around token.text later fits_so
           (subst (λ (t : LoopShape). Follows t later) leads f)));
       accepted = λ later sentence.
-          subst (λ (t : LoopShape). accepts t later ≡ true) (sym leads) (accepts_next s token.text
+          subst (λ (t : LoopShape). accepts t later ≡ true) (sym leads)
+          (accepts_next shape token.text
           later (b.accepted (token.text ∷ later) (subst IsLoopSentence (on later) sentence))).1;
       braces_are = fold-append braces_after [] before (token ∷ [])
           ∙ ap (λ (lines : List ℕ). braces_after lines token) b.braces_are
-          ∙ place_braces state.place state token.text token.line p.allowed
-          ∙ ap (λ (t : State). brace_lines t.tree.blocks) p.next_is;
+          ∙ place_braces state.place state token.text token.line passed.allowed
+          ∙ ap (λ (t : State). brace_lines t.tree.blocks) passed.next_is;
     }

@@ -7,6 +7,7 @@ use Rattle.std.specs.List.{flat_map, list_any, list_all}
 use Rattle.std.specs.Str.{bytes_eq}
 use Rattle.std.proofs.lemmas.List.Elements.{All-nil, All-cons}
 use Rattle.std.proofs.lemmas.List.Sums.{sum_by-cons}
+use Rattle.std.proofs.lemmas.Bool.{and_parts}
 use Rattle.loop_text.specs.declared.loop_place.LoopPlace.{LoopPlace}
 use Rattle.loop_text.specs.declared.loop_place.LoopPlace.TheVariants.{Statement, WorkNumber}
 use Rattle.loop_text.specs.declared.loop_place.LoopPlace.TheVariants.{GroupBrace, ForVariable}
@@ -32,17 +33,16 @@ use Rattle.task_program.specs.LoopViablePrefix.IndexWritten.{SignIndex}
 use Rattle.task_program.specs.LoopViablePrefix.ItemWritten.{PlainItem, IndexedItem}
 use Rattle.task_program.specs.LoopViablePrefix.LoopClause.{DependClause}
 use Rattle.task_program.specs.LoopViablePrefix.LoopPiece.{WorkPiece, GroupPiece, ForPiece, EndPiece}
-use Rattle.task_program.proofs.Keeping.{bool_cases}
-use Rattle.task_program.proofs.FoundPlaces.{same_text, or_true_right}
+use Rattle.task_program.proofs.FoundPlaces.{same_text}
 use Rattle.task_program.proofs.Found.{type_is}
 use Rattle.program_text.specs.Tokens.{is_run_byte}
 use Rattle.task_program.proofs.ReadPieces.{not_none}
-use Rattle.task_program.proofs.Shapes.{left_is_true, right_is_true}
 use Rattle.task_program.proofs.LoopShapes.{lead_item, Rest, ClausesRest, ItemsRest, OpenIndex}
 use Rattle.task_program.proofs.LoopShapes.{FollowsAt, Follows, allowed_of, StepsBack, piece_rest}
 use Rattle.task_program.proofs.LoopShapes.{statement_back, new_variable, if_back, final_back}
 use Rattle.task_program.proofs.LoopShapes.{brace_back, clause_back}
 use Rattle.task_program.proofs.LoopShapes.OpenIndex.{OpenMinus, OpenSign}
+use Rattle.program_text.proofs.Bools.{or_true_right, or_true_left, bool_cases}
 
 -- ---- items
 
@@ -63,31 +63,32 @@ depend_clause : (kind : DependKind) (hi hf : Bool) (vs : List (List ℕ)) (us : 
     → ClausesRest hi hf vs us (codes "depend" ∷ codes "(" ∷ type_word kind ∷ codes ":" ∷ ts)
 depend_clause kind hi hf vs us ts n =
     let clause = DependClause kind n.items n.last in
-    let c = n.rest in
+    let clauses_after = n.rest in
     record {
-      clauses = clause ∷ c.clauses;
-      later = c.later;
+      clauses = clause ∷ clauses_after.clauses;
+      later = clauses_after.later;
       texts_are = ap (λ (texts : List (List ℕ)).
           codes "depend" ∷ codes "(" ∷ type_word kind ∷ codes ":" ∷ texts)
           (n.texts_are
           ∙ ap
           (λ (texts : List (List ℕ)).
           flat_map item_and_comma n.items ++ (item_texts n.last ++ codes ")" ∷ texts))
-          c.texts_are
-          ∙ depend_texts n.items (item_texts n.last) (flat_map clause_texts c.clauses)
-          (codes "{" ∷ c.later));
-      forms = All-cons (HasLoopClauseForm vs) clause c.clauses (n.forms, n.last_form) c.forms;
+          clauses_after.texts_are
+          ∙ depend_texts n.items (item_texts n.last) (flat_map clause_texts clauses_after.clauses)
+          (codes "{" ∷ clauses_after.later));
+      forms = All-cons (HasLoopClauseForm vs) clause clauses_after.clauses (n.forms, n.last_form)
+          clauses_after.forms;
       one_if = omega (
         arith,
-        c.one_if,
-        sum_by-cons (λ (one : LoopClause). cond (is_if one) 1 0) clause c.clauses,
+        clauses_after.one_if,
+        sum_by-cons (λ (one : LoopClause). cond (is_if one) 1 0) clause clauses_after.clauses,
       );
       one_final = omega (
         arith,
-        c.one_final,
-        sum_by-cons (λ (one : LoopClause). cond (is_final one) 1 0) clause c.clauses,
+        clauses_after.one_final,
+        sum_by-cons (λ (one : LoopClause). cond (is_final one) 1 0) clause clauses_after.clauses,
       );
-      rest = c.rest;
+      rest = clauses_after.rest;
     }
 
 last_item : (hi hf : Bool) (vs : List (List ℕ)) (us : List (List (List ℕ))) (item : ItemWritten)
@@ -160,7 +161,7 @@ start_variable : (vs : List (List ℕ)) (text : List ℕ)
 start_variable vs text h no_number no_minus =
     let both : (is_word text && list_any (bytes_eq text) vs) ≡ true = or_true_right
     (is_text text (codes "-")) _ (or_true_right (is_number text) _ h no_number) no_minus in
-    (left_is_true (is_word text) _ both, right_is_true (is_word text) _ both)
+    ((and_parts (is_word text) _ both).0, (and_parts (is_word text) _ both).1)
 
 start_back : (kind : DependKind) (hi hf : Bool) (x : List ℕ) (vs : List (List ℕ))
     (us : List (List (List ℕ))) (text : List ℕ) (ts : List (List ℕ))
@@ -192,10 +193,6 @@ number_back kind hi hf x vs us text ts number f name word before (OpenMinus _) =
 number_back kind hi hf x vs us text ts number f name word before
     (OpenSign _ variable sign known sign_is) =
     f name word (SignIndex variable sign text) (known, sign_is, number)
-
-or_true_left : (a b : Bool) → (a || b) ≡ true → b ≡ false → a ≡ true
-or_true_left true b h g = refl
-or_true_left false b h g = absurd (let wrong : true ≡ false = sym h ∙ g in cc)
 
 sign_back : (kind : DependKind) (hi hf : Bool) (x : List ℕ) (vs : List (List ℕ))
     (us : List (List (List ℕ))) (text : List ℕ) (ts : List (List ℕ))
@@ -290,9 +287,17 @@ longer_apart text (other ∷ others) h =
 
 new_word : (vs : List (List ℕ)) → (text : List ℕ) × IsNewVariable vs text
 new_word vs =
-    let n = sum_by length vs in
-    let long : length (120 ∷ letters n) ≡ suc n = ap suc (letters_long n) in
-    (120 ∷ letters n, (letters_word n, longer_apart (120 ∷ letters n) vs (omega (arith, long))))
+    let size = sum_by length vs in
+    let long : length (120 ∷ letters size) ≡ suc size = ap suc (letters_long size) in (
+      120 ∷ letters size,
+      (
+        letters_word size,
+        longer_apart (120 ∷ letters size) vs (omega (
+          arith,
+          long,
+        )),
+      ),
+    )
 
 -- ---- wherever the first pass stands, the grammar has something
 

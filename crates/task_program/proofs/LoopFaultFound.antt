@@ -3,7 +3,7 @@ use Rattle.std.proofs.Common.{◌≡◌, ℕ, ◌<◌, ◌≤◌, Bool, true, fa
 use Rattle.std.proofs.Common.{append_assoc, Option, Some, None, Result, Ok, Err, refl, sym, ap}
 use Rattle.std.proofs.Common.{subst, ◌∙◌, arith, codes}
 use Rattle.std.specs.Prelude.{nat_lt}
-use Rattle.std.proofs.lemmas.Bool.{leb-true, ltb-true, ltb-false}
+use Rattle.std.proofs.lemmas.Bool.{leb-true, ltb-true, ltb-false, and_parts, not-false}
 use Rattle.std.proofs.lemmas.List.{append-nil, length-map}
 use Rattle.program_text.specs.declared.fault.ReadKind.{ReadKind}
 use Rattle.program_text.specs.declared.fault.ReadKind.TheVariants.{TooLong, BadWord, BadNumber}
@@ -23,7 +23,6 @@ use Rattle.task_program.specs.TokenCounts.{open_braces}
 use Rattle.program_text.specs.Words.{is_text, is_number, value_of}
 use Rattle.loop_text.specs.Loops.{Tree}
 use Rattle.loop_text.specs.OpenBlocks.{variables_of, brace_of}
-use Rattle.task_program.specs.ProgramMarks.{ProgramMarks}
 use Rattle.loop_text.specs.FirstPass.{State, is_allowed, closes_nothing, is_number_too_large}
 use Rattle.loop_text.specs.FirstPass.{nests_too_deep, form_fault, place_fault, unless_fault, step}
 use Rattle.loop_text.specs.FirstPass.{end_at, tree_or_fault, go_on, first_pass, after_header}
@@ -40,10 +39,8 @@ use Rattle.task_program.specs.FirstLoopFault.AreInPlace.{Nothing, More}
 use Rattle.task_program.specs.FirstLoopFault.EndsInLoops.{BlockOpen, Inside}
 use Rattle.task_program.specs.FirstLoopFault.IsFirstLoopFault.{AtToken, AtEnd}
 use Rattle.task_program.specs.FirstLoopFault.HasLoopFault.{TextTooLong, OfTokens, OfExpansion}
-use Rattle.task_program.proofs.Keeping.{bool_cases}
-use Rattle.task_program.proofs.FoundPlaces.{same_text, is_true}
-use Rattle.task_program.proofs.ReadWhole.{of_two, went_through}
-use Rattle.task_program.proofs.Shapes.{left_is_true, right_is_true}
+use Rattle.task_program.proofs.FoundPlaces.{same_text}
+use Rattle.task_program.proofs.ReadWhole.{of_two, went_through, too_long, same_fault, fault_so}
 use Rattle.task_program.proofs.Begun.{row_cases}
 use Rattle.task_program.proofs.LoopContinued.{nothing_follows}
 use Rattle.task_program.proofs.LoopShapes.{closes_none, fits_at, FollowsAt}
@@ -51,6 +48,8 @@ use Rattle.task_program.proofs.LoopAccepting.{is_whole, accepts_none, sentence_a
 use Rattle.task_program.proofs.LoopBegun.{variables_of_each, shape_of, brace_lines, LoopBegan}
 use Rattle.task_program.proofs.LoopBegun.{closes_same, fits_of, unfit_close, unfit_word}
 use Rattle.task_program.proofs.LoopBegun.{is_not_viable, viable_next, step_passes, step_begins}
+use Rattle.program_text.proofs.Bools.{bool_cases}
+use Rattle.task_program.proofs.LoopFound.{step_went}
 
 record Counts (before : List Token) (state : State) : Type 0 where
   began : LoopBegan before state
@@ -59,17 +58,15 @@ record Counts (before : List Token) (state : State) : Type 0 where
 counts_more : (before : List Token) (state next : State) (token : Token) → Counts before state
     → step state token ≡ Ok next → Counts (before ++ token ∷ []) next
 counts_more before state next token c h =
-    let p = step_passes state next token h in
+    let passed = step_passes state next token h in
     record {
       began = step_begins before state next token c.began h;
-      in_place = More before token c.in_place p.formed (viable_next before state token.text c.began
-          (fits_of state token.text p.unopened p.allowed));
+      in_place = More before token c.in_place passed.formed
+          (viable_next before state token.text c.began
+          (fits_of state token.text passed.unopened passed.allowed));
     }
 
 -- ---- the fault of a token
-
-abbrev fault_so : ReadKind → ℕ → ReadFault
-fault_so kind line = record { kind = kind; line = line }
 
 -- a `}` that closes nothing comes after what is whole
 closes_at : (place : LoopPlace) (hi hf : Bool) (x : List ℕ) (vs : List (List ℕ))
@@ -126,8 +123,8 @@ deep_block GroupBrace head open_now text deep allowed =
 deep_block ForBrace head open_now text deep allowed =
     (same_text text (codes "{") allowed, leb-true MOST_NESTING (length open_now) deep)
 deep_block Clause head open_now text deep allowed = (
-  same_text text (codes "{") (left_is_true (is_text text (codes "{")) _ deep),
-  leb-true MOST_NESTING (length open_now) (right_is_true (is_text text (codes "{")) _ deep),
+  same_text text (codes "{") (and_parts (is_text text (codes "{")) _ deep).0,
+  leb-true MOST_NESTING (length open_now) (and_parts (is_text text (codes "{")) _ deep).1,
 )
 deep_block _ head open_now text deep allowed = absurd cc
 
@@ -138,19 +135,20 @@ at_place : (before : List Token) (state : State) (text : List ℕ) (kind : ReadK
     → place_fault state text ≡ Some kind
     → IsLoopWrong before text kind
 at_place before state text kind c formed h =
-    let b = c.began in
-    let s = shape_of state in
+    let began = c.began in
+    let shape = shape_of state in
     let closes_so : closes_nothing state.place state.tree.blocks text
-    ≡ closes_none s.place s.around text =
+    ≡ closes_none shape.place shape.around text =
     closes_same state.place state.tree.blocks text in
     row_cases (closes_nothing state.place state.tree.blocks text) Unopened kind _ h
     (λ closes same.
-    let whole = closes_at s.place s.has_if s.has_final s.variable s.variables s.around text
+    let whole = closes_at shape.place shape.has_if shape.has_final shape.variable shape.variables
+    shape.around text
     (sym closes_so ∙ closes) in
     let sentence : IsLoopSentence (texts before) = subst IsLoopSentence (append-nil (texts before))
-    (b.follows [] whole.1) in
+    (began.follows [] whole.1) in
     subst (IsLoopWrong before text) same (Misplaced before text Unopened formed
-    (is_not_viable before state text b (unfit_close state text closes))
+    (is_not_viable before state text began (unfit_close state text closes))
     (AfterWhole (texts before) text sentence whole.0)))
     (λ unopened h1.
     row_cases (not (is_allowed state.place state.head state.tree.blocks text)) BadWord kind _ h1
@@ -158,18 +156,19 @@ at_place before state text kind c formed h =
     let no_whole : IsLoopSentence (texts before) → text ≡ codes "}" → ⊥ =
     λ sentence text_is. absurd
     (let wrong : true
-    ≡ false = sym (whole_closes s.place s.around text (whole_now before state b sentence) text_is)
+    ≡ false = sym (whole_closes shape.place shape.around text (whole_now before state began
+    sentence) text_is)
     ∙ sym closes_so
     ∙ unopened in cc)
     in
     subst (IsLoopWrong before text) same (Misplaced before text BadWord formed
-    (is_not_viable before state text b (unfit_word state text bad))
+    (is_not_viable before state text began (unfit_word state text bad))
     (Elsewhere (texts before) text no_whole)))
     (λ allowed h2.
     let allowed_so : is_allowed state.place state.head state.tree.blocks text
-    ≡ true = is_true _ allowed in
+    ≡ true = not-false _ allowed in
     let viable : IsLoopViable (texts before ++ text ∷ []) =
-    viable_next before state text b (fits_of state text unopened allowed_so) in
+    viable_next before state text began (fits_of state text unopened allowed_so) in
     row_cases (is_number_too_large state.place text) BadNumber kind _ h2
     (λ large same.
     let number = large_number state.place state.head state.tree.blocks text large allowed_so in
@@ -179,7 +178,7 @@ at_place before state text kind c formed h =
     (λ deep same.
     let block = deep_block state.place state.head state.tree.blocks text deep allowed_so in
     let braces : length (open_braces before)
-    ≡ length state.tree.blocks = ap length b.braces_are
+    ≡ length state.tree.blocks = ap length began.braces_are
     ∙ length-map state.tree.blocks (λ (one : LoopBlock). brace_of one.opening) in
     subst (IsLoopWrong before text) same (PastLimit before text TooDeep formed viable
     (DeepBlock before text block.0 (omega (arith, block.1, braces)))))
@@ -256,12 +255,14 @@ end_fault : (all : List Token) (state : State) (end_line : ℕ) (fault : ReadFau
     → end_at state.place state.tree.blocks end_line ≡ Some fault
     → IsFirstLoopFault all end_line fault
 end_fault all state end_line fault c h =
-    let b = c.began in
-    let s = shape_of state in
+    let began = c.began in
+    let shape = shape_of state in
     AtEnd all end_line fault c.in_place (λ sentence.
-    whole_ends state.place state.tree.blocks end_line fault (whole_now all state b sentence) h)
-    (end_by all state.place s.has_if s.has_final s.variables state.tree.blocks end_line fault
-    b.braces_are (viable_next all state (codes "}") b) (is_not_viable all state (codes "}") b) h)
+    whole_ends state.place state.tree.blocks end_line fault (whole_now all state began sentence) h)
+    (end_by all state.place shape.has_if shape.has_final shape.variables state.tree.blocks end_line
+    fault
+    began.braces_are (viable_next all state (codes "}") began)
+    (is_not_viable all state (codes "}") began) h)
 
 -- ---- the whole
 
@@ -271,11 +272,6 @@ by_next_or_fault : {P : Type 0} (read : Result State ReadFault)
     → ((next : State) → read ≡ Ok next → later next ≡ Err fault → P) → (read ≡ Err fault → P) → P
 by_next_or_fault (Ok next) later fault h on stops = on next refl h
 by_next_or_fault (Err other) later fault h on stops = stops cc
-
-step_on : (read : Result State ReadFault) (later : State → Result Tree ReadFault) (tree : Tree)
-    → go_on read later ≡ Ok tree → (next : State) × (read ≡ Ok next) × (later next ≡ Ok tree)
-step_on (Ok next) later tree h = (next, refl, h)
-step_on (Err fault) later tree h = absurd cc
 
 fault_from : (tokens before : List Token) (state : State) (end_line : ℕ) (fault : ReadFault)
     → Counts before state
@@ -300,13 +296,14 @@ whole_from : (tokens before : List Token) (state : State) (end_line : ℕ) (tree
     → IsLoopSentence (texts (before ++ tokens))
 unfolding first_pass
 whole_from [] before state end_line tree c h =
-    let s = shape_of state in
-    let whole = c.began.follows [] (ended_ok s.place s.has_if s.has_final s.variable s.variables
+    let shape = shape_of state in
+    let whole = c.began.follows [] (ended_ok shape.place shape.has_if shape.has_final shape.variable
+    shape.variables
     state.tree.blocks end_line state tree h) in
     subst (λ (ts : List Token). IsLoopSentence (texts ts)) (sym (append-nil before))
     (subst IsLoopSentence (append-nil (texts before)) whole)
 whole_from (token ∷ tokens) before state end_line tree c h =
-    let went = step_on (step state token) (λ next. first_pass tokens end_line next) tree h in
+    let went = step_went (step state token) (λ next. first_pass tokens end_line next) tree h in
     subst (λ (ts : List Token). IsLoopSentence (texts ts)) (append_assoc before (token ∷ []) tokens)
     (whole_from tokens (before ++ token ∷ []) went.0 end_line tree
     (counts_more before state went.0 token c went.1) went.2)
@@ -326,16 +323,6 @@ at_start = record {
   };
   in_place = Nothing;
 }
-
-too_long : (text : List ℕ)
-    → nat_lt MOST_TEXT_BYTES (length text) ≡ true
-    → program_of text ≡ Err (fault_so TooLong 1)
-too_long text long = rw long refl
-
-same_fault : (read : Result ProgramMarks ReadFault) (one other : ReadFault) → read ≡ Err one
-    → read ≡ Err other
-    → one ≡ other
-same_fault read one other h g = cc
 
 either_pass : (text : List ℕ) (read : Result Tree ReadFault) (fault : ReadFault)
     → first_pass (body_of text) (line_at_end 1 text) after_header ≡ read

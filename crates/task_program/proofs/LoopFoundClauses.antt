@@ -4,7 +4,7 @@ use Rattle.std.proofs.Common.{append_assoc, refl, sym, ap, subst, ◌∙◌, cod
 use Rattle.std.specs.Prelude.{nat_lt}
 use Rattle.std.specs.List.{list_any}
 use Rattle.std.specs.Str.{bytes_eq}
-use Rattle.std.proofs.lemmas.Bool.{ltb-false}
+use Rattle.std.proofs.lemmas.Bool.{ltb-false, and_parts, not-true}
 use Rattle.loop_text.specs.declared.loop_place.LoopPlace.{LoopPlace}
 use Rattle.loop_text.specs.declared.loop_place.LoopPlace.TheVariants.{Statement, WorkNumber}
 use Rattle.loop_text.specs.declared.loop_place.LoopPlace.TheVariants.{GroupBrace, ForVariable}
@@ -30,7 +30,6 @@ use Rattle.task_program.specs.LoopGrammar.{IsNumber, task_of}
 use Rattle.task_program.specs.LoopGrammar.ClausesSpelled.{NoClause, If, Final}
 use Rattle.task_program.specs.LoopGrammar.OpeningSpelled.{Group, Task, For}
 use Rattle.task_program.specs.LoopGrammar.Spelled.{Work, Wait}
-use Rattle.task_program.proofs.Keeping.{bool_cases, and_right_false}
 use Rattle.task_program.proofs.FoundPlaces.{same_text}
 use Rattle.task_program.proofs.LoopParts.{InTask, bounds_of, with_if, with_final, IsNew, state_of}
 use Rattle.task_program.proofs.LoopParts.{Reads, Passes, variables_are, Stands, grow, ends, opens}
@@ -39,27 +38,9 @@ use Rattle.task_program.proofs.LoopParts.Part.{AtWork, AtGroup, AtVariable, AtFr
 use Rattle.task_program.proofs.LoopParts.Part.{AtForBrace, AtClause, AtIfOpens, AtIfNumber}
 use Rattle.task_program.proofs.LoopParts.Part.{AtIfCloses, AtFinalOpens, AtFinalNumber}
 use Rattle.task_program.proofs.LoopParts.Part.{AtFinalCloses, AtDependOpens}
+use Rattle.program_text.proofs.Bools.{or_true_right, bool_cases, and_right_false}
 
 -- ---- one token more, place by place
-
-pub text_is : (text word : List ℕ) → is_text text word ≡ true → text ≡ word
-text_is text word h = same_text text word h
-
-pub or_right : (a b : Bool) → (a || b) ≡ true → a ≡ false → b ≡ true
-or_right true b h no_a = absurd cc
-or_right false b h no_a = h
-
-pub left_is_true : (a b : Bool) → (a && b) ≡ true → a ≡ true
-left_is_true true b h = refl
-left_is_true false b h = h
-
-pub right_is_true : (a b : Bool) → (a && b) ≡ true → b ≡ true
-right_is_true true b h = h
-right_is_true false b h = absurd cc
-
-not_true : (b : Bool) → not b ≡ true → b ≡ false
-not_true true h = absurd cc
-not_true false h = refl
 
 pub number_is : (text : List ℕ) (most : ℕ)
     → is_number text ≡ true
@@ -85,28 +66,28 @@ statement_goes blocks tree variables word_line pending bounds room around here t
     bool_cases (is_text text (codes "work"))
     (λ work. rw work (grow blocks tree variables room around here [] (token ∷ []) token WorkNumber
     word_line no_clauses pending bounds s refl
-    (AtWork variables word_line pending bounds token (text_is text (codes "work") work))))
+    (AtWork variables word_line pending bounds token (same_text text (codes "work") work))))
     (λ no_work. bool_cases (is_text text (codes "task"))
     (λ task. rw (no_work, task) (grow blocks tree variables room around here [] (token ∷ []) token
     Clause token.line no_clauses pending bounds s refl
     (AtClause variables pending bounds token [] no_clauses
-    (record { is_task = text_is text (codes "task") task; clauses_are = NoClause variables }))))
+    (record { is_task = same_text text (codes "task") task; clauses_are = NoClause variables }))))
     (λ no_task. bool_cases (is_text text (codes "taskwait"))
     (λ wait. rw (no_work, no_task, wait) (ends blocks (ThenWait tree token.line) variables room
     around here [] token word_line pending bounds s.around_is
-    (Wait variables room here token tree s.here_is (text_is text (codes "taskwait") wait))))
+    (Wait variables room here token tree s.here_is (same_text text (codes "taskwait") wait))))
     (λ no_wait. bool_cases (is_text text (codes "taskgroup"))
     (λ group. rw (no_work, no_task, no_wait, group) (grow blocks tree variables room around here []
     (token ∷ []) token GroupBrace token.line no_clauses pending bounds s refl
-    (AtGroup variables pending bounds token (text_is text (codes "taskgroup") group))))
+    (AtGroup variables pending bounds token (same_text text (codes "taskgroup") group))))
     (λ no_group. bool_cases (is_text text (codes "for"))
     (λ loop. rw (no_work, no_task, no_wait, no_group, loop) (grow blocks tree variables room around
     here [] (token ∷ []) token ForVariable token.line no_clauses pending bounds s refl
-    (AtVariable variables pending bounds token (text_is text (codes "for") loop))))
+    (AtVariable variables pending bounds token (same_text text (codes "for") loop))))
     (λ no_loop.
     let none : (is_statement_word text || is_text text (codes "for"))
     ≡ false = rw (no_work, no_task, no_wait, no_group, no_loop) refl in
-    let brace : text ≡ codes "}" = text_is text (codes "}") (or_right
+    let brace : text ≡ codes "}" = same_text text (codes "}") (or_true_right
     (is_statement_word text || is_text text (codes "for")) (is_text text (codes "}")) p.allowed
     none) in
     rw (no_work, no_task, no_wait, no_group, no_loop) (closes blocks tree variables room around here
@@ -129,7 +110,7 @@ pub group_goes : (blocks : List LoopBlock) (tree : Tree) (variables : List (List
 group_goes blocks tree variables pending bounds word is_group room around here token s p =
     opens blocks tree variables room around here (word ∷ []) token
     (GroupOpening word.line token.line) pending bounds s.around_is s.here_is
-    (Group variables word token is_group (text_is token.text (codes "{") p.allowed)) p.nesting
+    (Group variables word token is_group (same_text token.text (codes "{") p.allowed)) p.nesting
 
 pub variable_goes : (blocks : List LoopBlock) (tree : Tree) (variables : List (List ℕ))
     (pending : Pending) (bounds : Bounds) (word : Token)
@@ -138,11 +119,11 @@ pub variable_goes : (blocks : List LoopBlock) (tree : Tree) (variables : List (L
 variable_goes blocks tree variables pending bounds word is_for room around here token s p =
     let same : variables_of blocks ≡ variables =
     variables_are blocks variables room around s.around_is in
-    let new : is_variable blocks token.text ≡ false = not_true _
-    (right_is_true (is_word token.text) (not (is_variable blocks token.text)) p.allowed) in
+    let new : is_variable blocks token.text ≡ false = not-true _
+    (and_parts (is_word token.text) (not (is_variable blocks token.text)) p.allowed).1 in
     let is_new : IsNew variables word token = record {
       is_for = is_for;
-      is_word = left_is_true (is_word token.text) (not (is_variable blocks token.text)) p.allowed;
+      is_word = (and_parts (is_word token.text) (not (is_variable blocks token.text)) p.allowed).0;
       is_new = ap (λ (vs : List (List ℕ)). list_any (bytes_eq token.text) vs) (sym same) ∙ new;
     } in
     grow blocks tree variables room around here (word ∷ []) (word ∷ token ∷ []) token ForFrom
@@ -189,7 +170,7 @@ for_goes blocks tree variables pending word variable first last is_new is_first 
     (ForOpening variable.text (value_of first.text) (value_of last.text) word.line token.line)
     pending no_bounds s.around_is s.here_is
     (For variables word variable first last token is_new.is_for is_new.is_word is_new.is_new
-    is_first is_last (text_is token.text (codes "{") p.allowed))
+    is_first is_last (same_text token.text (codes "{") p.allowed))
     p.nesting
 
 -- ---- clauses
@@ -217,11 +198,11 @@ clause_goes blocks tree variables pending bounds word clauses head t room around
     (λ brace. rw brace (opens blocks tree variables room around here (word ∷ clauses) token
     (TaskOpening (task_of head word.line token.line)) pending bounds s.around_is s.here_is
     (Task variables clauses word token head t.is_task t.clauses_are
-    (text_is text (codes "{") brace))
+    (same_text text (codes "{") brace))
     (and_right_false (is_text text (codes "{")) _ p.nesting brace)))
     (λ no_brace. bool_cases (is_text text (codes "if"))
     (λ if_word.
-    let is_if : text ≡ codes "if" = text_is text (codes "if") if_word in
+    let is_if : text ≡ codes "if" = same_text text (codes "if") if_word in
     let allowed : is_allowed Clause head blocks (codes "if") ≡ true =
     subst (λ (x : List ℕ). is_allowed Clause head blocks x ≡ true) is_if p.allowed in
     rw (no_brace, if_word) (grow blocks tree variables room around here (word ∷ clauses)
@@ -230,13 +211,13 @@ clause_goes blocks tree variables pending bounds word clauses head t room around
     is_if)))
     (λ no_if. bool_cases (is_text text (codes "final"))
     (λ final_word.
-    let is_final : text ≡ codes "final" = text_is text (codes "final") final_word in
+    let is_final : text ≡ codes "final" = same_text text (codes "final") final_word in
     let allowed : is_allowed Clause head blocks (codes "final") ≡ true =
     subst (λ (x : List ℕ). is_allowed Clause head blocks x ≡ true) is_final p.allowed in
     rw (no_brace, no_if, final_word) (grow blocks tree variables room around here (word ∷ clauses)
     (word ∷ (clauses ++ token ∷ [])) token FinalOpens word.line head pending bounds s refl
     (AtFinalOpens variables pending bounds word clauses head token t
-    (not_true head.has_final allowed) is_final)))
+    (not-true head.has_final allowed) is_final)))
     (λ no_final.
     let depend_word : is_text text (codes "depend")
     ≡ true = last_word (is_text text (codes "depend")) (not head.has_if) (not head.has_final)
@@ -244,7 +225,7 @@ clause_goes blocks tree variables pending bounds word clauses head t room around
     rw (no_brace, no_if, no_final) (grow blocks tree variables room around here (word ∷ clauses)
     (word ∷ (clauses ++ token ∷ [])) token DependOpens word.line head pending bounds s refl
     (AtDependOpens variables pending bounds word clauses head token t
-    (text_is text (codes "depend") depend_word))))))
+    (same_text text (codes "depend") depend_word))))))
 
 pub if_opens_goes : (blocks : List LoopBlock) (tree : Tree) (variables : List (List ℕ))
     (pending : Pending) (bounds : Bounds) (word : Token) (clauses : List Token) (head : LoopHead)
@@ -259,7 +240,7 @@ if_opens_goes blocks tree variables pending bounds word clauses head w t none is
     (word ∷ (clauses ++ w ∷ token ∷ [])) token IfNumber word.line head pending bounds s
     (in_task word clauses (w ∷ []) token)
     (AtIfNumber variables pending bounds word clauses head w token t none is_if
-    (text_is token.text (codes "(") p.allowed))
+    (same_text token.text (codes "(") p.allowed))
 
 pub if_number_goes : (blocks : List LoopBlock) (tree : Tree) (variables : List (List ℕ))
     (pending : Pending) (bounds : Bounds) (word : Token) (clauses : List Token) (head : LoopHead)
@@ -300,7 +281,7 @@ if_closes_goes blocks tree variables pending bounds word clauses head w bracket 
     (record {
       is_task = t.is_task;
       clauses_are = If variables clauses w bracket number token head t.clauses_are none is_if
-          is_bracket is_num (text_is token.text (codes ")") p.allowed);
+          is_bracket is_num (same_text token.text (codes ")") p.allowed);
     }))
 
 pub final_opens_goes : (blocks : List LoopBlock) (tree : Tree) (variables : List (List ℕ))
@@ -317,7 +298,7 @@ final_opens_goes blocks tree variables pending bounds word clauses head w t none
     (word ∷ (clauses ++ w ∷ token ∷ [])) token FinalNumber word.line head pending bounds s
     (in_task word clauses (w ∷ []) token)
     (AtFinalNumber variables pending bounds word clauses head w token t none is_if
-    (text_is token.text (codes "(") p.allowed))
+    (same_text token.text (codes "(") p.allowed))
 
 pub final_number_goes : (blocks : List LoopBlock) (tree : Tree) (variables : List (List ℕ))
     (pending : Pending) (bounds : Bounds) (word : Token) (clauses : List Token) (head : LoopHead)
@@ -358,5 +339,5 @@ final_closes_goes blocks tree variables pending bounds word clauses head w brack
     (record {
       is_task = t.is_task;
       clauses_are = Final variables clauses w bracket number token head t.clauses_are none is_if
-          is_bracket is_num (text_is token.text (codes ")") p.allowed);
+          is_bracket is_num (same_text token.text (codes ")") p.allowed);
     }))

@@ -1,13 +1,12 @@
 -- What stands open, and what of a statement was read, where the first pass stands.
-use Rattle.std.proofs.Common.{◌≡◌, ℕ, zero, suc, ◌+◌, ◌<◌, Bool, true, false, not, cond, eqb, List}
-use Rattle.std.proofs.Common.{[], ◌∷◌, ◌++◌, length, append_assoc, Option, Some, None, refl, sym}
+use Rattle.std.proofs.Common.{◌≡◌, ℕ, zero, suc, ◌+◌, ◌<◌, true, false, eqb, List}
+use Rattle.std.proofs.Common.{[], ◌∷◌, ◌++◌, length, append_assoc, Some, None, refl, sym}
 use Rattle.std.proofs.Common.{ap, ◌∙◌, arith, codes}
 use Rattle.std.specs.Prelude.{nat_le}
 use Rattle.std.specs.List.{list_any}
 use Rattle.std.specs.Str.{bytes_eq}
-use Rattle.std.proofs.lemmas.Bool.{leb-false}
+use Rattle.std.proofs.lemmas.Bool.{leb-false, not-false}
 use Rattle.std.proofs.lemmas.List.{append-nil}
-use Rattle.program_text.specs.declared.fault.ReadKind.{ReadKind}
 use Rattle.loop_text.specs.declared.loop_place.LoopPlace.{LoopPlace}
 use Rattle.loop_text.specs.declared.loop_place.LoopPlace.TheVariants.{Statement, WorkNumber}
 use Rattle.loop_text.specs.declared.loop_place.LoopPlace.TheVariants.{GroupBrace, ForVariable}
@@ -40,6 +39,7 @@ use Rattle.loop_text.specs.FirstPass.{after_closing}
 use Rattle.task_program.specs.LoopGrammar.{IsNumber, index_of, IsVariable, IndexSpelled}
 use Rattle.task_program.specs.LoopGrammar.{ItemsSpelled, ClausesSpelled, OpeningSpelled, Spelled}
 use Rattle.task_program.specs.LoopGrammar.Spelled.{Nothing, Block}
+use Rattle.program_text.proofs.FaultRows.{row_passed}
 
 -- ---- what is open, and what of a statement was read
 
@@ -289,29 +289,24 @@ pub record Reads (tokens : List Token) (state : State) : Type 0 where
 
 -- ---- what passes the table
 
-pub row_passed : (b : Bool) (kind : ReadKind) (others : Option ReadKind)
-    → cond b (Some kind) others ≡ None
-    → (b ≡ false) × (others ≡ None)
-row_passed true kind others h = absurd cc
-row_passed false kind others h = (refl, h)
-
 pub record Passes (state : State) (text : List ℕ) : Type 0 where
   pub unopened : closes_nothing state.place state.tree.blocks text ≡ false
   pub allowed : is_allowed state.place state.head state.tree.blocks text ≡ true
   pub number : is_number_too_large state.place text ≡ false
   pub nesting : nests_too_deep state.place state.tree.blocks text ≡ false
 
-is_true : (b : Bool) → not b ≡ false → b ≡ true
-is_true true h = refl
-is_true false h = cc
-
 pub passes : (state : State) (text : List ℕ) → place_fault state text ≡ None → Passes state text
 passes state text h =
-    let r1 = row_passed _ _ _ h in
-    let r2 = row_passed _ _ _ r1.1 in
-    let r3 = row_passed _ _ _ r2.1 in
-    let r4 = row_passed _ _ _ r3.1 in
-    record { unopened = r1.0; allowed = is_true _ r2.0; number = r3.0; nesting = r4.0 }
+    let unopened_row = row_passed _ _ _ h in
+    let allowed_row = row_passed _ _ _ unopened_row.1 in
+    let number_row = row_passed _ _ _ allowed_row.1 in
+    let nesting_row = row_passed _ _ _ number_row.1 in
+    record {
+      unopened = unopened_row.0;
+      allowed = not-false _ allowed_row.0;
+      number = number_row.0;
+      nesting = nesting_row.0;
+    }
 
 -- ---- tools
 

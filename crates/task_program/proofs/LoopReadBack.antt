@@ -174,7 +174,7 @@ expands_to : (program : ProgramMarks) (state : ExpansionState)
 expands_to program state two fits located goes =
     let names : List (List ℕ) = program.names in
     let marks : List Mark = program.marks in
-    let p = goes.prints in
+    let prints = goes.prints in
     let words : List (List ℕ) =
     codes "omptasks" ∷ codes "2" ∷ flat_map (line_texts_by (spell false) names) marks in
     let lines : List ℕ = flat_map (line_of_mark names) marks in
@@ -196,14 +196,14 @@ expands_to program state two fits located goes =
     let none : length state.tree.blocks ≡ 0 = ap (λ (bs : List Block). length bs) goes.blocks_are in
     let bytes_are : state.bytes
     ≡ (solid_bytes (header_line Two) + solid_bytes lines) + length state.tree.blocks =
-    p.bytes_are in
+    prints.bytes_are in
     let lengths : length (canonical_text program) ≡ length (header_line Two ++ lines) =
     ap (λ (t : List ℕ). length t) text_is in
-    let turns : state.turns ≡ 0 = p.no_turns in (
+    let turns : state.turns ≡ 0 = prints.no_turns in (
       in_version program two
-          ∙ ap (λ (ms : List Mark). program_of ms names) (sym p.marks_are)
+          ∙ ap (λ (ms : List Mark). program_of ms names) (sym prints.marks_are)
           ∙ ap (λ (ns : List (List ℕ)). program_of state.tree.marks ns)
-          (fits.ordered ∙ sym p.names_are),
+          (fits.ordered ∙ sym prints.names_are),
       omega (arith, turns),
       omega (arith, bytes_are, none, apart, solid_is, tokens, size),
       omega (arith, lengths, half, solid_is, tokens, size),
@@ -230,7 +230,7 @@ canonical_loops program two fits =
     ≡ tokens_of (canonical_text program) =
     ap (λ (ts : List (List ℕ)). with_lines ts lines.0) (sym tokens_so) ∙ lines.1 in
     let body : List Token = with_lines words (λ i. lines.0 (suc (suc i))) in
-    let h : HasMarks names MOST_NESTING body marks = lines_spelled names MOST_NESTING marks
+    let has_marks : HasMarks names MOST_NESTING body marks = lines_spelled names MOST_NESTING marks
     (nests program fits) located [] [] (λ i. lines.0 (suc (suc i))) (no_marks names MOST_NESTING) in
     let once : AreOnce names =
     subst AreOnce (sym fits.ordered) (once_mentioned (flat_map (names_of_mark names) marks)) in
@@ -238,28 +238,29 @@ canonical_loops program two fits =
     ≡ fold with_name [] (flat_map (names_of_mark names) ([] ++ (marks ++ []))) = fits.ordered
     ∙ ap (λ (ms : List Mark). fold with_name [] (flat_map (names_of_mark names) ms))
     (sym (append-nil marks)) in
-    let goes : Goes names marks [] (state_after_tree h.tree) = expands names once marks h.tree
-    h.stands fits.marks_fit [] [] empty_expansion all_names (at_first names) in
-    let e = expands_to program (state_after_tree h.tree) two fits located goes in
+    let goes : Goes names marks [] (state_after_tree has_marks.tree) = expands names once marks
+    has_marks.tree
+    has_marks.stands fits.marks_fit [] [] empty_expansion all_names (at_first names) in
+    let expansion_so = expands_to program (state_after_tree has_marks.tree) two fits located goes in
     let short_words : AllShort words =
     lines_short (spell false) names marks (marks_short names marks located) in
-    let long : length (canonical_text program) ≤ MOST_CANONICAL_BYTES = e.3 in (
+    let long : length (canonical_text program) ≤ MOST_CANONICAL_BYTES = expansion_so.3 in (
       record {
         in_version = two;
         word = record { text = codes "omptasks"; line = lines.0 0 };
         version = record { text = codes "2"; line = lines.0 1 };
         body = body;
-        tree = h.tree;
+        tree = has_marks.tree;
         tokens_are = front_apart words lines.0 (tokens_of (canonical_text program)) tokens_are;
         header = refl;
         version_is_two = (refl, refl);
-        spelled = h.spelled;
+        spelled = has_marks.spelled;
         expanded = record {
-          program_is = e.0;
+          program_is = expansion_so.0;
           program_fits = fits;
-          indices_fit = in_range names false marks h.tree h.stands;
-          turns_fit = e.1;
-          bytes_fit = e.2;
+          indices_fit = in_range names false marks has_marks.tree has_marks.stands;
+          turns_fit = expansion_so.1;
+          bytes_fit = expansion_so.2;
         };
         text_fits = omega (arith, long);
         words_fit = subst (λ (ts : List (List ℕ)). All IsShort ts)

@@ -7,6 +7,8 @@ use Rattle.std.specs.List.{flat_map, list_any}
 use Rattle.std.specs.Str.{bytes_eq}
 use Rattle.std.proofs.lemmas.List.Elements.{All-nil, All-cons}
 use Rattle.std.proofs.lemmas.List.Sums.{sum_by-cons}
+use Rattle.std.proofs.lemmas.Bool.{and_parts, not-true}
+use Rattle.std.proofs.Math.Bool.{or-false}
 use Rattle.loop_text.specs.declared.loop_place.LoopPlace.{LoopPlace}
 use Rattle.loop_text.specs.declared.loop_place.LoopPlace.TheVariants.{Statement, WorkNumber}
 use Rattle.loop_text.specs.declared.loop_place.LoopPlace.TheVariants.{GroupBrace, ForVariable}
@@ -31,9 +33,9 @@ use Rattle.task_program.specs.LoopViablePrefix.{HasItemForm, HasLoopClauseForm, 
 use Rattle.task_program.specs.LoopViablePrefix.{HaveLoopForms}
 use Rattle.task_program.specs.LoopViablePrefix.LoopClause.{IfClause, FinalClause}
 use Rattle.task_program.specs.LoopViablePrefix.LoopPiece.{TaskPiece, WaitPiece, EndPiece}
-use Rattle.task_program.proofs.Keeping.{bool_cases}
-use Rattle.task_program.proofs.FoundPlaces.{same_text, or_nil}
-use Rattle.task_program.proofs.Shapes.{left_is_true, right_is_true}
+use Rattle.task_program.proofs.FoundPlaces.{same_text}
+use Rattle.program_text.proofs.Bools.{bool_cases}
+use Rattle.task_program.proofs.Shapes.{no_more_than_one}
 
 -- the place, the clauses that the task has, the variable of the `for` that is read, those of the
 -- loops around, and for each open block those of the loops around it
@@ -272,7 +274,7 @@ Follows s texts = FollowsAt s.place s.has_if s.has_final s.variable s.variables 
 pub allowed_of : (place : LoopPlace) (hi hf : Bool) (vs : List (List ℕ)) (us : List (List (List ℕ)))
     (text : List ℕ)
     → fits_at place hi hf vs us text ≡ true → allowed_at place hi hf vs text ≡ true
-allowed_of place hi hf vs us text h = right_is_true (not (closes_none place us text)) _ h
+allowed_of place hi hf vs us text h = (and_parts (not (closes_none place us text)) _ h).1
 
 abbrev pub StepsBack : LoopPlace → Bool → Bool → List ℕ → List (List ℕ) → List (List (List ℕ))
     → List ℕ → List (List ℕ)
@@ -292,10 +294,6 @@ piece_rest vs us vs' us' piece ts forms r = record {
   forms = forms r.pieces r.forms;
 }
 
-some_one : (has : Bool) (count : ℕ) → cond has 1 0 + count ≤ 1 → count ≤ 1
-some_one true count h = omega (arith, h)
-some_one false count h = omega (arith, h)
-
 task_rest : (hi hf : Bool) (vs : List (List ℕ)) (us : List (List (List ℕ))) (ts : List (List ℕ))
     → ClausesRest hi hf vs us ts → Rest vs us (codes "task" ∷ ts)
 task_rest hi hf vs us ts c = record {
@@ -305,7 +303,10 @@ task_rest hi hf vs us ts c = record {
       c.rest.texts_are
       ∙ sym (append_assoc (flat_map clause_texts c.clauses) (codes "{" ∷ [])
       (flat_map piece_texts c.rest.pieces)));
-  forms = ((c.forms, some_one hi _ c.one_if, some_one hf _ c.one_final), c.rest.forms);
+  forms = (
+    (c.forms, no_more_than_one hi _ c.one_if, no_more_than_one hf _ c.one_final),
+    c.rest.forms,
+  );
 }
 
 end_rest : (hi hf : Bool) (x : List ℕ) (vs : List (List ℕ)) (us : List (List (List ℕ)))
@@ -351,18 +352,14 @@ statement_back hi hf x vs us text ts h =
     no_group no_for in
     let some : not (closes_none Statement us (codes "}"))
     ≡ true = subst (λ (t : List ℕ). not (closes_none Statement us t) ≡ true) text_is
-    (left_is_true (not (closes_none Statement us text)) _ h) in
+    (and_parts (not (closes_none Statement us text)) _ h).0 in
     rw text_is (end_rest hi hf x vs us ts some f)))))))
-
-not_true : (b : Bool) → not b ≡ true → b ≡ false
-not_true true h = absurd cc
-not_true false h = refl
 
 pub new_variable : (vs : List (List ℕ)) (text : List ℕ)
     → (is_word text && not (list_any (bytes_eq text) vs)) ≡ true
     → IsNewVariable vs text
 new_variable vs text h =
-    (left_is_true (is_word text) _ h, not_true _ (right_is_true (is_word text) _ h))
+    ((and_parts (is_word text) _ h).0, not-true _ (and_parts (is_word text) _ h).1)
 
 if_clause : (hf : Bool) (vs : List (List ℕ)) (us : List (List (List ℕ))) (number : List ℕ)
     (ts : List (List ℕ))
@@ -424,9 +421,9 @@ pub final_back : (hi hf : Bool) (vs : List (List ℕ)) (us : List (List (List �
 final_back hi true vs us ts c = λ number h. final_clause hi vs us number ts h c
 final_back hi false vs us ts c = tt
 
-one_at_most : (has : Bool) → cond has 1 0 + 0 ≤ 1
-one_at_most true = omega arith
-one_at_most false = omega arith
+none_yet : (has : Bool) → cond has 1 0 + 0 ≤ 1
+none_yet true = omega arith
+none_yet false = omega arith
 
 -- a second `final` is no clause
 final_twice : (hi : Bool) → allowed_at Clause hi true [] (codes "final") ≡ true → ⊥
@@ -442,8 +439,8 @@ brace_back hi hf vs us ts
       later = ts;
       texts_are = refl;
       forms = All-nil (HasLoopClauseForm vs);
-      one_if = one_at_most hi;
-      one_final = one_at_most hf;
+      one_if = none_yet hi;
+      one_final = none_yet hf;
       rest = r;
     }
 
@@ -463,7 +460,7 @@ pub clause_depend : (text : List ℕ) (hi hf : Bool)
     → text ≡ codes "depend"
 clause_depend text hi hf h no_brace no_if no_final =
     same_text text (codes "depend")
-    (sym (or_nil (is_text text (codes "depend"))) ∙ (rw (no_brace, no_if, no_final) at h))
+    (sym (or-false (is_text text (codes "depend"))) ∙ (rw (no_brace, no_if, no_final) at h))
 
 pub clause_back : (hi hf : Bool) (x : List ℕ) (vs : List (List ℕ)) (us : List (List (List ℕ)))
     (text : List ℕ) (ts : List (List ℕ))

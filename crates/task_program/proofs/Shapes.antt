@@ -5,7 +5,7 @@ use Rattle.std.proofs.Common.{List, [], ◌∷◌, ◌++◌, append_assoc, refl,
 use Rattle.std.proofs.Common.{codes}
 use Rattle.std.specs.Prelude.{All, count_by, if◌then◌else◌}
 use Rattle.std.specs.List.{flat_map}
-use Rattle.std.proofs.lemmas.Bool.{eqb-true}
+use Rattle.std.proofs.lemmas.Bool.{eqb-true, and_parts}
 use Rattle.std.proofs.lemmas.List.Elements.{All-nil, All-cons}
 use Rattle.std.proofs.lemmas.List.Sums.{sum_by-cons}
 use Rattle.task_program.specs.declared.place.Place.{Place}
@@ -24,9 +24,9 @@ use Rattle.task_program.specs.Grammar.Clause.{IfClause, DependClause}
 use Rattle.task_program.specs.Grammar.Written.{WorkWritten, TaskWritten, WaitWritten, GroupWritten}
 use Rattle.task_program.specs.Grammar.Written.{EndWritten}
 use Rattle.task_program.specs.ViablePrefix.{IsWord, HasClauseForm, HasForm, EndBlocks, IsSentence}
-use Rattle.task_program.proofs.Keeping.{bool_cases}
-use Rattle.task_program.proofs.FoundPlaces.{same_text, or_true_right}
+use Rattle.task_program.proofs.FoundPlaces.{same_text}
 use Rattle.task_program.proofs.Found.{type_is, first_if, is_depend, is_end}
+use Rattle.program_text.proofs.Bools.{or_true_right, bool_cases}
 
 pub record Shape : Type 0 where
   pub place : Place
@@ -156,31 +156,23 @@ Follows shape texts = FollowsAt shape.place shape.has_if shape.depth texts
 
 -- ---- a token that is allowed goes in front
 
-pub left_is_true : (a b : Bool) → (a && b) ≡ true → a ≡ true
-left_is_true true b h = refl
-left_is_true false b h = h
-
-pub right_is_true : (a b : Bool) → (a && b) ≡ true → b ≡ true
-right_is_true true b h = h
-right_is_true false b h = absurd cc
-
 -- the three tests of `fits_at`
 header_of : (place : Place) (has_if : Bool) (depth : ℕ) (text : List ℕ)
     → fits_at place has_if depth text ≡ true
     → is_header place text ≡ true
-header_of place has_if depth text h = left_is_true (is_header place text) _ h
+header_of place has_if depth text h = (and_parts (is_header place text) _ h).0
 
 allowed_of : (place : Place) (has_if : Bool) (depth : ℕ) (text : List ℕ)
     → fits_at place has_if depth text ≡ true
     → is_allowed place has_if text ≡ true
 allowed_of place has_if depth text h =
-    right_is_true (not (closes_none place depth text)) _ (right_is_true (is_header place text) _ h)
+    (and_parts (not (closes_none place depth text)) _ (and_parts (is_header place text) _ h).1).1
 
 unclosed_of : (place : Place) (has_if : Bool) (depth : ℕ) (text : List ℕ)
     → fits_at place has_if depth text ≡ true
     → not (closes_none place depth text) ≡ true
 unclosed_of place has_if depth text h =
-    left_is_true (not (closes_none place depth text)) _ (right_is_true (is_header place text) _ h)
+    (and_parts (not (closes_none place depth text)) _ (and_parts (is_header place text) _ h).1).0
 
 piece_rest : (depth after : ℕ) (piece : Written) (texts : List (List ℕ)) → HasForm piece
     → ((pieces : List Written) → EndBlocks pieces after → EndBlocks (piece ∷ pieces) depth)
@@ -193,9 +185,9 @@ piece_rest depth after piece texts form nests r = record {
 }
 
 -- however the task began, it has one `if` at most
-some_if : (has_if : Bool) (count : ℕ) → cond has_if 1 0 + count ≤ 1 → count ≤ 1
-some_if true count h = omega (arith, h)
-some_if false count h = omega (arith, h)
+pub no_more_than_one : (has_if : Bool) (count : ℕ) → cond has_if 1 0 + count ≤ 1 → count ≤ 1
+no_more_than_one true count h = omega (arith, h)
+no_more_than_one false count h = omega (arith, h)
 
 task_rest : (has_if : Bool) (depth : ℕ) (texts : List (List ℕ)) → ClausesRest has_if depth texts
     → Rest depth (codes "task" ∷ texts)
@@ -207,7 +199,7 @@ task_rest has_if depth texts c = record {
       ∙ sym (append_assoc (flat_map clause_texts c.clauses) (codes "{" ∷ [])
       (flat_map texts_of c.rest.written)));
   forms = All-cons HasForm (TaskWritten c.clauses) c.rest.written
-      (c.forms, some_if has_if _ c.one_if) c.rest.forms;
+      (c.forms, no_more_than_one has_if _ c.one_if) c.rest.forms;
   nested = c.rest.nested;
 }
 
@@ -316,23 +308,25 @@ depend_clause : (kind : DependKind) (has_if : Bool) (depth : ℕ) (texts : List 
     → ClausesRest has_if depth (codes "depend" ∷ codes "(" ∷ type_word kind ∷ codes ":" ∷ texts)
 depend_clause kind has_if depth texts n =
     let clause = DependClause kind n.names n.last in
-    let c = n.rest in
+    let clauses_after = n.rest in
     record {
-      clauses = clause ∷ c.clauses;
-      later = c.later;
+      clauses = clause ∷ clauses_after.clauses;
+      later = clauses_after.later;
       texts_are =
           ap (λ (ts : List (List ℕ)). codes "depend" ∷ codes "(" ∷ type_word kind ∷ codes ":" ∷ ts)
           (n.texts_are
           ∙ ap (λ (ts : List (List ℕ)). flat_map name_and_comma n.names ++ n.last ∷ codes ")" ∷ ts)
-          c.texts_are
-          ∙ depend_texts n.names n.last (flat_map clause_texts c.clauses) (codes "{" ∷ c.later));
-      forms = All-cons HasClauseForm clause c.clauses (n.words, n.last_word) c.forms;
+          clauses_after.texts_are
+          ∙ depend_texts n.names n.last (flat_map clause_texts clauses_after.clauses)
+          (codes "{" ∷ clauses_after.later));
+      forms = All-cons HasClauseForm clause clauses_after.clauses (n.words, n.last_word)
+          clauses_after.forms;
       one_if = omega (
         arith,
-        c.one_if,
-        sum_by-cons (λ (one : grammar.Clause). cond (is_if one) 1 0) clause c.clauses,
+        clauses_after.one_if,
+        sum_by-cons (λ (one : grammar.Clause). cond (is_if one) 1 0) clause clauses_after.clauses,
       );
-      rest = c.rest;
+      rest = clauses_after.rest;
     }
 
 last_name : (has_if : Bool) (depth : ℕ) (name : List ℕ) (texts : List (List ℕ)) → IsWord name
@@ -388,7 +382,7 @@ version_back : (depth : ℕ) (text : List ℕ) (texts : List (List ℕ))
 version_back zero text texts h r = record {
   version = text;
   written = r.written;
-  version_is_one = (left_is_true _ _ h, eqb-true _ _ (right_is_true (is_number text) _ h));
+  version_is_one = ((and_parts _ _ h).0, eqb-true _ _ (and_parts (is_number text) _ h).1);
   spelled = ap (λ (ts : List (List ℕ)). codes "omptasks" ∷ text ∷ ts) r.texts_are;
   forms = r.forms;
   nested = r.nested;

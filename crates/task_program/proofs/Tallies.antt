@@ -3,7 +3,7 @@ use Rattle.std.proofs.Common.{◌≡◌, ℕ, ◌+◌, ◌≤◌, Bool, true, fa
 use Rattle.std.proofs.Common.{◌∷◌, ◌++◌, length, map, length-append, Option, Some, None, refl, sym}
 use Rattle.std.proofs.Common.{ap, subst, ◌∙◌, arith, codes}
 use Rattle.std.specs.Prelude.{fold, sum_by, nat_lt, nat_le}
-use Rattle.std.proofs.lemmas.Bool.{le-ltb, lt-ltb, leb-true, leb-false, eqb-true}
+use Rattle.std.proofs.lemmas.Bool.{le-ltb, lt-ltb, leb-true, leb-false, eqb-true, and_parts}
 use Rattle.std.proofs.lemmas.List.{map_push, length-map}
 use Rattle.std.proofs.lemmas.List.Sums.{fold-append, sum_by-append}
 use Rattle.program_text.specs.declared.fault.ReadKind.{ReadKind}
@@ -43,10 +43,10 @@ use Rattle.task_program.specs.TokenCounts.{is_task_past, is_segment_past, is_wor
 use Rattle.task_program.specs.TokenCounts.{work_by, tasks_in, segments_in, work_in, items_after}
 use Rattle.task_program.specs.TokenCounts.{items_in, braces_after, open_braces, limit_by}
 use Rattle.task_program.specs.TokenCounts.{limit_fault_after}
-use Rattle.task_program.proofs.Keeping.{at, bool_cases, with_one}
-use Rattle.task_program.proofs.Shapes.{left_is_true, right_is_true}
-use Rattle.task_program.proofs.FoundPlaces.{same_text, or_true_right}
+use Rattle.task_program.proofs.Keeping.{at, with_one}
+use Rattle.task_program.proofs.FoundPlaces.{same_text}
 use Rattle.task_program.proofs.Found.{type_is, is_depend, is_end}
+use Rattle.program_text.proofs.Bools.{or_true_right, bool_cases}
 
 -- ---- one token more
 
@@ -283,15 +283,15 @@ work_tallies : (state : State) (text : List ℕ) (line : ℕ)
     → is_number text ≡ true
     → Tallies WorkNumber state text line
 work_tallies state text line number =
-    let n = no_sign_number text number in
-    let w = number_weight text number in
+    let no_sign = no_sign_number text number in
+    let weight = number_weight text number in
     let marks = state.tree.marks in
     let mark = Works (value_of text) in
-    same_tally _ _ _ _ _ _ _ _ _ _ _ _ (inside_stays false text n)
-    (omega (arith, w.0, with_one tasks_begun marks mark))
-    (omega (arith, w.1, with_one segments_opened marks mark))
-    (omega (arith, w.2, with_one work_done marks mark)) (items_stay _ text n)
-    (braces_stay _ text line n)
+    same_tally _ _ _ _ _ _ _ _ _ _ _ _ (inside_stays false text no_sign)
+    (omega (arith, weight.0, with_one tasks_begun marks mark))
+    (omega (arith, weight.1, with_one segments_opened marks mark))
+    (omega (arith, weight.2, with_one work_done marks mark)) (items_stay _ text no_sign)
+    (braces_stay _ text line no_sign)
 
 no_items_long : (items : List Item) → items ≡ [] → length items ≡ 0
 no_items_long items h = ap length h
@@ -327,9 +327,9 @@ clause_tallies state text line allowed =
 if_number_tallies : (state : State) (text : List ℕ) (line : ℕ) → is_number text ≡ true
     → Tallies IfNumber state text line
 if_number_tallies state text line number =
-    let n = no_sign_number text number in
-    same_tally _ _ _ _ _ _ _ _ _ _ _ _ (inside_stays true text n) (omega arith) (omega arith)
-    (omega arith) (items_stay _ text n) (braces_stay _ text line n)
+    let no_sign = no_sign_number text number in
+    same_tally _ _ _ _ _ _ _ _ _ _ _ _ (inside_stays true text no_sign) (omega arith) (omega arith)
+    (omega arith) (items_stay _ text no_sign) (braces_stay _ text line no_sign)
 
 type_tallies : (state : State) (kind : DependKind) (line : ℕ)
     → tally_after (tally_at DependType state) (token_so (type_word kind) line)
@@ -350,12 +350,13 @@ type_tallies state DependInOutSet line =
 name_tallies : (state : State) (kind : DependKind) (text : List ℕ) (line : ℕ) → is_word text ≡ true
     → Tallies (DependName kind) state text line
 name_tallies state kind text line word =
-    let n = no_sign_word text word in
+    let no_sign = no_sign_word text word in
     let item : Item = record { kind = kind; name = number_of_name state.names text } in
     let items_are : length (state.head.items ++ item ∷ []) ≡ length state.head.items + 1 =
     length-append state.head.items (item ∷ []) in
-    same_tally _ _ _ _ _ _ _ _ _ _ _ _ (inside_stays true text n) (omega arith) (omega arith)
-    (omega arith) (items_stay _ text n ∙ omega (arith, items_are)) (braces_stay _ text line n)
+    same_tally _ _ _ _ _ _ _ _ _ _ _ _ (inside_stays true text no_sign) (omega arith) (omega arith)
+    (omega arith) (items_stay _ text no_sign ∙ omega (arith, items_are))
+    (braces_stay _ text line no_sign)
 
 more_tallies : (state : State) (kind : DependKind) (text : List ℕ) (line : ℕ)
     → is_allowed (DependMore kind) state.head.has_if text ≡ true
@@ -707,6 +708,6 @@ header_limits Header text past header =
     ∙ rw (same_text text (codes "omptasks") header) refl
 header_limits Version text past header =
     ap (λ (t : Tally). limit_of t text) nothing_counted
-    ∙ version_limits text (left_is_true (is_number text) _ header)
-    (eqb-true _ _ (right_is_true (is_number text) _ header))
+    ∙ version_limits text (and_parts (is_number text) _ header).0
+    (eqb-true _ _ (and_parts (is_number text) _ header).1)
 header_limits _ text past header = absurd cc

@@ -11,7 +11,7 @@ use Rattle.program_text.proofs.document.split_document.Goals as goal
 
 pub overflow_add-after : goal.overflow_add-after
 overflow_add-after c =
-    let t = YieldsList-turn
+    let turn = YieldsList-turn
     (YieldsList-from_slice_split _ is_line_feed c.args.document.now (cc) (cc) (cc)
     (λ x b q k. search rules))
     c.loop-line.yielded _ c.loop-line.yielded_by _ _ c.in-Some.line c.in-Some.is
@@ -19,9 +19,10 @@ overflow_add-after c =
     let is : IsLine c.args.document.now (length c.loop-line.yielded) c.loop-line.start
     c.in-Some.line.now =
     record {
-      is_there = t.0;
+      is_there = turn.0;
       is_line =
-          t.1 ∙ get_or_default (lines_of c.args.document.now) (length c.loop-line.yielded) _ [] t.0;
+          turn.1 ∙ get_or_default (lines_of c.args.document.now) (length c.loop-line.yielded) _ []
+          turn.0;
       starts = c.loop-line.invariant.start;
     } in
     let within = line_within _ _ _ _ is in
@@ -29,7 +30,7 @@ overflow_add-after c =
 
 pub overflow_add-after-in-loop-line : goal.overflow_add-after-in-loop-line
 overflow_add-after-in-loop-line c =
-    let t = YieldsList-turn
+    let turn = YieldsList-turn
     (YieldsList-from_slice_split _ is_line_feed c.args.document.now (cc) (cc) (cc)
     (λ x b q k. search rules))
     c.loop-line.yielded _ c.loop-line.yielded_by _ _ c.in-Some.line c.in-Some.is
@@ -37,9 +38,10 @@ overflow_add-after-in-loop-line c =
     let is : IsLine c.args.document.now (length c.loop-line.yielded) c.loop-line.start
     c.in-Some.line.now =
     record {
-      is_there = t.0;
+      is_there = turn.0;
       is_line =
-          t.1 ∙ get_or_default (lines_of c.args.document.now) (length c.loop-line.yielded) _ [] t.0;
+          turn.1 ∙ get_or_default (lines_of c.args.document.now) (length c.loop-line.yielded) _ []
+          turn.0;
       starts = c.loop-line.invariant.start;
     } in
     let within = line_within _ _ _ _ is in
@@ -47,7 +49,7 @@ overflow_add-after-in-loop-line c =
 
 pub slice_bounds-result-end : goal.slice_bounds-result-end
 slice_bounds-result-end c =
-    let t = YieldsList-turn
+    let turn = YieldsList-turn
     (YieldsList-from_slice_split _ is_line_feed c.args.document.now (cc) (cc) (cc)
     (λ x b q k. search rules))
     c.loop-line.yielded _ c.loop-line.yielded_by _ _ c.in-Some.line c.in-Some.is
@@ -55,9 +57,10 @@ slice_bounds-result-end c =
     let is : IsLine c.args.document.now (length c.loop-line.yielded) c.loop-line.start
     c.in-Some.line.now =
     record {
-      is_there = t.0;
+      is_there = turn.0;
       is_line =
-          t.1 ∙ get_or_default (lines_of c.args.document.now) (length c.loop-line.yielded) _ [] t.0;
+          turn.1 ∙ get_or_default (lines_of c.args.document.now) (length c.loop-line.yielded) _ []
+          turn.0;
       starts = c.loop-line.invariant.start;
     } in
     let within = line_within _ _ _ _ is in
@@ -65,7 +68,7 @@ slice_bounds-result-end c =
 
 pub returns-then-is_mark-clause-program : goal.returns-then-is_mark-clause-program
 returns-then-is_mark-clause-program c =
-    let t = YieldsList-turn
+    let turn = YieldsList-turn
     (YieldsList-from_slice_split _ is_line_feed c.args.document.now (cc) (cc) (cc)
     (λ x b q k. search rules))
     c.loop-line.yielded _ c.loop-line.yielded_by _ _ c.in-Some.line c.in-Some.is
@@ -73,9 +76,10 @@ returns-then-is_mark-clause-program c =
     let is : IsLine c.args.document.now (length c.loop-line.yielded) c.loop-line.start
     c.in-Some.line.now =
     record {
-      is_there = t.0;
+      is_there = turn.0;
       is_line =
-          t.1 ∙ get_or_default (lines_of c.args.document.now) (length c.loop-line.yielded) _ [] t.0;
+          turn.1 ∙ get_or_default (lines_of c.args.document.now) (length c.loop-line.yielded) _ []
+          turn.0;
       starts = c.loop-line.invariant.start;
     } in
     let first = finds_divider c.args.document.now (length c.loop-line.yielded) c.in-Some.line.now
@@ -85,7 +89,7 @@ returns-then-is_mark-clause-program c =
 
 pub returns-then-is_mark-clause-rest : goal.returns-then-is_mark-clause-rest
 returns-then-is_mark-clause-rest c =
-    let t = YieldsList-turn
+    let turn = YieldsList-turn
     (YieldsList-from_slice_split _ is_line_feed c.args.document.now (cc) (cc) (cc)
     (λ x b q k. search rules))
     c.loop-line.yielded _ c.loop-line.yielded_by _ _ c.in-Some.line c.in-Some.is
@@ -93,9 +97,10 @@ returns-then-is_mark-clause-rest c =
     let is : IsLine c.args.document.now (length c.loop-line.yielded) c.loop-line.start
     c.in-Some.line.now =
     record {
-      is_there = t.0;
+      is_there = turn.0;
       is_line =
-          t.1 ∙ get_or_default (lines_of c.args.document.now) (length c.loop-line.yielded) _ [] t.0;
+          turn.1 ∙ get_or_default (lines_of c.args.document.now) (length c.loop-line.yielded) _ []
+          turn.0;
       starts = c.loop-line.invariant.start;
     } in
     let first = finds_divider c.args.document.now (length c.loop-line.yielded) c.in-Some.line.now
@@ -107,7 +112,7 @@ returns-then-is_mark-clause-rest c =
 
 pub loop-line-preserved : goal.loop-line-preserved
 loop-line-preserved c =
-    let t = YieldsList-turn
+    let turn = YieldsList-turn
     (YieldsList-from_slice_split _ is_line_feed c.args.document.now (cc) (cc) (cc)
     (λ x b q k. search rules))
     c.loop-line.yielded _ c.loop-line.yielded_by _ _ c.in-Some.line c.in-Some.is
@@ -115,35 +120,37 @@ loop-line-preserved c =
     let is : IsLine c.args.document.now (length c.loop-line.yielded) c.loop-line.start
     c.in-Some.line.now =
     record {
-      is_there = t.0;
+      is_there = turn.0;
       is_line =
-          t.1 ∙ get_or_default (lines_of c.args.document.now) (length c.loop-line.yielded) _ [] t.0;
+          turn.1 ∙ get_or_default (lines_of c.args.document.now) (length c.loop-line.yielded) _ []
+          turn.0;
       starts = c.loop-line.invariant.start;
     } in
-    let e = length_push c.loop-line.yielded c.in-Some.line in
+    let one_longer = length_push c.loop-line.yielded c.in-Some.line in
     record {
       start = next_start _ _ _ _ is
-          ∙ ap (λ k. length (text_of_lines (take k (lines_of c.args.document.now)))) (sym e);
+          ∙ ap (λ k. length (text_of_lines (take k (lines_of c.args.document.now))))
+          (sym one_longer);
       unmarked = still_unmarked c.args.document.now (length c.loop-line.yielded) _
-          c.in-Some.line.now e is.is_line c.loop-line.invariant.unmarked (search rules);
+          c.in-Some.line.now one_longer is.is_line c.loop-line.invariant.unmarked (search rules);
     }
 
 pub returns-clause-program : goal.returns-clause-program
 returns-clause-program c =
-    let t = YieldsList-end
+    let at_end = YieldsList-end
     (YieldsList-from_slice_split _ is_line_feed c.args.document.now (cc) (cc) (cc)
     (λ x b q k. search rules))
     c.loop-line.yielded _ c.loop-line.yielded_by _ _ c.in-None.is c.next.ensures.steps in
-    let none = has_no_divider c.args.document.now (length c.loop-line.yielded) t.1
+    let none = has_no_divider c.args.document.now (length c.loop-line.yielded) at_end.1
     c.loop-line.invariant.unmarked in
     sym (program_whole c.args.document.now none)
 
 pub returns-clause-rest : goal.returns-clause-rest
 returns-clause-rest c =
-    let t = YieldsList-end
+    let at_end = YieldsList-end
     (YieldsList-from_slice_split _ is_line_feed c.args.document.now (cc) (cc) (cc)
     (λ x b q k. search rules))
     c.loop-line.yielded _ c.loop-line.yielded_by _ _ c.in-None.is c.next.ensures.steps in
-    let none = has_no_divider c.args.document.now (length c.loop-line.yielded) t.1
+    let none = has_no_divider c.args.document.now (length c.loop-line.yielded) at_end.1
     c.loop-line.invariant.unmarked in
     sym (no_rest c.args.document.now none)
