@@ -188,7 +188,7 @@ def changes():
 STAGES = {
     "reading": ("program_text", "loop_text", "task_program"),
     "cutting": ("task_segments",),
-    "kept edges": ("depend_table", "dispatch_core"),
+    "kept edges": ("depend_table", "open_segments", "dispatch_core"),
     "analysis": ("span_analysis", "spanprof_command::graphs"),
     "greedy": ("greedy_sim",),
     "printing": ("csv_table", "csv::", "spanprof_command", "core::fmt", "span_cert::writer"),

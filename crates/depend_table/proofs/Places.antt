@@ -52,8 +52,8 @@ place_counts_older siblings x older Newest = record {
       ∙ get_or-append_seam (oldest_first older) x.task [] 0;
 }
 place_counts_older siblings x older (Below {x = z} {y} {siblings = rest} {older = before} among) =
-    let p = place_counts_older rest x older among in
-    let below = p.below in
+    let counted = place_counts_older rest x older among in
+    let below = counted.below in
     let one_more : length siblings ≡ length rest + 1 = omega arith in
     record {
       below = omega arith;
@@ -62,7 +62,7 @@ place_counts_older siblings x older (Below {x = z} {y} {siblings = rest} {older 
           (reverse-cons y.task (map (λ (sibling : Sibling). sibling.task) rest))
           ∙ get_or_append_left (oldest_first rest) (y.task ∷ []) 0 (length older)
           (omega (arith, length-oldest rest))
-          ∙ p.found;
+          ∙ counted.found;
     }
 
 -- the accepted calls, as siblings
@@ -101,7 +101,8 @@ predecessors_within names siblings name sharing place tied =
         → Contains (cond test (entry_at names name).previous (entry_at names name).current) place
         → place < length siblings
     by_join true c =
-        let p = ((tied name).is_previous place).0 c in ranked_within name siblings p.0 place p.2
+        let ranked = ((tied name).is_previous place).0 c in
+        ranked_within name siblings ranked.0 place ranked.2
     by_join false c =
         ranked_within name siblings (tied name).top place (((tied name).is_current place).0 c)
 
@@ -133,27 +134,29 @@ kept_listed names calls items first marks end kept table marked within lists =
         → IsMarkedNumber first marks (tasks_of calls) end s
         → IsKept (newest_first calls) items s
     there s m =
-        let k =
+        let at_place =
         predecessors_are_kept names (newest_first calls) items m.place table.tied
         ((marked m.place).0 m.marked) in
-        let p = place_counts_older (newest_first calls) k.kept.earlier k.kept.older k.kept.among in
+        let counted = place_counts_older (newest_first calls) at_place.kept.earlier
+        at_place.kept.older at_place.kept.among in
         record {
-          earlier = k.kept.earlier;
-          older = k.kept.older;
-          among = k.kept.among;
-          number = sym p.found
-              ∙ ap (λ (xs : List ℕ). get_or xs (length k.kept.older) 0) (oldest_first-calls calls)
-              ∙ ap (λ n. get_or (tasks_of calls) n 0) k.kept.placed ∙ m.found;
-          name = k.name;
-          conflicts = k.kept.conflicts;
-          one_less = k.kept.one_less;
+          earlier = at_place.kept.earlier;
+          older = at_place.kept.older;
+          among = at_place.kept.among;
+          number = sym counted.found
+              ∙ ap (λ (xs : List ℕ). get_or xs (length at_place.kept.older) 0)
+              (oldest_first-calls calls)
+              ∙ ap (λ n. get_or (tasks_of calls) n 0) at_place.kept.placed ∙ m.found;
+          name = at_place.name;
+          conflicts = at_place.kept.conflicts;
+          one_less = at_place.kept.one_less;
         }
 
     back : (s : ℕ)
         → IsKept (newest_first calls) items s
         → IsMarkedNumber first marks (tasks_of calls) end s
     back s k =
-        let p = place_counts_older (newest_first calls) k.earlier k.older k.among in
+        let counted = place_counts_older (newest_first calls) k.earlier k.older k.among in
         let at_place : IsKeptPlace (newest_first calls) items (length k.older) = record {
           name = k.name;
           kept = record {
@@ -173,7 +176,7 @@ kept_listed names calls items first marks end kept table marked within lists =
           marked = at_mark;
           found = ap (λ (xs : List ℕ). get_or xs (length k.older) 0)
               (sym (oldest_first-calls calls))
-              ∙ p.found
+              ∙ counted.found
               ∙ k.number;
         }
 
@@ -265,10 +268,10 @@ table_after names later calls call table above same = record {
   where
     below : (n : ℕ) → Contains (tasks_of calls) n → n < call.task
     below n c =
-        let m =
+        let found =
         member_of_map (λ (c : Call). c.task) calls n (member_contains (tasks_of calls) n c) in
-        let is : m.0.task ≡ n = m.2 in
-        let less : m.0.task < call.task =
-        above (sibling_of m.0)
-        (contains_member (member_map sibling_of (member_reverse calls m.0 m.1))) in
+        let is : found.0.task ≡ n = found.2 in
+        let less : found.0.task < call.task =
+        above (sibling_of found.0)
+        (contains_member (member_map sibling_of (member_reverse calls found.0 found.1))) in
         omega arith

@@ -8,7 +8,7 @@ use Rattle.task_segments.proofs.Reaches.{Reaches, reaches_by_one, reach_map, rea
 use Rattle.depend_table.specs.Kept.{IsKeptEdge}
 use Rattle.dispatch_core.specs.declared.event.Event.{Event}
 use Rattle.dispatch_core.specs.declared.event.Event.TheVariants.{Start}
-use Rattle.dispatch_core.specs.Facts.{IsSoundTable}
+use Rattle.open_segments.specs.Facts.{IsSoundTable}
 use Rattle.dispatch_core.specs.Graph.{IsGraphOf}
 use Rattle.dispatch_core.specs.RecordedGraph.{RecordedGraph, Precedes}
 use Rattle.dispatch_core.specs.Run.{Runs, IsLegalRun, IsOpen, IsRunning}

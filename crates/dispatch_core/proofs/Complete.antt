@@ -7,12 +7,12 @@ use Rattle.std.proofs.lemmas.Option.{same_Some, slice_get_within, slice_get-get_
 use Rattle.std.proofs.lemmas.List.Sums.{count_by-le-length, sum_by-cons}
 use Rattle.task_segments.specs.Table.{Table}
 use Rattle.dispatch_core.specs.declared.event.Event.{Event}
-use Rattle.dispatch_core.specs.Entry.{entry}
+use Rattle.open_segments.specs.Entry.{entry}
 use Rattle.dispatch_core.specs.Run.{IsLegalRun, IsFinished}
-use Rattle.dispatch_core.specs.Counters.{TellFinished}
+use Rattle.dispatch_core.specs.Sound.{TellFinished}
 use Rattle.dispatch_core.specs.Sound.{AreStarted}
 use Rattle.dispatch_core.proofs.Histories.{started_before_finish}
-use Rattle.dispatch_core.proofs.PlaceLemmas.{count_by_some_no}
+use Rattle.open_segments.proofs.PlaceLemmas.{count_by_some_no}
 
 -- a test that each element passes counts them all
 count_all : {A : Type 0} (p : A → Bool) (xs : List A)

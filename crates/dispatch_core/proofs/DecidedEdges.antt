@@ -21,7 +21,7 @@ use Rattle.depend_table.specs.Kept.{IsKeptEdge, KeptDependence, KeptGroupEnd, Ke
 use Rattle.depend_table.specs.Kept.{children_below}
 use Rattle.depend_table.specs.Siblings.{IsAmong, IsKept, Sibling, conflict_at, rank}
 use Rattle.depend_table.specs.Siblings.IsAmong.{Below as Older, Newest}
-use Rattle.dispatch_core.proofs.Edges.{kept_sibling}
+use Rattle.open_segments.proofs.Edges.{kept_sibling}
 use Rattle.dispatch_core.proofs.Decisions.{IsDecided, decided_by_equivalent, decide_below}
 use Rattle.dispatch_core.proofs.Decisions.{decide_both, decide_each, decide_either, decide_held}
 use Rattle.dispatch_core.proofs.Decisions.{decide_implies, decide_less, decide_most, decide_options}
@@ -72,14 +72,14 @@ decide_resumption table s t =
     (creator : ℕ) × ((task table u).creator ≡ Some creator) × Continues table creator t in
     decided_by_equivalent ((u : ℕ) × (u < length table.tasks) × (A u × (B u × C u)))
     (Resumption table s t)
-    (λ h. let c = h.2.1.1 in record {
+    (λ h. let created = h.2.1.1 in record {
       child = h.0;
       is_child = h.1;
       undeferred = h.2.0;
       last = h.2.1.0;
-      creator = c.0;
-      is_creator = c.1;
-      resumes = c.2;
+      creator = created.0;
+      is_creator = created.1;
+      resumes = created.2;
     })
     (λ c. (c.child, c.is_child, (c.undeferred, (c.last, (c.creator, c.is_creator, c.resumes)))))
     (decide_below (λ u. A u × (B u × C u)) (length table.tasks) (λ u.
@@ -97,17 +97,18 @@ decide_dependence table s t =
     let D : ℕ → Type 0 = λ v. (task table v).first ≡ t in
     let E : ℕ → Type 0 = λ v. (u : ℕ) × (u < v) × (A u v × (B u v × C u)) in
     decided_by_equivalent ((v : ℕ) × (v < length table.tasks) × (D v × E v)) (Dependence table s t)
-    (λ h. let e = h.2.1 in record {
-      earlier = e.0;
+    (λ h. let before = h.2.1 in record {
+      earlier = before.0;
       later = h.0;
       is_later = h.1;
-      depends = record { in_order = e.1; siblings = e.2.0; conflict = e.2.1.0 };
-      last = e.2.1.1;
+      depends = record { in_order = before.1; siblings = before.2.0; conflict = before.2.1.0 };
+      last = before.2.1.1;
       first = h.2.0;
     })
     (λ d.
-    let e = d.depends in
-    (d.later, d.is_later, (d.first, (d.earlier, e.in_order, (e.siblings, (e.conflict, d.last))))))
+    let depends = d.depends in
+    (d.later, d.is_later,
+    (d.first, (d.earlier, depends.in_order, (depends.siblings, (depends.conflict, d.last))))))
     (decide_below (λ v. D v × E v) (length table.tasks) (λ v.
     decide_both (D v) (E v) (decide_same (task table v).first t)
     (decide_below (λ u. A u v × (B u v × C u)) v (λ u.
@@ -123,8 +124,9 @@ decide_earlier_child table child t =
     let B : Type 0 = (task table child).parent ≡ Some (segment table t).task in
     let C : Type 0 = (creator : ℕ) × ((task table child).creator ≡ Some creator) × (creator < t) in
     decided_by_equivalent (A × (B × C)) (IsEarlierChild table child t)
-    (λ h. let c = h.1.1 in
-    record { is_child = h.0; parent = h.1.0; creator = c.0; is_creator = c.1; earlier = c.2 })
+    (λ h. let created = h.1.1 in
+    record { is_child = h.0; parent = h.1.0; creator = created.0; is_creator = created.1;
+        earlier = created.2 })
     (λ c. (c.is_child, (c.parent, (c.creator, c.is_creator, c.earlier))))
     (decide_both A (B × C) (decide_less child (length table.tasks))
     (decide_both B C (decide_some (task table child).parent (segment table t).task)
@@ -139,13 +141,13 @@ decide_wait table s t =
     let Before : Type 0 = (before : ℕ) × (before < length table.segments) × A before in
     let Child : Type 0 = (child : ℕ) × (child < length table.tasks) × B child in
     decided_by_equivalent (Before × Child) (Wait table s t)
-    (λ h. let b = h.0 in let c = h.1 in record {
-      before = b.0;
-      waits = b.2.0;
-      opens = b.2.1;
-      child = c.0;
-      generated = c.2.0;
-      last = c.2.1;
+    (λ h. let wait = h.0 in let waited = h.1 in record {
+      before = wait.0;
+      waits = wait.2.0;
+      opens = wait.2.1;
+      child = waited.0;
+      generated = waited.2.0;
+      last = waited.2.1;
     })
     (λ w. (
       (w.before, w.opens.is_from, (w.waits, w.opens)),
@@ -337,14 +339,14 @@ decide_kept siblings items number =
     decided_by_equivalent
     ((x : Sibling) × (older : List Sibling) × IsAmong siblings x older × Q x older)
     (IsKept siblings items number)
-    (λ h. let n = h.3.1 in record {
+    (λ h. let named = h.3.1 in record {
       earlier = h.0;
       older = h.1;
       among = h.2;
       number = h.3.0;
-      name = n.0.name;
-      conflicts = n.2.0;
-      one_less = n.2.1;
+      name = named.0.name;
+      conflicts = named.2.0;
+      one_less = named.2.1;
     })
     (λ k.
     let by : Mentions k.name k.earlier.items = earlier_mentions k.name k.earlier.items items
@@ -371,14 +373,14 @@ decide_kept_dependence table s t =
     let C : ℕ → Type 0 = λ v. (parent : ℕ) × ((task table v).parent ≡ Some parent) × B v parent in
     decided_by_equivalent ((v : ℕ) × (v < length table.tasks) × (A v × C v))
     (KeptDependence table s t)
-    (λ h. let p = h.2.1 in let e = p.2 in record {
-      earlier = e.0;
+    (λ h. let in_parent = h.2.1 in let sibling = in_parent.2 in record {
+      earlier = sibling.0;
       later = h.0;
       is_later = h.1;
-      parent = p.0;
-      of_parent = p.1;
-      kept = e.2.0;
-      last = e.2.1;
+      parent = in_parent.0;
+      of_parent = in_parent.1;
+      kept = sibling.2.0;
+      last = sibling.2.1;
       first = h.2.0;
     })
     (λ d.

@@ -5,7 +5,7 @@ use Rattle.std.proofs.Common.{◌∷◌, ◌++◌, Option, Some, None, refl, sym
 use Rattle.std.proofs.lemmas.Bool.{cases_eq, cases_lt, both_ways}
 use Rattle.std.proofs.lemmas.Option.{same_Some, none-some}
 use Rattle.depend_table.specs.Lists.{Lists}
-use Rattle.dispatch_core.proofs.ListLemmas.{Below, Lists-all, Lists-none, Lists-push, Lists-skip}
+use Rattle.open_segments.proofs.ListLemmas.{Below, Lists-all, Lists-none, Lists-push, Lists-skip}
 
 abbrev pub IsDecided : Type 0 → Type 0
 IsDecided P = P ⊎ (¬ P)

@@ -5,7 +5,7 @@ use Rattle.std.proofs.Common.{inl, inr, sum, sum_by, cond, get_or}
 use Rattle.std.specs.Prelude.{All}
 use Rattle.std.proofs.lemmas.List.Sums.{sum_by-le}
 use Rattle.std.proofs.lemmas.Option.{slice_get-get_or}
-use Rattle.dispatch_core.proofs.Uniqueness.{length_below, Lists-same}
+use Rattle.open_segments.proofs.Ascending.{length_below, Lists-same}
 use Rattle.std.specs.Prelude.{slice_get, replicate, AllPairs, Contains, is_some}
 use Rattle.std.proofs.lemmas.Bool.{cases_eq, cases_lt, both_ways}
 use Rattle.std.proofs.lemmas.Option.{same_Some, none-some, slice_get_within}
@@ -18,34 +18,23 @@ use Rattle.task_segments.specs.Precedence.{MustPrecede, Continues, Creation}
 use Rattle.dispatch_core.specs.declared.event.TheConstants.{MOST_WORKERS}
 use Rattle.dispatch_core.specs.declared.event.Event.{Event}
 use Rattle.dispatch_core.specs.Run.{HasStarted, HasFinished, Runs, IsFinished, IsOpen}
-use Rattle.dispatch_core.specs.Facts.{IsSoundTable}
-use Rattle.dispatch_core.specs.Entry.{entry}
+use Rattle.open_segments.specs.Facts.{IsSoundTable}
+use Rattle.open_segments.specs.Entry.{entry}
 use Rattle.dispatch_core.specs.Sound.{IsSound}
-use Rattle.dispatch_core.specs.declared.counters.Counters.{Counters}
-use Rattle.dispatch_core.specs.Counters.{unfinished_count, AreCounts, AreKept, AreKeptOf}
-use Rattle.dispatch_core.specs.Counters.{AreSiblings, AreSuccessors, GoesUp, HasValue, IsOpenBy}
-use Rattle.dispatch_core.specs.Counters.{TellFinished}
+use Rattle.open_segments.specs.declared.counters.Counters.{Counters}
+use Rattle.open_segments.specs.Counters.{unfinished_count, AreCounts, AreKept, AreKeptOf}
+use Rattle.open_segments.specs.Counters.{AreSiblings, AreSuccessors, GoesUp, HasValue, IsOpenBy}
+use Rattle.dispatch_core.specs.Sound.{TellFinished}
 use Rattle.depend_table.specs.Siblings.{Sibling}
 use Rattle.depend_table.specs.Kept.{IsKeptEdge}
-use Rattle.dispatch_core.proofs.ListLemmas.{Lists-none}
-use Rattle.dispatch_core.proofs.SiblingSteps.{siblings_first}
-use Rattle.dispatch_core.specs.Listed.{items_of}
-use Rattle.dispatch_core.specs.UpToDate.{IsUpToDate}
+use Rattle.open_segments.proofs.ListLemmas.{Lists-none}
+use Rattle.open_segments.proofs.SiblingSteps.{siblings_first}
+use Rattle.open_segments.specs.NumberLists.{items_of}
+use Rattle.open_segments.specs.UpToDate.{IsUpToDate}
 use Rattle.dispatch_core.proofs.KeptEnough.{kept_at, open_after}
 use Rattle.dispatch_core.specs.RecordedGraph.{RecordedGraph, IsGraph, Precedes, predecessors_of}
 use Rattle.dispatch_core.specs.Graph.{IsGraphOf}
-
-get-replicate : {A : Type 0} (n : ℕ) (x y : A) (i : ℕ)
-    → slice_get (replicate n x) i ≡ Some y
-    → x ≡ y
-get-replicate zero x y i h = absurd (none-some y h)
-get-replicate (suc n) x y zero h = same_Some x y h
-get-replicate (suc n) x y (suc i) h = get-replicate n x y i h
-
-entry-replicate : (n v i : ℕ) → ¬ (entry (replicate n None) i ≡ Some v)
-entry-replicate zero v i h = none-some v h
-entry-replicate (suc n) v zero h = none-some v h
-entry-replicate (suc n) v (suc i) h = entry-replicate n v i h
+use Rattle.open_segments.proofs.AtFirst.{entry-replicate, get-replicate}
 
 nothing_started : (s : ℕ) → ¬ HasStarted [] s
 nothing_started s h = let within = h.started.1 in absurd (omega arith)
@@ -55,103 +44,6 @@ nothing_finished s h = let within = h.finished.1 in absurd (omega arith)
 
 nothing_runs : (worker s : ℕ) → ¬ Runs [] worker s
 nothing_runs worker s h = let within = h.started.1 in absurd (omega arith)
-
-nothing_valued : (n s : ℕ) → ¬ HasValue (replicate n None) s
-nothing_valued n s has = entry-replicate n has.value s has.is
-
--- at the start of a run only the first segment is open, and it is kept after none
-first_list : (table : Table) (t : ℕ)
-    → IsSoundTable table
-    → AreKeptOf table (IsOpenBy table (replicate (length table.segments) None)) t []
-first_list table t sound = elim (cases_eq t 0) [
-  | inl first ↦ inl (
-    inl first,
-    Lists-none (λ p. IsKeptEdge
-        table
-        p
-        t) (λ p edge. let less = sound.goes_up.ascending p t (sound.chains.within p t edge) in
-        absurd (omega (arith, less, first))),
-  )
-  | inr later ↦ inr (
-    λ opened. elim
-        opened [
-          | inl first ↦ later first
-          | inr by ↦ nothing_valued (length table.segments) by.0 by.2
-        ],
-    refl,
-  )
-]
-
-kept_first : (table : Table)
-    → IsSoundTable table
-    → AreKept table (IsOpenBy table (replicate (length table.segments) None))
-    (replicate (length table.segments) [])
-kept_first table sound = record {
-  each = length-replicate {A = List ℕ} (length table.segments) [];
-  lists = λ t list is. subst
-      (λ (l : List ℕ).
-      AreKeptOf table (IsOpenBy table (replicate (length table.segments) None)) t l)
-      (get-replicate (length table.segments) [] list t is) (first_list table t sound);
-}
-
-counts_first : (values : List (Option ℕ)) (n : ℕ)
-    → AreCounts values (replicate n []) (replicate n 0)
-counts_first values n = record {
-  each = length-replicate {A = ℕ} n 0 ∙ sym (length-replicate {A = List ℕ} n []);
-  counted = λ t list is.
-      let less : t < length (replicate {A = List ℕ} n []) =
-      slice_get_within (replicate n []) t list is in
-      let within : t < length (replicate {A = ℕ} n 0) =
-      omega (arith, less, length-replicate {A = List ℕ} n [], length-replicate {A = ℕ} n 0) in
-      let there = slice_get-get_or (replicate n 0) t 0 within in
-      let zero_there : 0 ≡ get_or (replicate n 0) t 0 =
-      get-replicate n 0 (get_or (replicate n 0) t 0) t there in
-      there
-      ∙ ap (λ (k : ℕ). Some k) (sym zero_there)
-      ∙ ap (λ (l : List ℕ). Some (unfinished_count values l)) (get-replicate n [] list t is);
-}
-
-successors_first : (values : List (Option ℕ)) (n : ℕ)
-    → AreSuccessors values (replicate n []) (replicate n [])
-successors_first values n = record {
-  each = refl;
-  listed = λ s list is none t. (
-    λ h. let w = (subst (λ (l : List ℕ). Contains l t) (sym (get-replicate n [] list s is)) h).1 in
-        absurd (omega (arith, w)),
-    λ h. let w =
-        (subst (λ (l : List ℕ). Contains l s) (sym (get-replicate n [] h.list t h.is_list))
-        h.has).1 in
-        absurd (omega (arith, w)),
-  );
-  once = λ s list is none. subst (λ (l : List ℕ). AllPairs (λ x y. x ≢ y) l)
-      (get-replicate n [] list s is)
-      (λ i j d less within. let w = within in absurd (omega (arith, w)));
-}
-
-pub up_to_date_first : (table : Table) (counters : Counters)
-    → IsSoundTable table
-    → items_of counters.preds.items ≡ replicate (length table.segments) []
-    → items_of counters.successors.items ≡ replicate (length table.segments) []
-    → counters.counts.items ≡ replicate (length table.segments) 0
-    → counters.siblings.items ≡ replicate (length table.tasks) []
-    → IsUpToDate table (replicate (length table.segments) None) counters
-up_to_date_first table counters sound preds successors counts siblings =
-    let n : ℕ = length table.segments in
-    let values : List (Option ℕ) = replicate n None in
-    record {
-      kept = subst (λ (p : List (List ℕ)). AreKept table (IsOpenBy table values) p) (sym preds)
-          (kept_first table sound);
-      counts = subst (λ (p : List (List ℕ)). AreCounts values p counters.counts.items) (sym preds)
-          (subst (λ (k : List ℕ). AreCounts values (replicate n []) k) (sym counts)
-          (counts_first values n));
-      successors = subst
-          (λ (p : List (List ℕ)). AreSuccessors values p (items_of counters.successors.items))
-          (sym preds)
-          (subst (λ (l : List (List ℕ)). AreSuccessors values (replicate n []) l) (sym successors)
-          (successors_first values n));
-      siblings = subst (λ (l : List (List Sibling)). AreSiblings table values l) (sym siblings)
-          (siblings_first table (length table.tasks) values refl (λ s. nothing_valued n s));
-    }
 
 pub sound_at_start : (value_of : ℕ → ℕ → ℕ → ℕ) (table : Table) (capacity : ℕ) (counters : Counters)
     → IsSoundTable table

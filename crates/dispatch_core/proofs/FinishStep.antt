@@ -20,13 +20,13 @@ use Rattle.dispatch_core.specs.Run.{Run, HasFinished, Runs, MayStart, IsLegalRun
 use Rattle.dispatch_core.specs.Values.{IsValue}
 use Rattle.dispatch_core.specs.Values.IsValue.{Computes}
 use Rattle.dispatch_core.specs.Refusals.{IsCost, MayFinish}
-use Rattle.dispatch_core.specs.Entry.{entry}
+use Rattle.open_segments.specs.Entry.{entry}
 use Rattle.dispatch_core.specs.Sound.{IsSound, AreStarted, AreRunning, AreValues}
-use Rattle.dispatch_core.specs.declared.counters.Counters.{Counters}
-use Rattle.dispatch_core.specs.Counters.{TellFinished}
-use Rattle.dispatch_core.specs.UpToDate.{IsUpToDate}
-use Rattle.dispatch_core.proofs.PlaceLemmas.{entry-set_same, entry-set_none, entry-set_other}
-use Rattle.dispatch_core.proofs.PlaceLemmas.{count_by-set, count_by_some_no}
+use Rattle.open_segments.specs.declared.counters.Counters.{Counters}
+use Rattle.dispatch_core.specs.Sound.{TellFinished}
+use Rattle.open_segments.specs.UpToDate.{IsUpToDate}
+use Rattle.open_segments.proofs.PlaceLemmas.{entry-set_same, entry-set_none, entry-set_other}
+use Rattle.open_segments.proofs.PlaceLemmas.{count_by-set, count_by_some_no}
 use Rattle.dispatch_core.proofs.Histories.{finished_kept, started_kept, finished_cases, started_was}
 use Rattle.dispatch_core.proofs.Histories.{legal_push, one_starter, get_at_place}
 use Rattle.dispatch_core.proofs.Histories.{Contains-from_take}
@@ -135,9 +135,9 @@ running_after_finish : (table : Table) (history : List Event) (running : List (O
     → AreRunning (history ++ Finish worker s ∷ []) (slice_set running worker None)
 running_after_finish table history running worker s legal are runs =
     let next : List Event = history ++ Finish worker s ∷ [] in
-    let within : worker < length running = let k =
+    let within : worker < length running = let start_known =
     started_known table history worker s legal runs.started in
-    omega (arith, are.each, k.0) in
+    omega (arith, are.each, start_known.0) in
     record {
       each = length-set running worker None ∙ are.each;
       is_run = λ w t h. elim (cases_eq w worker) [
@@ -162,9 +162,9 @@ running_after_finish table history running worker s legal are runs =
             unfinished = λ f. h.unfinished (finished_kept history (Finish worker s) t f);
           } in
           let apart : w ≢ worker = λ same.
-          let e : s ≡ t = same_Some s t
+          let same_segment : s ≡ t = same_Some s t
           (sym (are.runs worker s runs) ∙ ap (entry running) (sym same) ∙ are.runs w t was) in
-          h.unfinished (subst (HasFinished next) e (finishes history worker s)) in
+          h.unfinished (subst (HasFinished next) same_segment (finishes history worker s)) in
           entry-set_other running worker w None apart ∙ are.runs w t was;
     }
 
@@ -200,10 +200,11 @@ values_after_finish table history value_of values worker s value known is are =
       };
       is_value = λ t v h. elim (cases_eq t s) [
         | inl same ↦
-            let e : value ≡ v = same_Some value v (sym (entry-set_same values s value within)
+            let same_value : value ≡ v =
+            same_Some value v (sym (entry-set_same values s value within)
             ∙ subst (λ (u : ℕ). entry (slice_set values s (Some value)) u ≡ Some v) same h) in
             subst (λ (u : ℕ). IsValue table value_of u v) (sym same)
-            (subst (IsValue table value_of s) e is)
+            (subst (IsValue table value_of s) same_value is)
         | inr apart ↦ are.is_value t v (sym (entry-set_other values s t (Some value) apart) ∙ h)
       ];
     }
@@ -215,12 +216,12 @@ computed_value : (table : Table) (value_of : ℕ → ℕ → ℕ → ℕ) (histo
     → value ≡ value_of result.segment result.cost result.input
     → IsValue table value_of result.segment value
 computed_value table value_of history worker result value may is =
-    let s : ℕ = result.segment in
-    Computes s value may.cost.known may.input.preds may.input.are_preds may.input.values
+    let finished : ℕ = result.segment in
+    Computes finished value may.cost.known may.input.preds may.input.are_preds may.input.values
     may.input.are_values
     (is
-    ∙ ap (λ (cost : ℕ). value_of s cost result.input) may.cost.costs
-    ∙ ap (value_of s (segment table s).cost) may.input.is_sum)
+    ∙ ap (λ (cost : ℕ). value_of finished cost result.input) may.cost.costs
+    ∙ ap (value_of finished (segment table finished).cost) may.input.is_sum)
 
 not_valued_at : (table : Table) (history : List Event) (value_of : ℕ → ℕ → ℕ → ℕ)
     (values : List (Option ℕ)) (s : ℕ) (found : Option ℕ)
@@ -290,25 +291,26 @@ pub sound_after_finish : (value_of : ℕ → ℕ → ℕ → ℕ) (table : Table
     (slice_set running worker None) (slice_set values result.segment (Some value)) after costs
 sound_after_finish value_of table history capacity later started running values counters after costs
     worker result value sound may is up_to_date more =
-    let s : ℕ = result.segment in
-    let known = started_known table history worker s sound.legal may.runs.started in
-    let off : slice_get values s ≡ Some None =
-    not_valued table history value_of values s sound.are_values known.1 may.runs.unfinished in
+    let finished : ℕ = result.segment in
+    let known = started_known table history worker finished sound.legal may.runs.started in
+    let off : slice_get values finished ≡ Some None =
+    not_valued table history value_of values finished sound.are_values known.1
+    may.runs.unfinished in
     record {
       sound_table = sound.sound_table;
-      legal = legal_push table history (Finish worker s) sound.legal may.runs;
-      are_started = started_after_finish table history started worker s sound.are_started;
-      are_running = running_after_finish table history running worker s sound.legal
+      legal = legal_push table history (Finish worker finished) sound.legal may.runs;
+      are_started = started_after_finish table history started worker finished sound.are_started;
+      are_running = running_after_finish table history running worker finished sound.legal
           sound.are_running may.runs;
-      are_values = values_after_finish table history value_of values worker s value known.1
+      are_values = values_after_finish table history value_of values worker finished value known.1
           (computed_value table value_of history worker result value may is) sound.are_values;
       up_to_date = up_to_date;
       are_costs = sound.are_costs;
       counted = omega (
         arith,
         sound.counted,
-        length-append history (Finish worker s ∷ []),
-        count_by-set is_some values s (Some value) None off refl refl,
+        length-append history (Finish worker finished ∷ []),
+        count_by-set is_some values finished (Some value) None off refl refl,
       );
       reserved = omega (arith, sound.reserved);
     }

@@ -9,7 +9,7 @@ use Rattle.std.proofs.lemmas.Option.{none-some, slice_get-get_or}
 use Rattle.task_segments.specs.Precedence.{MustPrecede}
 use Rattle.task_segments.specs.Table.{Table, table_of}
 use Rattle.dispatch_core.proofs.Histories.{legal_push}
-use Rattle.dispatch_core.specs.Facts.{IsSoundTable}
+use Rattle.open_segments.specs.Facts.{IsSoundTable}
 use Rattle.dispatch_core.specs.Replays.{IsFirstRefused, RefusesNext}
 use Rattle.dispatch_core.specs.Refusals.{AreKnown, IsFirstUnfinished, IsIdle, RefusesStart}
 use Rattle.dispatch_core.specs.Run.{HasFinished, HasStarted, IsLegalRun, MayFollow, MayStart, Runs}
@@ -52,10 +52,10 @@ decide_has history event =
     (λ k. decide_same_event (get_or history k event) event)
 
 is_start_of : (event : Event) (s : ℕ) → IsDecided ((worker : ℕ) × (event ≡ Start worker s))
-is_start_of (Finish w t) s = inr (λ h. let e = h.1 in cc)
+is_start_of (Finish w t) s = inr (λ h. let same_event = h.1 in cc)
 is_start_of (Start w t) s = elim (decide_same t s) [
   | inl same ↦ inl (w, ap (λ n. Start w n) same)
-  | inr apart ↦ inr (λ h. let e = h.1 in apart (cc))
+  | inr apart ↦ inr (λ h. let same_event = h.1 in apart (cc))
 ]
 
 -- some event, to read a history by its places
@@ -94,12 +94,12 @@ decide_runs history worker s =
 -- an event that starts a segment which the worker still runs
 keeps_busy : (history : List Event) (worker : ℕ) (event : Event)
     → IsDecided ((s : ℕ) × (event ≡ Start worker s) × ¬ HasFinished history s)
-keeps_busy history worker (Finish w t) = inr (λ h. let e = h.1 in cc)
+keeps_busy history worker (Finish w t) = inr (λ h. let same_event = h.1 in cc)
 keeps_busy history worker (Start w t) = elim (decide_same w worker) [
-  | inr apart ↦ inr (λ h. let e = h.1 in apart (cc))
+  | inr apart ↦ inr (λ h. let same_event = h.1 in apart (cc))
   | inl same ↦ elim (decide_finished history t) [
     | inr unfinished ↦ inl (t, ap (λ n. Start n t) same, unfinished)
-    | inl done ↦ inr (λ h. let e = h.1 in let is : t ≡ h.0 = cc in h.2
+    | inl done ↦ inr (λ h. let same_event = h.1 in let is : t ≡ h.0 = cc in h.2
         (subst (λ (s : ℕ). HasFinished history s) is done))
   ]
 ]
@@ -113,8 +113,9 @@ decide_busy history worker =
       h.2.0,
       record { started = holds_at history h.0 (Start worker h.2.0) h.1 h.2.1; unfinished = h.2.2 },
     ))
-    (λ h. let r = h.1 in
-    (r.started.0, r.started.1, (h.0, at_place history (Start worker h.0) r.started, r.unfinished)))
+    (λ h. let runs = h.1 in
+    (runs.started.0, runs.started.1,
+    (h.0, at_place history (Start worker h.0) runs.started, runs.unfinished)))
     (decide_below P (length history) (λ k. keeps_busy history worker (get_or history k some_event)))
 
 -- ---- the next event

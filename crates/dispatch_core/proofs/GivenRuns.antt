@@ -5,7 +5,7 @@ use Rattle.std.specs.Prelude.{slice_get, OnOk, Result, Ok, Err}
 use Rattle.std.proofs.lemmas.Bool.{cases_lt}
 use Rattle.std.proofs.lemmas.List.Elements.{Contains-push}
 use Rattle.task_segments.specs.Table.{Table}
-use Rattle.dispatch_core.specs.Facts.{IsSoundTable}
+use Rattle.open_segments.specs.Facts.{IsSoundTable}
 use Rattle.dispatch_core.specs.declared.event.Event.{Event}
 use Rattle.dispatch_core.specs.declared.event.Event.TheVariants.{Start, Finish}
 use Rattle.dispatch_core.specs.declared.event.StartRefusal.{StartRefusal}

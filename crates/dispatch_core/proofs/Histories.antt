@@ -11,7 +11,7 @@ use Rattle.task_segments.specs.Table.{Table}
 use Rattle.dispatch_core.specs.declared.event.Event.{Event}
 use Rattle.dispatch_core.specs.declared.event.Event.TheVariants.{Start, Finish}
 use Rattle.dispatch_core.specs.Run.{HasStarted, HasFinished, MayFollow, IsLegalRun}
-use Rattle.dispatch_core.proofs.PlaceLemmas.{get-append_left, get-push_last}
+use Rattle.open_segments.proofs.PlaceLemmas.{get-append_left, get-push_last}
 
 pub Contains-from_take : {A : Type 0} (k : ℕ) (xs : List A) (x : A) → Contains (take k xs) x
     → Contains xs x
@@ -95,10 +95,10 @@ legal_last table history event may k other last is =
     ap (λ n. take n (history ++ event ∷ [])) last ∙ take-append_seam history (event ∷ []) in
     let here : slice_get (history ++ event ∷ []) k ≡ Some event =
     ap (λ n. slice_get (history ++ event ∷ []) n) last ∙ get-push_last history event in
-    let e : event ≡ other = same_Some event other (sym here ∙ is) in
+    let same_event : event ≡ other = same_Some event other (sym here ∙ is) in
     let P : List Event → Type 0 = λ before. MayFollow table before other in
     let Q : Event → Type 0 = λ next. MayFollow table history next in
-    subst P (sym all) (subst Q e may)
+    subst P (sym all) (subst Q same_event may)
 
 pub legal_push : (table : Table) (history : List Event) (event : Event)
     → IsLegalRun table history
@@ -151,9 +151,9 @@ one_starter table history worker other s legal one two =
               started = Contains-into_take one.0 history (Start other s) two before;
             }))
         | inr same ↦
-            let e : one.0 ≡ two.0 = omega arith in
-            let a = get_at_place history (Start worker s) one in
-            let b = get_at_place history (Start other s) two in
+            let same_place : one.0 ≡ two.0 = omega arith in
+            let one_there = get_at_place history (Start worker s) one in
+            let two_there = get_at_place history (Start other s) two in
             cc
       ]
     ]

@@ -14,17 +14,18 @@ use Rattle.depend_table.specs.Lists.{Lists}
 use Rattle.dispatch_core.specs.declared.event.Event.{Event}
 use Rattle.dispatch_core.specs.declared.event.Event.TheVariants.{Finish}
 use Rattle.dispatch_core.specs.Run.{HasFinished, Runs, IsLegalRun, IsOpen, BecomesReady}
-use Rattle.dispatch_core.specs.declared.counters.Counters.{Counters}
-use Rattle.dispatch_core.specs.Counters.{AreKeptOf, GoesUp, HasValue, IsOpenBy, KeepsChains}
-use Rattle.dispatch_core.specs.Counters.{TellFinished, unfinished_count}
-use Rattle.dispatch_core.specs.Listed.{items_of}
-use Rattle.dispatch_core.specs.UpToDate.{IsUpToDate, IsFreed}
-use Rattle.dispatch_core.proofs.ListLemmas.{Lists-like}
+use Rattle.open_segments.specs.declared.counters.Counters.{Counters}
+use Rattle.open_segments.specs.Counters.{AreKeptOf, GoesUp, HasValue, IsOpenBy, KeepsChains}
+use Rattle.open_segments.specs.Counters.{unfinished_count}
+use Rattle.dispatch_core.specs.Sound.{TellFinished}
+use Rattle.open_segments.specs.NumberLists.{items_of}
+use Rattle.open_segments.specs.UpToDate.{IsUpToDate, IsFreed}
+use Rattle.open_segments.proofs.ListLemmas.{Lists-like}
 use Rattle.dispatch_core.proofs.Histories.{started_kept, finished_cases, started_was}
 use Rattle.dispatch_core.proofs.Histories.{started_before_finish, legal_push}
-use Rattle.dispatch_core.specs.Entry.{entry}
+use Rattle.open_segments.specs.Entry.{entry}
 use Rattle.dispatch_core.proofs.FinishStep.{started_after_preds}
-use Rattle.dispatch_core.proofs.Falls.{none_left, all_counted, has_or_not}
+use Rattle.open_segments.proofs.Falls.{none_left, all_counted, has_or_not}
 
 -- what must precede a finished segment is finished
 pub finished_before : (table : Table) (history : List Event) (s u : ℕ) → IsLegalRun table history
@@ -177,7 +178,8 @@ kept_with : (table : Table) (is_open : ℕ → Type 0) (t s : ℕ) (list : List 
     → Lists (λ p. IsKeptEdge table p t) list
 kept_with table is_open t s list has (inl here) = here.1
 kept_with table is_open t s list has (inr none) =
-    let w = (subst (λ (l : List ℕ). Contains l s) none.1 has).1 in absurd (omega (arith, w))
+    let within = (subst (λ (l : List ℕ). Contains l s) none.1 has).1 in
+    absurd (omega (arith, within))
 
 pub has_value : (segments : ℕ) (history : List Event) (values : List (Option ℕ)) (s : ℕ)
     → TellFinished segments history values
@@ -268,7 +270,8 @@ becomes_freed : (table : Table) (history : List Event) (values : List (Option �
 becomes_freed table history values counters worker s t up chains legal tell state becomes =
     let preds : List (List ℕ) = items_of counters.preds.items in
     let known : t < length preds =
-    let k = becomes.is_now.known in let each = state.kept.each in omega (arith, k, each) in
+    let is_known = becomes.is_now.known in let each = state.kept.each in
+    omega (arith, is_known, each) in
     let list : List ℕ = get_or preds t [] in
     let there : slice_get preds t ≡ Some list = slice_get-get_or preds t [] known in
     let opened = open_after table (history ++ Finish worker s ∷ []) values t up tell

@@ -1,18 +1,4 @@
-pub mod PlaceLemmas
-pub mod ListLemmas
-pub mod Within
-pub mod Children
-pub mod Edges
-pub mod Openers
-pub mod Since
-pub mod Joining
-pub mod Falls
-pub mod Turning
-pub mod Rooms
-pub mod OpenSteps
-pub mod SiblingSteps
 pub mod Uniqueness
-pub mod Stages
 pub mod Histories
 pub mod Readings
 pub mod StartStep
@@ -29,3 +15,4 @@ pub mod Decisions
 pub mod DecidedEdges
 pub mod SomeGraph
 pub mod FirstRefused
+pub use Rattle.open_segments.proofs.ListLemmas

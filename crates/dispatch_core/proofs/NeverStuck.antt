@@ -4,7 +4,7 @@ use Rattle.std.proofs.Common.{arith, inl, inr}
 use Rattle.std.specs.Prelude.{Contains}
 use Rattle.std.proofs.lemmas.Bool.{cases_eq, cases_lt}
 use Rattle.task_segments.specs.Table.{Table}
-use Rattle.dispatch_core.specs.Facts.{IsSoundTable}
+use Rattle.open_segments.specs.Facts.{IsSoundTable}
 use Rattle.dispatch_core.specs.declared.event.Event.{Event}
 use Rattle.dispatch_core.specs.declared.event.Event.TheVariants.{Start, Finish}
 use Rattle.dispatch_core.specs.Run.{HasFinished, Runs, IsFinished, IsReady}
@@ -74,14 +74,14 @@ find_smallest history (suc n) =
       | inl all ↦ elim (decide_finished history n) [
         | inl done ↦ inl (λ s h. elim (cases_lt s n) [
           | inl less ↦ all s less
-          | inr above ↦ let e : n ≡ s = omega arith in subst (HasFinished history) e done
+          | inr above ↦ let same : n ≡ s = omega arith in subst (HasFinished history) same done
         ])
         | inr not_yet ↦
             inr (record { s = n; below = omega arith; unfinished = not_yet; all_before = all })
       ]
       | inr found ↦ inr (record {
         s = found.s;
-        below = let b = found.below in omega arith;
+        below = let is_below = found.below in omega arith;
         unfinished = found.unfinished;
         all_before = found.all_before;
       })

@@ -8,13 +8,13 @@ use Rattle.task_segments.specs.Precedence.{MustPrecede}
 use Rattle.dispatch_core.specs.declared.event.Event.{Event}
 use Rattle.dispatch_core.specs.Run.{HasFinished, Runs}
 use Rattle.dispatch_core.specs.Values.{IsValue, IsInput}
-use Rattle.dispatch_core.specs.Facts.{IsSoundTable}
-use Rattle.dispatch_core.specs.Entry.{entry}
+use Rattle.open_segments.specs.Facts.{IsSoundTable}
+use Rattle.open_segments.specs.Entry.{entry}
 use Rattle.dispatch_core.specs.Sound.{AreRunning, AreValues}
-use Rattle.dispatch_core.specs.declared.counters.Counters.{Counters}
-use Rattle.dispatch_core.specs.Counters.{IsOpenBy}
-use Rattle.dispatch_core.specs.Listed.{items_of}
-use Rattle.dispatch_core.specs.UpToDate.{IsUpToDate}
+use Rattle.open_segments.specs.declared.counters.Counters.{Counters}
+use Rattle.open_segments.specs.Counters.{IsOpenBy}
+use Rattle.open_segments.specs.NumberLists.{items_of}
+use Rattle.open_segments.specs.UpToDate.{IsUpToDate}
 use Rattle.dispatch_core.proofs.KeptEnough.{kept_at, open_after}
 
 pub value_known : (table : Table) (history : List Event) (value_of : ℕ → ℕ → ℕ → ℕ)

@@ -21,8 +21,8 @@ use Rattle.task_segments.specs.Table.{Table, costs_of, segment, table_of}
 use Rattle.depend_table.proofs.Chains.{edge_reaches, kept_within}
 use Rattle.depend_table.specs.Kept.{IsKeptEdge}
 use Rattle.depend_table.specs.Lists.{Lists}
-use Rattle.dispatch_core.proofs.Within.{within_table}
-use Rattle.dispatch_core.specs.Facts.{IsSoundTable}
+use Rattle.open_segments.proofs.Within.{within_table}
+use Rattle.open_segments.specs.Facts.{IsSoundTable}
 use Rattle.dispatch_core.specs.Graph.{IsGraphOf}
 use Rattle.dispatch_core.specs.RecordedGraph.{RecordedGraph}
 use Rattle.dispatch_core.specs.Values.{IsValue}
@@ -190,7 +190,7 @@ pub some_value_of : (program : ProgramMarks)
     → (value : ℕ) × IsValue (table_of program.marks) value_of s value
 some_value_of program is value_of s known =
     let table : Table = table_of program.marks in
-    let n : ℕ = length table.segments in
-    let all : (values : List ℕ) × AreFirstValues table value_of n values =
-    first_values table value_of (whole_table program is).sound n (omega arith) in
+    let count : ℕ = length table.segments in
+    let all : (values : List ℕ) × AreFirstValues table value_of count values =
+    first_values table value_of (whole_table program is).sound count (omega arith) in
     (get_or all.0 s 0, all.1.are s known)

@@ -12,11 +12,11 @@ use Rattle.task_segments.specs.Table.{Table}
 use Rattle.dispatch_core.specs.declared.event.Event.{Event}
 use Rattle.dispatch_core.specs.declared.event.Event.TheVariants.{Start}
 use Rattle.dispatch_core.specs.Run.{HasStarted, HasFinished, Runs, MayStart, IsLegalRun}
-use Rattle.dispatch_core.specs.declared.counters.Counters.{Counters}
-use Rattle.dispatch_core.specs.Entry.{entry}
+use Rattle.open_segments.specs.declared.counters.Counters.{Counters}
+use Rattle.open_segments.specs.Entry.{entry}
 use Rattle.dispatch_core.specs.Sound.{IsSound, AreStarted, AreRunning, AreValues}
-use Rattle.dispatch_core.proofs.PlaceLemmas.{get-set_same, get-set_other, entry-set_same}
-use Rattle.dispatch_core.proofs.PlaceLemmas.{entry-set_other, count_by-set, count_by_some_no}
+use Rattle.open_segments.proofs.PlaceLemmas.{get-set_same, get-set_other, entry-set_same}
+use Rattle.open_segments.proofs.PlaceLemmas.{entry-set_other, count_by-set, count_by_some_no}
 use Rattle.dispatch_core.proofs.Histories.{finished_kept, started_kept, finished_was, started_cases}
 use Rattle.dispatch_core.proofs.Histories.{legal_push, started_before_finish}
 
@@ -72,14 +72,14 @@ running_after table history running worker s legal are may =
       each = length-set running worker (Some s) ∙ are.each;
       is_run = λ w t h. elim (cases_eq w worker) [
         | inl same ↦
-            let e : s ≡ t = same_Some s t (sym
+            let same_segment : s ≡ t = same_Some s t (sym
             (entry-set_same running worker s (omega (arith, are.each, may.known)))
             ∙ subst (λ (v : ℕ). entry (slice_set running worker (Some s)) v ≡ Some t) same h) in
             record {
               started = subst (λ (v : ℕ). Contains next (Start v t)) (sym same)
-                  (subst (λ (u : ℕ). Contains next (Start worker u)) e
+                  (subst (λ (u : ℕ). Contains next (Start worker u)) same_segment
                   (Contains-push history (Start worker s)));
-              unfinished = subst (λ (u : ℕ). ¬ HasFinished next u) e unfinished;
+              unfinished = subst (λ (u : ℕ). ¬ HasFinished next u) same_segment unfinished;
             }
         | inr apart ↦
             let was : Runs history w t =

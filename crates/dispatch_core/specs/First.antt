@@ -3,7 +3,7 @@ use Rattle.std.specs.Prelude.{◌*◌, ◌≤◌, ◌≡◌, false, None, [], le
 use Rattle.task_segments.specs.Table.{Table, costs_of}
 use Rattle.dispatch_core.specs.declared.event.TheConstants.{MOST_WORKERS}
 use Rattle.dispatch_core.specs.declared.places.Places.{Places}
-use Rattle.dispatch_core.specs.UpToDate.{IsUpToDate}
+use Rattle.open_segments.specs.UpToDate.{IsUpToDate}
 
 pub record AreFirst (table : Table) (places : Places) : Type 0 where
   pub history : places.history.items ≡ []

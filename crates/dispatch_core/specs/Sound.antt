@@ -4,13 +4,19 @@ use Rattle.std.specs.Prelude.{slice_get, count_by, is_some}
 use Rattle.task_segments.specs.Table.{Table, costs_of}
 use Rattle.dispatch_core.specs.declared.event.TheConstants.{MOST_WORKERS}
 use Rattle.dispatch_core.specs.declared.event.Event.{Event}
-use Rattle.dispatch_core.specs.declared.counters.Counters.{Counters}
-use Rattle.dispatch_core.specs.Counters.{TellFinished}
-use Rattle.dispatch_core.specs.UpToDate.{IsUpToDate}
-use Rattle.dispatch_core.specs.Entry.{entry}
-use Rattle.dispatch_core.specs.Facts.{IsSoundTable}
-use Rattle.dispatch_core.specs.Run.{HasStarted, Runs, IsLegalRun}
+use Rattle.open_segments.specs.declared.counters.Counters.{Counters}
+use Rattle.open_segments.specs.UpToDate.{IsUpToDate}
+use Rattle.open_segments.specs.Entry.{entry}
+use Rattle.open_segments.specs.Facts.{IsSoundTable}
+use Rattle.dispatch_core.specs.Run.{HasFinished, HasStarted, Runs, IsLegalRun}
 use Rattle.dispatch_core.specs.Values.{IsValue}
+
+-- each of as many segments has a value exactly where it is finished
+pub record TellFinished (segments : ℕ) (history : List Event) (values : List (Option ℕ)) : Type
+    0 where
+  pub each : length values ≡ segments
+  pub is_finished : (s value : ℕ) → entry values s ≡ Some value → HasFinished history s
+  pub has_value : (s : ℕ) → HasFinished history s → (value : ℕ) × (entry values s ≡ Some value)
 
 -- a flag for each segment: whether it is started
 pub record AreStarted (table : Table) (history : List Event) (started : List Bool) : Type 0 where

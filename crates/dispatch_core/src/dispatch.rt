@@ -15,13 +15,14 @@ ghost use Rattle.dispatch_core.specs.Refusals.{RefusesStart, RefusesFinish, MayF
 ghost use Rattle.dispatch_core.specs.Refusals.{IsFirstUnfinished};
 ghost use Rattle.dispatch_core.specs.Graph.{IsGraphOf};
 
-use crate::counters::Counters;
 use crate::event::{Event, FinishKind, FinishRefusal, MOST_WORKERS, StartRefusal};
-use crate::facts::serves_runs;
 use crate::graph::{Graph, make_graph};
 use crate::kernel::{Kernel, SegResult};
-use crate::opener::opener;
-use crate::places::{flag, make_places, push_event, push_if, sum_at, value_entry, worker_entry};
+use crate::places::{flag, make_places, push_event, sum_at, worker_entry};
+use open_segments::counters::Counters;
+use open_segments::entries::{push_if, value_entry};
+use open_segments::laws::serves_runs;
+use open_segments::opener::opener;
 use std::alloc::Global;
 use std::marker::{Model, PhantomData};
 use task_program::AllocFault;

@@ -14,7 +14,7 @@ ghost use Rattle.dispatch_core.specs.Replays.{IsFirstRefused};
 ghost use Rattle.dispatch_core.specs.Values.{IsValue, IsInput};
 ghost use Rattle.dispatch_core.specs.declared.replay.ReplayRefusal.{ReplayRefusal};
 
-use crate::facts::serves_runs;
+use open_segments::laws::serves_runs;
 use task_segments::table::SegTable;
 
 /// Where a run is not finished and nothing runs, some segment is ready.

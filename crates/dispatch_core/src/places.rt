@@ -2,13 +2,14 @@
 ghost use Rattle.std.specs.Prelude.{◌≤◌, ◌++◌, ◌∷◌, [], vec_len, vec_capacity, OnOk, if◌then◌else◌};
 ghost use Rattle.std.specs.Prelude.{ℕ, Some, ◌≡◌, ◌<◌, ◌%◌, ◌^◌, length, slice_get, slice_set};
 ghost use Rattle.std.specs.Prelude.{sum_by, unwrap_or};
-ghost use Rattle.dispatch_core.specs.Entry.{entry};
+ghost use Rattle.open_segments.specs.Entry.{entry};
 ghost use Rattle.task_segments.specs.Table.{costs_of};
 ghost use Rattle.std.specs.Prelude.{List, IfOk, map, replicate};
 ghost use Rattle.dispatch_core.specs.First.{AreFirst};
 
-use crate::counters::Counters;
 use crate::event::{Event, MOST_WORKERS};
+use open_segments::counters::Counters;
+use open_segments::entries::{copies_of, value_entry};
 use std::alloc::Global;
 use task_program::AllocFault;
 use task_segments::table::SegTable;
@@ -25,29 +26,11 @@ pub fn push_event(history: &mut Vec<Event>, event: Event)
     }
 }
 
-/// Adds a number to a list, if it is to be kept.
-pub fn push_if(list: &mut Vec<u32>, number: u32, keep: bool) -> Result<(), AllocFault>
-    ensures { OnOk result (list.new.items
-        ≡ (if keep then list.old.items ++ number ∷ [] else list.old.items)) }
-{
-    if keep {
-        list.push(number)?;
-    }
-    Ok(())
-}
-
 /// What stands at a place, if anything.
 pub fn worker_entry(list: &[Option<u32>], at: u32) -> Option<u32>
     ensures { result ≡ entry list.now at }
 {
     list.get(at as usize).copied().flatten()
-}
-
-/// What stands at a place, if anything.
-pub fn value_entry(values: &[Option<u64>], at: u32) -> Option<u64>
-    ensures { result ≡ entry values.now at }
-{
-    values.get(at as usize).copied().flatten()
 }
 
 /// The flag at a place.
@@ -93,17 +76,6 @@ pub fn make_places(alloc: Global, table: &SegTable) -> Result<Places, AllocFault
         counters: Counters::new(alloc, table)?,
         costs: costs(alloc, table)?,
     })
-}
-
-/// A list of as many copies.
-pub fn copies_of<T: Copy + Drop>(alloc: Global, one: T, count: u32) -> Result<Vec<T>, AllocFault>
-    ensures { IfOk result (λ list. list.items ≡ replicate count one) }
-{
-    let mut list = Vec::new(alloc);
-    for _ in 0..count {
-        list.push(one)?;
-    }
-    Ok(list)
 }
 
 fn costs(alloc: Global, table: &SegTable) -> Result<Vec<u64>, AllocFault>

@@ -10,9 +10,9 @@ ghost use Rattle.dispatch_core.specs.Replays.{AreDone, RefusesStep, RefusesRepla
 
 use crate::dispatch::{Core, NewFault};
 use crate::event::{Event, FinishKind, StartRefusal};
-use crate::facts::serves_runs;
 use crate::graph::Graph;
 use crate::kernel::{MixKernel, SegResult};
+use open_segments::laws::serves_runs;
 use std::alloc::{AllocError, Global};
 use task_program::AllocFault;
 use task_segments::table::SegTable;

@@ -37,7 +37,7 @@ pub loop-item-preserved : goal.loop-item-preserved
 loop-item-preserved c =
     let names = c.args.names.now in
     let items = c.args.items.now in
-    let i = c.loop-item.item-index in
+    let index = c.loop-item.item-index in
     let first = c.window_on-window.result.first in
     let one_each = c.loop-item.invariant.one_each in
     let old = c.loop-item.marks.items in
@@ -46,27 +46,31 @@ loop-item-preserved c =
     ap (λ (xs : List Bool). length xs) c.deref_mut.ensures.value in
     let len : length new ≡ length old = c.mark.ensures.same_length ∙ same in
     let is = written_back c.loop-item.marks.len old new len (sym c.deref_mut.ensures.len ∙ same) in
-    let more : AreMarkedToo first old new (predecessors_for names items (get_or items i no_item)) =
+    let more : AreMarkedToo first old new
+    (predecessors_for names items (get_or items index no_item)) =
     subst (λ (xs : List ℕ). AreMarkedToo first old new xs) c.predecessors_at.ensures
     (subst (λ (xs : List Bool). AreMarkedToo first xs new c.predecessors_at.result.now)
     c.deref_mut.ensures.value c.mark.ensures) in
-    let joined : flat_map (predecessors_for names items) (take (i + 1) items)
-    ≡ flat_map (predecessors_for names items) (take i items)
-    ++ predecessors_for names items (get_or items i no_item) =
-    ap (flat_map (predecessors_for names items)) (take_more items i no_item c.loop-item-test.true)
-    ∙ flat_map-append (predecessors_for names items) (take i items) (get_or items i no_item ∷ [])
-    ∙ ap (λ (xs : List ℕ). flat_map (predecessors_for names items) (take i items) ++ xs)
-    (append-nil (predecessors_for names items (get_or items i no_item))) in
+    let joined : flat_map (predecessors_for names items) (take (index + 1) items)
+    ≡ flat_map (predecessors_for names items) (take index items)
+    ++ predecessors_for names items (get_or items index no_item) =
+    ap (flat_map (predecessors_for names items))
+    (take_more items index no_item c.loop-item-test.true)
+    ∙ flat_map-append (predecessors_for names items) (take index items)
+    (get_or items index no_item ∷ [])
+    ∙ ap (λ (xs : List ℕ). flat_map (predecessors_for names items) (take index items) ++ xs)
+    (append-nil (predecessors_for names items (get_or items index no_item))) in
     record {
       one_each = ap (λ (xs : List Bool). first + length xs) is ∙ ap (λ n. first + n) len ∙ one_each;
       marked = λ place.
           subst
           (λ (xs : List Bool). IsMarked first xs place
-          ↔ Contains (flat_map (predecessors_for names items) (take (i + 1) items)) place)
+          ↔ Contains (flat_map (predecessors_for names items) (take (index + 1) items)) place)
           (sym is)
           (subst (λ (xs : List ℕ). IsMarked first new place ↔ Contains xs place) (sym joined)
-          (marked_in_turn first old new (flat_map (predecessors_for names items) (take i items))
-          (predecessors_for names items (get_or items i no_item)) c.loop-item.invariant.marked more
+          (marked_in_turn first old new (flat_map (predecessors_for names items) (take index items))
+          (predecessors_for names items (get_or items index no_item)) c.loop-item.invariant.marked
+          more
           place));
     }
 

@@ -10,12 +10,12 @@ loop-place-preserved c =
     let old = c.args.marks.now in
     let marks = c.loop-place.marks in
     let places = c.args.places.now in
-    let i = c.loop-place.place-index in
-    let place = get_or places i 0 in
-    let inside = c.requires i 0 c.loop-place-test.true in
+    let index = c.loop-place.place-index in
+    let place = get_or places index 0 in
+    let inside = c.requires index 0 c.loop-place-test.true in
     let from = inside.0 in
     let below = inside.1 in
     let same = c.loop-place.invariant.same_length in
     subst (λ (xs : List ℕ). AreMarkedToo first old (set marks (place - first) true) xs)
-    (sym (take_more places i 0 c.loop-place-test.true))
-    (mark_one first old marks (take i places) place from (omega arith) c.loop-place.invariant)
+    (sym (take_more places index 0 c.loop-place-test.true))
+    (mark_one first old marks (take index places) place from (omega arith) c.loop-place.invariant)

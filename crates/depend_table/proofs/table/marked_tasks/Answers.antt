@@ -14,25 +14,26 @@ loop-place-preserved c =
     let calls = c.args.calls.now in
     let first = c.args.first in
     let marks = c.args.marks.now in
-    let i = c.loop-place.place in
+    let index = c.loop-place.place in
     let kept = c.loop-place.kept.items in
     let all = c.requires.within in
     elim c.if-marks-place.branch [
       | then-marks-place+in_ok-push w ↦
-          let call : Call = get_or calls i w.index-calls-place.result in
-          let within : i < length calls = omega (arith, c.loop-place-test.true) in
-          let found : get_or (tasks_of calls) i 0 ≡ call.task =
-          get_or-map (λ (x : Call). x.task) calls i w.index-calls-place.result 0 within in
-          let known : i < length (tasks_of calls) =
+          let call : Call = get_or calls index w.index-calls-place.result in
+          let within : index < length calls = omega (arith, c.loop-place-test.true) in
+          let found : get_or (tasks_of calls) index 0 ≡ call.task =
+          get_or-map (λ (x : Call). x.task) calls index w.index-calls-place.result 0 within in
+          let known : index < length (tasks_of calls) =
           omega (arith, length-map calls (λ (x : Call). x.task)) in
-          subst (Lists (IsMarkedNumber first marks (tasks_of calls) (i + 1)))
+          subst (Lists (IsMarkedNumber first marks (tasks_of calls) (index + 1)))
           (sym (ap (λ v. v.items) w.kept-is ∙ w.in_ok-push.ensures.items))
-          (numbers_marked first marks (tasks_of calls) kept i call.task known c.requires.ascending
+          (numbers_marked first marks (tasks_of calls) kept index call.task known
+          c.requires.ascending
           (c.loop-place.auto.place, w.if-marks-place.true) found c.loop-place.invariant)
       | else-marks-place w ↦
-          subst (Lists (IsMarkedNumber first marks (tasks_of calls) (i + 1)))
+          subst (Lists (IsMarkedNumber first marks (tasks_of calls) (index + 1)))
           (sym (ap (λ v. v.items) w.kept-is))
-          (numbers_unmarked first marks (tasks_of calls) kept i w.if-marks-place.false
+          (numbers_unmarked first marks (tasks_of calls) kept index w.if-marks-place.false
           c.loop-place.invariant)
     ]
 

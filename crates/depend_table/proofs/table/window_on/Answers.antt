@@ -39,8 +39,8 @@ loop-item-preserved c =
     let names = c.args.names.now in
     let calls = c.args.calls.now in
     let items = c.args.items.now in
-    let i = c.loop-item.item-index in
-    let item = get_or items i no_item in
+    let index = c.loop-item.item-index in
+    let item = get_or items index no_item in
     let old = c.loop-item.window in
     let new = c.with_places-window.result in
     let places = c.predecessors_at.result.now in
@@ -53,7 +53,7 @@ loop-item-preserved c =
     (λ one inside. within_wider old.first old.end new.first new.end
     (predecessors_for names items one) c.with_places-window.ensures.wider.0
     c.with_places-window.ensures.wider.1 inside)
-    (take i items) c.loop-item.invariant.all in
+    (take index items) c.loop-item.invariant.all in
     let latest : AreWithin new.first new.end (predecessors_for names items item) = subst
     (AreWithin new.first new.end) c.predecessors_at.ensures c.with_places-window.ensures.all in
     record {
@@ -62,9 +62,9 @@ loop-item-preserved c =
       all = subst
           (λ (xs : List Item).
           All (λ one. AreWithin new.first new.end (predecessors_for names items one)) xs)
-          (sym (take_more items i no_item c.loop-item-test.true))
+          (sym (take_more items index no_item c.loop-item-test.true))
           (All-push (λ (one : Item). AreWithin new.first new.end (predecessors_for names items one))
-          (take i items) item earlier latest);
+          (take index items) item earlier latest);
     }
 
 pub returns-clause-all : goal.returns-clause-all

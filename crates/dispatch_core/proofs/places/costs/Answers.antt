@@ -7,16 +7,16 @@ use Rattle.dispatch_core.proofs.places.costs.Goals as goal
 
 pub loop-segment-preserved : goal.loop-segment-preserved
 loop-segment-preserved c =
-    let s = c.loop-segment.segment in
+    let number = c.loop-segment.segment in
     let all = costs_of c.args.table.now in
-    let within : s < length c.args.table.now.segments =
+    let within : number < length c.args.table.now.segments =
     omega (arith, c.loop-segment-test.true, c.len-segment-end.ensures) in
-    let here : get_or all s 0 ≡ c.cost.result = get_or-map (λ (row : Segment). row.cost)
-    c.args.table.now.segments s no_segment 0 within
+    let here : get_or all number 0 ≡ c.cost.result = get_or-map (λ (row : Segment). row.cost)
+    c.args.table.now.segments number no_segment 0 within
     ∙ sym c.cost.ensures in
-    let more = take_more all s 0
+    let more = take_more all number 0
     (omega (arith, within, length-map c.args.table.now.segments (λ (row : Segment). row.cost))) in
     c.in_ok-push.ensures.items
     ∙ ap (λ (l : List ℕ). l ++ c.cost.result ∷ []) c.loop-segment.invariant
-    ∙ ap (λ n. take s all ++ n ∷ []) (sym here)
+    ∙ ap (λ n. take number all ++ n ∷ []) (sym here)
     ∙ sym more

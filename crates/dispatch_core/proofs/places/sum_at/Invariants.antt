@@ -1,6 +1,6 @@
 use Rattle.std.proofs.Common.{◌≡◌, ◌%◌, ◌^◌, take, sum_by}
 use Rattle.std.specs.Prelude.{unwrap_or}
-use Rattle.dispatch_core.specs.Entry.{entry}
+use Rattle.open_segments.specs.Entry.{entry}
 use Rattle.dispatch_core.proofs.places.sum_at.Given as goal
 
 abbrev pub invariant-loop-at : goal.invariant-loop-at

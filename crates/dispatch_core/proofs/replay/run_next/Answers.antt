@@ -1,6 +1,6 @@
 use Rattle.std.proofs.Common.{◌≡◌, ◌+◌, ◌++◌, ◌∷◌, [], List, sym, subst, ap, ◌∙◌}
 use Rattle.task_segments.specs.Table.{Table}
-use Rattle.dispatch_core.specs.Facts.{IsSoundTable}
+use Rattle.open_segments.specs.Facts.{IsSoundTable}
 use Rattle.dispatch_core.specs.declared.event.Event.{Event}
 use Rattle.dispatch_core.specs.declared.event.Event.TheVariants.{Start, Finish}
 use Rattle.dispatch_core.specs.Run.{Run, Runs}
@@ -23,13 +23,13 @@ unreachable-requires-in-None c =
 
 pub returns-clause-ok : goal.returns-clause-ok
 returns-clause-ok c =
-    let s = c.args.segment in
-    let done = one_more_done c.args.core.now.history s c.requires.next in
+    let segment = c.args.segment in
+    let done = one_more_done c.args.core.now.history segment c.requires.next in
     OnOk_then c.finish_computed.result
     (λ is.
     let history : c.finish_computed.new.core.history
-    ≡ (c.args.core.now.history ++ Start 0 s ∷ []) ++ Finish 0 s ∷ [] =
+    ≡ (c.args.core.now.history ++ Start 0 segment ∷ []) ++ Finish 0 segment ∷ [] =
     ap (λ (run : Run). run.history) is
-    ∙ ap (λ (run : Run). run.history ++ Finish 0 s ∷ []) c.in-Ok.ensures.next in
-    subst (λ (h : List Event). AreDone h (s + 1)) (sym history) done)
+    ∙ ap (λ (run : Run). run.history ++ Finish 0 segment ∷ []) c.in-Ok.ensures.next in
+    subst (λ (h : List Event). AreDone h (segment + 1)) (sym history) done)
     c.finish_computed.ensures.ok

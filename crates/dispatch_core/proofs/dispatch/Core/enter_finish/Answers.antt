@@ -7,12 +7,12 @@ use Rattle.task_segments.specs.InPlace.{IsOf}
 use Rattle.depend_table.specs.Lists.{Lists}
 use Rattle.dispatch_core.specs.declared.event.Event.{Event}
 use Rattle.dispatch_core.specs.declared.event.Event.TheVariants.{Finish}
-use Rattle.dispatch_core.specs.Counters.{HasValue}
-use Rattle.dispatch_core.specs.Entry.{entry}
+use Rattle.open_segments.specs.Counters.{HasValue}
+use Rattle.open_segments.specs.Entry.{entry}
 use Rattle.dispatch_core.specs.Run.{Run, Runs, BecomesReady}
 use Rattle.dispatch_core.specs.Refusals.{MayFinish}
 use Rattle.dispatch_core.specs.Sound.{IsSound}
-use Rattle.dispatch_core.specs.UpToDate.{IsFreed, IsUpToDate}
+use Rattle.open_segments.specs.UpToDate.{IsFreed, IsUpToDate}
 use Rattle.dispatch_core.proofs.FinishStep.{started_known, no_value, has_room_to_finish}
 use Rattle.dispatch_core.proofs.FinishStep.{sound_after_finish, sound_when_refused, tell_after}
 use Rattle.dispatch_core.proofs.KeptEnough.{earlier_finished, has_value, newly_listed}
@@ -40,18 +40,19 @@ finish-requires-clause-unfinished g c =
 
 pub finish-requires-clause-earlier : goal.finish-requires-clause-earlier
 finish-requires-clause-earlier g c =
-    let s = c.args.outcome.now.segment in
+    let finished = c.args.outcome.now.segment in
     let table = c.self.inside.table in
     let history = c.self.inside.history.items in
     let sound = c.self.invariant in
-    let P : Run → Type 0 = λ run. Runs run.history c.args.worker s in
+    let P : Run → Type 0 = λ run. Runs run.history c.args.worker finished in
     let runs = subst P (sym c.self.view_is) c.requires.runs in
-    let known = started_known table history c.args.worker s sound.legal runs.started in
+    let known = started_known table history c.args.worker finished sound.legal runs.started in
     let E : ℕ → Type 0 = λ n.
     (t : ℕ) → IsOf table (segment table n).task t → t < n → HasValue c.self.inside.values.items t in
     subst E (sym c.segment-segment.ensures) (λ t of_task less.
     has_value (length table.segments) history c.self.inside.values.items t sound.are_values.tell
-    (earlier_finished table history c.args.worker s t sound.sound_table.in_place sound.legal runs
+    (earlier_finished table history c.args.worker finished t sound.sound_table.in_place sound.legal
+    runs
     known.1 of_task less))
 
 pub finish-requires-clause-up_to_date : goal.finish-requires-clause-up_to_date
@@ -82,13 +83,13 @@ invariant_of-self g c =
 
 pub invariant_of-self-2 : goal.invariant_of-self-2
 invariant_of-self-2 g c =
-    let s = c.args.outcome.now.segment in
+    let finished = c.args.outcome.now.segment in
     let MayHere : Run → Type 0 = λ run.
     MayFinish run.table run.history g.K.Kernel.value_of c.args.worker c.args.outcome.now in
     let may = subst MayHere (sym c.self.view_is) c.requires in
     let value = c.value-value.result in
     let values : List (Option ℕ) = c.finish.new.values.items in
-    let same : values ≡ slice_set c.self.inside.values.items s (Some value) =
+    let same : values ≡ slice_set c.self.inside.values.items finished (Some value) =
     c.in_ok-ready.ensures.valued
     ∙ ap (λ (n : ℕ). slice_set c.self.inside.values.items n (Some value))
     c.segment-segment.ensures in
@@ -102,7 +103,7 @@ invariant_of-self-2 g c =
     c.value-value.ensures.computed state
     c.push_event.ensures.capacity in
     let V : List (Option ℕ) → Type 0 = λ v. IsSound g.K.Kernel.value_of c.self.inside.table
-    (c.self.inside.history.items ++ Finish c.args.worker s ∷ [])
+    (c.self.inside.history.items ++ Finish c.args.worker finished ∷ [])
     (vec_capacity c.push_event.new.history) c.self.inside.started.items
     (slice_set c.self.inside.running.items c.args.worker None) v c.finish.new.self
     c.self.inside.costs.items in
@@ -120,7 +121,7 @@ invariant_of-self-2 g c =
 
 pub returns-clause-ready : goal.returns-clause-ready
 returns-clause-ready g c =
-    let s = c.args.outcome.now.segment in
+    let finished = c.args.outcome.now.segment in
     let sound = c.self.invariant in
     let table = c.self.inside.table in
     let history = c.self.inside.history.items in
@@ -128,7 +129,8 @@ returns-clause-ready g c =
     MayFinish run.table run.history g.K.Kernel.value_of c.args.worker c.args.outcome.now in
     let may = subst MayHere (sym c.self.view_is) c.requires in
     let value = c.value-value.result in
-    let same : c.finish.new.values.items ≡ slice_set c.self.inside.values.items s (Some value) =
+    let same : c.finish.new.values.items ≡ slice_set c.self.inside.values.items finished
+    (Some value) =
     c.in_ok-ready.ensures.valued
     ∙ ap (λ (n : ℕ). slice_set c.self.inside.values.items n (Some value))
     c.segment-segment.ensures in
@@ -139,9 +141,10 @@ returns-clause-ready g c =
     let freed = subst (λ (n : ℕ). Lists (IsFreed n c.finish.new.self) c.in_ok-ready.ready.items)
     c.segment-segment.ensures c.in_ok-ready.ensures.ready in
     let Q : Run → Type 0 = λ run. Lists
-    (BecomesReady run.table run.history (run.history ++ Finish c.args.worker s ∷ []))
+    (BecomesReady run.table run.history (run.history ++ Finish c.args.worker finished ∷ []))
     c.in_ok-ready.ready.items in
     subst Q c.self.view_is (newly_listed table history
-    (slice_set c.self.inside.values.items s (Some value)) c.finish.new.self c.args.worker s
+    (slice_set c.self.inside.values.items finished (Some value)) c.finish.new.self c.args.worker
+    finished
     c.in_ok-ready.ready.items sound.sound_table.goes_up sound.sound_table.chains
     sound.legal may.runs tell state freed)

@@ -1,7 +1,7 @@
 use Rattle.std.proofs.Common.{◌↔◌, sym, subst, ap, ◌∙◌}
 use Rattle.std.specs.Prelude.{IsTrue, Bool}
 use Rattle.dispatch_core.specs.Run.{Run, HasFinished}
-use Rattle.dispatch_core.specs.Entry.{entry}
+use Rattle.open_segments.specs.Entry.{entry}
 use Rattle.dispatch_core.proofs.Readings.{finished_known}
 use Rattle.dispatch_core.proofs.dispatch.Core.has_finished.Goals as goal
 

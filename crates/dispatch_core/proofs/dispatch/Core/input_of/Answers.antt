@@ -2,11 +2,11 @@ use Rattle.std.proofs.Common.{ℕ, ◌≡◌, ◌<◌, ◌%◌, ◌^◌, List, O
 use Rattle.std.proofs.Common.{arith, sum_by}
 use Rattle.std.specs.Prelude.{unwrap_or}
 use Rattle.task_segments.specs.Precedence.{MustPrecede}
-use Rattle.dispatch_core.specs.Entry.{entry}
+use Rattle.open_segments.specs.Entry.{entry}
 use Rattle.dispatch_core.specs.Run.{Run, HasFinished}
 use Rattle.dispatch_core.specs.Values.{IsInput}
 use Rattle.dispatch_core.proofs.Readings.{input_known}
-use Rattle.dispatch_core.proofs.Turning.{length-items}
+use Rattle.open_segments.proofs.Turning.{length-items}
 use Rattle.dispatch_core.proofs.dispatch.Core.input_of.Goals as goal
 
 pub preds-requires : goal.preds-requires

@@ -4,7 +4,7 @@ use Rattle.std.specs.declared.alloc.Global.{Global}
 use Rattle.dispatch_core.specs.Run.{Run, IsFinished}
 use Rattle.dispatch_core.specs.RecordedGraph.{RecordedGraph}
 use Rattle.dispatch_core.specs.Graph.{IsGraphOf}
-use Rattle.dispatch_core.specs.Listed.{items_of}
+use Rattle.open_segments.specs.NumberLists.{items_of}
 use Rattle.dispatch_core.proofs.Ends.{graph_at_end, graph_of_program}
 use Rattle.dispatch_core.proofs.dispatch.Core.into_graph.Goals as goal
 

@@ -1,7 +1,7 @@
 use Rattle.std.proofs.Common.{ℕ, ◌↔◌, sym, subst, ap, ◌∙◌}
 use Rattle.std.specs.Prelude.{IsTrue, Bool}
 use Rattle.dispatch_core.specs.Run.{Run, Runs}
-use Rattle.dispatch_core.specs.Entry.{entry}
+use Rattle.open_segments.specs.Entry.{entry}
 use Rattle.dispatch_core.proofs.Readings.{busy_known}
 use Rattle.dispatch_core.proofs.dispatch.Core.is_busy.Goals as goal
 

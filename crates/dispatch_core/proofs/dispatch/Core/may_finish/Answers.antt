@@ -15,12 +15,12 @@ cost-requires g c =
 
 pub returns-then-cost : goal.returns-then-cost
 returns-then-cost g c =
-    let s : ℕ = c.args.outcome.now.segment in
+    let finished : ℕ = c.args.outcome.now.segment in
     let RunsHere : ℕ → Type 0 = Runs c.args.self.now.history c.args.worker in
-    let CostHere : Run → Type 0 = λ run. IsCost run.table s c.args.outcome.now.cost in (
+    let CostHere : Run → Type 0 = λ run. IsCost run.table finished c.args.outcome.now.cost in (
       subst RunsHere c.segment-segment.ensures (c.runs.ensures.0 c.if-not-runs.false),
       λ is.
-          let cost : IsCost c.self.inside.table s c.args.outcome.now.cost =
+          let cost : IsCost c.self.inside.table finished c.args.outcome.now.cost =
           subst CostHere (sym c.self.view_is) is in
           c.if-cost.true (c.cost.ensures
           ∙ ap (λ (t : ℕ). (segment c.self.inside.table t).cost) c.segment-segment.ensures
@@ -41,7 +41,7 @@ input_of-requires-clause-after g c κs lives =
 
 pub returns-then-input_of-input : goal.returns-then-input_of-input
 returns-then-input_of-input g c =
-    let s : ℕ = c.args.outcome.now.segment in
+    let finished : ℕ = c.args.outcome.now.segment in
     let table : Table = c.args.self.now.table in
     let RunsHere : ℕ → Type 0 = Runs c.args.self.now.history c.args.worker in
     let CostHere : ℕ → Type 0 = λ t. IsCost table t c.args.outcome.now.cost in
@@ -55,7 +55,7 @@ returns-then-input_of-input g c =
       subst RunsHere c.segment-segment.ensures runs,
       subst CostHere c.segment-segment.ensures cost,
       λ is. c.if-input_of-input.true
-          (one_input table g.K.Kernel.value_of s c.input_of.result c.args.outcome.now.input
+          (one_input table g.K.Kernel.value_of finished c.input_of.result c.args.outcome.now.input
           input is ∙ sym c.input.ensures),
     )
 

@@ -1,6 +1,6 @@
 use Rattle.depend_table.specs.Lists.{Lists}
 use Rattle.dispatch_core.specs.Run.{IsReady}
-use Rattle.dispatch_core.proofs.ListLemmas.{Below}
+use Rattle.open_segments.proofs.ListLemmas.{Below}
 use Rattle.dispatch_core.proofs.dispatch.Core.ready.Given as goal
 
 abbrev pub invariant-loop-segment : goal.invariant-loop-segment

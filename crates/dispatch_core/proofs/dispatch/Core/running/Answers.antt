@@ -1,6 +1,6 @@
 use Rattle.std.proofs.Common.{ℕ, ◌≡◌, ◌↔◌, Some, sym, subst, ap, ◌∙◌}
 use Rattle.dispatch_core.specs.Run.{Run, Runs}
-use Rattle.dispatch_core.specs.Entry.{entry}
+use Rattle.open_segments.specs.Entry.{entry}
 use Rattle.dispatch_core.proofs.dispatch.Core.running.Goals as goal
 
 pub returns : goal.returns

@@ -2,7 +2,7 @@ use Rattle.std.proofs.Common.{subst, ap, ◌∙◌}
 use Rattle.std.specs.Prelude.{MatchOption}
 use Rattle.dispatch_core.specs.Run.{Run, HasFinished}
 use Rattle.dispatch_core.specs.Values.{IsValue}
-use Rattle.dispatch_core.specs.Entry.{entry}
+use Rattle.open_segments.specs.Entry.{entry}
 use Rattle.dispatch_core.proofs.Readings.{value_known}
 use Rattle.dispatch_core.proofs.dispatch.Core.value.Goals as goal
 

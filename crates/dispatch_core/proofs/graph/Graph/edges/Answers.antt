@@ -1,5 +1,5 @@
 use Rattle.std.proofs.Common.{ℕ, ◌≡◌, List, Vec, Global, ap, ◌∙◌, sym, arith, length, map, sum_by}
-use Rattle.dispatch_core.proofs.PlaceLemmas.{sum_by-of_map}
+use Rattle.open_segments.proofs.PlaceLemmas.{sum_by-of_map}
 use Rattle.dispatch_core.specs.RecordedGraph.{RecordedGraph}
 use Rattle.dispatch_core.proofs.Ends.{few_edges}
 use Rattle.dispatch_core.proofs.graph.Graph.edges.Goals as goal

@@ -1,8 +1,0 @@
-use Rattle.dispatch_core.proofs.Since.{Unwaited}
-use Rattle.dispatch_core.proofs.continuing.wait_begin.Given as goal
-
-abbrev pub invariant-loop-earlier : goal.invariant-loop-earlier
-invariant-loop-earlier l = Unwaited l.table l.from l.before
-
-abbrev pub decreases-loop-earlier : goal.decreases-loop-earlier
-decreases-loop-earlier l = l.from

@@ -1,8 +1,0 @@
-use Rattle.std.proofs.Common.{take}
-use Rattle.std.specs.Prelude.{Contains}
-use Rattle.dispatch_core.proofs.Rooms.{IsRoomMade}
-use Rattle.dispatch_core.proofs.listed.make_room.Given as goal
-
-abbrev pub invariant-loop-place : goal.invariant-loop-place
-invariant-loop-place l =
-    IsRoomMade l.values (Contains (take l.place-index l.places)) l.initial.lists.items l.lists.items

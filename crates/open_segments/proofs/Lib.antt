@@ -1,0 +1,16 @@
+pub mod PlaceLemmas
+pub mod ListLemmas
+pub mod Ascending
+pub mod Within
+pub mod Children
+pub mod Edges
+pub mod Openers
+pub mod Since
+pub mod Joining
+pub mod Falls
+pub mod Turning
+pub mod Rooms
+pub mod OpenSteps
+pub mod SiblingSteps
+pub mod AtFirst
+pub mod Stages

@@ -1,0 +1,172 @@
+-- Lists that have each number of a set once, in ascending order.
+use Rattle.std.proofs.Common.{ℕ, ◌+◌, ◌-◌, ◌<◌, ◌≡◌, ◌⊎◌, ◌↔◌, List, [], ◌∷◌, ◌++◌, length, get_or}
+use Rattle.std.proofs.Common.{map, take, drop, refl, sym, ap, ◌∙◌, subst, arith, inl, inr}
+use Rattle.std.specs.Prelude.{Contains, IsTrue, Bool, true, false, if◌then◌else◌}
+use Rattle.std.specs.List.Sorted.{IsStrictlyIncreasing}
+use Rattle.std.proofs.lemmas.Bool.{cases_lt, both_ways}
+use Rattle.std.proofs.lemmas.List.{length_push, length-map, get_or-map, length-take, get_or-drop}
+use Rattle.std.proofs.lemmas.List.{get_or-append_right}
+use Rattle.std.proofs.Math.ListN.{get_or-append}
+use Rattle.std.proofs.lemmas.List.Elements.{Contains-append_left, Contains-push}
+use Rattle.std.proofs.lemmas.List.Elements.{Contains-push_cases, Contains-get_or}
+use Rattle.depend_table.specs.Lists.{Lists}
+
+pub Lists-none : (P : ℕ → Type 0) → ((n : ℕ) → ¬ P n) → Lists P []
+Lists-none P none = record {
+  ascending = λ k h. absurd (omega arith);
+  each = λ n. (λ h. absurd (omega (arith, h.1)), λ h. absurd (none n h));
+}
+
+pub Lists-like : (P Q : ℕ → Type 0) (list : List ℕ) → ((n : ℕ) → P n → Q n) → ((n : ℕ) → Q n → P n)
+    → Lists P list → Lists Q list
+Lists-like P Q list there back lists = record {
+  ascending = lists.ascending;
+  each = λ n. (λ h. there n ((lists.each n).0 h), λ h. (lists.each n).1 (back n h));
+}
+
+-- none of the first i is left out
+abbrev pub Below : (ℕ → Type 0) → ℕ → ℕ → Type 0
+Below P i n = (n < i) × P n
+
+pub Lists-skip : (P : ℕ → Type 0) (i : ℕ) (list : List ℕ)
+    → ¬ P i
+    → Lists (Below P i) list
+    → Lists (Below P (i + 1)) list
+Lists-skip P i list not_here lists =
+    Lists-like (Below P i) (Below P (i + 1)) list (λ n h. (omega (arith, h.0), h.1))
+    (λ n h. elim (cases_lt n i) [
+      | inl below ↦ (below, h.1)
+      | inr above ↦ absurd (let same : n ≡ i = omega (arith, h.0) in not_here (subst P same h.1))
+    ])
+    lists
+
+get_or-push_last : (xs : List ℕ) (i : ℕ) → get_or (xs ++ i ∷ []) (length xs) 0 ≡ i
+get_or-push_last [] i = refl
+get_or-push_last (x ∷ xs) i = get_or-push_last xs i
+
+pub ascending_push : (xs : List ℕ) (i : ℕ)
+    → IsStrictlyIncreasing xs
+    → ((n : ℕ) → Contains xs n → n < i)
+    → IsStrictlyIncreasing (xs ++ i ∷ [])
+ascending_push xs i up below k h =
+    elim (cases_lt (k + 1) (length xs)) [
+      | inl within ↦
+          let here = get_or-append xs (i ∷ []) 0 k (omega arith) in
+          let next = get_or-append xs (i ∷ []) 0 (k + 1) within in
+          let less = up k within in
+          rw (here, next) less
+      | inr last ↦
+          let at : k + 1 ≡ length xs = omega (arith, h, length_push xs i) in
+          let here = get_or-append xs (i ∷ []) 0 k (omega arith) in
+          let next : get_or (xs ++ i ∷ []) (k + 1) 0 ≡ i =
+          ap (λ n. get_or (xs ++ i ∷ []) n 0) at ∙ get_or-push_last xs i in
+          let less = below (get_or xs k 0) (Contains-get_or xs k 0 (omega arith)) in
+          rw (here, next) less
+    ]
+
+pub Lists-push : (P : ℕ → Type 0) (i : ℕ) (list : List ℕ)
+    → P i
+    → Lists (Below P i) list
+    → Lists (Below P (i + 1)) (list ++ i ∷ [])
+Lists-push P i list here lists = record {
+  ascending = ascending_push list i lists.ascending (λ n h. ((lists.each n).0 h).0);
+  each = λ n. (
+    λ h. elim (Contains-push_cases list i n h) [
+      | inl was ↦ let below = (lists.each n).0 was in (omega (arith, below.0), below.1)
+      | inr same ↦ (omega arith, subst P same here)
+    ],
+    λ h. elim (cases_lt n i) [
+      | inl below ↦ Contains-append_left list (i ∷ []) n ((lists.each n).1 (below, h.1))
+      | inr above ↦
+          let same : i ≡ n = omega (arith, h.0) in
+          subst (λ (m : ℕ). Contains (list ++ i ∷ []) m) same (Contains-push list i)
+    ],
+  );
+}
+
+pub Lists-all : (P : ℕ → Type 0) (i : ℕ) (list : List ℕ) → ((n : ℕ) → P n → n < i)
+    → Lists (Below P i) list → Lists P list
+Lists-all P i list all lists =
+    Lists-like (Below P i) P list (λ n h. h.1) (λ n h. (all n h, h)) lists
+
+pub Lists-end : (P Q : ℕ → Type 0) (i : ℕ) (list : List ℕ)
+    → Lists P list
+    → ((n : ℕ) → P n → n < i)
+    → ((n : ℕ) → P n → Q n)
+    → Q i
+    → ((n : ℕ) → Q n → P n ⊎ (n ≡ i))
+    → Lists Q (list ++ i ∷ [])
+Lists-end P Q i list lists below there here back = record {
+  ascending = ascending_push list i lists.ascending (λ n h. below n ((lists.each n).0 h));
+  each = λ n. (
+    λ h. elim (Contains-push_cases list i n h) [
+      | inl was ↦ there n ((lists.each n).0 was)
+      | inr same ↦ subst Q same here
+    ],
+    λ h. elim (back n h) [
+      | inl before ↦ Contains-append_left list (i ∷ []) n ((lists.each n).1 before)
+      | inr same ↦ subst (λ (m : ℕ). Contains (list ++ i ∷ []) m) (sym same) (Contains-push list i)
+    ],
+  );
+}
+
+contains_map : (f : ℕ → ℕ) (list : List ℕ) (n : ℕ) → Contains list n → Contains (map f list) (f n)
+contains_map f list n (k, within, is) =
+    let within_map : k < length (map f list) = omega (arith, within, length-map list f) in
+    subst (λ (m : ℕ). Contains (map f list) m) (get_or-map f list k n (f n) within ∙ ap f is)
+    (Contains-get_or (map f list) k (f n) within_map)
+
+pub Lists-map : (f : ℕ → ℕ) (P Q : ℕ → Type 0) (list : List ℕ)
+    → Lists P list
+    → ((a b : ℕ) → P a → P b → a < b → f a < f b)
+    → ((n : ℕ) → P n → Q (f n))
+    → ((m : ℕ) → Q m → (n : ℕ) × P n × (f n ≡ m))
+    → Lists Q (map f list)
+Lists-map f P Q list lists up there back = record {
+  ascending = λ k h.
+      let next : k + 1 < length list = omega (arith, h, length-map list f) in
+      let here : k < length list = omega (arith, next) in
+      let value_is = get_or-map f list k 0 0 here in
+      let next_is = get_or-map f list (k + 1) 0 0 next in
+      let value : ℕ = get_or list k 0 in
+      let next_value : ℕ = get_or list (k + 1) 0 in
+      let less = up value next_value ((lists.each value).0 (Contains-get_or list k 0 here))
+      ((lists.each next_value).0 (Contains-get_or list (k + 1) 0 next)) (lists.ascending k next) in
+      rw (value_is, next_is) less;
+  each = λ m. (
+    λ h.
+        let within : h.0 < length list =
+        let known = h.1 in omega (arith, known, length-map list f) in
+        let value : ℕ = get_or list h.0 0 in
+        let same : f value ≡ m = sym (get_or-map f list h.0 0 m within) ∙ h.2 in
+        subst Q same (there value ((lists.each value).0 (Contains-get_or list h.0 0 within))),
+    λ h.
+        let from = back m h in
+        subst (λ (n : ℕ). Contains (map f list) n) from.2
+        (contains_map f list from.0 ((lists.each from.0).1 from.1)),
+  );
+}
+
+-- one more number is listed exactly where it passes
+pub Lists-step : (P : ℕ → Type 0) (i : ℕ) (list : List ℕ) (keep : Bool)
+    → IsTrue keep ↔ P i
+    → Lists (Below P i) list
+    → Lists (Below P (i + 1)) (if keep then list ++ i ∷ [] else list)
+Lists-step P i list true passes lists = Lists-push P i list (passes.0 refl) lists
+Lists-step P i list false passes lists =
+    Lists-skip P i list (λ h. both_ways false refl (passes.1 h)) lists
+
+-- what stands at the place that is written next
+pub read_over : (f : ℕ → ℕ) (xs ys : List ℕ) (i x : ℕ)
+    → i < length xs
+    → ys ≡ map f (take i xs) ++ drop i xs
+    → x ≡ get_or ys i x
+    → x ≡ get_or xs i x
+read_over f xs ys i x within parts is =
+    let front : length (map f (take i xs)) ≡ i =
+    length-map (take i xs) f ∙ omega (arith, length-take i xs, within) in
+    let there : get_or ys i x ≡ get_or (drop i xs) (i - i) x = ap (λ (l : List ℕ). get_or l i x)
+    parts
+    ∙ get_or-append_right (map f (take i xs)) (drop i xs) i i x front (omega arith) in
+    let same : i + (i - i) ≡ i = omega arith in
+    is ∙ there ∙ get_or-drop i xs (i - i) x ∙ ap (λ (n : ℕ). get_or xs n x) same

@@ -1,0 +1,121 @@
+-- Lists of lists, turned: each number put in the lists of the places that it is listed with.
+use Rattle.std.proofs.Common.{ℕ, ◌+◌, ◌<◌, ◌≡◌, ◌≢◌, List, [], ◌∷◌, ◌++◌, Option, Some, None}
+use Rattle.std.proofs.Common.{length, take, get_or, refl, sym, ap, ◌∙◌, subst, arith, inl, inr}
+use Rattle.std.specs.Prelude.{slice_get, slice_set, Contains, AllPairs, replicate}
+use Rattle.std.proofs.lemmas.Option.{same_Some, slice_get_within, slice_get-get_or, slice_get-map}
+use Rattle.std.proofs.lemmas.Option.{get_or_from_slice_get}
+use Rattle.std.proofs.lemmas.List.{length-set, length-replicate, length-map, map-set}
+use Rattle.std.proofs.lemmas.List.{get_or-replicate}
+use Rattle.std.specs.Option.{option_map}
+use Rattle.std.specs.Prelude.{Vec}
+use Rattle.std.specs.declared.alloc.Global.{Global}
+use Rattle.open_segments.specs.Entry.{entry}
+use Rattle.open_segments.specs.NumberLists.{items_of, ArePushed}
+use Rattle.open_segments.proofs.PlaceLemmas.{get-set_same, get-set_other}
+use Rattle.open_segments.proofs.Falls.{next_cases, next_has, still_has, fresh_next}
+
+-- the numbers of the list at a place
+pub items_at : (lists : List (Vec ℕ Global)) (k : ℕ) (row : Vec ℕ Global)
+    → k < length lists
+    → row ≡ get_or lists k row
+    → slice_get (items_of lists) k ≡ Some row.items
+items_at lists k row within is =
+    slice_get-map (λ (v : Vec ℕ Global). v.items) lists k
+    ∙ ap (λ (o : Option (Vec ℕ Global)). option_map (λ (v : Vec ℕ Global). v.items) o)
+    (slice_get-get_or lists k row within ∙ ap (λ (v : Vec ℕ Global). Some v) (sym is))
+
+pub length-items : (lists : List (Vec ℕ Global)) → length (items_of lists) ≡ length lists
+length-items lists = length-map lists (λ (v : Vec ℕ Global). v.items)
+
+-- one more number in the list at a place
+pub push_item : (lists : List (Vec ℕ Global)) (place number : ℕ) (here after : Vec ℕ Global)
+    (old : List ℕ)
+    → place < length lists
+    → here ≡ get_or lists place here
+    → after.items ≡ here.items ++ number ∷ []
+    → slice_get (items_of lists) place ≡ Some old
+    → items_of (slice_set lists place after) ≡ slice_set (items_of lists) place (old ++ number ∷ [])
+push_item lists place number here after old within is pushed there =
+    let same : here.items ≡ old =
+    same_Some here.items old (sym (items_at lists place here within is) ∙ there) in
+    map-set (λ (v : Vec ℕ Global). v.items) lists place after
+    ∙ ap (λ (l : List ℕ). slice_set (items_of lists) place l)
+    (pushed ∙ ap (λ (l : List ℕ). l ++ number ∷ []) same)
+
+-- the next of these places
+pub pushed_step : (number : ℕ) (before now after : List (List ℕ)) (values : List (Option ℕ))
+    (places : List ℕ) (k x : ℕ)
+    → k < length places
+    → x ≡ get_or places k x
+    → AllPairs (λ a b. a ≢ b) places
+    → ArePushed number (λ place. Contains (take k places) place × (entry values place ≡ None))
+    before now
+    → ArePushed number (λ place. (place ≡ x) × (entry values place ≡ None)) now after
+    → ArePushed number (λ place. Contains (take (k + 1) places) place × (entry values place ≡ None))
+    before after
+pushed_step number before now after values places k x within is once so_far here = record {
+  each = here.each ∙ so_far.each;
+  pushed = λ place old (has, none) there. elim (next_cases places k x place within is has) [
+    | inl earlier ↦
+        let apart : place ≢ x = λ same. fresh_next places k x within is once
+        (subst (λ (n : ℕ). Contains (take k places) n) same earlier) in
+        here.others place (λ h. apart h.0) ∙ so_far.pushed place old (earlier, none) there
+    | inr same ↦
+        here.pushed place old (same, none)
+        (so_far.others place (λ h. fresh_next places k x within is once
+        (subst (λ (n : ℕ). Contains (take k places) n) same h.0))
+        ∙ there)
+  ];
+  others = λ place none.
+      here.others place (λ h. none (
+        subst (λ (n : ℕ). Contains (take (k + 1) places) n) (sym h.0)
+            (next_has places k x within is),
+        h.1,
+      ))
+      ∙ so_far.others place (λ h. none (still_has places k x place within h.0, h.1));
+}
+
+pub pushed_none : (number : ℕ) (these : ℕ → Type 0) (lists : List (List ℕ))
+    → ((place : ℕ) → ¬ these place)
+    → ArePushed number these lists lists
+pushed_none number these lists none = record {
+  each = refl;
+  pushed = λ place old has there. absurd (none place has);
+  others = λ place not_these. refl;
+}
+
+-- a number put in the list at one place
+pub pushed_at : (number place : ℕ) (values : List (Option ℕ)) (before after : List (List ℕ))
+    (old : List ℕ)
+    → slice_get before place ≡ Some old
+    → after ≡ slice_set before place (old ++ number ∷ [])
+    → entry values place ≡ None
+    → ArePushed number (λ other. (other ≡ place) × (entry values other ≡ None)) before after
+pushed_at number place values before after old there is none = record {
+  each = ap (λ (l : List (List ℕ)). length l) is ∙ length-set before place (old ++ number ∷ []);
+  pushed = λ other was (same, valueless) here.
+      let within : place < length before = slice_get_within before place old there in
+      let lists_same : old ≡ was =
+      same_Some old was (sym there ∙ ap (λ (n : ℕ). slice_get before n) (sym same) ∙ here) in
+      ap (λ (l : List (List ℕ)). slice_get l other) is
+      ∙ ap (λ (n : ℕ). slice_get (slice_set before place (old ++ number ∷ [])) n) same
+      ∙ get-set_same before place (old ++ number ∷ []) within
+      ∙ ap (λ (l : List ℕ). Some (l ++ number ∷ [])) lists_same;
+  others = λ other not_these.
+      let apart : other ≢ place = λ same.
+      not_these (same, ap (λ (n : ℕ). entry values n) same ∙ none) in
+      ap (λ (l : List (List ℕ)). slice_get l other) is
+      ∙ get-set_other before place other (old ++ number ∷ []) apart;
+}
+
+pub get-replicate : {A : Type 0} (count k : ℕ) (x y : A)
+    → slice_get (replicate count x) k ≡ Some y
+    → x ≡ y
+get-replicate {A = A} count k x y is =
+    let less : k < length (replicate count x) = slice_get_within (replicate count x) k y is in
+    let within : k < count = omega (arith, less, length-replicate {A = A} count x) in
+    sym (get_or-replicate count k x x within) ∙ get_or_from_slice_get (replicate count x) k y x is
+
+pub items_set : (lists : List (Vec ℕ Global)) (place : ℕ) (row : Vec ℕ Global)
+    → items_of (slice_set lists place row) ≡ slice_set (items_of lists) place row.items
+items_set lists place row = map-set (λ (v : Vec ℕ Global). v.items) lists place row

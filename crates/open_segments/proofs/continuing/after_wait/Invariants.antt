@@ -1,0 +1,7 @@
+use Rattle.depend_table.specs.Lists.{Lists}
+use Rattle.open_segments.specs.WaysToOpen.{Joins}
+use Rattle.open_segments.proofs.ListLemmas.{Below}
+use Rattle.open_segments.proofs.continuing.after_wait.Given as goal
+
+abbrev pub invariant-loop-segment : goal.invariant-loop-segment
+invariant-loop-segment l = Lists (Below (λ p. Joins l.table p l.next) l.segment) l.preds.items

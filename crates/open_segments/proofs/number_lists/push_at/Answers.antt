@@ -1,0 +1,63 @@
+use Rattle.std.proofs.Common.{ℕ, ◌≡◌, List, None, sym, ap, arith, ◌∙◌}
+use Rattle.std.specs.Prelude.{slice_set}
+use Rattle.std.proofs.lemmas.Option.{slice_get_within}
+use Rattle.open_segments.specs.Entry.{entry}
+use Rattle.open_segments.proofs.Turning.{items_at, push_item, pushed_none, pushed_at}
+use Rattle.open_segments.proofs.Rooms.{is_valued, is_valueless, room_of, fuller_same, fuller_at}
+use Rattle.open_segments.specs.NumberLists.{items_of}
+use Rattle.open_segments.proofs.number_lists.push_at.Goals as goal
+
+pub returns-then-is_some-clause-pushed : goal.returns-then-is_some-clause-pushed
+returns-then-is_some-clause-pushed c =
+    pushed_none c.args.number
+    (λ other. (other ≡ c.args.place) × (entry c.args.values.now other ≡ None))
+    (items_of c.args.lists.now.items)
+    (λ other h. is_valued c.value_entry.result c.is_some.result c.is_some.ensures c.if-is_some.true
+    (c.value_entry.ensures ∙ ap (λ (n : ℕ). entry c.args.values.now n) (sym h.0) ∙ h.1))
+
+pub returns-then-is_some-clause-fuller : goal.returns-then-is_some-clause-fuller
+returns-then-is_some-clause-fuller c =
+    fuller_same (λ other. other ≡ c.args.place) c.args.lists.now.items
+
+pub index_mut-requires : goal.index_mut-requires
+index_mut-requires c =
+    let none = sym c.value_entry.ensures
+    ∙ is_valueless c.value_entry.result c.is_some.result c.is_some.ensures c.if-is_some.false in
+    let room = c.requires none in
+    let less = slice_get_within c.args.lists.now.items c.args.place room.row room.is_row in
+    omega (arith, less)
+
+pub push_in_room-requires : goal.push_in_room-requires
+push_in_room-requires c =
+    let none = sym c.value_entry.ensures
+    ∙ is_valueless c.value_entry.result c.is_some.result c.is_some.ensures c.if-is_some.false in
+    let room = c.requires none in
+    let within = slice_get_within c.args.lists.now.items c.args.place room.row room.is_row in
+    let enough = room_of c.args.lists.now.items 1 c.args.place c.index_mut.result.now within
+    c.index_mut.ensures.value room in
+    omega (arith, enough)
+
+pub returns-clause-pushed : goal.returns-clause-pushed
+returns-clause-pushed c =
+    let none = sym c.value_entry.ensures
+    ∙ is_valueless c.value_entry.result c.is_some.result c.is_some.ensures c.if-is_some.false in
+    let room = c.requires none in
+    let within = slice_get_within c.args.lists.now.items c.args.place room.row room.is_row in
+    let old : List ℕ = c.index_mut.result.now.items in
+    let there = items_at c.args.lists.now.items c.args.place c.index_mut.result.now within
+    c.index_mut.ensures.value in
+    pushed_at c.args.number c.args.place c.args.values.now (items_of c.args.lists.now.items)
+    (items_of (slice_set c.args.lists.now.items c.args.place c.push_in_room.new.list)) old there
+    (push_item c.args.lists.now.items c.args.place c.args.number c.index_mut.result.now
+    c.push_in_room.new.list old within c.index_mut.ensures.value c.push_in_room.ensures.items there)
+    none
+
+pub returns-clause-fuller : goal.returns-clause-fuller
+returns-clause-fuller c =
+    let none = sym c.value_entry.ensures
+    ∙ is_valueless c.value_entry.result c.is_some.result c.is_some.ensures c.if-is_some.false in
+    let room = c.requires none in
+    let within = slice_get_within c.args.lists.now.items c.args.place room.row room.is_row in
+    fuller_at c.args.lists.now.items c.args.place c.args.number c.index_mut.result.now
+    c.push_in_room.new.list within c.index_mut.ensures.value c.push_in_room.ensures.items
+    c.push_in_room.ensures.capacity

@@ -1,0 +1,12 @@
+//! The open segments of a program: their kept predecessors, how many of these have no value yet, and
+//! what opens when a segment gets its value. It knows nothing of runs.
+#![tactic(auto)]
+
+mod continuing;
+pub mod counters;
+pub mod entries;
+pub mod laws;
+mod number_lists;
+pub mod opener;
+mod opening;
+mod record;
