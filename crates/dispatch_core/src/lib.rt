@@ -8,5 +8,3 @@ pub mod kernel;
 pub mod laws;
 mod places;
 pub mod replay;
-#[cfg(test)]
-mod tests;

@@ -8,8 +8,6 @@ pub mod limits;
 pub mod plain_words;
 pub mod scanner;
 pub mod statement;
-#[cfg(test)]
-mod tests;
 pub mod words;
 
 /// Out of memory, and nothing else.

@@ -1,0 +1,5 @@
+//! The tests, a module for each crate.
+mod certificates;
+mod greedy;
+mod spans;
+mod what_if;

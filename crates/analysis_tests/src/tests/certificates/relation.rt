@@ -1,0 +1,46 @@
+//! Chains over a pair that must precede, for which a chain of others stands too.
+use super::{bad_step, holds};
+use span_cert::{CheckFault, Checked, check};
+use std::test::Fail;
+
+/// Five siblings on one location, by their segments: 1 and 3 beside each other, then 5, then 7,
+/// then 9. The cost of 7 is left out.
+const BEFORE: &str =
+    "omptasks 1\ntask depend(inoutset: x) { work 4 }\ntask depend(inoutset: x) { work 6 }\n\
+    task depend(in: x) { work 1 }\ntask depend(inoutset: x) { work ";
+
+const AFTER: &str = " }\ntask depend(out: x) { work 1 }\n---\n";
+
+/// Segment 9 has to wait for 5, though the way by 7 stands for that step.
+#[test]
+fn whole_relation_is_asked(rt: HostRuntime) -> Result<(), Fail> {
+    let alloc = rt.alloc();
+    let rows: [(&str, Result<Checked, CheckFault>); 4] = [
+        ("0 2 3 5 7 9", holds(11, 10)),
+        ("0 2 3 5 9", Err(CheckFault::ChainSum)),
+        ("0 2 3 9", Err(CheckFault::ChainSum)),
+        ("0 1 3 9", bad_step(1, 3)),
+    ];
+    for (chain, wanted) in rows {
+        let text = format!(in alloc;
+            "{BEFORE}2{AFTER}end 10 start 0 0 start 1 0 start 2 0 start 3 0 start 4 0 start 5 6 \
+            start 6 0 start 7 7 start 8 0 start 9 9 start 10 0 chain {chain}"
+        )?;
+        assert_eq!(rt; check(&rt, alloc, text.as_bytes()), wanted, "{chain}");
+    }
+    Ok(())
+}
+
+/// Where 7 costs nothing, the chain that leaves it out adds up too.
+#[test]
+fn chain_may_leave_a_segment_out(rt: HostRuntime) -> Result<(), Fail> {
+    let alloc = rt.alloc();
+    for chain in ["0 2 3 5 7 9", "0 2 3 5 9"] {
+        let text = format!(in alloc;
+            "{BEFORE}0{AFTER}end 8 start 0 0 start 1 0 start 2 0 start 3 0 start 4 0 start 5 6 \
+            start 6 0 start 7 7 start 8 0 start 9 7 start 10 0 chain {chain}"
+        )?;
+        assert_eq!(rt; check(&rt, alloc, text.as_bytes()), holds(11, 8), "{chain}");
+    }
+    Ok(())
+}

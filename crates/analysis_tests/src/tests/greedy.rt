@@ -1,0 +1,190 @@
+//! Worked runs, as the rules of tasks and of the greedy run give them by hand, and random programs.
+ghost use Rattle.std.specs.Prelude.{◌<◌};
+
+mod plain;
+
+use crate::tests::greedy::plain::PlainRun;
+use dispatch_core::graph::Graph;
+use dispatch_core::replay::in_order;
+use greedy_sim::curve::curve;
+use greedy_sim::greedy::{GreedyFault, bound, greedy};
+use std::alloc::Global;
+use std::fmt::Write;
+use std::test::Fail;
+use task_program::read::read_program;
+use task_segments::cut;
+
+const WORKED: &str = "omptasks 1\nwork 5 task { work 3 } work 2 taskwait work 1";
+
+const CHILDREN: &str = "omptasks 1\ntask { work 1 } task { work 1 } task { work 2 }";
+
+fn graph_of(alloc: Global, text: &str) -> Result<Graph, Fail> {
+    let program = read_program(alloc, text.as_bytes())?;
+    let table = cut(alloc, &program)?;
+    Ok(in_order(alloc, table).map_err(|_| "memory")?)
+}
+
+/// The segments of a greedy run, each with its start, end and thread, and the end of the run.
+fn rows(alloc: Global, text: &str, threads: u32) -> Result<String, Fail> {
+    let graph = graph_of(alloc, text)?;
+    let run = greedy(alloc, &graph, threads)?;
+    let mut rows = String::new(alloc);
+    for segment in 0..graph.len() {
+        let start = run.start(segment);
+        let end = start.wrapping_add(graph.cost(segment));
+        write!(rows, "{segment},{start},{end},")?;
+        if let Some(thread) = run.thread(segment) {
+            write!(rows, "{thread}")?;
+        }
+        write!(rows, "; ")?;
+    }
+    write!(rows, "end {}", run.end())?;
+    Ok(rows)
+}
+
+#[test]
+fn worked_runs(rt: HostRuntime) -> Result<(), Fail> {
+    let alloc = rt.alloc();
+    assert_eq!(rt;
+        rows(alloc, WORKED, 2)?.as_str(),
+        "0,0,5,0; 1,5,8,0; 2,5,7,1; 3,8,9,0; end 9"
+    );
+    assert_eq!(rt;
+        rows(alloc, WORKED, 1)?.as_str(),
+        "0,0,5,0; 1,5,8,0; 2,8,10,0; 3,10,11,0; end 11"
+    );
+    assert_eq!(rt;
+        rows(alloc, WORKED, 1_024)?.as_str(),
+        "0,0,5,0; 1,5,8,0; 2,5,7,1; 3,8,9,0; end 9"
+    );
+    assert_eq!(rt;
+        rows(alloc, CHILDREN, 2)?.as_str(),
+        "0,0,0,; 1,0,1,0; 2,0,0,; 3,0,1,1; 4,0,0,; 5,1,3,0; 6,0,0,; end 3"
+    );
+    assert_eq!(rt;
+        rows(alloc, "omptasks 1\ntaskgroup { } taskwait", 1)?.as_str(),
+        "0,0,0,; 1,0,0,; 2,0,0,; end 0"
+    );
+    Ok(())
+}
+
+/// It does not wait until all that began together have ended.
+#[test]
+fn a_run_by_no_levels(rt: HostRuntime) -> Result<(), Fail> {
+    let text = "omptasks 1\ntask { work 7 } taskgroup { task { work 1 } } work 1";
+    assert_eq!(rt;
+        rows(rt.alloc(), text, 2)?.as_str(),
+        "0,0,0,; 1,0,7,0; 2,0,0,; 3,0,1,1; 4,0,0,; 5,1,2,1; end 7"
+    );
+    Ok(())
+}
+
+#[test]
+fn worked_curves(rt: HostRuntime) -> Result<(), Fail> {
+    let alloc = rt.alloc();
+    let ends = curve(&rt, alloc, &graph_of(alloc, CHILDREN)?, 3)?;
+    assert_eq!(rt; ends.as_slice(), [4, 3, 2].as_slice());
+    let ends = curve(&rt, alloc, &graph_of(alloc, WORKED)?, 2)?;
+    assert_eq!(rt; ends.as_slice(), [11, 9].as_slice());
+    let ends = curve(&rt, alloc, &graph_of(alloc, CHILDREN)?, 1_024)?;
+    assert_eq!(rt; ends.len(), 1_024);
+    Ok(())
+}
+
+#[test]
+fn refused_counts(rt: HostRuntime) -> Result<(), Fail> {
+    let alloc = rt.alloc();
+    let graph = graph_of(alloc, WORKED)?;
+    assert_eq!(rt;
+        greedy(alloc, &graph, 0).err(),
+        Some(GreedyFault::ThreadCount)
+    );
+    assert_eq!(rt;
+        greedy(alloc, &graph, 1_025).err(),
+        Some(GreedyFault::ThreadCount)
+    );
+    assert_eq!(rt;
+        curve(&rt, alloc, &graph, 0).err(),
+        Some(GreedyFault::ThreadCount)
+    );
+    assert_eq!(rt;
+        curve(&rt, alloc, &graph, 1_025).err(),
+        Some(GreedyFault::ThreadCount)
+    );
+    assert_eq!(rt; greedy(alloc, &graph, 1_024)?.end(), 9);
+    Ok(())
+}
+
+#[test]
+fn worked_bounds(rt: HostRuntime) {
+    assert_eq!(rt; (bound(4, 2, 1), bound(4, 2, 2), bound(4, 2, 3)), (4, 3, 2));
+    assert_eq!(rt; (bound(11, 9, 1), bound(11, 9, 2)), (11, 10));
+    let most = 1_000_000_000_000_000;
+    assert_eq!(rt; (bound(most, most, 1_024), bound(0, 0, 1_024)), (most, 0));
+}
+
+fn draw(seed: &mut u64, below: u64) -> u64
+    requires { 0 < below }
+    ensures { result < below }
+{
+    *seed = seed
+        .wrapping_mul(6_364_136_223_846_793_005)
+        .wrapping_add(1_442_695_040_888_963_407);
+    (*seed >> 33) % below
+}
+
+/// A program of tasks that share three names.
+fn random_text(alloc: Global, seed: &mut u64) -> Result<String, Fail> {
+    let mut text = String::new(alloc);
+    write!(text, "omptasks 1\n")?;
+    let mut depth = 0u32;
+    for _ in 0..20 + draw(seed, 20) {
+        match draw(seed, 6) {
+            0 => write!(text, "taskwait ")?,
+            1 | 2 => write!(text, "work {} ", draw(seed, 4))?,
+            3 if depth > 0 => {
+                write!(text, "}} ")?;
+                depth -= 1;
+            }
+            _ if depth < 4 => {
+                let kind = if draw(seed, 2) == 0 { "in" } else { "out" };
+                write!(text, "task depend({kind}: n{}) {{ ", draw(seed, 3))?;
+                depth += 1;
+            }
+            _ => {}
+        }
+    }
+    for _ in 0..depth {
+        write!(text, "}} ")?;
+    }
+    Ok(text)
+}
+
+/// Whether the greedy run is that of the rule.
+fn is_by_the_rule(alloc: Global, graph: &Graph, threads: u32) -> Result<bool, Fail> {
+    let run = greedy(alloc, graph, threads)?;
+    let plain = PlainRun::new(alloc, graph, threads)?;
+    for segment in 0..graph.len() {
+        if plain.start(segment) != Some(run.start(segment)) {
+            return Ok(false);
+        }
+        if plain.thread(segment) != run.thread(segment) {
+            return Ok(false);
+        }
+    }
+    Ok(run.end() == plain.end())
+}
+
+#[test]
+fn random_programs(rt: HostRuntime) -> Result<(), Fail> {
+    let alloc = rt.alloc();
+    let mut seed = 12_345;
+    for _ in 0..200u32 {
+        let text = random_text(alloc, &mut seed)?;
+        let graph = graph_of(alloc, text.as_str())?;
+        for threads in 1..5 {
+            assert!(rt; is_by_the_rule(alloc, &graph, threads)?);
+        }
+    }
+    Ok(())
+}

@@ -1,0 +1,191 @@
+//! A thousand changes of costs, after each of which a second graph with the same costs is analysed
+//! from nothing.
+ghost use Rattle.std.specs.Prelude.{◌≡◌, ◌-◌, ◌<◌, ◌≤◌, ◌^◌, IsTrue, length, sum};
+
+use super::{WORKED, graph_of};
+use dispatch_core::graph::Graph;
+use span_analysis::analysis::analyse;
+use std::alloc::Global;
+use std::test::Fail;
+use task_program::AllocFault;
+use whatif_costs::fault::WhatFault;
+use whatif_costs::what_if::WhatIf;
+
+const MOST: u64 = 1_000_000_000_000_000;
+
+/// A generator of numbers that look random.
+#[derive(Drop)]
+struct Dice {
+    state: u32,
+}
+
+impl Dice {
+    /// A number below a limit.
+    fn below(&mut self, limit: u32) -> u32
+        requires { 0 < limit }
+    {
+        self.state = self.state.wrapping_mul(1664525).wrapping_add(1013904223);
+        (self.state >> 16) % limit
+    }
+
+    /// A cost, mostly small, and now and then at a limit or past it.
+    fn cost(&mut self) -> u64 {
+        match self.below(20) {
+            0 => MOST + 1,
+            1 => MOST,
+            2 => MOST - u64::from(self.below(30)),
+            3 => 0,
+            _ => u64::from(self.below(12)),
+        }
+    }
+}
+
+/// How many calls were accepted, and how many refused for each reason.
+#[derive(Clone, Copy, Debug, PartialEq, Eq)]
+struct Counts {
+    accepted: u32,
+    unknown_segment: u32,
+    cost_too_large: u32,
+    work_too_large: u32,
+}
+
+impl Counts {
+    fn count(&mut self, answer: Result<u64, WhatFault>) {
+        let place = match answer {
+            Ok(_) => &mut self.accepted,
+            Err(WhatFault::UnknownSegment) => &mut self.unknown_segment,
+            Err(WhatFault::CostTooLarge) => &mut self.cost_too_large,
+            Err(WhatFault::WorkTooLarge) => &mut self.work_too_large,
+            Err(WhatFault::OutOfMemory) => return,
+        };
+        *place = place.saturating_add(1);
+    }
+}
+
+/// Whether costs fit in a graph.
+fn is_little(costs: &[u64]) -> bool
+    ensures { IsTrue result → sum costs.now ≤ 10 ^ 15 }
+{
+    let mut left = MOST;
+    for cost in costs {
+        if *cost > left {
+            return false;
+        }
+        left -= *cost;
+    }
+    true
+}
+
+/// Puts costs into a graph.
+fn put(graph: &mut Graph, costs: &[u64]) -> Result<(), Fail>
+    ensures { length graph.new.costs ≡ length graph.old.costs }
+{
+    if costs.len() != graph.len() as usize || !is_little(costs) {
+        return Err("no costs of this graph".into());
+    }
+    graph.set_costs(costs);
+    Ok(())
+}
+
+/// Whether a trial answers as the analysis of a graph does.
+fn agrees(alloc: Global, trial: &WhatIf, graph: &Graph) -> Result<bool, AllocFault>
+    requires { length trial.now.graph.costs ≡ length graph.now.costs }
+{
+    let found = analyse(alloc, graph)?;
+    if trial.work() != found.work() || trial.span() != found.span() {
+        return Ok(false);
+    }
+    for segment in 0..graph.len() {
+        if trial.start(segment) != found.starts()[segment as usize] {
+            return Ok(false);
+        }
+        if trial.slack(segment) != found.slack(segment) {
+            return Ok(false);
+        }
+    }
+    Ok(true)
+}
+
+/// Makes one call on a trial, and the same change in the costs as they ought to be.
+fn change(
+    dice: &mut Dice,
+    trial: &mut WhatIf,
+    count: u32,
+    own: &[u64],
+    costs: &mut Vec<u64>,
+) -> Result<u64, WhatFault>
+    requires { count < 2 ^ 32 - 1 }
+    ensures { length trial.new.graph.costs ≡ length trial.old.graph.costs }
+{
+    if dice.below(16) == 0 {
+        let answer = trial.reset();
+        if answer.is_ok() && costs.len() == own.len() {
+            costs.copy_from_slice(own);
+        }
+        return answer;
+    }
+    let segment = dice.below(count + 1);
+    let cost = dice.cost();
+    let answer = trial.set(segment, cost);
+    if answer.is_ok() && (segment as usize) < costs.len() {
+        costs[segment as usize] = cost;
+    }
+    answer
+}
+
+/// Makes many calls on a trial of a program's graph, and after each compares it with an analysis of
+/// a second such graph.
+fn compare(alloc: Global, text: &str, calls: u32) -> Result<Counts, Fail> {
+    let first = graph_of(alloc, text)?;
+    let mut second = graph_of(alloc, text)?;
+    if first.len() != second.len() {
+        return Err("two graphs of one program".into());
+    }
+    let mut own = Vec::new(alloc);
+    for segment in 0..second.len() {
+        own.push(second.cost(segment))?;
+    }
+    let mut costs = own.clone()?;
+    let mut trial = match WhatIf::new(alloc, first) {
+        Ok(trial) => trial,
+        Err(_) => return Err("memory".into()),
+    };
+    let mut dice = Dice { state: 1 };
+    let mut counts = Counts {
+        accepted: 0,
+        unknown_segment: 0,
+        cost_too_large: 0,
+        work_too_large: 0,
+    };
+    for _ in 0..calls {
+        let answer = change(&mut dice, &mut trial, second.len(), &own, &mut costs);
+        counts.count(answer);
+        if answer.is_ok() && answer != Ok(trial.span()) {
+            return Err("another span is answered".into());
+        }
+        put(&mut second, &costs)?;
+        if !agrees(alloc, &trial, &second)? {
+            return Err("another analysis".into());
+        }
+    }
+    Ok(counts)
+}
+
+#[test]
+fn a_thousand_changes(rt: HostRuntime) -> Result<(), Fail> {
+    let texts = [
+        WORKED,
+        "omptasks 1\ntask depend(inoutset: x) { work 4 } task depend(inoutset: x) { work 6 } task \
+        depend(in: x) { work 1 } task depend(inoutset: x) { work 2 } task depend(out: x) { work 1 \
+        }",
+        "omptasks 1\ntask { work 1 } task { work 1 } task { work 2 }",
+    ];
+    for text in texts {
+        let counts = compare(rt.alloc(), text, 1000)?;
+        assert!(rt; counts.accepted > 500, "{counts:?}");
+        assert!(rt; counts.unknown_segment > 10, "{counts:?}");
+        assert!(rt; counts.cost_too_large > 10, "{counts:?}");
+        assert!(rt; counts.work_too_large > 10, "{counts:?}");
+    }
+    Ok(())
+}

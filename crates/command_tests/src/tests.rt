@@ -1,0 +1,123 @@
+//! Commands over devices in memory.
+mod certificates;
+mod devices;
+mod events;
+mod examples;
+mod fake_devices;
+mod graphs;
+mod long_inputs;
+mod loops;
+mod replays;
+mod rows;
+mod starts;
+mod words;
+
+use crate::tests::fake_devices::{Faults, Sink, Source};
+use counted_io::Counted;
+use spanprof_command::{Status, command};
+use std::alloc::{AllocGlobal, Global};
+use std::io::Read;
+use std::sync::Wait;
+use std::test::Fail;
+use std::thread::Threads;
+
+/// The words of a command line.
+fn words_of(alloc: Global, words: &[&str]) -> Result<Vec<String>, Fail> {
+    let mut list = Vec::new(alloc);
+    for word in words {
+        list.push(String::from_str(alloc, word)?)?;
+    }
+    Ok(list)
+}
+
+/// A text of version 1 with this body, the header on line 1.
+fn program(alloc: Global, body: &str) -> Result<String, Fail> {
+    Ok(format!(in alloc; "omptasks 1\n{body}")?)
+}
+
+/// A reader that gives a text at once.
+fn source(text: &[u8]) -> Source<'_> {
+    slow_source(text, usize::MAX, Faults::NONE)
+}
+
+/// A reader that gives so many bytes of a text in each call, with these faults.
+fn slow_source(text: &[u8], piece: usize, faults: Faults) -> Source<'_> {
+    Source {
+        left: text,
+        piece,
+        faults,
+        calls: 0,
+    }
+}
+
+/// A writer that takes all it is given.
+fn sink(alloc: Global) -> Sink {
+    slow_sink(alloc, usize::MAX, Faults::NONE)
+}
+
+/// A writer that takes so many bytes in each call, with these faults.
+fn slow_sink(alloc: Global, piece: usize, faults: Faults) -> Sink {
+    Sink {
+        taken: Vec::new(alloc),
+        piece,
+        faults,
+        calls: 0,
+        flush_fault: None,
+        flushes: 0,
+    }
+}
+
+/// What the words give on these devices: the status, and the devices as they are left.
+fn run_on<H: AllocGlobal + Threads + Wait + Sync, R: Read + Drop>(
+    rt: &H,
+    words: &[&str],
+    reader: R,
+    writer: Sink,
+) -> Result<(Status, R, Sink), Fail> {
+    let words = words_of(rt.alloc(), words)?;
+    let mut reader = Counted::new(reader);
+    let mut writer = Counted::new(writer);
+    let status = command(rt, words.as_slice(), &mut reader, &mut writer);
+    Ok((status, reader.into_inner(), writer.into_inner()))
+}
+
+/// The status, what was written, and the reader as it is left.
+fn run<H: AllocGlobal + Threads + Wait + Sync, R: Read + Drop>(
+    rt: &H,
+    words: &[&str],
+    reader: R,
+    writer: Sink,
+) -> Result<(Status, Vec<u8>, R), Fail> {
+    let (status, reader, writer) = run_on(rt, words, reader, writer)?;
+    let Sink { taken, .. } = writer;
+    Ok((status, taken, reader))
+}
+
+/// Whether the words give this text and status on an input.
+fn gives<H: AllocGlobal + Threads + Wait + Sync>(
+    rt: &H,
+    words: &[&str],
+    input: &str,
+    text: &str,
+    status: Status,
+) -> Result<bool, Fail> {
+    let (got, written, _) = run(rt, words, source(input.as_bytes()), sink(rt.alloc()))?;
+    Ok(got == status && written.as_slice() == text.as_bytes())
+}
+
+/// What a command gives on a program with this body.
+fn run_body<H: AllocGlobal + Threads + Wait + Sync>(
+    rt: &H,
+    word: &str,
+    body: &str,
+) -> Result<(Status, Vec<u8>), Fail> {
+    let alloc = rt.alloc();
+    let text = program(alloc, body)?;
+    let (status, written, _) = run(
+        rt,
+        &["spanprof", word],
+        source(text.as_bytes()),
+        sink(alloc),
+    )?;
+    Ok((status, written))
+}

@@ -1,0 +1,178 @@
+//! Tables of slacks and greedy runs, changed costs, and runs on workers.
+
+use super::examples::WORKED;
+use super::gives;
+use spanprof_command::Status;
+use std::test::Fail;
+
+const THREE: &str = "omptasks 1\ntask { work 1 } task { work 1 } task { work 2 }";
+
+#[test]
+fn slacks(rt: HostRuntime) -> Result<(), Fail> {
+    let words = ["spanprof", "slack"];
+    for (text, table) in [
+        (
+            WORKED,
+            "segment,task,cost,start,slack,chain\n0,0,5,0,0,1\n1,1,3,5,0,1\n2,0,2,5,1,0\n\
+            3,0,1,8,0,1\n",
+        ),
+        (
+            "omptasks 1",
+            "segment,task,cost,start,slack,chain\n0,0,0,0,0,1\n",
+        ),
+        (
+            "omptasks 1\nwork 5 task { work 3 } work 2 work 1",
+            "segment,task,cost,start,slack,chain\n0,0,5,0,0,1\n1,1,3,5,0,1\n2,0,3,5,0,0\n",
+        ),
+        (
+            "omptasks 1\ntaskgroup { } taskwait",
+            "segment,task,cost,start,slack,chain\n0,0,0,0,0,1\n1,0,0,0,0,0\n2,0,0,0,0,0\n",
+        ),
+        (
+            "omptasks 1\ntask depend(inoutset: x) { work 4 } task depend(inoutset: x) { work 6 } \
+            task depend(in: x) { work 1 } task depend(inoutset: x) { work 2 } task depend(out: x) \
+            { work 1 }",
+            "segment,task,cost,start,slack,chain\n0,0,0,0,0,1\n1,1,4,0,2,0\n2,0,0,0,0,1\n\
+            3,2,6,0,0,1\n4,0,0,0,6,0\n5,3,1,6,0,1\n6,0,0,0,7,0\n7,4,2,7,0,1\n8,0,0,0,9,0\n\
+            9,5,1,9,0,1\n10,0,0,0,10,0\n",
+        ),
+    ] {
+        assert!(rt; gives(&rt, &words, text, table, Status::Done)?, "{text}");
+    }
+    let line = "error: line 2: Unclosed\n";
+    assert!(rt; gives(&rt, &words, "omptasks 1\ntask {", line, Status::Refused)?);
+    Ok(())
+}
+
+#[test]
+fn greedy_runs(rt: HostRuntime) -> Result<(), Fail> {
+    for (threads, text, rows) in [
+        (
+            "2",
+            THREE,
+            "0,0,0,\n1,0,1,0\n2,0,0,\n3,0,1,1\n4,0,0,\n5,1,3,0\n6,0,0,\n",
+        ),
+        (
+            "1",
+            "omptasks 1\ntaskgroup { } taskwait",
+            "0,0,0,\n1,0,0,\n2,0,0,\n",
+        ),
+        (
+            "2",
+            "omptasks 1\ntask { work 7 } taskgroup { task { work 1 } } work 1",
+            "0,0,0,\n1,0,7,0\n2,0,0,\n3,0,1,1\n4,0,0,\n5,1,2,1\n",
+        ),
+        ("1024", WORKED, "0,0,5,0\n1,5,8,0\n2,5,7,1\n3,8,9,0\n"),
+    ] {
+        let words = ["spanprof", "greedy", "--threads", threads];
+        let table = format!(in rt.alloc(); "segment,start,end,thread\n{rows}")?;
+        assert!(rt;
+            gives(&rt, &words, text, table.as_str(), Status::Done)?,
+            "{text}"
+        );
+    }
+    Ok(())
+}
+
+#[test]
+fn curves(rt: HostRuntime) -> Result<(), Fail> {
+    for (upto, text, rows) in [
+        ("3", THREE, "1,4,4,4\n2,3,2,3\n3,2,2,2\n"),
+        ("2", "omptasks 1\nwork 7", "1,7,7,7\n2,7,7,7\n"),
+        ("1", "omptasks 1\ntaskgroup { } taskwait", "1,0,0,0\n"),
+    ] {
+        let words = ["spanprof", "curve", "--upto", upto];
+        let table = format!(in rt.alloc(); "threads,end,least,bound\n{rows}")?;
+        assert!(rt;
+            gives(&rt, &words, text, table.as_str(), Status::Done)?,
+            "{text}"
+        );
+    }
+    Ok(())
+}
+
+/// A count out of range is told only of a text that is a program.
+#[test]
+fn counts_out_of_range(rt: HostRuntime) -> Result<(), Fail> {
+    for (word, option, number, line) in [
+        ("greedy", "--threads", "0", "error: ThreadCount\n"),
+        ("greedy", "--threads", "1025", "error: ThreadCount\n"),
+        ("greedy", "--threads", "4294967295", "error: ThreadCount\n"),
+        ("curve", "--upto", "0", "error: ThreadCount\n"),
+        ("curve", "--upto", "1025", "error: ThreadCount\n"),
+        ("run", "--workers", "0", "error: WorkerCount\n"),
+        ("run", "--workers", "65", "error: WorkerCount\n"),
+    ] {
+        let words = ["spanprof", word, option, number];
+        assert!(rt;
+            gives(&rt, &words, WORKED, line, Status::Refused)?,
+            "{word} {number}"
+        );
+        let unopened = "error: line 2: Unopened\n";
+        assert!(rt;
+            gives(&rt, &words, "omptasks 1\n}", unopened, Status::Refused)?,
+            "{word}"
+        );
+    }
+    Ok(())
+}
+
+/// Changes are made in their order, up to the first that is refused.
+#[test]
+fn tried_costs(rt: HostRuntime) -> Result<(), Fail> {
+    let rows: [(&[&str], &str, Status); 11] = [
+        (&["2=4"], "work 13\nspan 10\nwas 9\n", Status::Done),
+        (&["2=3"], "work 12\nspan 9\nwas 9\n", Status::Done),
+        (&["2=4", "1=5"], "work 15\nspan 11\nwas 9\n", Status::Done),
+        (&["2=4", "2=2"], "work 11\nspan 9\nwas 9\n", Status::Done),
+        (
+            &["2=4", "2=2", "0=0"],
+            "work 6\nspan 4\nwas 9\n",
+            Status::Done,
+        ),
+        (&["4=1"], "error: UnknownSegment\n", Status::Refused),
+        (&["2=4", "4=1"], "error: UnknownSegment\n", Status::Refused),
+        (
+            &["2=1000000000000001"],
+            "error: CostTooLarge\n",
+            Status::Refused,
+        ),
+        (
+            &["2=1000000000000000"],
+            "error: WorkTooLarge\n",
+            Status::Refused,
+        ),
+        (
+            &["9=1000000000000001", "2=1000000000000001"],
+            "error: UnknownSegment\n",
+            Status::Refused,
+        ),
+        (
+            &["2=1000000000000000", "9=1"],
+            "error: WorkTooLarge\n",
+            Status::Refused,
+        ),
+    ];
+    for (place, (changes, text, status)) in rows.iter().enumerate() {
+        let mut words = vec![in rt.alloc(); "spanprof", "whatif"]?;
+        words.extend_from_slice(changes)?;
+        assert!(rt;
+            gives(&rt, words.as_slice(), WORKED, text, *status)?,
+            "{place}"
+        );
+    }
+    Ok(())
+}
+
+#[test]
+fn worker_runs(rt: HostRuntime) -> Result<(), Fail> {
+    let text = "segments 4\nedges 4\ndigest 704969\npreds 0\npreds 1 0\npreds 2 0\npreds 3 1 2\n";
+    for workers in ["1", "2", "64"] {
+        let words = ["spanprof", "run", "--workers", workers];
+        assert!(rt;
+            gives(&rt, &words, WORKED, text, Status::Done)?,
+            "{workers}"
+        );
+    }
+    Ok(())
+}

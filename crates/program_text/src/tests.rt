@@ -1,2 +1,0 @@
-//! Documents and plain words.
-mod documents;

@@ -1,0 +1,77 @@
+//! Whole recorded graphs, predecessor by predecessor, and a run with another kernel.
+ghost use Rattle.std.specs.Prelude.{◌≡◌, ◌+◌, ◌%◌, ◌^◌, ◌==◌, IfOk, IsTrue, OnErr};
+
+use super::{fields_of, preds_text, table_of};
+use dispatch_core::dispatch::Core;
+use dispatch_core::kernel::{Kernel, KernelFault, SegResult};
+use dispatch_core::replay::in_order;
+use std::test::Fail;
+
+/// In each, the first segment of a task has the task's creator and the last segments of its kept
+/// siblings.
+#[test]
+fn graphs_of_siblings(rt: HostRuntime) -> Result<(), Fail> {
+    let alloc = rt.alloc();
+    let programs = [
+        (
+            "task depend(inoutset: x) { work 4 } task depend(inoutset: x) { work 6 } task \
+            depend(in: x) { work 1 } task depend(inoutset: x) { work 2 } task depend(out: x) { \
+            work 1 }",
+            "0:; 1: 0; 2: 0; 3: 2; 4: 2; 5: 1 3 4; 6: 4; 7: 5 6; 8: 6; 9: 7 8; 10: 8; ",
+        ),
+        (
+            "task depend(in: x) depend(inoutset: x) { work 3 } task depend(in: x) depend(inoutset: \
+            x) { work 3 }",
+            "0:; 1: 0; 2: 0; 3: 1 2; 4: 2; ",
+        ),
+    ];
+    for (body, predecessors) in programs {
+        let text = format!(in alloc; "omptasks 1\n{body}")?;
+        let graph = in_order(alloc, table_of(alloc, text.as_str())?).map_err(|_| "out of memory")?;
+        assert_eq!(rt;
+            preds_text(alloc, &graph)?.as_str(),
+            predecessors,
+            "of {body}"
+        );
+    }
+    Ok(())
+}
+
+/// Adds the cost to the input, and faults where there is no cost.
+struct AddingKernel;
+
+impl Kernel for AddingKernel {
+    ghost value_of = { λ segment cost input. (input + cost) % 2 ^ 64 };
+
+    ghost may_fault = { λ segment cost input. cost == 0 };
+
+    fn run(&self, segment: u32, cost: u64, input: u64) -> Result<u64, KernelFault>
+        ensures ok { IfOk result (λ value. value ≡ (input + cost) % 2 ^ 64) }
+        ensures err { OnErr result (IsTrue (cost == 0)) }
+    {
+        let _ = segment;
+        if cost == 0 {
+            return Err(KernelFault);
+        }
+        Ok(input.wrapping_add(cost))
+    }
+}
+
+#[test]
+fn a_run_with_another_kernel(rt: HostRuntime) -> Result<(), Fail> {
+    let alloc = rt.alloc();
+    assert!(rt; SegResult::compute(&AddingKernel, 0, 0, 7).is_err());
+    let table = table_of(alloc, super::WORKED)?;
+    let mut core = Core::new(alloc, table).map_err(|_| "out of memory")?;
+    let steps = [(0, 5, 0, 5), (1, 3, 5, 8), (2, 2, 5, 7), (3, 1, 15, 16)];
+    for fields in steps {
+        let (segment, cost, input, value) = fields;
+        assert_eq!(rt; core.start(9, segment).ok(), Some(input));
+        let outcome = SegResult::compute(&AddingKernel, segment, cost, input).map_err(|_| "fault")?;
+        assert_eq!(rt; fields_of(&outcome), fields);
+        assert!(rt; core.finish(9, outcome).is_ok());
+        assert_eq!(rt; core.value(segment), Some(value));
+    }
+    assert!(rt; core.into_graph().is_ok());
+    Ok(())
+}

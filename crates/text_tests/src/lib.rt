@@ -1,0 +1,6 @@
+//! Tests of documents and of programs as texts. They are a crate of their own, since a crate with
+//! tests is proved twice.
+#![tactic(auto)]
+
+#[cfg(test)]
+mod tests;

@@ -1,0 +1,3 @@
+//! The tests, a module for each crate.
+mod documents;
+mod programs;
