@@ -6,7 +6,7 @@ ghost use Rattle.loop_text.specs.FirstPass.{is_loop_sign};
 use program_text::fault::ReadKind;
 use program_text::limits::MOST_WORD_BYTES;
 use program_text::scanner::Token;
-use program_text::words::{begins_with_digit, is_number, is_run, is_sign, is_word};
+use program_text::words::{begins_with_digit, is_sign};
 
 /// The signs of version 2.
 fn is_loop_sign(token: Token<'_>) -> bool
@@ -19,11 +19,11 @@ fn is_loop_sign(token: Token<'_>) -> bool
 pub(crate) fn loop_form_fault(token: Token<'_>) -> Option<ReadKind>
     ensures { result ≡ first.form_fault token.entry.text.now }
 {
-    if !(is_run(token.text) || is_loop_sign(token)) {
+    if !(token.is_run() || is_loop_sign(token)) {
         Some(ReadKind::BadByte)
-    } else if begins_with_digit(token.text) && !is_number(token.text) {
+    } else if begins_with_digit(token.text) && !token.is_number() {
         Some(ReadKind::BadNumber)
-    } else if token.text.len() > MOST_WORD_BYTES && is_word(token.text) {
+    } else if token.text.len() > MOST_WORD_BYTES && token.is_word() {
         Some(ReadKind::BadWord)
     } else {
         None

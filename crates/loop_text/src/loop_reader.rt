@@ -15,7 +15,7 @@ use program_text::fault::{ReadFault, ReadKind};
 use program_text::limits::{LARGEST_BOUND, LARGEST_COST, LARGEST_STEP, MOST_NESTING};
 use program_text::scanner::Token;
 use program_text::statement::DependKind;
-use program_text::words::{is_number, is_word, text_of, value_within};
+use program_text::words::{text_of, value_within};
 use std::alloc::Global;
 use std::mem;
 
@@ -116,7 +116,7 @@ fn no_index() -> Index
 fn bound(token: Token<'_>) -> Result<u32, ReadFault>
     ensures { Gives (λ value. value) result (bound_of (token_seen token.entry)) }
 {
-    if !is_number(token.text) {
+    if !token.is_number() {
         return Err(token.fault(ReadKind::BadWord));
     }
     match value_within(token.text, LARGEST_BOUND) {
@@ -129,7 +129,7 @@ fn bound(token: Token<'_>) -> Result<u32, ReadFault>
 fn zero_or_one(token: Token<'_>) -> Result<u64, ReadFault>
     ensures { Gives (λ value. value) result (zero_or_one_of (token_seen token.entry)) }
 {
-    if !is_number(token.text) {
+    if !token.is_number() {
         return Err(token.fault(ReadKind::BadWord));
     }
     match value_within(token.text, 1) {
@@ -232,7 +232,7 @@ impl LoopReader {
         ensures { Gives (loop_state_of self.new) result (place_step
             (loop_state_of self.old LoopPlace.WorkNumber) (token_seen token.entry)) }
     {
-        if !is_number(token.text) {
+        if !token.is_number() {
             return Err(token.fault(ReadKind::BadWord));
         }
         let Some(cost) = value_within(token.text, LARGEST_COST) else {
@@ -264,7 +264,7 @@ impl LoopReader {
         ensures { Gives (loop_state_of self.new) result (place_step
             (loop_state_of self.old LoopPlace.ForVariable) (token_seen token.entry)) }
     {
-        if !is_word(token.text) || self.tree.variable(token).is_some() {
+        if !token.is_word() || self.tree.variable(token).is_some() {
             return Err(token.fault(ReadKind::BadWord));
         }
         self.bounds.variable = Word::new(self.alloc, text_of(token.text))?;
@@ -445,7 +445,7 @@ impl LoopReader {
         ensures { Gives (loop_state_of self.new) result (place_step
             (loop_state_of self.old (LoopPlace.DependName kind)) (token_seen token.entry)) }
     {
-        if !is_word(token.text) {
+        if !token.is_word() {
             return Err(token.fault(ReadKind::BadWord));
         }
         self.pending = Pending {
@@ -475,7 +475,7 @@ impl LoopReader {
         ensures { Gives (loop_state_of self.new) result (place_step
             (loop_state_of self.old (LoopPlace.IndexStart kind)) (token_seen token.entry)) }
     {
-        if is_number(token.text) {
+        if token.is_number() {
             self.pending.index = Index {
                 by: step_of(token.text),
                 line: token.line,
@@ -501,7 +501,7 @@ impl LoopReader {
             (loop_state_of self.old (LoopPlace.IndexStart kind)) (token_seen token.entry)) }
     {
         let variable = self.tree.variable(token);
-        if !is_word(token.text) || variable.is_none() {
+        if !token.is_word() || variable.is_none() {
             return Err(token.fault(ReadKind::BadWord));
         }
         self.pending.index = Index {
@@ -516,7 +516,7 @@ impl LoopReader {
         ensures { Gives (loop_state_of self.new) result (place_step
             (loop_state_of self.old (LoopPlace.IndexNumber kind)) (token_seen token.entry)) }
     {
-        if !is_number(token.text) {
+        if !token.is_number() {
             return Err(token.fault(ReadKind::BadWord));
         }
         self.pending.index.by = step_of(token.text);

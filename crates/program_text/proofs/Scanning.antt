@@ -1,16 +1,17 @@
 -- How the scanner goes on from byte to byte, and from token to token.
 use Rattle.std.proofs.Common.{◌≡◌, ℕ, suc, ◌-◌, ◌<◌, ◌≤◌, Bool, true, false, ◌&&◌, cond, List}
 use Rattle.std.proofs.Common.{[], ◌∷◌, length, take, drop, max, get_or, refl, sym, ap, ◌∙◌, arith}
-use Rattle.std.proofs.Common.{eqb, false-eqb}
+use Rattle.std.proofs.Common.{eqb, ltb, false-eqb}
 use Rattle.std.specs.Prelude.{count_by}
-use Rattle.std.specs.List.{prefix_len}
-use Rattle.std.proofs.lemmas.Bool.{eqb-true, or_parts}
+use Rattle.std.specs.List.{list_all, prefix_len}
+use Rattle.std.proofs.lemmas.Bool.{eqb-true, lt-ltb, ne_eqb, or_parts}
 use Rattle.std.proofs.lemmas.List.{take_all}
 use Rattle.std.proofs.lemmas.List.Sums.{prefix_len-le-length}
 use Rattle.std.proofs.lemmas.Grind.{common_steps}
 use Rattle.program_text.specs.Tokens.{is_gap, in_comment_after, is_blank, is_line_feed, is_run_byte}
 use Rattle.program_text.specs.Tokens.{line_after, line_at_end, starts_with_run_byte}
 use Rattle.program_text.specs.Tokens.{with_byte_in_front, tokens_from, StandsAtToken}
+use Rattle.program_text.specs.Words.{is_run}
 use Rattle.program_text.proofs.Bools.{bool_cases}
 
 -- what a `[first, rest @ ..]` pattern binds as the rest
@@ -34,6 +35,29 @@ pub line_goes_on : (line : ℕ) (bytes : List ℕ) → 1 ≤ length bytes
     ≡ line_at_end line bytes
 line_goes_on line [] some = absurd (omega arith)
 line_goes_on line (b ∷ bytes) some = rw (rest_of_cons b bytes) (grind (arith, common_steps))
+
+comment_goes_on : (c : Bool) → in_comment_after c 32 ≡ c
+comment_goes_on true = refl
+comment_goes_on false = refl
+
+-- nor does a space, after which the line and the comment are the same
+pub space_goes_on : (c : Bool) (line : ℕ) (bytes : List ℕ)
+    → 1 ≤ length bytes
+    → get_or bytes 0 0 ≡ 32
+    → is_gap c (get_or bytes 0 0) ≡ true
+    → (tokens_from c line (take (length bytes - 1) (drop 1 bytes)) ≡ tokens_from c line bytes)
+    × (line_at_end line (take (length bytes - 1) (drop 1 bytes)) ≡ line_at_end line bytes)
+space_goes_on c line bytes some space gap =
+    let rest = take (length bytes - 1) (drop 1 bytes) in
+    let same_comment : in_comment_after c (get_or bytes 0 0) ≡ c =
+    ap (in_comment_after c) space ∙ comment_goes_on c in
+    let same_line : line_after (get_or bytes 0 0) line ≡ line =
+    ap (λ (b : ℕ). line_after b line) space in (
+      sym (ap (λ (d : Bool). tokens_from d line rest) same_comment)
+          ∙ sym (ap (λ (n : ℕ). tokens_from (in_comment_after c (get_or bytes 0 0)) n rest) same_line)
+          ∙ gap_goes_on c line bytes some gap,
+      sym (ap (λ (n : ℕ). line_at_end n rest) same_line) ∙ line_goes_on line bytes some,
+    )
 
 -- nothing is left
 pub no_tokens : (c : Bool) (line : ℕ) (bytes : List ℕ)
@@ -180,3 +204,42 @@ token_found line bytes run n empty empty_is not_empty stands run_is n_is =
     let found = takes_token line bytes some stands in
     let same : n ≡ token_length bytes = n_is ∙ ap (λ (k : ℕ). max k 1) run_is in
     (rw same found.within, rw same found.first, rw same found.no_feed)
+
+run_bytes_alone : (bytes : List ℕ)
+    → list_all is_run_byte (take (prefix_len is_run_byte bytes) bytes) ≡ true
+run_bytes_alone [] = refl
+run_bytes_alone (b ∷ bytes) =
+    bool_cases (is_run_byte b)
+    (λ run. rw (one_more b bytes run, run, run_bytes_alone bytes) refl)
+    (λ other. rw other refl)
+
+first_is_run : (bytes : List ℕ) → 0 < length bytes
+    → ltb 0 (prefix_len is_run_byte bytes) ≡ is_run (take (token_length bytes) bytes)
+first_is_run [] some = absurd (omega arith)
+first_is_run (b ∷ bytes) some =
+    bool_cases (is_run_byte b)
+    (λ run. let long : token_length (b ∷ bytes) ≡ suc (prefix_len is_run_byte bytes) =
+    omega (arith, one_more b bytes run) in
+    let n = prefix_len is_run_byte bytes in
+    let size : length (take (suc n) (b ∷ bytes)) ≡ suc (length (take n bytes)) = refl in
+    let full : eqb (length (take (suc n) (b ∷ bytes))) 0 ≡ false =
+    ne_eqb (length (take (suc n) (b ∷ bytes))) 0 (λ none. omega (arith, size, none)) in
+    let one : ltb 0 (prefix_len is_run_byte (b ∷ bytes)) ≡ true =
+    lt-ltb 0 (prefix_len is_run_byte (b ∷ bytes)) (omega (arith, one_more b bytes run)) in
+    rw (one, long, full, run, run_bytes_alone bytes) refl)
+    (λ other. let none : prefix_len is_run_byte (b ∷ bytes) ≡ 0 = rw other refl in
+    let long : token_length (b ∷ bytes) ≡ 1 = rw none refl in
+    rw (long, none, other) refl)
+
+-- whether the first token is a run is known from its length
+pub run_told : (bytes : List ℕ) (run n : ℕ) (empty : Bool)
+    → empty ≡ eqb (length bytes) 0
+    → empty ≡ false
+    → run ≡ prefix_len is_run_byte bytes
+    → n ≡ max run 1
+    → ltb 0 run ≡ is_run (take n bytes)
+run_told bytes run n empty empty_is not_empty run_is n_is =
+    let some : 0 < length bytes =
+    omega (arith, false-eqb (length bytes) 0 (sym not_empty ∙ empty_is)) in
+    let same : n ≡ token_length bytes = n_is ∙ ap (λ (k : ℕ). max k 1) run_is in
+    rw (same, run_is) (first_is_run bytes some)

@@ -5,24 +5,51 @@ ghost use Rattle.std.specs.List.{prefix_len};
 ghost use Rattle.program_text.specs.Tokens.{is_gap, in_comment_after, is_blank, is_run_byte};
 ghost use Rattle.program_text.specs.Tokens.{tokens_from, line_at_end, line_after, is_line_feed};
 ghost use Rattle.program_text.specs.Tokens.{StandsAtToken};
+ghost use Rattle.program_text.specs.Words.{is_number, is_run};
 
 use crate::fault::{ReadFault, ReadKind};
+use crate::words::{begins_with_digit, is_number};
 
-/// A token: its bytes, and the line of the first.
+/// A token: its bytes, and the line of the first. What kind of token it is was found once.
 #[derive(Clone, Copy, Debug)]
 pub struct Token<'a> {
     pub text: &'a [u8],
     pub line: u32,
+    pub(crate) run: bool,
+    pub(crate) number: bool,
+    ghost run_is_told: { run ≡ is_run text.now },
+    ghost number_is_told: { number ≡ is_number text.now },
 }
 
 impl<'a> Token<'a> {
-    ghost use Rattle.program_text.specs.Words.{is_text};
+    ghost use Rattle.program_text.specs.Words.{is_text, is_word};
+
+    /// Whether it is a run: run bytes, one at least.
+    pub fn is_run(self) -> bool
+        ensures { result ≡ is_run self.entry.text.now }
+    {
+        self.run
+    }
+
+    /// Whether it is a word: a run that does not begin with a digit.
+    pub fn is_word(self) -> bool
+        ensures { result ≡ is_word self.entry.text.now }
+    {
+        self.run && !begins_with_digit(self.text)
+    }
 
     /// Whether it is this text.
     pub fn is(self, word: &[u8]) -> bool
         ensures { result ≡ is_text self.entry.text.now word.now }
     {
         self.text == word
+    }
+
+    /// Whether it is a number.
+    pub fn is_number(self) -> bool
+        ensures { result ≡ is_number self.entry.text.now }
+    {
+        self.number
     }
 
     /// This fault, on the line of the token.
@@ -72,12 +99,15 @@ impl<'a> Scanner<'a> {
         if self.rest.is_empty() {
             return None;
         }
-        let length = run_length(self.rest).max(1);
+        let run = run_length(self.rest);
+        let length = run.max(1);
         let (text, rest) = self.rest.split_at(length);
         self.rest = rest;
         Some(Token {
             text,
             line: self.line,
+            run: run > 0,
+            number: is_number(text),
         })
     }
 
@@ -93,9 +123,12 @@ impl<'a> Scanner<'a> {
             if !is_gap(in_comment, *byte) {
                 return;
             }
+            self.rest = rest;
+            if *byte == b' ' {
+                continue 'gap;
+            }
             in_comment = in_comment_after(in_comment, *byte);
             self.line = line_after(*byte, self.line);
-            self.rest = rest;
         }
     }
 }
@@ -137,8 +170,29 @@ pub fn is_blank(byte: u8) -> bool
     byte == b' ' || byte == b'\t' || byte == b'\r' || byte == b'\n'
 }
 
-pub(crate) fn is_run_byte(byte: u8) -> bool
+// 1 at each letter, digit and `_`
+#[rattlefmt::skip]
+static RUN_BYTES: [u8; 256] = [
+    0, 0, 0, 0, 0, 0, 0, 0, 0, 0, 0, 0, 0, 0, 0, 0,
+    0, 0, 0, 0, 0, 0, 0, 0, 0, 0, 0, 0, 0, 0, 0, 0,
+    0, 0, 0, 0, 0, 0, 0, 0, 0, 0, 0, 0, 0, 0, 0, 0,
+    1, 1, 1, 1, 1, 1, 1, 1, 1, 1, 0, 0, 0, 0, 0, 0,
+    0, 1, 1, 1, 1, 1, 1, 1, 1, 1, 1, 1, 1, 1, 1, 1,
+    1, 1, 1, 1, 1, 1, 1, 1, 1, 1, 1, 0, 0, 0, 0, 1,
+    0, 1, 1, 1, 1, 1, 1, 1, 1, 1, 1, 1, 1, 1, 1, 1,
+    1, 1, 1, 1, 1, 1, 1, 1, 1, 1, 1, 0, 0, 0, 0, 0,
+    0, 0, 0, 0, 0, 0, 0, 0, 0, 0, 0, 0, 0, 0, 0, 0,
+    0, 0, 0, 0, 0, 0, 0, 0, 0, 0, 0, 0, 0, 0, 0, 0,
+    0, 0, 0, 0, 0, 0, 0, 0, 0, 0, 0, 0, 0, 0, 0, 0,
+    0, 0, 0, 0, 0, 0, 0, 0, 0, 0, 0, 0, 0, 0, 0, 0,
+    0, 0, 0, 0, 0, 0, 0, 0, 0, 0, 0, 0, 0, 0, 0, 0,
+    0, 0, 0, 0, 0, 0, 0, 0, 0, 0, 0, 0, 0, 0, 0, 0,
+    0, 0, 0, 0, 0, 0, 0, 0, 0, 0, 0, 0, 0, 0, 0, 0,
+    0, 0, 0, 0, 0, 0, 0, 0, 0, 0, 0, 0, 0, 0, 0, 0,
+];
+
+fn is_run_byte(byte: u8) -> bool
     ensures { result ≡ is_run_byte byte }
 {
-    byte.is_ascii_alphanumeric() || byte == b'_'
+    RUN_BYTES[usize::from(byte)] == 1
 }

@@ -3,25 +3,11 @@ ghost use Rattle.std.specs.Prelude.{◌≡◌, ◌≤◌, true};
 ghost use Rattle.std.specs.Option.{SomeIff};
 ghost use Rattle.std.specs.List.{list_all};
 ghost use Rattle.std.specs.Char.{is_ascii_digit};
-ghost use Rattle.program_text.specs.Words.{is_sign, is_run, begins_with_digit, is_word, is_number};
+ghost use Rattle.program_text.specs.Words.{is_sign, is_run, begins_with_digit, is_number};
 ghost use Rattle.program_text.specs.Words.{value_of};
 ghost use Rattle.program_text.specs.declared.limits.TheConstants.{LARGEST_READABLE};
-ghost use Rattle.program_text.specs.Tokens.{is_run_byte};
 
-use crate::scanner::{Token, is_run_byte};
-
-/// A run: run bytes, one at least.
-pub fn is_run(text: &[u8]) -> bool
-    ensures { result ≡ is_run text.now }
-{
-    !text.is_empty() && are_run_bytes(text)
-}
-
-fn are_run_bytes(text: &[u8]) -> bool
-    ensures { result ≡ list_all is_run_byte text.now }
-{
-    text.iter().all(|byte| is_run_byte(*byte))
-}
+use crate::scanner::Token;
 
 /// Whether the first byte is a digit.
 pub fn begins_with_digit(text: &[u8]) -> bool
@@ -31,13 +17,6 @@ pub fn begins_with_digit(text: &[u8]) -> bool
         [] => false,
         [first, ..] => first.is_ascii_digit(),
     }
-}
-
-/// A word: a run that does not begin with a digit.
-pub fn is_word(text: &[u8]) -> bool
-    ensures { result ≡ is_word text.now }
-{
-    is_run(text) && !begins_with_digit(text)
 }
 
 /// A number: digits, one at least.
@@ -82,8 +61,6 @@ pub fn text_of(run: &[u8]) -> &str
     requires { is_run run.now ≡ true }
     ensures { result.now ≡ run.now }
 {
-    match std::str::from_utf8(run) {
-        Ok(text) => text,
-        Err(_) => unreachable!(),
-    }
+    // A run is ASCII, which is proved here.
+    unsafe { std::str::from_utf8_unchecked(run) }
 }

@@ -6,18 +6,18 @@ ghost use Rattle.task_program.specs.Faults.{form_fault};
 use program_text::fault::ReadKind;
 use program_text::limits::{MOST_TOKEN_BYTES, MOST_WORD_BYTES};
 use program_text::scanner::Token;
-use program_text::words::{begins_with_digit, is_number, is_run, is_sign, is_word};
+use program_text::words::{begins_with_digit, is_sign};
 
 /// What is wrong with a token by itself, after so many bytes of tokens.
 pub(crate) fn form_fault(bytes: usize, token: Token<'_>) -> Option<ReadKind>
     requires { bytes ≤ MOST_TOKEN_BYTES }
     ensures { result ≡ form_fault bytes token.entry.text.now }
 {
-    if !(is_run(token.text) || is_sign(token)) {
+    if !(token.is_run() || is_sign(token)) {
         Some(ReadKind::BadByte)
-    } else if begins_with_digit(token.text) && !is_number(token.text) {
+    } else if begins_with_digit(token.text) && !token.is_number() {
         Some(ReadKind::BadNumber)
-    } else if token.text.len() > MOST_WORD_BYTES && is_word(token.text) {
+    } else if token.text.len() > MOST_WORD_BYTES && token.is_word() {
         Some(ReadKind::BadWord)
     } else if token.text.len() > MOST_TOKEN_BYTES - bytes {
         Some(ReadKind::TooLong)
