@@ -156,7 +156,8 @@ def scaling():
     print("%-14s %-20s %9s %9s %6s %9s %9s %6s" % head)
     asked = [(name, ["curve", "--upto", "1024"]) for name in ("waits", "chain", "fan")]
     items = ("shared_items", "own_items", "readers", "mixed_items", "fan_of_items")
-    asked += [(name, ["check"]) for name in ("waits", "tokens", *items)]
+    limits = ("all_limits", "all_limits_cut", "largest")
+    asked += [(name, ["check"]) for name in ("waits", "tokens", *limits, *items)]
     for name, words in asked:
         path = FOLDER / "texts" / (name + ".tasks")
         path = certificate_of(path) if words[0] == "check" else path

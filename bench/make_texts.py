@@ -18,6 +18,16 @@ HEADER = "omptasks 1\n"
 WORKED = "work 5 task { work 3 } work 2 taskwait work 1\n"
 
 
+def filled(body):
+    """A text of this body and of work, with as many bytes of tokens as there may be."""
+    spent = len("".join((HEADER + body).split()))
+    return HEADER + body + "work 1234567\n" * ((TOKEN_BYTES - spent) // 11)
+
+
+def mixed_task(n):
+    return "task depend(in: a) depend(out: %s) { work 1 }\n" % ", ".join("n%x" % (31 * n + i) for i in range(31))
+
+
 def gaps():
     """4 MiB, of which all but a small program is blanks and comments."""
     comment = "# a comment that fills the text\n" + " " * 31 + "\n"
@@ -56,9 +66,7 @@ def largest():
     """As many tasks, segments and bytes of tokens as there may be together."""
     waits_left = SEGMENTS - 1 - 2 * TASKS
     body = "task depend(in: a, b) depend(out: c) { work 3 }\ntaskwait\n" * TASKS
-    body += "taskwait\n" * (waits_left - TASKS)
-    spent = len("".join((HEADER + body).split()))
-    return HEADER + body + "work 1234567\n" * ((TOKEN_BYTES - spent) // 11)
+    return filled(body + "taskwait\n" * (waits_left - TASKS))
 
 
 def deep():
@@ -85,10 +93,7 @@ def readers():
 
 def mixed_items():
     """Siblings with 32 items each: one name that all read, and 31 that no other has."""
-    def task(n):
-        return "task depend(in: a) depend(out: %s) { work 1 }\n" % ", ".join("n%x" % (31 * n + i) for i in range(31))
-
-    return HEADER + "".join(task(n) for n in range(TASKS - 1))
+    return HEADER + "".join(mixed_task(n) for n in range(TASKS - 1))
 
 
 def fan_of_items():
@@ -96,6 +101,18 @@ def fan_of_items():
     names = ", ".join("n%d" % n for n in range(32))
     each = "task depend(%s: %s) { work 1 }\n"
     return HEADER + each % ("inoutset", names) * (TASKS // 2 - 1) + each % ("in", names) * (TASKS // 2)
+
+
+def all_limits():
+    """As many tasks, items, segments and bytes of tokens as there may be together: the siblings of mixed_items, which
+    are free to run at once, and then waits."""
+    tasks = "".join(mixed_task(n) for n in range(TASKS - 1))
+    return filled(tasks + "taskwait\n" * (SEGMENTS - 1 - 2 * (TASKS - 1)))
+
+
+def all_limits_cut():
+    """The same siblings with two waits behind each, so that each is complete before the next begins."""
+    return filled("".join(mixed_task(n) + "taskwait\ntaskwait\n" for n in range(TASKS - 1)))
 
 
 def uneven():
@@ -123,8 +140,8 @@ def loops_written():
 
 
 TEXTS = (
-    gaps, tokens, shared_items, own_items, readers, mixed_items, fan_of_items, waits, largest, deep, fan, chain, uneven,
-    loops, loops_written,
+    gaps, tokens, shared_items, own_items, readers, mixed_items, fan_of_items, all_limits, all_limits_cut, waits,
+    largest, deep, fan, chain, uneven, loops, loops_written,
 )
 
 

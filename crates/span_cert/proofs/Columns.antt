@@ -69,9 +69,9 @@ of_two pairs n one two true lesser greater first is = (
     | inl same ↦ let e : two ≡ pair = cc in
         let P : ℕ × ℕ → Type 0 = λ p. two.1 ≤ p.1 in
         subst P e (omega arith)
-    | inr other ↦ let h = first.1 k pair (omega (arith, other)) at in
+    | inr other ↦ let first_to = first.1 k pair (omega (arith, other)) at in
         let less = lesser refl in
-        omega (arith, h, less)
+        omega (arith, first_to, less)
   ],
 )
 of_two pairs n one two false lesser greater first is = (
@@ -93,7 +93,7 @@ get_column columns c within = slice_get-get_or columns c None within
 
 -- each segment stands in a column
 pub column_of : (t : ℕ) → InColumn (t % 64) t
-column_of t = (t / 64, let e = mod-add-div' t 64 in omega (arith, e))
+column_of t = (t / 64, let divided = mod-add-div' t 64 in omega (arith, divided))
 
 -- the pair that a column answers where one of its segments is broken
 earlier_in_column : (table : Table) (starts : List ℕ) (column s t : ℕ) (answer : Option (ℕ × ℕ))

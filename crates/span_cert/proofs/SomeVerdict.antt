@@ -149,7 +149,7 @@ kept_or_broken table starts sound =
     elim (find_first (λ t. (s : ℕ) × (s < n) × B t s) n (λ t. decide_below (B t) n (decided t))) [
       | inl none ↦ inl (λ s t b. none t b.is_segment (s, known s t b, b))
       | inr to ↦ elim (find_first (B to.0) n (decided to.0)) [
-        | inl nor ↦ let h = to.1.holds in absurd (nor h.0 h.1 h.2)
+        | inl nor ↦ let holds = to.1.holds in absurd (nor holds.0 holds.1 holds.2)
         | inr from ↦ inr (
           from.0,
           to.0,

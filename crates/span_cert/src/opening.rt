@@ -1,0 +1,72 @@
+//! What a segment can have to wait for, as far as it tells by itself.
+ghost use Rattle.std.specs.Prelude.{◌≡◌, ◌<◌, ◌↔◌, ◌⊎◌, IsTrue};
+ghost use Rattle.task_segments.specs.Nesting.{IsNestedTable};
+ghost use Rattle.task_segments.specs.Precedence.{IsSegment, MustPrecede};
+ghost use Rattle.span_cert.specs.Marks.{AreMarkedFor, IsCut, IsOpening};
+
+use crate::names::NameMarks;
+use task_segments::laws::nests;
+use task_segments::table::{Closing, SegTable};
+
+/// Where a segment opens.
+#[derive(Clone, Copy, Debug, PartialEq, Eq)]
+pub enum Opening {
+    /// With its task: it can wait for its creator and for siblings of its task that conflict.
+    First,
+    /// Where its task goes on after it created another: it can wait for a segment of its task and
+    /// for the one before it.
+    AfterChild,
+    /// After a `taskwait` or the end of a `taskgroup`: it can wait for any.
+    AfterCut,
+}
+
+/// Where a segment opens; where that is with its task, the task's items are marked.
+pub(crate) fn opening_of(table: &SegTable, marks: &mut NameMarks, t: u32) -> Opening
+    requires { IsSegment table.now t }
+    ensures opening { IsOpening table.now t result }
+    ensures marks { AreMarkedFor table.now marks.new t result }
+{
+    nests(table);
+    let task = table.task_of(t);
+    if table.first(task) == t {
+        marks.put(t, table.items(task));
+        return Opening::First;
+    }
+    if t > 0 && is_cut(table.closing(t - 1)) {
+        Opening::AfterCut
+    } else {
+        Opening::AfterChild
+    }
+}
+
+/// Whether a segment ends at a `taskwait` or at the end of a `taskgroup`.
+fn is_cut(closing: Closing) -> bool
+    ensures { IsTrue result ↔ IsCut closing }
+{
+    closing == Closing::Waits || closing == Closing::EndsGroup
+}
+
+/// Whether t may have to wait for s. Of a pair for which it is false, t does not.
+pub(crate) fn may_wait(
+    table: &SegTable,
+    marks: &NameMarks,
+    opening: Opening,
+    s: u32,
+    t: u32,
+) -> bool
+    requires from { IsSegment table.now s }
+    requires to { IsSegment table.now t }
+    requires before { s < t }
+    requires opening { IsOpening table.now t opening }
+    requires marks { AreMarkedFor table.now marks.now t opening }
+    ensures { MustPrecede table.now s t → IsTrue result }
+{
+    nests(table);
+    let task = table.task_of(t);
+    let other = table.task_of(s);
+    match opening {
+        Opening::First => table.creator(task) == Some(s) || marks.meet(t, table.items(other)),
+        Opening::AfterChild => t - s == 1 || other == task,
+        Opening::AfterCut => true,
+    }
+}
