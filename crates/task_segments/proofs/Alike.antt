@@ -42,7 +42,7 @@ alike_itself table = record {
   must_precede = λ s t l m. (λ r. r, λ r. r);
 }
 
--- and the other way round
+-- where one table answers as another does, so does the other as the one
 alike_back : (a b : Table) → AnswerAlike a b → AnswerAlike b a
 alike_back a b x =
     let segment_of : (s : ℕ) → IsSegment b s → IsSegment a s = λ s l. omega (arith, x.len) in

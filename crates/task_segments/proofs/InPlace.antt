@@ -87,7 +87,7 @@ last_followed table h u t i next =
     (record { is_segment = next.is_to; of_task = next.same_task ∙ (h.segments u i).of_last }) in
     omega arith
 
--- a segment is followed, where it does not end its task
+-- a segment is followed by one of its task, or ends its task
 pub followed_or_last : (table : Table) → IsNestedTable table → (s : ℕ) → IsSegment table s
     → ((t : ℕ) × Continues table s t) ⊎ ((segment table s).closing ≡ EndsTask)
 followed_or_last table h s i = by_closing (segment table s).closing refl
@@ -99,7 +99,7 @@ followed_or_last table h s i = by_closing (segment table s).closing refl
     by_closing EndsGroup e = inl (s + 1, h.after_group s i e)
     by_closing EndsTask e = inr e
 
--- and it ends its task
+-- the last segment of a task ends it
 pub last_ends : (table : Table) → IsNestedTable table → (u : ℕ) → IsTask table u
     → (segment table (task table u).last).closing ≡ EndsTask
 last_ends table h u i =
@@ -108,7 +108,7 @@ last_ends table h u i =
       | inr ends ↦ ends
     ]
 
--- a segment is the first of one task
+-- a segment is the first of at most one task
 pub first_of_one : (table : Table)
     → IsNestedTable table
     → (u v : ℕ)
@@ -121,7 +121,7 @@ first_of_one table h u v i j same =
     ∙ ap (λ (s : ℕ). (segment table s).task) same
     ∙ (first_of table h v j).of_task
 
--- and the last of one
+-- and the last of at most one
 pub last_of_one : (table : Table)
     → IsNestedTable table
     → (u v : ℕ)
@@ -134,7 +134,7 @@ last_of_one table h u v i j same =
     ∙ ap (λ (s : ℕ). (segment table s).task) same
     ∙ (is_last table h v j).of_task
 
--- a segment follows one
+-- a segment follows at most one of its task
 pub follows_one : (table : Table) → IsNestedTable table → (a b t : ℕ) → Continues table a t
     → Continues table b t
     → a ≡ b
@@ -270,7 +270,7 @@ creation_once table h a b t x y =
     let same = first_of_one table h x.child y.child x.is_child y.is_child (x.first ∙ sym y.first) in
     same_Some _ _ (sym x.creator ∙ ap (λ (u : ℕ). (task table u).creator) same ∙ y.creator)
 
--- a segment opens at the end of one
+-- a segment opens at the end of at most one
 pub opens_once : (table : Table) → IsNestedTable table → (a b t : ℕ) → Opens table a t
     → Opens table b t → a ≡ b
 opens_once table h a b t (inl x) (inl y) = follows_one table h a b t x y
@@ -353,7 +353,7 @@ ended_before table h child before generated next =
           (generated.is_creator ∙ ap Some same_creator) next)
     ]
 
--- so has one generated before t, where t is the next number
+-- the same of a t that follows, where the next number follows: so t is that number
 next_ended : (table : Table)
     → IsNestedTable table
     → (child before t : ℕ)
