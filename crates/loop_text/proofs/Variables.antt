@@ -88,6 +88,7 @@ passed_block blocks block d text more total some_block is no_loop h =
     ∙ no_variable block.opening around no_loop in
     ap (λ (vs : List (List ℕ)). number_further_out more (variable_number vs text)) (sym same) ∙ h
 
+-- the innermost open block is a loop, and its variable is the innermost one
 loop_is : (blocks : List LoopBlock) (block d : LoopBlock) (variable : List ℕ)
     (from to line brace_line : ℕ)
     → 1 ≤ length blocks

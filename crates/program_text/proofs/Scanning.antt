@@ -166,6 +166,7 @@ run_has_no_feed (b ∷ bytes) =
     rw (one_more b bytes run, feed_free b (run_is_no_gap b run), run_has_no_feed bytes) refl)
     (λ other. rw other refl)
 
+-- at a token, the scanner takes that token and leaves the rest
 pub takes_token : (line : ℕ) (bytes : List ℕ) → 0 < length bytes → StandsAtToken bytes
     → TakesToken line bytes
 takes_token line [] some stands = absurd (omega arith)
@@ -220,10 +221,10 @@ first_is_run (b ∷ bytes) some =
     bool_cases (is_run_byte b)
     (λ run. let long : token_length (b ∷ bytes) ≡ suc (prefix_len is_run_byte bytes) =
     omega (arith, one_more b bytes run) in
-    let n = prefix_len is_run_byte bytes in
-    let size : length (take (suc n) (b ∷ bytes)) ≡ suc (length (take n bytes)) = refl in
-    let full : eqb (length (take (suc n) (b ∷ bytes))) 0 ≡ false =
-    ne_eqb (length (take (suc n) (b ∷ bytes))) 0 (λ none. omega (arith, size, none)) in
+    let further = prefix_len is_run_byte bytes in
+    let size : length (take (suc further) (b ∷ bytes)) ≡ suc (length (take further bytes)) = refl in
+    let full : eqb (length (take (suc further) (b ∷ bytes))) 0 ≡ false =
+    ne_eqb (length (take (suc further) (b ∷ bytes))) 0 (λ none. omega (arith, size, none)) in
     let one : ltb 0 (prefix_len is_run_byte (b ∷ bytes)) ≡ true =
     lt-ltb 0 (prefix_len is_run_byte (b ∷ bytes)) (omega (arith, one_more b bytes run)) in
     rw (one, long, full, run, run_bytes_alone bytes) refl)

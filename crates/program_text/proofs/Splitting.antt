@@ -59,6 +59,7 @@ parts_at document n start line is =
     ∙ ap (λ rest. text_of_lines (take n lines) ++ join_with_byte 10 rest)
     (here ∙ ap (λ (first : List ℕ). first ∷ drop (n + 1) lines) (sym is.is_line))
 
+-- a line lies within its document
 pub line_within : (document : List ℕ) (n start : ℕ) (line : List ℕ)
     → IsLine document n start line
     → start + length line ≤ length document
@@ -131,8 +132,8 @@ rest_from document after place is =
           drop_of_length-le document (omega arith) ∙ sym (drop_of_length-le document past)
     ]
 
--- one line more that is no mark
-pub still_unmarked : (document : List ℕ) (n m : ℕ) (line : List ℕ)
+-- one line more that is no divider
+pub still_undivided : (document : List ℕ) (n m : ℕ) (line : List ℕ)
     → m ≡ n + 1
     → line ≡ get_or (lines_of document) n []
     → ((k : ℕ) → k < n → is_divider (get_or (lines_of document) k []) ≡ false)
@@ -140,25 +141,25 @@ pub still_unmarked : (document : List ℕ) (n m : ℕ) (line : List ℕ)
     → (k : ℕ)
     → k < m
     → is_divider (get_or (lines_of document) k []) ≡ false
-still_unmarked document n m line next is none not_mark =
+still_undivided document n m line next is none no_divider =
     let P : ℕ → Type 0 = λ j.
     (k : ℕ) → k < j → is_divider (get_or (lines_of document) k []) ≡ false in
-    subst P (sym next) (below_more _ _ none (ap is_divider (sym is) ∙ not_mark))
+    subst P (sym next) (below_more _ _ none (ap is_divider (sym is) ∙ no_divider))
 
--- a mark behind lines that are none
+-- a divider behind lines that are none
 pub finds_divider : (document : List ℕ) (n : ℕ) (line : List ℕ)
     → n < length (lines_of document)
     → line ≡ get_or (lines_of document) n []
     → ((k : ℕ) → k < n → is_divider (get_or (lines_of document) k []) ≡ false)
     → is_divider line ≡ true
     → (lines_before (lines_of document) ≡ n) × (has_divider document ≡ true)
-finds_divider document n line there is none mark =
+finds_divider document n line there is none divider =
     let first : lines_before (lines_of document) ≡ n =
     position_or_len_is is_divider (lines_of document) n [] (omega arith) none
-    (λ _. ap is_divider (sym is) ∙ mark) in
+    (λ _. ap is_divider (sym is) ∙ divider) in
     (first, lt-ltb (lines_before (lines_of document)) (length (lines_of document)) (omega arith))
 
--- no mark at all
+-- no divider at all
 pub has_no_divider : (document : List ℕ) (n : ℕ)
     → n ≡ length (lines_of document)
     → ((k : ℕ) → k < n → is_divider (get_or (lines_of document) k []) ≡ false)

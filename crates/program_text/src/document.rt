@@ -14,9 +14,9 @@ pub struct Document<'a> {
     pub rest: Option<&'a [u8]>,
 }
 
-/// Splits a document at its first line that is `---`; one CR may follow the hyphens. A line ends
-/// before an LF, or where the document ends. The mark belongs to neither part, and the program text
-/// keeps the LF of its last line.
+/// Splits a document at its divider: the first line that is `---`, which one CR may follow. A line
+/// ends before an LF, or where the document ends. The divider belongs to neither part, and the
+/// program text keeps the LF of its last line.
 pub fn split_document(document: &[u8]) -> Document<'_>
     ensures program { result.program.now ≡ program_part document.now }
     ensures rest { option_copied result.rest ≡ rest_part document.now }
@@ -24,7 +24,7 @@ pub fn split_document(document: &[u8]) -> Document<'_>
     let mut start = 0;
     for line in document.split(|byte| is_line_feed(*byte)) {
         let after = start + line.len() + 1;
-        if is_mark(line) {
+        if is_divider(line) {
             return Document {
                 program: &document[..start],
                 rest: Some(&document[after.min(document.len())..]),
@@ -44,7 +44,7 @@ fn is_line_feed(byte: u8) -> bool
     byte == b'\n'
 }
 
-fn is_mark(line: &[u8]) -> bool
+fn is_divider(line: &[u8]) -> bool
     ensures { result ≡ is_divider line.now }
 {
     line == b"---".as_slice() || line == b"---\r".as_slice()

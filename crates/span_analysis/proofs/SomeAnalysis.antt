@@ -112,6 +112,7 @@ is_smallest P n s first = record {
       (cases_lt other s) [ inl less ↦ absurd (first.none_before other less h) | inr more ↦ more ];
 }
 
+-- among the segments that end last there is a smallest
 some_last : (graph : RecordedGraph) (starts : List ℕ)
     → IsGraph graph
     → length starts ≡ length graph.costs
@@ -173,6 +174,7 @@ leads_from graph starts is earliest last (suc bound) member chain below from =
 
 -- ---- the analysis
 
+-- every graph has an analysis
 pub some_analysis : (graph : RecordedGraph)
     → IsGraph graph
     → (found : Findings) × IsAnalysis graph found

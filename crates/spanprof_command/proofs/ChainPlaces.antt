@@ -44,6 +44,7 @@ stands_in_chain chain s place within at =
     list_any_at (λ member. eqb member s) chain place 0 within here in
     rw some refl
 
+-- a segment that is not at its place in an ascending chain is not on it
 pub stands_not : (chain : List ℕ) (s place : ℕ)
     → IsStrictlyIncreasing chain
     → IsPlace chain s place

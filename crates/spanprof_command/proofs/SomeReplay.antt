@@ -24,7 +24,7 @@ use Rattle.spanprof_command.specs.Events.{Spells, word_says}
 use Rattle.spanprof_command.specs.EventSteps.{Progress, begin, step}
 use Rattle.spanprof_command.specs.Replaying.{Recounts, Replays, Row, SaysOfEvents, bad_form}
 use Rattle.spanprof_command.specs.Replaying.{event_refusal, row_line, segments_of_rows}
-use Rattle.spanprof_command.specs.Report.{Output, number_line}
+use Rattle.spanprof_command.specs.Report.{Report, number_line}
 use Rattle.spanprof_command.specs.declared.events.Expected.{Expected}
 use Rattle.spanprof_command.specs.declared.events.Expected.TheVariants as expected
 use Rattle.spanprof_command.specs.declared.report.Status.TheVariants.{Done}
@@ -59,6 +59,7 @@ events_of text (Some p) is = elim (decide_at_event p.next) [
 
 -- ---- the record
 
+-- a segment is open or it is not
 decide_open : (table : Table) (history : List Event) (s : ℕ)
     → IsSoundTable table
     → IsDecided (IsOpen table history s)
@@ -83,6 +84,7 @@ record AreRowsOf (table : Table) (segments : List ℕ) (rows : List Row) : Type 
   are : segments_of_rows rows ≡ segments
   kept : (row : Row) → Contains rows row → Lists (λ p. IsKeptEdge table p row.segment) row.preds
 
+-- any segments have their rows
 some_rows : (table : Table) (segments : List ℕ) → IsSoundTable table
     → (rows : List Row) × AreRowsOf table segments rows
 some_rows table [] sound =
@@ -111,17 +113,20 @@ some_rows table (s ∷ segments) sound =
     kept_first table first rows here later row (suc k, within, is) =
         later row (k, omega (arith, within), is)
 
+-- every legal run can be recounted
 some_recount : (table : Table) (events : List Event) → IsSoundTable table → IsLegalRun table events
-    → (output : Output) × Recounts table events output
+    → (output : Report) × Recounts table events output
 some_recount table events sound legal =
-    let n : ℕ = length table.segments in
+    let count : ℕ = length table.segments in
     let F : ℕ → Type 0 = λ s. IsSegment table s × HasFinished events s in
     let O : ℕ → Type 0 = λ s. IsSegment table s × IsOpen table events s in
     let finished : (list : List ℕ) × Lists F list =
-    some_list F n (λ s. decide_both (IsSegment table s) (HasFinished events s) (decide_less s n)
+    some_list F count (λ s. decide_both (IsSegment table s) (HasFinished events s) (decide_less s
+    count)
     (decide_finished events s)) (λ s h. h.0) in
     let opened : (list : List ℕ) × Lists O list =
-    some_list O n (λ s. decide_both (IsSegment table s) (IsOpen table events s) (decide_less s n)
+    some_list O count (λ s. decide_both (IsSegment table s) (IsOpen table events s) (decide_less s
+    count)
     (decide_open table events s sound)) (λ s h. h.0) in
     let rows : (rows : List Row) × AreRowsOf table opened.0 rows =
     some_rows table opened.0 sound in (
@@ -144,11 +149,12 @@ some_recount table events sound legal =
       },
     )
 
+-- events that are well formed can be replayed or are refused
 some_replay : (table : Table) (events : List Event) → IsSoundTable table
-    → (output : Output) × Replays table events output
+    → (output : Report) × Replays table events output
 some_replay table events sound = elim (legal_or_refused table events sound) [
   | inl legal ↦
-      let told : (output : Output) × Recounts table events output =
+      let told : (output : Report) × Recounts table events output =
       some_recount table events sound legal in
       (told.0, inl told.1)
   | inr refused ↦ (
@@ -158,14 +164,15 @@ some_replay table events sound = elim (legal_or_refused table events sound) [
   )
 ]
 
+-- something is said of whatever stands behind a program
 pub some_said : (rest : Option (List ℕ)) (program : ProgramMarks) → IsWhole (table_of program.marks)
-    → (output : Output) × SaysOfEvents rest program output
+    → (output : Report) × SaysOfEvents rest program output
 some_said None program whole =
     (bad_form, inl (record { none = λ events h. none-some h.text h.is_text; says = refl }))
 some_said (Some text) program whole =
     elim (events_of text (all_steps (step_by word_says step) begin (words_of text)) refl) [
       | inl read ↦
-          let told : (output : Output) × Replays (table_of program.marks) read.0 output =
+          let told : (output : Report) × Replays (table_of program.marks) read.0 output =
           some_replay (table_of program.marks) read.0 whole.sound in (
             told.0,
             inr (record {

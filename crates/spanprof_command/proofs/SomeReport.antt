@@ -65,7 +65,7 @@ use Rattle.spanprof_command.specs.GreedyRuns.{Curves, GreedyRuns, IsThreadCount,
 use Rattle.spanprof_command.specs.GreedyRuns.{curve_row, greedy_header, greedy_row, thread_count}
 use Rattle.spanprof_command.specs.OnProgram.{OnProgram}
 use Rattle.spanprof_command.specs.OneReport.{HasReport}
-use Rattle.spanprof_command.specs.Report.{Output, input_too_long, program_refusal, wrong_words}
+use Rattle.spanprof_command.specs.Report.{Report, input_too_long, program_refusal, wrong_words}
 use Rattle.spanprof_command.specs.Reports.{Answers, AnswersWithin, ReportsBy, Shows, Spans}
 use Rattle.spanprof_command.specs.Slacks.{Slacks, slack_header, slack_row}
 use Rattle.spanprof_command.specs.Tables.{numbered_table}
@@ -76,28 +76,29 @@ use Rattle.spanprof_command.specs.declared.report.Status.TheVariants.{Done}
 use Rattle.command_io.specs.declared.input.TheConstants.{LARGEST_INPUT}
 
 -- of each program a command says something
-abbrev SaysSome : (ProgramMarks → Output → Type 0) → Type 0
+abbrev SaysSome : (ProgramMarks → Report → Type 0) → Type 0
 SaysSome Says =
     (program : ProgramMarks) → IsWhole (table_of program.marks)
-    → (output : Output) × Says program output
+    → (output : Report) × Says program output
 
-on_read : (Says : ProgramMarks → Output → Type 0) → SaysSome Says
+on_read : (Says : ProgramMarks → Report → Type 0) → SaysSome Says
     → (input : List ℕ) (read : Result ProgramMarks ReadFault) → program_of input ≡ read
-    → (output : Output) × OnProgram Says input output
+    → (output : Report) × OnProgram Says input output
 on_read Says some input (Ok program) is =
     let tree : HasTree input program = found_tree_of input program is in
-    let said : (output : Output) × Says program output =
+    let said : (output : Report) × Says program output =
     some program (whole_table program (tree_fits input program tree)) in
     (said.0, inl (record { program = program; tree = tree; says = said.1 }))
 on_read Says some input (Err fault) is =
     (program_refusal fault, inr (record { fault = fault; is_fault = is; says = refl }))
 
-on_program : (Says : ProgramMarks → Output → Type 0) → SaysSome Says → (input : List ℕ)
-    → (output : Output) × OnProgram Says input output
+on_program : (Says : ProgramMarks → Report → Type 0) → SaysSome Says → (input : List ℕ)
+    → (output : Report) × OnProgram Says input output
 on_program Says some input = on_read Says some input (program_of input) refl
 
 -- ---- span, show, slack and certify
 
+-- every program has an answer to `span`
 some_spans : SaysSome Spans
 some_spans program whole =
     let table : Table = table_of program.marks in
@@ -115,6 +116,7 @@ some_spans program whole =
 some_show : SaysSome Shows
 some_show program whole = (record { text = canonical_text program; status = Done }, refl)
 
+-- and to `slack`
 some_slacks : SaysSome Slacks
 some_slacks program whole =
     let table : Table = table_of program.marks in
@@ -132,6 +134,7 @@ some_slacks program whole =
       },
     )
 
+-- and to `certify`
 some_certificate : SaysSome Certifies
 some_certificate program whole =
     let analysed : IsAnalysed (table_of program.marks) =
@@ -147,8 +150,9 @@ some_certificate program whole =
 
 -- ---- check
 
+-- a document with a verdict has an answer to `check`
 told_verdict : (document : List ℕ) (verdict : Result Checked CheckFault) → is_verdict verdict ≡ true
-    → Judges document verdict → (output : Output) × AnswersCheck document output
+    → Judges document verdict → (output : Report) × AnswersCheck document output
 told_verdict document (Ok checked) is judges =
     (acceptance checked, inl (record { checked = checked; accepts = judges; says = refl }))
 told_verdict document (Err why) is judges =
@@ -163,18 +167,19 @@ told_verdict document (Err why) is judges =
           }),
     )
 
-some_check : (document : List ℕ) → (output : Output) × AnswersCheck document output
+some_check : (document : List ℕ) → (output : Report) × AnswersCheck document output
 some_check document =
     let verdict = some_verdict document in told_verdict document verdict.0 verdict.1 verdict.2
 
 -- ---- run
 
+-- a value for each segment
 all_values : (table : Table) (value_of : ℕ → ℕ → ℕ → ℕ) → IsSoundTable table
     → (values : List ℕ) × AreAllValues table value_of values
 all_values table value_of sound =
-    let n : ℕ = length table.segments in
-    let all : (values : List ℕ) × AreFirstValues table value_of n values =
-    first_values table value_of sound n
+    let count : ℕ = length table.segments in
+    let all : (values : List ℕ) × AreFirstValues table value_of count values =
+    first_values table value_of sound count
     (omega arith) in (
       all.0,
       record {
@@ -195,6 +200,7 @@ decide_workers workers =
     (decide_both (1 ≤ workers) (workers ≤ MOST_WORKERS) (decide_most 1 workers)
     (decide_most workers MOST_WORKERS))
 
+-- every program has an answer to a run on worker threads
 some_worker_run : (workers : ℕ) → SaysSome (WorkerRuns workers)
 some_worker_run workers program whole =
     let table : Table = table_of program.marks in
@@ -231,6 +237,7 @@ thread_count_or_not threads = elim (cases_lt threads 1) [
   ]
 ]
 
+-- and to a greedy run
 some_greedy : (count : ℕ) → SaysSome (GreedyRuns count)
 some_greedy count program whole =
     let table : Table = table_of program.marks in
@@ -270,6 +277,7 @@ some_end graph p is some =
     some_run graph p is some in
     (end_of graph.costs run.0, (run.0, run.1, run.2, refl))
 
+-- every graph has a curve
 some_ends : (graph : RecordedGraph) (upto : ℕ) → IsGraph graph
     → (ends : List ℕ) × IsCurve graph.costs (Precedes graph) upto ends
 some_ends graph zero is =
@@ -302,6 +310,7 @@ some_ends graph (suc n) is =
       },
     )
 
+-- every program has an answer to `curve`
 some_curve : (upto : ℕ) → SaysSome (Curves upto)
 some_curve upto program whole =
     let table : Table = table_of program.marks in
@@ -345,6 +354,7 @@ within_work false false true is = absurd cc
 within_work false true heavy is = absurd cc
 within_work true large heavy is = absurd cc
 
+-- a graph stays one with a cost that may be put in
 changed_graph : (graph : RecordedGraph) (s cost : ℕ)
     → IsGraph graph
     → refusal_of graph s cost ≡ None
@@ -393,12 +403,13 @@ some_span graph is =
           (IsAscending-graph graph is) starts.1 is.some,
     )
 
+-- changes that are not refused have spans before and after
 tries : (table : Table) (graph : RecordedGraph) (changes : List Change)
     (tried : Result RecordedGraph WhatFault)
     → IsWhole table
     → IsGraphOf table graph
     → after_changes graph changes ≡ tried
-    → (output : Output) × TriesChanges changes table output
+    → (output : Report) × TriesChanges changes table output
 tries table graph changes (Err why) whole of all = (
   change_refusal why,
   record {
@@ -416,7 +427,7 @@ tries table graph changes (Ok tried) whole of all =
     same_span (MustPrecede table) (IsKeptEdge table) whole.sound.goes_up.ascending
     whole.sound.chains.within
     (edge_reaches table whole.nested whole.grouped) in
-    let output : Output = spans_told (sum tried.costs) span.0 was.0 in (
+    let output : Report = spans_told (sum tried.costs) span.0 was.0 in (
       output,
       tells_trial table graph graph tried changes
           (sum tried.costs) span.0 was.0 of refl all spans span.1 was.1 refl output refl,
@@ -430,7 +441,7 @@ some_trial changes program whole =
 
 -- ---- each command
 
-some_answer : (asked : Request) (input : List ℕ) → (output : Output) × Answers asked input output
+some_answer : (asked : Request) (input : List ℕ) → (output : Report) × Answers asked input output
 some_answer Span input = on_program Spans some_spans input
 some_answer Show input = on_program Shows some_show input
 some_answer Replay input = on_program _ (some_said (rest_part input)) (program_part input)
@@ -443,16 +454,16 @@ some_answer (Curve upto) input = on_program (Curves upto) (some_curve upto) inpu
 some_answer (WhatIf changes) input = on_program (Trials changes) (some_trial changes) input
 
 some_within : (asked : Request) (input : List ℕ)
-    → (output : Output) × AnswersWithin asked input output
+    → (output : Report) × AnswersWithin asked input output
 some_within asked input = elim (cases_lt LARGEST_INPUT (length input)) [
   | inl longer ↦ (input_too_long, inl (record { longer = longer; says = refl }))
   | inr fits ↦
-      let answer : (output : Output) × Answers asked input output = some_answer asked input in
+      let answer : (output : Report) × Answers asked input output = some_answer asked input in
       (answer.0, inr (record { fits = fits; answers = answer.1 }))
 ]
 
 some_by : (asked : Option Request) (input : List ℕ)
-    → (output : Output) × ReportsBy asked input output
+    → (output : Report) × ReportsBy asked input output
 some_by None input = (wrong_words, refl)
 some_by (Some asked) input = some_within asked input
 

@@ -62,6 +62,7 @@ accepts_one_more place has_if depth text texts h later =
 
 -- ---- names and clauses
 
+-- the names of a `depend`, with its `)`, are accepted where what follows is
 names_accepted : (names : List (List ℕ)) (last : List ℕ) (kind : DependKind) (has_if : Bool)
     (depth : ℕ) (texts : List (List ℕ))
     → All IsWord names → IsWord last
@@ -80,6 +81,7 @@ names_accepted (name ∷ names) last kind has_if depth texts words last_word lat
     (All-head IsWord name names words)
     (accepts_one_more (DependMore kind) has_if depth (codes ",") rest refl others)
 
+-- a `depend` up to its `:` is accepted where its names are
 depend_accepted : (kind : DependKind) (has_if : Bool) (depth : ℕ) (texts : List (List ℕ))
     → accepts (shape_at (DependName kind) has_if depth) texts ≡ true
     → accepts (shape_at Clause has_if depth)
@@ -97,6 +99,7 @@ depend_accepted kind has_if depth texts later =
     (λ (k : DependKind). accepts (shape_at (DependColon k) has_if depth) (codes ":" ∷ texts) ≡ true)
     (sym (type_of_word kind)) colon)))
 
+-- clauses with one `if` at most are accepted up to the `{` of their task
 clauses_accepted : (clauses : List grammar.Clause) (has_if : Bool) (depth : ℕ)
     (texts : List (List ℕ))
     → All HasClauseForm clauses → cond has_if 1 0 + count_by is_if clauses ≤ 1
@@ -161,6 +164,7 @@ first_fits zero text no_end word =
 first_fits (suc depth) text no_end word =
     any_word (is_text text (codes "}")) (is_statement_word text) word
 
+-- a task is accepted up to its `{` where its body is
 task_accepted : (clauses : List grammar.Clause) (depth : ℕ) (texts : List (List ℕ))
     → HasForm (TaskWritten clauses)
     → accepts (shape_at Statement false (suc depth)) texts ≡ true
@@ -177,6 +181,7 @@ none_accepted : accepts (shape_at Statement false 0) [] ≡ true
 unfolding accepts
 none_accepted = refl
 
+-- pieces whose blocks nest are accepted to the end of the text
 pieces_accepted : (written : List Written) (depth : ℕ)
     → All HasForm written
     → EndBlocks written depth

@@ -43,6 +43,7 @@ LeadsSo state place text line =
     shape_of (after_at place (at state place) text line)
     ≡ lead_at place state.head.has_if (length state.tree.blocks) text
 
+-- the word of a statement leads where the table of places says
 statement_leads : (state : State) (text : List ℕ) (line : ℕ) → LeadsSo state Statement text line
 statement_leads state text line =
     bool_cases (is_text text (codes "work"))
@@ -72,6 +73,7 @@ more_leads state kind text line =
     (λ comma. rw comma refl)
     (λ no_comma. rw no_comma refl)
 
+-- every token leads where the table of places says
 place_leads : (place : Place) (state : State) (text : List ℕ) (line : ℕ)
     → LeadsSo state place text line
 place_leads Statement state text line = statement_leads state text line
@@ -208,6 +210,7 @@ fits_of state text header unopened allowed =
     (is_allowed state.place state.head.has_if text)
     header unopened (closes_same state.place state.tree.blocks text) allowed
 
+-- one token more: what was read is still the beginning of a text
 pub step_begins : (before : List (List ℕ)) (state next : State) (token : Token) → Began before state
     → step state token ≡ Ok next → Began (before ++ token.text ∷ []) next
 unfolding step

@@ -42,6 +42,7 @@ record Weighs (text : List ℕ) (tokens : List (List ℕ)) : Type 0 where
   solid_is : solid_bytes text ≡ sum_by length tokens
   half : length text ≤ 2 * solid_bytes text
 
+-- two texts that weigh what their tokens do weigh so together
 weighs_together : (one other : List ℕ) (some more : List (List ℕ))
     → Weighs one some
     → Weighs other more
@@ -137,6 +138,7 @@ joint_weighs kind next =
 items_close : Weighs (codes ")") (codes ")" ∷ [])
 items_close = record { solid_is = omega arith; half = omega arith }
 
+-- the rest of a `depend` weighs what its tokens do
 after_weighs : (names : List (List ℕ)) (kind : DependKind) (items : List Item)
     → All (IsLocated names) items
     → Weighs (items_after names kind items) (after_texts_by (spell false) names kind items)
@@ -170,6 +172,7 @@ front_apart DependInOutSet inside = refl
 nothing_weighs : Weighs [] []
 nothing_weighs = record { solid_is = omega arith; half = omega arith }
 
+-- the clauses of a task weigh what their tokens do
 depends_weigh : (names : List (List ℕ)) (items : List Item)
     → All (IsLocated names) items
     → Weighs (depend_clauses names items) (depend_texts_by (spell false) names items)
@@ -221,6 +224,7 @@ ends_weigh first middle last some more end h one two few =
       half = omega (arith, lengths, solids, few, middle_half);
     }
 
+-- the line of a mark weighs what its tokens do
 line_weighs : (names : List (List ℕ)) (mark : Mark)
     → HasLocations names mark
     → Weighs (line_of_mark names mark) (line_texts_by (spell false) names mark)

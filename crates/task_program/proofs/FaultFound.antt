@@ -83,6 +83,7 @@ nothing_after_one [] token h = refl
 nothing_after_one (first ∷ []) token h = refl
 nothing_after_one (first ∷ second ∷ before) token h = absurd (omega (arith, h))
 
+-- items stand in the head only where a task is being read
 items_go : (place : Place) (state : State) (text : List ℕ) (line : ℕ)
     → NoItems place state.head.items
     → NoItems (after_at place (at state place) text line).place
@@ -139,6 +140,7 @@ limits_so before state text c header allowed =
     ∙ header_limits state.place text here header
     ∙ sym (header_limitless state.place state text here))
 
+-- the tally of the tokens goes on as the state does
 tally_goes : (before : List Token) (state : State) (bytes : ℕ) (next : State) (token : Token)
     → Counts before state
     → is_allowed state.place state.head.has_if token.text ≡ true
@@ -200,6 +202,7 @@ token_right before state next token c h =
           no_limit;
     }
 
+-- the tally of what was read is still that of the state, one token later
 counts_more : (before : List Token) (state next : State) (token : Token) → Counts before state
     → step state token ≡ Ok next → Counts (before ++ token ∷ []) next
 unfolding step
@@ -333,6 +336,7 @@ right_not_wrong before text kind r (Misplaced _ _ _ form no_viable misplaced) = 
 right_not_wrong before text kind r (PastLimit _ _ _ form viable_so limit) =
     some_none kind _ limit r.within
 
+-- a token is misplaced in one way only
 misplaced_once : (before : List (List ℕ)) (text : List ℕ) (one other : ReadKind)
     → IsMisplaced before text one
     → IsMisplaced before text other
@@ -354,6 +358,7 @@ misplaced_once before text one other (Elsewhere _ _ long no_whole) (AfterWhole _
     absurd (no_whole s text_is)
 misplaced_once before text one other (Elsewhere _ _ long no_whole) (Elsewhere _ _ again none) = refl
 
+-- a token is wrong in one way only
 wrong_once : (before : List Token) (text : List ℕ) (one other : ReadKind) → IsWrong before text one
     → IsWrong before text other → one ≡ other
 wrong_once before text one other (ByItself _ _ _ form) (ByItself _ _ _ again) =
@@ -386,6 +391,7 @@ no_braces all line others short braces =
     ap (λ (ts : List Token). open_braces ts) (nothing_after all (omega (arith, short))) in
     absurd (let wrong : line ∷ others ≡ [] = sym braces ∙ none in cc)
 
+-- a text ends too early in one way only
 ends_once : (all : List Token) (end_line : ℕ) (one other : ReadFault) → EndsEarly all end_line one
     → EndsEarly all end_line other → one ≡ other
 ends_once all end_line one other (InHeader _ _ short) (InHeader _ _ again) = refl
@@ -412,6 +418,7 @@ ends_once all end_line one other (Inside _ _ long no_viable) (Inside _ _ again n
 
 -- ---- the end
 
+-- a text that ends where it may not ends too early, as the definition says
 end_by : (all : List Token) (place : Place) (has_if : Bool) (blocks : List Block) (end_line : ℕ)
     (fault : ReadFault)
     → LengthAt place (length all) → open_braces (drop 2 all) ≡ map line_of_block blocks
@@ -486,6 +493,7 @@ by_next_or_fault : {P : Type 0} (read : Result State ReadFault)
 by_next_or_fault (Ok next) later fault h on stops = on next refl h
 by_next_or_fault (Err other) later fault h on stops = stops cc
 
+-- the fault of the tokens that are left is the first fault of all of them
 fault_from : (tokens before : List Token) (state : State) (end_line : ℕ) (fault : ReadFault)
     → Counts before state
     → read_tokens tokens end_line state ≡ Err fault
@@ -506,6 +514,7 @@ fault_from (token ∷ tokens) before state end_line fault c h =
 abbrev Whole : List Token → Type 0
 Whole all = IsSentence (texts all) × AreRight all
 
+-- where the tokens that are left are read to the end, all of them are a text
 whole_from : (tokens before : List Token) (state : State) (end_line : ℕ) (program : ProgramMarks)
     → Counts before state
     → read_tokens tokens end_line state ≡ Ok program
@@ -522,6 +531,7 @@ whole_from (token ∷ tokens) before state end_line program c h =
     (whole_from tokens (before ++ token ∷ []) went.0 end_line program
     (counts_more before state went.0 token c went.1) went.2)
 
+-- before the first token nothing is counted
 at_start : Counts [] start
 at_start = record {
   began = record {
@@ -569,6 +579,7 @@ one_stops : (token : Token) (later : List Token) (line : ℕ) (state : State) (f
 unfolding read_tokens
 one_stops token later line state fault h = rw h refl
 
+-- tokens of which none is wrong are read
 right_read : (before : List Token) → AreRight before → ReadSo before
 right_read before
     Nothing = record { state = start; counts = at_start; goes_on = λ later line. refl }
@@ -590,6 +601,7 @@ right_read before (More others token rights right) =
 abbrev fault_of_program : ReadFault → Result ProgramMarks ReadFault
 fault_of_program fault = Err fault
 
+-- a wrong token behind right ones is where the reading stops, with its fault
 refused_at : (before later : List Token) (token : Token) (line : ℕ) (kind : ReadKind)
     → AreRight before
     → IsWrong before token.text kind
@@ -616,6 +628,7 @@ read_cases : {P : Type 0} (read : Result ProgramMarks ReadFault)
 read_cases (Ok program) on stops = on program refl
 read_cases (Err fault) on stops = stops fault refl
 
+-- a text of right tokens that ends too early is refused for that alone
 early_once : (all : List Token) (line : ℕ) (one other : ReadFault)
     → AreRight all
     → EndsEarly all line one
@@ -673,6 +686,7 @@ short_refused text fault fits so (TextTooLong _ long) = absurd (omega (arith, fi
 short_refused text fault fits so (OfTokens _ _ short first) =
     so ∙ refused_first (tokens_of text) (line_at_end 1 text) fault first
 
+-- a text of version 1 is read or has a first fault, and never both
 told_apart : (text : List ℕ)
     → begins_version_two (tokens_of text) ≡ false
     → nat_lt MOST_TEXT_BYTES (length text) ≡ false
@@ -700,6 +714,7 @@ long_refused : (text : List ℕ) (fault : ReadFault) → MOST_TEXT_BYTES < lengt
 long_refused text fault long so (TextTooLong _ again) = so
 long_refused text fault long so (OfTokens _ _ short first) = absurd (omega (arith, short, long))
 
+-- and so with a text of too many bytes
 long_apart : (text : List ℕ) → nat_lt MOST_TEXT_BYTES (length text) ≡ true → IsToldApart text
 long_apart text long =
     let longer = ltb-true MOST_TEXT_BYTES (length text) long in

@@ -17,6 +17,7 @@ use Rattle.task_program.proofs.Allowed.{below_piece, weighs}
 use Rattle.task_program.proofs.Keeping.{with_one, one_name_more}
 use Rattle.task_program.proofs.KeptNames.{take_pieces_first, at_end, not_first, is_fault}
 
+-- a piece with no fault keeps the names few
 few_piece : (state : ExpansionState) (piece : Piece)
     → fault_of state piece ≡ None
     → HasFewNames state

@@ -300,6 +300,7 @@ Goes state place text line before p =
     Passes (at state place) text → Explains before (at state place) p
     → Explained (before ++ text ∷ []) (after_at place (at state place) text line)
 
+-- the `(` of an `if`, behind what was read
 pub if_opens_goes : (state : State) (text : List ℕ) (line : ℕ) (before : List (List ℕ)) (p : Parts)
     → Goes state IfOpens text line before p
 if_opens_goes state text line before p passes e =
@@ -316,6 +317,7 @@ if_opens_goes state text line before p passes e =
       },
     )
 
+-- the cost of a `work`: the piece is whole, and stands for its mark
 pub work_goes : (state : State) (text : List ℕ) (line : ℕ) (before : List (List ℕ)) (p : Parts)
     → Goes state WorkNumber text line before p
 unfolding with_piece
@@ -386,6 +388,7 @@ abbrev pub names_after : Parts → List (DependKind × List ℕ) → List (List 
 names_after p items =
     fold with_name [] (flat_map names_of_piece p.written ++ map (λ named. named.1) items)
 
+-- the `)` of an `if`: the clause is whole
 pub if_closes_goes : (state : State) (text : List ℕ) (line : ℕ) (before : List (List ℕ)) (p : Parts)
     → Goes state IfCloses text line before p
 unfolding with_clause
@@ -452,6 +455,7 @@ name_goes state kind text line before p passes e =
       },
     )
 
+-- a comma: the name before it is one of several
 comma_goes : (state : State) (kind : DependKind) (text : List ℕ) (before : List (List ℕ))
     (p : Parts)
     → text ≡ codes ","
@@ -478,6 +482,7 @@ comma_goes state kind text before p text_is e =
       },
     )
 
+-- the `)` of a `depend`: the clause is whole, and its names are items
 depend_done_goes : (state : State) (kind : DependKind) (text : List ℕ) (before : List (List ℕ))
     (p : Parts)
     → text ≡ codes ")"
@@ -563,6 +568,7 @@ piece_goes state before p piece mark blocks part text word so text_is part_is ve
       },
     )
 
+-- the first word of a text
 pub header_goes : (state : State) (text : List ℕ) (line : ℕ) (before : List (List ℕ)) (p : Parts)
     → Goes state Header text line before p
 header_goes state text line before p passes e =
@@ -579,6 +585,7 @@ header_goes state text line before p passes e =
       },
     )
 
+-- the number of the version
 pub version_goes : (state : State) (text : List ℕ) (line : ℕ) (before : List (List ℕ)) (p : Parts)
     → Goes state Version text line before p
 version_goes state text line before p passes e =
@@ -596,6 +603,7 @@ version_goes state text line before p passes e =
       },
     )
 
+-- the `{` of a `taskgroup`: the piece is whole
 pub group_goes : (state : State) (text : List ℕ) (line : ℕ) (before : List (List ℕ)) (p : Parts)
     → Goes state GroupBrace text line before p
 group_goes state text line before p passes e =

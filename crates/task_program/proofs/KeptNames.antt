@@ -234,6 +234,7 @@ pub solid_bytes-append : (one other : List ℕ)
     → solid_bytes (one ++ other) ≡ solid_bytes one + solid_bytes other
 solid_bytes-append one other = sum_by-append _ one other
 
+-- one mark more adds the bytes of its line
 lines_more : (names : List (List ℕ)) (marks : List Mark) (mark : Mark)
     → solid_bytes (header_line Two ++ flat_map (line_of_mark names) (marks ++ mark ∷ []))
     ≡ solid_bytes (header_line Two ++ flat_map (line_of_mark names) marks)
@@ -279,6 +280,7 @@ pub record Adds (state : ExpansionState) (mark : Mark) (blocks : List Block) (it
       ≡ (state.bytes + solid_bytes (line_of_mark state.names mark)) + length blocks
   pub bytes_fit : bytes ≤ MOST_TOKEN_BYTES
 
+-- one mark more keeps the limits, where it fits in them
 pub adds : (state : ExpansionState) (mark : Mark) (blocks : List Block) (items : List Item)
     (bytes : ℕ)
     → IsKept state

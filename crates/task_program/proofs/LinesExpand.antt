@@ -54,6 +54,7 @@ one_more pieces piece all one =
     All-append HasIndexInRange pieces (piece ∷ []) all
     (All-cons HasIndexInRange piece [] one (All-nil HasIndexInRange))
 
+-- trees of marks have no loops, so each index is in range
 pub in_range : (names : List (List ℕ)) (in_final : Bool) (marks : List Mark) (tree : loops.Tree)
     → Stands names marks tree
     → All HasIndexInRange (expansion [] in_final tree)
@@ -110,6 +111,7 @@ record AfterItems (whole : List (List ℕ)) (state next : ExpansionState) (items
   next_is : next ≡ with_items state (map (name_of whole) items) items
   below : All (IsNamed (length (fold with_name state.names (map (name_of whole) items)))) items
 
+-- the items of a task expand to themselves, and name what they named
 items_expand : (whole : List (List ℕ))
     → AreOnce whole
     → (items : List Item) (loop_items : List LoopItem)
@@ -259,6 +261,7 @@ end_printed whole done turns bytes names items marks (GroupBlock line) blocks p 
       blocks_are = refl;
     }
 
+-- a `}` expands to the mark that ends the block
 block_ends : (whole : List (List ℕ)) (done : List Mark) (block : Block) (blocks : List Block)
     (turns bytes : ℕ) (names : List (List ℕ)) (items : List Item) (marks : List Mark)
     (opened_now : List Block)
@@ -317,6 +320,7 @@ names_left whole done later state p whole_is =
     ∙ ap (λ (ns : List (List ℕ)). fold with_name ns (flat_map (names_of_mark whole) later))
     (sym p.names_are)
 
+-- a task up to its `{` expands to the mark that begins it
 task_opens : (whole : List (List ℕ))
     → AreOnce whole
     → (done later : List Mark) (task : LoopTask) (items : List Item) (state : ExpansionState)

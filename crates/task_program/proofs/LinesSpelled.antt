@@ -71,6 +71,7 @@ closed_clause kind before inside a b c d e head items clauses all =
     (record { text = codes ":"; line = d }) (record { text = codes ")"; line = e })
     head items clauses refl refl (is_type_word kind) refl all refl
 
+-- the rest of the items of a task is spelled as the grammar with loops has it
 items_spelled : (names : List (List ℕ)) (kind : DependKind) (items : List Item)
     (before inside : List Token) (a b c d : ℕ) (head : LoopHead) (first : List LoopItem)
     (lines : ℕ → ℕ)
@@ -249,6 +250,7 @@ depends_spelled names (item ∷ items) before head lines clauses not_final none 
 zero_is : (value_of (codes "0") ≤ 1)
 zero_is = omega arith
 
+-- the clauses of a task are spelled so
 clauses_spelled : (names : List (List ℕ)) (undeferred : Bool) (items : List Item) (lines : ℕ → ℕ)
     → All (IsLocated names) items
     → IsHead names undeferred items
@@ -282,6 +284,7 @@ record IsOpening (names : List (List ℕ)) (undeferred : Bool) (items : List Ite
   not_final : task.is_final ≡ false
   stand : AllZip (IsItemOf names) items task.items
 
+-- and a task up to its `{`
 opening_spelled : (names : List (List ℕ)) (undeferred : Bool) (items : List Item) (lines : ℕ → ℕ)
     → All (IsLocated names) items
     → IsOpening names undeferred items
@@ -370,6 +373,7 @@ has_marks_of_same names room tokens other marks more same equal h = record {
   stands = subst (λ (ms : List Mark). Stands names ms h.tree) equal h.stands;
 }
 
+-- statements with a `work` behind them
 work_added : (names : List (List ℕ)) (room cost a b : ℕ) (before : List Token) (done : List Mark)
     → cost ≤ LARGEST_COST
     → HasMarks names room before done
@@ -404,6 +408,7 @@ wait_added names room a before done h = record {
   stands = Wait names done h.tree a h.stands;
 }
 
+-- statements with a `taskgroup` behind them
 group_added : (names : List (List ℕ)) (room a b c : ℕ) (before body : List Token)
     (done inside : List Mark)
     → HasMarks names (suc room) before done
@@ -424,6 +429,7 @@ group_added names room a b c before body done inside h g =
       stands = Group names done inside h.tree g.tree a b h.stands g.stands;
     }
 
+-- statements with a task behind them
 task_added : (names : List (List ℕ)) (room c : ℕ) (before opens body : List Token)
     (done inside : List Mark) (undeferred : Bool) (items : List Item)
     → HasMarks names (suc room) before done

@@ -193,6 +193,7 @@ plain_item kind word line h =
       stands = record { kind_is = refl; location_is = append-nil word; in_range = refl };
     }
 
+-- a location whose index is 0 or more is spelled as an item
 positive_item : (kind : DependKind) (word : List ℕ) (size a b c d : ℕ)
     → is_word word ≡ true
     → size ≤ LARGEST_INDEX
@@ -216,6 +217,7 @@ positive_item kind word size a b c d h fits =
       };
     }
 
+-- a location whose index is less than 0 is spelled as an item
 negative_item : (kind : DependKind) (word : List ℕ) (size a b c d e : ℕ)
     → is_word word ≡ true
     → size ≤ LARGEST_INDEX
@@ -245,6 +247,7 @@ negative_item kind word size a b c d e h fits some =
       };
     }
 
+-- every location is spelled as an item
 pub location_item : (kind : DependKind) (name : List ℕ) (lines : ℕ → ℕ)
     → IsLocation name
     → ItemIs kind name (with_lines (spell false name) lines)

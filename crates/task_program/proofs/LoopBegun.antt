@@ -76,6 +76,7 @@ unfolding variables_of
 end_leads state [] statements = refl
 end_leads state (block ∷ others) statements = refl
 
+-- the word of a statement leads where the table of places says
 statement_leads : (state : State) (text : List ℕ) (line : ℕ) → LeadsSo state Statement text line
 statement_leads state text line =
     bool_cases (is_text text (codes "work"))
@@ -153,6 +154,7 @@ closes_same Statement [] text = refl
 closes_same Statement (block ∷ others) text = refl
 closes_same _ open_now text = refl
 
+-- what is allowed depends on the place, the clauses so far and the variables alone
 allowed_same : (place : LoopPlace) (state : State) (text : List ℕ)
     → is_allowed place state.head state.tree.blocks text
     ≡ allowed_at place state.head.has_if state.head.has_final (variables_of state.tree.blocks) text
@@ -319,6 +321,7 @@ end_braces : (open_now : List LoopBlock) (statements : Tree) (line : ℕ)
 end_braces [] statements line = refl
 end_braces (block ∷ others) statements line = refl
 
+-- a statement opens or ends a block as its brace says
 statement_braces : (state : State) (text : List ℕ) (line : ℕ)
     → is_allowed Statement state.head state.tree.blocks text ≡ true
     → BracesGo Statement state text line
@@ -349,6 +352,7 @@ clause_braces state text line allowed =
     (clause_depend text state.head.has_if state.head.has_final allowed no_brace_here no_if no_final)
     refl)))
 
+-- at every place, blocks open and end as the braces say
 place_braces : (place : LoopPlace) (state : State) (text : List ℕ) (line : ℕ)
     → is_allowed place state.head state.tree.blocks text ≡ true → BracesGo place state text line
 place_braces Statement state text line h = statement_braces state text line h
@@ -398,15 +402,13 @@ unless_cases : {P : Type 0} (found : Option ReadKind) (line : ℕ) (after : Resu
 unless_cases (Some kind) line after next h on = absurd cc
 unless_cases None line after next h on = on refl h
 
-abbrev ok_state : State → Result State ReadFault
-ok_state state = Ok state
-
 pub record Passed (state next : State) (token : Token) : Type 0 where
   pub formed : form_fault token.text ≡ None
   pub unopened : closes_nothing state.place state.tree.blocks token.text ≡ false
   pub allowed : is_allowed state.place state.head state.tree.blocks token.text ≡ true
   pub next_is : after_at state.place state token.text token.line ≡ next
 
+-- a token that is read passes both tables
 pub step_passes : (state next : State) (token : Token) → step state token ≡ Ok next
     → Passed state next token
 unfolding step
@@ -423,6 +425,7 @@ step_passes state next token h =
       next_is = ok_is _ next h2;
     }))
 
+-- one token more: what was read is still the beginning of a text
 pub step_begins : (before : List Token) (state next : State) (token : Token)
     → LoopBegan before state
     → step state token ≡ Ok next

@@ -69,21 +69,22 @@ counts_more before state next token c h =
 -- ---- the fault of a token
 
 -- a `}` that closes nothing comes after what is whole
-closes_at : (place : LoopPlace) (hi hf : Bool) (x : List ℕ) (vs : List (List ℕ))
-    (us : List (List (List ℕ))) (text : List ℕ)
-    → closes_none place us text ≡ true → (text ≡ codes "}") × FollowsAt place hi hf x vs us []
-closes_at Statement hi hf x vs [] text h =
-    (same_text text (codes "}") h, nothing_follows hi hf x vs)
-closes_at Statement hi hf x vs (outer ∷ us) text h = absurd cc
-closes_at _ hi hf x vs us text h = absurd cc
+closes_at : (place : LoopPlace) (has_if has_final : Bool) (x : List ℕ) (variables : List (List ℕ))
+    (around : List (List (List ℕ))) (text : List ℕ)
+    → closes_none place around text ≡ true → (text ≡ codes "}") × FollowsAt place has_if has_final x
+    variables around []
+closes_at Statement has_if has_final x variables [] text h =
+    (same_text text (codes "}") h, nothing_follows has_if has_final x variables)
+closes_at Statement has_if has_final x variables (outer ∷ around) text h = absurd cc
+closes_at _ has_if has_final x variables around text h = absurd cc
 
-whole_closes : (place : LoopPlace) (us : List (List (List ℕ))) (text : List ℕ)
-    → is_whole place us ≡ true
+whole_closes : (place : LoopPlace) (around : List (List (List ℕ))) (text : List ℕ)
+    → is_whole place around ≡ true
     → text ≡ codes "}"
-    → closes_none place us text ≡ true
+    → closes_none place around text ≡ true
 whole_closes Statement [] text h text_is = rw text_is refl
-whole_closes Statement (outer ∷ us) text h text_is = absurd cc
-whole_closes _ us text h text_is = absurd cc
+whole_closes Statement (outer ∷ around) text h text_is = absurd cc
+whole_closes _ around text h text_is = absurd cc
 
 whole_now : (before : List Token) (state : State)
     → LoopBegan before state
@@ -96,6 +97,7 @@ whole_now before state b s =
 abbrev LargeHere : List ℕ → Type 0
 LargeHere text = (is_number text ≡ true) × (1 < value_of text)
 
+-- a number too large for its place is too large there by the definition too
 large_number : (place : LoopPlace) (head : LoopHead) (open_now : List LoopBlock) (text : List ℕ)
     → is_number_too_large place text ≡ true
     → is_allowed place head open_now text ≡ true
@@ -192,6 +194,7 @@ unless_err : {P : Type 0} (found : Option ReadKind) (line : ℕ) (after : Result
 unless_err (Some kind) line after fault h here later = here kind refl cc
 unless_err None line after fault h here later = later refl h
 
+-- the fault of a token is the first fault of the text
 token_fault : (before later : List Token) (state : State) (token : Token) (end_line : ℕ)
     (fault : ReadFault)
     → Counts before state
@@ -211,20 +214,23 @@ token_fault before later state token end_line fault c h =
 
 -- ---- the end
 
-end_by : (all : List Token) (place : LoopPlace) (hi hf : Bool) (vs : List (List ℕ))
+-- a text that ends where it may not ends too early, as the definition says
+end_by : (all : List Token) (place : LoopPlace) (has_if has_final : Bool)
+    (variables : List (List ℕ))
     (open_now : List LoopBlock) (end_line : ℕ) (fault : ReadFault)
     → open_braces all ≡ brace_lines open_now
-    → (fits_at place hi hf vs (variables_of_each open_now) (codes "}") ≡ true
+    → (fits_at place has_if has_final variables (variables_of_each open_now) (codes "}") ≡ true
     → IsLoopViable (texts all ++ codes "}" ∷ []))
-    → (fits_at place hi hf vs (variables_of_each open_now) (codes "}") ≡ false
+    → (fits_at place has_if has_final variables (variables_of_each open_now) (codes "}") ≡ false
     → IsLoopViable (texts all ++ codes "}" ∷ []) → ⊥)
     → end_at place open_now end_line ≡ Some fault → EndsInLoops all end_line fault
-end_by all Statement hi hf vs [] end_line fault braces can cannot h = absurd cc
-end_by all Statement hi hf vs (block ∷ others) end_line fault braces can cannot h =
+end_by all Statement has_if has_final variables [] end_line fault braces can cannot h = absurd cc
+end_by all Statement has_if has_final variables (block ∷ others) end_line fault braces can cannot h
+    =
     let same : fault_so Unclosed (brace_of block.opening) ≡ fault = cc in
     subst (EndsInLoops all end_line) same
     (BlockOpen all end_line (brace_of block.opening) (brace_lines others) (can refl) braces)
-end_by all _ hi hf vs open_now end_line fault braces can cannot h =
+end_by all _ has_if has_final variables open_now end_line fault braces can cannot h =
     let same : fault_so BadWord end_line ≡ fault = cc in
     subst (EndsInLoops all end_line) same (Inside all end_line (cannot refl))
 
@@ -242,13 +248,14 @@ ended_err : (found : Option ReadFault) (state : State) (fault : ReadFault)
 ended_err (Some other) state fault h = cc
 ended_err None state fault h = absurd cc
 
-ended_ok : (place : LoopPlace) (hi hf : Bool) (x : List ℕ) (vs : List (List ℕ))
+ended_ok : (place : LoopPlace) (has_if has_final : Bool) (x : List ℕ) (variables : List (List ℕ))
     (open_now : List LoopBlock) (line : ℕ) (state : State) (tree : Tree)
     → tree_or_fault (end_at place open_now line) state ≡ Ok tree
-    → FollowsAt place hi hf x vs (variables_of_each open_now) []
-ended_ok Statement hi hf x vs [] line state tree h = nothing_follows hi hf x vs
-ended_ok Statement hi hf x vs (block ∷ others) line state tree h = absurd cc
-ended_ok _ hi hf x vs open_now line state tree h = absurd cc
+    → FollowsAt place has_if has_final x variables (variables_of_each open_now) []
+ended_ok Statement has_if has_final x variables [] line state tree h = nothing_follows has_if
+    has_final x variables
+ended_ok Statement has_if has_final x variables (block ∷ others) line state tree h = absurd cc
+ended_ok _ has_if has_final x variables open_now line state tree h = absurd cc
 
 end_fault : (all : List Token) (state : State) (end_line : ℕ) (fault : ReadFault)
     → Counts all state
@@ -273,6 +280,7 @@ by_next_or_fault : {P : Type 0} (read : Result State ReadFault)
 by_next_or_fault (Ok next) later fault h on stops = on next refl h
 by_next_or_fault (Err other) later fault h on stops = stops cc
 
+-- the fault of the tokens that are left is the first fault of all of them
 fault_from : (tokens before : List Token) (state : State) (end_line : ℕ) (fault : ReadFault)
     → Counts before state
     → first_pass tokens end_line state ≡ Err fault
@@ -290,6 +298,7 @@ fault_from (token ∷ tokens) before state end_line fault c h =
     (counts_more before state next token c one) later))
     (λ stops. token_fault before tokens state token end_line fault c stops)
 
+-- where the tokens that are left are read to the end, all of them are a text
 whole_from : (tokens before : List Token) (state : State) (end_line : ℕ) (tree : Tree)
     → Counts before state
     → first_pass tokens end_line state ≡ Ok tree
@@ -336,6 +345,7 @@ either_pass text (Err other) fault first h =
     subst (HasLoopFault text) same (OfTokens text other
     (fault_from (body_of text) [] after_header (line_at_end 1 text) other at_start first))
 
+-- a text of version 2 is read or has a first fault, and never both
 told_in_loops : (text : List ℕ)
     → begins_version_two (tokens_of text) ≡ true
     → nat_lt MOST_TEXT_BYTES (length text) ≡ false

@@ -58,6 +58,7 @@ Goes place blocks tree variables word_line head pending bounds part =
     → Reads ((around ++ (here ++ part)) ++ token ∷ []) (after_at place
     (state_of place word_line head pending bounds blocks tree) token.text token.line)
 
+-- each word that a statement may begin with, behind what was read
 pub statement_goes : (blocks : List LoopBlock) (tree : Tree) (variables : List (List ℕ))
     (word_line : ℕ) (pending : Pending) (bounds : Bounds)
     → Goes Statement blocks tree variables word_line no_clauses pending bounds []
@@ -112,6 +113,7 @@ group_goes blocks tree variables pending bounds word is_group room around here t
     (GroupOpening word.line token.line) pending bounds s.around_is s.here_is
     (Group variables word token is_group (same_text token.text (codes "{") p.allowed)) p.nesting
 
+-- the variable of a loop, behind its `for`
 pub variable_goes : (blocks : List LoopBlock) (tree : Tree) (variables : List (List ℕ))
     (pending : Pending) (bounds : Bounds) (word : Token)
     → word.text ≡ codes "for"
@@ -156,6 +158,7 @@ to_goes blocks tree variables pending to word variable first is_new is_first roo
     (AtForBrace variables pending word variable first token is_new is_first
     (number_is token.text LARGEST_BOUND p.allowed p.number))
 
+-- the `{` of a loop: its variable and its bounds are known
 pub for_goes : (blocks : List LoopBlock) (tree : Tree) (variables : List (List ℕ))
     (pending : Pending) (word variable first last : Token)
     → IsNew variables word variable
@@ -188,6 +191,7 @@ last_word : (depend a b : Bool) → (depend || ((false && a) || (false && b))) �
 last_word true a b h = refl
 last_word false a b h = h
 
+-- each token that may come where a clause or the `{` is awaited
 pub clause_goes : (blocks : List LoopBlock) (tree : Tree) (variables : List (List ℕ))
     (pending : Pending) (bounds : Bounds) (word : Token) (clauses : List Token) (head : LoopHead)
     → InTask variables word clauses head
@@ -227,6 +231,7 @@ clause_goes blocks tree variables pending bounds word clauses head t room around
     (AtDependOpens variables pending bounds word clauses head token t
     (same_text text (codes "depend") depend_word))))))
 
+-- the `(` of an `if`, behind what was read
 pub if_opens_goes : (blocks : List LoopBlock) (tree : Tree) (variables : List (List ℕ))
     (pending : Pending) (bounds : Bounds) (word : Token) (clauses : List Token) (head : LoopHead)
     (w : Token)
@@ -242,6 +247,7 @@ if_opens_goes blocks tree variables pending bounds word clauses head w t none is
     (AtIfNumber variables pending bounds word clauses head w token t none is_if
     (same_text token.text (codes "(") p.allowed))
 
+-- the number of an `if`, behind what was read
 pub if_number_goes : (blocks : List LoopBlock) (tree : Tree) (variables : List (List ℕ))
     (pending : Pending) (bounds : Bounds) (word : Token) (clauses : List Token) (head : LoopHead)
     (w bracket : Token)
@@ -260,6 +266,7 @@ if_number_goes blocks tree variables pending bounds word clauses head w bracket 
     (AtIfCloses variables pending bounds word clauses head w bracket token t none is_if is_bracket
     (number_is token.text 1 p.allowed p.number))
 
+-- the `)` of an `if`: the clause is whole
 pub if_closes_goes : (blocks : List LoopBlock) (tree : Tree) (variables : List (List ℕ))
     (pending : Pending) (bounds : Bounds) (word : Token) (clauses : List Token) (head : LoopHead)
     (w bracket number : Token)
@@ -284,6 +291,7 @@ if_closes_goes blocks tree variables pending bounds word clauses head w bracket 
           is_bracket is_num (same_text token.text (codes ")") p.allowed);
     }))
 
+-- the `(` of a `final`, behind what was read
 pub final_opens_goes : (blocks : List LoopBlock) (tree : Tree) (variables : List (List ℕ))
     (pending : Pending) (bounds : Bounds) (word : Token) (clauses : List Token) (head : LoopHead)
     (w : Token)
@@ -300,6 +308,7 @@ final_opens_goes blocks tree variables pending bounds word clauses head w t none
     (AtFinalNumber variables pending bounds word clauses head w token t none is_if
     (same_text token.text (codes "(") p.allowed))
 
+-- the number of a `final`, behind what was read
 pub final_number_goes : (blocks : List LoopBlock) (tree : Tree) (variables : List (List ℕ))
     (pending : Pending) (bounds : Bounds) (word : Token) (clauses : List Token) (head : LoopHead)
     (w bracket : Token)
@@ -318,6 +327,7 @@ final_number_goes blocks tree variables pending bounds word clauses head w brack
     (AtFinalCloses variables pending bounds word clauses head w bracket token t none is_if
     is_bracket (number_is token.text 1 p.allowed p.number))
 
+-- the `)` of a `final`: the clause is whole
 pub final_closes_goes : (blocks : List LoopBlock) (tree : Tree) (variables : List (List ℕ))
     (pending : Pending) (bounds : Bounds) (word : Token) (clauses : List Token) (head : LoopHead)
     (w bracket number : Token)

@@ -340,6 +340,7 @@ pub record Stands (blocks : List LoopBlock) (tree : Tree) (variables : List (Lis
   pub around_is : Around blocks variables room around
   pub here_is : Spelled variables room here tree
 
+-- one token more in the statement that is being read
 pub grow : (blocks : List LoopBlock) (tree : Tree) (variables : List (List ℕ)) (room : ℕ)
     (around here part after : List Token) (token : Token) (place : LoopPlace) (word_line : ℕ)
     (head : LoopHead) (pending : Pending) (bounds : Bounds)

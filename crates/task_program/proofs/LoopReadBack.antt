@@ -162,6 +162,7 @@ front_apart : (words : List (List ℕ)) (lines : ℕ → ℕ) (tokens : List Tok
 unfolding with_lines
 front_apart words lines tokens h = sym h
 
+-- the tree of a program's own text expands to that program
 expands_to : (program : ProgramMarks) (state : ExpansionState)
     → program.version ≡ Two
     → IsProgram program
@@ -209,6 +210,7 @@ expands_to program state two fits located goes =
       omega (arith, lengths, half, solid_is, tokens, size),
     )
 
+-- a program of version 2 is the tree of its canonical text
 pub canonical_loops : (program : ProgramMarks)
     → program.version ≡ Two
     → IsProgram program

@@ -189,6 +189,7 @@ pub no_more_than_one : (has_if : Bool) (count : ℕ) → cond has_if 1 0 + count
 no_more_than_one true count h = omega (arith, h)
 no_more_than_one false count h = omega (arith, h)
 
+-- clauses, a `{` and what follows make a task with what follows
 task_rest : (has_if : Bool) (depth : ℕ) (texts : List (List ℕ)) → ClausesRest has_if depth texts
     → Rest depth (codes "task" ∷ texts)
 task_rest has_if depth texts c = record {
@@ -216,6 +217,7 @@ end_rest zero texts h r = absurd cc
 end_rest (suc depth) texts h r =
     piece_rest (suc depth) depth EndWritten texts tt (λ pieces nested. nested) r
 
+-- an allowed first word of a statement goes in front of what follows it
 statement_back : (has_if : Bool) (depth : ℕ) (text : List ℕ) (texts : List (List ℕ))
     → StepsBack Statement has_if depth text texts
 statement_back has_if depth text texts h =
@@ -242,6 +244,7 @@ statement_back has_if depth text texts h =
     (unclosed_of Statement has_if depth text h) in
     rw text_is (end_rest depth texts some f))))))
 
+-- an `if` in front of further clauses
 if_clause : (depth : ℕ) (number : List ℕ) (texts : List (List ℕ))
     → is_number number ≡ true
     → ClausesRest true depth texts
@@ -261,6 +264,7 @@ if_clause depth number texts h c = record {
   rest = c.rest;
 }
 
+-- the `{` of a task in front of its body
 brace_back : (has_if : Bool) (depth : ℕ) (texts : List (List ℕ)) → Rest (suc depth) texts
     → ClausesRest has_if depth (codes "{" ∷ texts)
 brace_back true depth texts
@@ -282,6 +286,7 @@ brace_back false depth texts
       rest = r;
     }
 
+-- an allowed token goes in front of further clauses
 clause_back : (has_if : Bool) (depth : ℕ) (text : List ℕ) (texts : List (List ℕ))
     → StepsBack Clause has_if depth text texts
 clause_back has_if depth text texts h =
@@ -303,6 +308,7 @@ depend_texts names last clauses tail =
     sym (append_assoc (flat_map name_and_comma names ++ last ∷ codes ")" ∷ []) clauses tail
     ∙ append_assoc (flat_map name_and_comma names) (last ∷ codes ")" ∷ []) (clauses ++ tail))
 
+-- a `depend` in front of names and further clauses
 depend_clause : (kind : DependKind) (has_if : Bool) (depth : ℕ) (texts : List (List ℕ))
     → NamesRest has_if depth texts
     → ClausesRest has_if depth (codes "depend" ∷ codes "(" ∷ type_word kind ∷ codes ":" ∷ texts)
@@ -329,6 +335,7 @@ depend_clause kind has_if depth texts n =
       rest = clauses_after.rest;
     }
 
+-- the last name of a `depend` in front of further clauses
 last_name : (has_if : Bool) (depth : ℕ) (name : List ℕ) (texts : List (List ℕ)) → IsWord name
     → ClausesRest has_if depth texts → NamesRest has_if depth (name ∷ codes ")" ∷ texts)
 last_name has_if depth name texts word
@@ -375,6 +382,7 @@ header_back : (depth : ℕ) (text : List ℕ) (texts : List (List ℕ)) → text
     → SentenceAt depth (codes "omptasks" ∷ texts) → SentenceAt depth (text ∷ texts)
 header_back depth text texts text_is s = rw text_is s
 
+-- the number of the version in front of the statements
 version_back : (depth : ℕ) (text : List ℕ) (texts : List (List ℕ))
     → (is_number text && eqb (value_of text) 1) ≡ true
     → Rest depth texts
@@ -389,6 +397,7 @@ version_back zero text texts h r = record {
 }
 version_back (suc depth) text texts h r = tt
 
+-- at every place: an allowed token goes in front of what follows it
 pub steps_back : (place : Place) (has_if : Bool) (depth : ℕ) (text : List ℕ) (texts : List (List ℕ))
     → StepsBack place has_if depth text texts
 steps_back Header has_if depth text texts h f =

@@ -94,6 +94,7 @@ tally_so inside tasks segments work items
       braces = braces;
     }
 
+-- a tally whose parts are the same is the same
 same_tally : (inside inside' : Bool) (tasks tasks' segments segments' work work' items items' : ℕ)
     (braces braces' : List ℕ)
     → inside ≡ inside'
@@ -121,6 +122,7 @@ tally_after t token =
     (t.work + cond t.inside 0 (work_by token.text)) (items_after t.items token.text)
     (braces_after t.braces token)
 
+-- the tally of one token more
 pub tally_more : (body : List Token) (token : Token)
     → tally_of (body ++ token ∷ []) ≡ tally_after (tally_of body) token
 tally_more body token =
@@ -232,6 +234,7 @@ braces_stay braces text line n = rw (n.brace, n.end) refl
 
 -- ---- the places
 
+-- a `}` is tallied as the state counts it
 end_tallies : (state : State) (blocks : List Block) (marks : List Mark) (line : ℕ)
     → tally_after
     (tally_at Statement (record state { tree = record { blocks = blocks; marks = marks } }))
@@ -249,6 +252,7 @@ end_tallies state (GroupBlock brace ∷ blocks) marks line =
     (omega (arith, with_one segments_opened marks GroupEnds))
     (omega (arith, with_one work_done marks GroupEnds)) (omega arith) refl
 
+-- the word of a statement is tallied so
 statement_tallies : (state : State) (text : List ℕ) (line : ℕ)
     → is_allowed Statement state.head.has_if text ≡ true
     → Tallies Statement state text line
@@ -279,6 +283,7 @@ number_weight text h =
     let group = other_text is_number text (codes "taskgroup") h refl in
     (rw task refl, rw (task, wait, group) refl, rw h refl)
 
+-- the number of a `work` is tallied so
 work_tallies : (state : State) (text : List ℕ) (line : ℕ)
     → is_number text ≡ true
     → Tallies WorkNumber state text line
@@ -306,6 +311,7 @@ group_tallies state line none =
     (omega (arith, with_one work_done marks GroupBegins))
     (omega (arith, no_items_long state.head.items none)) refl
 
+-- a token where a clause is awaited is tallied so
 clause_tallies : (state : State) (text : List ℕ) (line : ℕ)
     → is_allowed Clause state.head.has_if text ≡ true
     → Tallies Clause state text line
@@ -331,6 +337,7 @@ if_number_tallies state text line number =
     same_tally _ _ _ _ _ _ _ _ _ _ _ _ (inside_stays true text no_sign) (omega arith) (omega arith)
     (omega arith) (items_stay _ text no_sign) (braces_stay _ text line no_sign)
 
+-- the type of a `depend` is tallied so
 type_tallies : (state : State) (kind : DependKind) (line : ℕ)
     → tally_after (tally_at DependType state) (token_so (type_word kind) line)
     ≡ tally_at (DependColon kind) state
@@ -358,6 +365,7 @@ name_tallies state kind text line word =
     (omega arith) (items_stay _ text no_sign ∙ omega (arith, items_are))
     (braces_stay _ text line no_sign)
 
+-- what follows a name is tallied so
 more_tallies : (state : State) (kind : DependKind) (text : List ℕ) (line : ℕ)
     → is_allowed (DependMore kind) state.head.has_if text ≡ true
     → Tallies (DependMore kind) state text line
@@ -377,6 +385,7 @@ is_past_header Header = false
 is_past_header Version = false
 is_past_header _ = true
 
+-- at every place, a token is tallied as the state counts it
 pub place_tallies : (place : Place) (state : State) (text : List ℕ) (line : ℕ)
     → is_past_header place ≡ true
     → NoItems place state.head.items
@@ -514,6 +523,7 @@ passes_no_limit place state text none few number brace task segment =
 abbrev LimitsSame : Place → State → List ℕ → Type 0
 LimitsSame place state text = limit_of (tally_at place state) text ≡ limits (at state place) text
 
+-- what holds of each word that begins a statement holds of an allowed one
 statement_text : (P : List ℕ → Type 0) → P (codes "work") → P (codes "task") → P (codes "taskwait")
     → P (codes "taskgroup") → P (codes "}") → (text : List ℕ) (has_if : Bool)
     → is_allowed Statement has_if text ≡ true → P text
@@ -528,6 +538,7 @@ statement_text P work_so task_so wait_so group_so end_so text has_if allowed =
     (λ group. subst P (sym (same_text text (codes "taskgroup") group)) group_so)
     (λ no_group. subst P (sym (is_end text allowed no_work no_task no_wait no_group)) end_so))))
 
+-- the word of a statement is over the limits where the tally says so
 statement_limits : (state : State) (text : List ℕ) → length state.head.items ≤ MOST_ITEMS
     → is_allowed Statement state.head.has_if text ≡ true → LimitsSame Statement state text
 statement_limits state text few allowed =
@@ -548,6 +559,7 @@ statement_limits state text few allowed =
     segments)
     (few_items Statement state refl few) (work_off false _ text number)
 
+-- the number of a `work` is over the limits where the tally says so
 work_limits : (state : State) (text : List ℕ)
     → length state.head.items ≤ MOST_ITEMS
     → is_number text ≡ true
@@ -562,6 +574,7 @@ work_limits state text few number =
     (rw number refl) (deep_off _ text brace) (rw task refl) (rw (task, wait, group) refl)
     (few_items WorkNumber state refl few) (rw number refl)
 
+-- a `{` is over the limit on nesting alone, and where the tally says so
 brace_limits : (place : Place) (state : State)
     → length state.head.items ≤ MOST_ITEMS
     → item_coming place ≡ 0
@@ -631,6 +644,7 @@ name_limits state kind text word =
     (value_off true text number) (deep_off _ text ((no_sign_word text word).brace)) refl refl
     (one_more_item (length state.head.items)) refl
 
+-- what follows a name is over no limit
 more_limits : (state : State) (kind : DependKind) (text : List ℕ)
     → length state.head.items ≤ MOST_ITEMS
     → is_allowed (DependMore kind) state.head.has_if text ≡ true
@@ -644,6 +658,7 @@ more_limits state kind text few allowed =
     (or_true_right (is_text text (codes ",")) (is_text text (codes ")")) allowed other))
     (passes_no_limit (DependMore kind) state (codes ")") refl few refl refl refl refl))
 
+-- at every place, a token is over the limits where the tally says so
 pub place_limits : (place : Place) (state : State) (text : List ℕ) → is_past_header place ≡ true
     → length state.head.items ≤ MOST_ITEMS → is_allowed place state.head.has_if text ≡ true
     → LimitsSame place state text

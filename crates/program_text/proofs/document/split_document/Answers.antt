@@ -5,7 +5,7 @@ use Rattle.std.proofs.lemmas.List.{length_push, get_or_default, length-take}
 use Rattle.program_text.specs.Tokens.{is_line_feed}
 use Rattle.program_text.specs.Document.{lines_of, text_of_lines}
 use Rattle.program_text.proofs.Splitting.{IsLine, line_within, before_line, after_line, next_start}
-use Rattle.program_text.proofs.Splitting.{rest_from, finds_divider, still_unmarked, has_no_divider}
+use Rattle.program_text.proofs.Splitting.{rest_from, finds_divider, still_undivided, has_no_divider}
 use Rattle.program_text.proofs.Splitting.{program_at, rest_at, program_whole, no_rest}
 use Rattle.program_text.proofs.document.split_document.Goals as goal
 
@@ -66,8 +66,8 @@ slice_bounds-result-end c =
     let within = line_within _ _ _ _ is in
     omega (arith, length-take {A = ℕ})
 
-pub returns-then-is_mark-clause-program : goal.returns-then-is_mark-clause-program
-returns-then-is_mark-clause-program c =
+pub returns-then-is_divider-clause-program : goal.returns-then-is_divider-clause-program
+returns-then-is_divider-clause-program c =
     let turn = YieldsList-turn
     (YieldsList-from_slice_split _ is_line_feed c.args.document.now (cc) (cc) (cc)
     (λ x b q k. search rules))
@@ -83,12 +83,12 @@ returns-then-is_mark-clause-program c =
       starts = c.loop-line.invariant.start;
     } in
     let first = finds_divider c.args.document.now (length c.loop-line.yielded) c.in-Some.line.now
-    is.is_there is.is_line c.loop-line.invariant.unmarked (search rules) in
+    is.is_there is.is_line c.loop-line.invariant.undivided (search rules) in
     before_line _ _ _ _ is
     ∙ sym (program_at c.args.document.now (length c.loop-line.yielded) first.0 first.1)
 
-pub returns-then-is_mark-clause-rest : goal.returns-then-is_mark-clause-rest
-returns-then-is_mark-clause-rest c =
+pub returns-then-is_divider-clause-rest : goal.returns-then-is_divider-clause-rest
+returns-then-is_divider-clause-rest c =
     let turn = YieldsList-turn
     (YieldsList-from_slice_split _ is_line_feed c.args.document.now (cc) (cc) (cc)
     (λ x b q k. search rules))
@@ -104,7 +104,7 @@ returns-then-is_mark-clause-rest c =
       starts = c.loop-line.invariant.start;
     } in
     let first = finds_divider c.args.document.now (length c.loop-line.yielded) c.in-Some.line.now
-    is.is_there is.is_line c.loop-line.invariant.unmarked (search rules) in
+    is.is_there is.is_line c.loop-line.invariant.undivided (search rules) in
     ap (λ (text : List ℕ). Some text) (rest_from _
     (c.loop-line.start + (length c.in-Some.line.now + 1)) _ (search rules)
     ∙ after_line _ _ _ _ is)
@@ -131,8 +131,8 @@ loop-line-preserved c =
       start = next_start _ _ _ _ is
           ∙ ap (λ k. length (text_of_lines (take k (lines_of c.args.document.now))))
           (sym one_longer);
-      unmarked = still_unmarked c.args.document.now (length c.loop-line.yielded) _
-          c.in-Some.line.now one_longer is.is_line c.loop-line.invariant.unmarked (search rules);
+      undivided = still_undivided c.args.document.now (length c.loop-line.yielded) _
+          c.in-Some.line.now one_longer is.is_line c.loop-line.invariant.undivided (search rules);
     }
 
 pub returns-clause-program : goal.returns-clause-program
@@ -142,7 +142,7 @@ returns-clause-program c =
     (λ x b q k. search rules))
     c.loop-line.yielded _ c.loop-line.yielded_by _ _ c.in-None.is c.next.ensures.steps in
     let none = has_no_divider c.args.document.now (length c.loop-line.yielded) at_end.1
-    c.loop-line.invariant.unmarked in
+    c.loop-line.invariant.undivided in
     sym (program_whole c.args.document.now none)
 
 pub returns-clause-rest : goal.returns-clause-rest
@@ -152,5 +152,5 @@ returns-clause-rest c =
     (λ x b q k. search rules))
     c.loop-line.yielded _ c.loop-line.yielded_by _ _ c.in-None.is c.next.ensures.steps in
     let none = has_no_divider c.args.document.now (length c.loop-line.yielded) at_end.1
-    c.loop-line.invariant.unmarked in
+    c.loop-line.invariant.undivided in
     sym (no_rest c.args.document.now none)

@@ -2,11 +2,11 @@ use Rattle.std.proofs.Common.{◌≡◌, ℕ, ◌<◌, [], false, length, take, 
 use Rattle.program_text.specs.Document.{is_divider, lines_of, text_of_lines}
 use Rattle.program_text.proofs.document.split_document.Given as goal
 
--- the lines so far are no marks, and the next line begins after them
+-- no line so far is a divider, and the next line begins after them
 abbrev pub invariant-loop-line : goal.invariant-loop-line
 invariant-loop-line l = record {
   start : l.start ≡ length (text_of_lines (take (length l.yielded) (lines_of l.document)));
-  unmarked : (k : ℕ)
+  undivided : (k : ℕ)
       → k < length l.yielded
       → is_divider (get_or (lines_of l.document) k []) ≡ false;
 }
