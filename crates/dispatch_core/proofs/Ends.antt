@@ -1,14 +1,14 @@
 -- A core at the start of a run, and the graph at its end.
-use Rattle.std.proofs.Common.{ℕ, ◌*◌, ◌<◌, ◌≤◌, ◌≡◌, ◌≢◌, ◌⊎◌, zero, suc, Bool, true, false, List}
-use Rattle.std.proofs.Common.{[], ◌∷◌, Option, Some, None, length, refl, sym, ap, ◌∙◌, subst, arith}
+use Rattle.std.proofs.Common.{ℕ, ◌*◌, ◌<◌, ◌≤◌, ◌≡◌, ◌≢◌, ◌⊎◌, suc, Bool, true, false, List}
+use Rattle.std.proofs.Common.{[], ◌∷◌, Option, None, length, refl, sym, ap, ◌∙◌, subst, arith}
 use Rattle.std.proofs.Common.{inl, inr, sum, sum_by, cond, get_or}
 use Rattle.std.specs.Prelude.{All}
 use Rattle.std.proofs.lemmas.List.Sums.{sum_by-le}
 use Rattle.std.proofs.lemmas.Option.{slice_get-get_or}
 use Rattle.open_segments.proofs.Ascending.{length_below, Lists-same}
-use Rattle.std.specs.Prelude.{slice_get, replicate, AllPairs, Contains, is_some}
-use Rattle.std.proofs.lemmas.Bool.{cases_eq, cases_lt, both_ways}
-use Rattle.std.proofs.lemmas.Option.{same_Some, none-some, slice_get_within}
+use Rattle.std.specs.Prelude.{replicate, Contains, is_some}
+use Rattle.std.proofs.lemmas.Bool.{cases_lt, both_ways}
+use Rattle.std.proofs.lemmas.Option.{none-some}
 use Rattle.std.proofs.lemmas.List.{length-map, length-replicate, get_or_past, get_or_default}
 use Rattle.std.proofs.lemmas.List.Folds.{sum_by-replicate}
 use Rattle.program_text.specs.declared.limits.TheConstants.{MOST_SEGMENTS}
@@ -19,16 +19,11 @@ use Rattle.dispatch_core.specs.declared.event.TheConstants.{MOST_WORKERS}
 use Rattle.dispatch_core.specs.declared.event.Event.{Event}
 use Rattle.dispatch_core.specs.Run.{HasStarted, HasFinished, Runs, IsFinished, IsOpen}
 use Rattle.open_segments.specs.Facts.{IsSoundTable}
-use Rattle.open_segments.specs.Entry.{entry}
 use Rattle.dispatch_core.specs.Sound.{IsSound}
 use Rattle.open_segments.specs.declared.counters.Counters.{Counters}
-use Rattle.open_segments.specs.Counters.{unfinished_count, AreCounts, AreKept, AreKeptOf}
-use Rattle.open_segments.specs.Counters.{AreSiblings, AreSuccessors, GoesUp, HasValue, IsOpenBy}
+use Rattle.open_segments.specs.Counters.{GoesUp, IsOpenBy}
 use Rattle.dispatch_core.specs.Sound.{TellFinished}
-use Rattle.depend_table.specs.Siblings.{Sibling}
 use Rattle.depend_table.specs.Kept.{IsKeptEdge}
-use Rattle.open_segments.proofs.ListLemmas.{Lists-none}
-use Rattle.open_segments.proofs.SiblingSteps.{siblings_first}
 use Rattle.open_segments.specs.NumberLists.{items_of}
 use Rattle.open_segments.specs.UpToDate.{IsUpToDate}
 use Rattle.dispatch_core.proofs.KeptEnough.{kept_at, open_after}

@@ -15,4 +15,5 @@ pub mod Decisions
 pub mod DecidedEdges
 pub mod SomeGraph
 pub mod FirstRefused
+pub use Rattle.open_segments.proofs.Ascending
 pub use Rattle.open_segments.proofs.ListLemmas

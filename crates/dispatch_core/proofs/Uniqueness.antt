@@ -1,12 +1,8 @@
 -- Each segment has one value and one input.
-use Rattle.std.proofs.Common.{ℕ, ◌+◌, ◌<◌, ◌≤◌, ◌≡◌, ◌⊎◌, ◌%◌, ◌^◌, zero, suc, List, [], ◌∷◌}
-use Rattle.std.proofs.Common.{length, get_or, refl, sym, ap, ◌∙◌, arith, inl, inr, sum_by}
-use Rattle.std.specs.Prelude.{Contains}
-use Rattle.std.specs.List.Sorted.{IsStrictlyIncreasing}
-use Rattle.std.proofs.lemmas.List.Sums.{sum_by-cons}
+use Rattle.std.proofs.Common.{ℕ, ◌+◌, ◌<◌, ◌≤◌, ◌≡◌, ◌⊎◌, ◌%◌, ◌^◌, [], ◌∷◌}
+use Rattle.std.proofs.Common.{sym, ap, ◌∙◌, arith}
 use Rattle.task_segments.specs.Table.{Table, segment}
 use Rattle.depend_table.specs.Kept.{IsKeptEdge}
-use Rattle.depend_table.specs.Lists.{Lists}
 use Rattle.dispatch_core.specs.Values.{IsValue, IsInput}
 use Rattle.dispatch_core.specs.Values.IsValue.{Computes}
 use Rattle.open_segments.proofs.Ascending.{same_sums}
