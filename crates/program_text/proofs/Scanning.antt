@@ -49,12 +49,12 @@ pub space_goes_on : (c : Bool) (line : ℕ) (bytes : List ℕ)
     × (line_at_end line (take (length bytes - 1) (drop 1 bytes)) ≡ line_at_end line bytes)
 space_goes_on c line bytes some space gap =
     let rest = take (length bytes - 1) (drop 1 bytes) in
-    let same_comment : in_comment_after c (get_or bytes 0 0) ≡ c =
-    ap (in_comment_after c) space ∙ comment_goes_on c in
+    let after = in_comment_after c (get_or bytes 0 0) in
+    let same_comment : after ≡ c = ap (in_comment_after c) space ∙ comment_goes_on c in
     let same_line : line_after (get_or bytes 0 0) line ≡ line =
     ap (λ (b : ℕ). line_after b line) space in (
       sym (ap (λ (d : Bool). tokens_from d line rest) same_comment)
-          ∙ sym (ap (λ (n : ℕ). tokens_from (in_comment_after c (get_or bytes 0 0)) n rest) same_line)
+          ∙ sym (ap (λ (n : ℕ). tokens_from after n rest) same_line)
           ∙ gap_goes_on c line bytes some gap,
       sym (ap (λ (n : ℕ). line_at_end n rest) same_line) ∙ line_goes_on line bytes some,
     )

@@ -61,6 +61,8 @@ pub fn text_of(run: &[u8]) -> &str
     requires { is_run run.now ≡ true }
     ensures { result.now ≡ run.now }
 {
-    // A run is ASCII, which is proved here.
-    unsafe { std::str::from_utf8_unchecked(run) }
+    match std::str::from_utf8(run) {
+        Ok(text) => text,
+        Err(_) => unreachable!(),
+    }
 }

@@ -1,9 +1,8 @@
 -- Items that conflict with marked items stand at their marks.
-use Rattle.std.proofs.Common.{ℕ, suc, ◌≡◌, ◌<◌, ◌%◌, Bool, true, false, ◌==◌, ◌&&◌, ◌||◌, List, []}
-use Rattle.std.proofs.Common.{◌∷◌, length, refl, sym, ◌∙◌, ap, inl, inr, arith, get_or, set, subst}
+use Rattle.std.proofs.Common.{ℕ, suc, ◌≡◌, ◌%◌, Bool, true, false, ◌==◌, List, [], ◌∷◌, refl, sym}
+use Rattle.std.proofs.Common.{◌∙◌, ap, inl, inr, arith}
 use Rattle.std.specs.List.{list_any}
-use Rattle.std.proofs.lemmas.Bool.{and_parts, or_cases, or_left, or_right, eqb-true, eq-eqb, cases_eq}
-use Rattle.std.proofs.lemmas.List.{get_or-set_other, get_or-set_same}
+use Rattle.std.proofs.lemmas.Bool.{and_parts, or_cases, or_left, or_right, eqb-true, eq-eqb}
 use Rattle.program_text.specs.Conflict.{conflicts_with, items_conflict, kinds_conflict}
 use Rattle.program_text.specs.declared.statement.DependKind.{DependKind}
 use Rattle.program_text.specs.declared.statement.DependKind.TheVariants.{DependIn, DependOut}
@@ -11,8 +10,7 @@ use Rattle.program_text.specs.declared.statement.DependKind.TheVariants.{DependI
 use Rattle.program_text.specs.declared.statement.DependKind.TheVariants.{DependInOutSet}
 use Rattle.program_text.specs.declared.statement.Item.{Item}
 use Rattle.task_segments.specs.Schedule.{at}
-use Rattle.span_cert.specs.Marks.{AreMarkedUpTo, AreMarked, IsMarked, is_in, is_set, meets, meets_kind}
-use Rattle.span_cert.specs.Marks.{place_of}
+use Rattle.span_cert.specs.Marks.{AreMarked, IsMarked, is_in, is_set, meets, meets_kind, place_of}
 use Rattle.span_cert.specs.declared.names.NameMarks.{NameMarks}
 
 -- two types that conflict, of which the second has left its marks
