@@ -44,6 +44,7 @@ for wrong in FLAG_FIRST COUNT_LAST SILENT_END ASLEEP_FIRST PASSED_AS_EMPTY; do
     must_fail WORKERS=2 SEGMENTS=3 FAULTS=0 "$wrong"
     must_fail WORKERS=3 SEGMENTS=3 FAULTS=0 "$wrong"
 done
+must_fail WORKERS=2 SEGMENTS=4 FAULTS=0 BUSY_AS_IDLE
 for segments in 1 2 3 4 5 6; do
     must_hold states WORKERS=2 SEGMENTS=$segments FAULTS=2
 done

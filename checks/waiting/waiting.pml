@@ -13,6 +13,7 @@
  *   SILENT_END       the end sets the flag and wakes, and adds no news
  *   ASLEEP_FIRST     who has put tokens asks whether anyone sleeps before it adds the news
  *   PASSED_AS_EMPTY  a worker takes a lane that it passes over for an empty one
+ *   BUSY_AS_IDLE     a worker that has started its next segment tells as if it took the first new token itself
  */
 #ifndef WORKERS
 #define WORKERS 2
@@ -81,10 +82,10 @@ inline wake_one() {
     fi
 }
 
-/* Signal::tell */
-inline tell(tokens) {
+/* Signal::tell, of so many tokens that are for others */
+inline tell(others) {
     if
-    :: tokens < 2
+    :: others == 0
     :: else ->
 #ifdef ASLEEP_FIRST
         someone = (asleep > 0);
@@ -95,8 +96,8 @@ inline tell(tokens) {
 #endif
         if
         :: !someone
-        :: someone && tokens == 2 -> atomic { wake_one() }
-        :: someone && tokens > 2 -> d_step { wake_all() }
+        :: someone && others == 1 -> atomic { wake_one() }
+        :: someone && others > 1 -> d_step { wake_all() }
         fi
     fi
 }
@@ -107,6 +108,7 @@ proctype worker(byte me) {
     byte at;        /* its front, as read */
     byte passed;    /* how many looks in a row have passed over lanes */
     byte tokens;    /* what a finish has made ready */
+    bool busy;      /* whether it has taken its next token before the finish, and has started it */
     bool unsure;
     bool someone;
 
@@ -183,8 +185,10 @@ steal:  /* Station::steal: a patient worker may pass over a lane. LaneThief::try
     asleep--;
     goto again;
 
-start:  /* Crew::run_segment: Dispatcher::start, then the kernel */
+start:  /* Crew::run_segments: Dispatcher::start, then the kernel */
     atomic { !locked -> computes[me] = true; at = 0; lane = 0; passed = 0 };
+
+kernel:
     if
     :: d_step { computes[me] = false }
     :: d_step { faults > 0 -> faults--; computes[me] = false };
@@ -192,7 +196,19 @@ start:  /* Crew::run_segment: Dispatcher::start, then the kernel */
         goto leave
     fi;
 
-    /* Crew::hand_in: Dispatcher::finish, which ends all behind the lock where the run is finished or it is refused */
+    /* Crew::hand_in: Station::take, as above */
+    if
+    :: front[me] >= back[me]
+    :: else ->
+        d_step { at = front[me]; front[me] = at + 1 };
+        if
+        :: at < back[me] -> busy = true
+        :: else -> front[me] = at
+        fi
+    fi;
+
+    /* Dispatcher::hand_over, which ends all behind the lock where the run is finished or the finish is refused, and which
+     * starts the next token's segment where the run goes on */
     atomic { !locked -> locked = true };
     if
     :: faults > 0 -> faults--;
@@ -214,15 +230,33 @@ start:  /* Crew::run_segment: Dispatcher::start, then the kernel */
     :: open == 0 -> end_all()
     :: else
     fi;
+    if
+    :: busy && over -> busy = false
+    :: else
+    fi;
     locked = false;
     at = 0;
     do
     :: at < tokens -> d_step { back[me]++; at++ }   /* LaneOwner::put */
     :: else -> break
     od;
+#ifndef BUSY_AS_IDLE
+    if
+    :: busy || tokens == 0
+    :: else -> tokens--
+    fi;
+#else
+    if
+    :: tokens == 0
+    :: else -> tokens--
+    fi;
+#endif
     tell(tokens);
     d_step { at = 0; tokens = 0; someone = false };
-    goto again;
+    if
+    :: busy -> d_step { busy = false; computes[me] = true }; goto kernel
+    :: else -> goto again
+    fi;
 
 leave:
     ended[me] = true

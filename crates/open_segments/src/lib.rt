@@ -1,5 +1,5 @@
-//! The open segments of a program: their kept predecessors, how many of these have no value yet, and
-//! what opens when a segment gets its value. It knows nothing of runs.
+//! The open segments of a program: their kept predecessors, how many of these have no value yet,
+//! and what opens when a segment gets its value. It knows nothing of runs.
 #![tactic(auto)]
 
 mod continuing;

@@ -66,9 +66,9 @@ of_two : (pairs : List (Option (ℕ × ℕ))) (n : ℕ) (one two : ℕ × ℕ) (
 of_two pairs n one two true lesser greater first is = (
   (n, is),
   λ k pair before at. elim (cases_eq k n) [
-    | inl same ↦ let e : two ≡ pair = cc in
+    | inl same ↦ let same_pair : two ≡ pair = cc in
         let P : ℕ × ℕ → Type 0 = λ p. two.1 ≤ p.1 in
-        subst P e (omega arith)
+        subst P same_pair (omega arith)
     | inr other ↦ let first_to = first.1 k pair (omega (arith, other)) at in
         let less = lesser refl in
         omega (arith, first_to, less)
@@ -77,9 +77,9 @@ of_two pairs n one two true lesser greater first is = (
 of_two pairs n one two false lesser greater first is = (
   first.0,
   λ k pair before at. elim (cases_eq k n) [
-    | inl same ↦ let e : two ≡ pair = cc in
+    | inl same ↦ let same_pair : two ≡ pair = cc in
         let P : ℕ × ℕ → Type 0 = λ p. one.1 ≤ p.1 in
-        subst P e (greater refl)
+        subst P same_pair (greater refl)
     | inr other ↦ first.1 k pair (omega (arith, other)) at
   ],
 )
@@ -154,14 +154,14 @@ answers_cons : (E : ℕ → Option (ℕ × ℕ) → Type 0) (a : ℕ) (x : Optio
     → E (k + a) r
 answers_cons E a x xs first rest zero r is =
     let same : x ≡ r = cc in
-    let e : a ≡ 0 + a = omega arith in
+    let same_column : a ≡ 0 + a = omega arith in
     let P : ℕ → Type 0 = λ t. E t r in
     let R : Option (ℕ × ℕ) → Type 0 = λ o. E a o in
-    subst P e (subst R same first)
+    subst P same_column (subst R same first)
 answers_cons E a x xs first rest (suc k) r is =
-    let e : k + (a + 1) ≡ suc k + a = omega arith in
+    let same_column : k + (a + 1) ≡ suc k + a = omega arith in
     let P : ℕ → Type 0 = λ t. E t r in
-    subst P e (rest k r is)
+    subst P same_column (rest k r is)
 
 answers_from : (E : ℕ → Option (ℕ × ℕ) → Type 0) (Q : ℕ → Option (ℕ × ℕ) → Type 0)
     → ((t : ℕ) (r : Option (ℕ × ℕ)) → Q t r → E t r)
@@ -190,7 +190,7 @@ are_columns Q table starts ps xs items each range zipped same =
     subst V (sym same) (record {
       each = all.0;
       column = λ c answer is.
-          let e : c + 0 ≡ c = omega arith in
+          let same_column : c + 0 ≡ c = omega arith in
           let T : ℕ → Type 0 = λ u. IsColumn table starts u answer in
-          subst T e (all.1 c answer is);
+          subst T same_column (all.1 c answer is);
     })

@@ -139,16 +139,17 @@ decide_broken table starts s t sound =
 kept_or_broken : (table : Table) (starts : List ℕ) → IsSoundTable table
     → NoneIsBroken table starts ⊎ ((s : ℕ) × (t : ℕ) × FirstBroken table starts s t)
 kept_or_broken table starts sound =
-    let n : ℕ = length table.segments in
+    let count : ℕ = length table.segments in
     let B : ℕ → ℕ → Type 0 = λ t s. IsBroken table starts s t in
-    let known : (s t : ℕ) → IsBroken table starts s t → s < n = λ s t b.
+    let known : (s t : ℕ) → IsBroken table starts s t → s < count = λ s t b.
     let up = sound.goes_up.ascending s t b.precedes in
     let inside = b.is_segment in
     omega (arith, up, inside) in
     let decided : (t s : ℕ) → IsDecided (B t s) = λ t s. decide_broken table starts s t sound in
-    elim (find_first (λ t. (s : ℕ) × (s < n) × B t s) n (λ t. decide_below (B t) n (decided t))) [
+    elim (find_first (λ t. (s : ℕ) × (s < count) × B t s) count
+    (λ t. decide_below (B t) count (decided t))) [
       | inl none ↦ inl (λ s t b. none t b.is_segment (s, known s t b, b))
-      | inr to ↦ elim (find_first (B to.0) n (decided to.0)) [
+      | inr to ↦ elim (find_first (B to.0) count (decided to.0)) [
         | inl nor ↦ let holds = to.1.holds in absurd (nor holds.0 holds.1 holds.2)
         | inr from ↦ inr (
           from.0,
@@ -181,14 +182,15 @@ linked_from table chain zero k sound some all linked =
     inl (subst (λ (xs : List ℕ). IsChain (MustPrecede table) xs)
     (take_all k chain (omega (arith, all))) linked)
 linked_from table chain (suc d) k sound some all linked =
-    let s : ℕ = get_or chain (k - 1) 0 in
-    let t : ℕ = get_or chain k 0 in
-    elim (decide_precedes table s t sound.in_place) [
+    let from : ℕ = get_or chain (k - 1) 0 in
+    let to : ℕ = get_or chain k 0 in
+    elim (decide_precedes table from to sound.in_place) [
       | inl edge ↦ linked_from table chain d (k + 1) sound (omega arith) (omega (arith, all))
-          (one_link_more (MustPrecede table) chain k s t some (omega (arith, all)) linked refl refl
-          edge)
+          (one_link_more (MustPrecede table) chain k from to some (omega (arith, all)) linked refl
+          refl edge)
       | inr apart ↦
-          inr (s, t, bad_step table chain k s t some (omega (arith, all)) refl refl apart linked)
+          inr (from, to,
+          bad_step table chain k from to some (omega (arith, all)) refl refl apart linked)
     ]
 
 -- ---- the verdict on a claim
