@@ -106,9 +106,11 @@ decide_dependence table s t =
       first = h.2.0;
     })
     (λ d.
-    let depends = d.depends in
-    (d.later, d.is_later,
-    (d.first, (d.earlier, depends.in_order, (depends.siblings, (depends.conflict, d.last))))))
+    let depends = d.depends in (
+      d.later,
+      d.is_later,
+      (d.first, (d.earlier, depends.in_order, (depends.siblings, (depends.conflict, d.last)))),
+    ))
     (decide_below (λ v. D v × E v) (length table.tasks) (λ v.
     decide_both (D v) (E v) (decide_same (task table v).first t)
     (decide_below (λ u. A u v × (B u v × C u)) v (λ u.
@@ -125,8 +127,13 @@ decide_earlier_child table child t =
     let C : Type 0 = (creator : ℕ) × ((task table child).creator ≡ Some creator) × (creator < t) in
     decided_by_equivalent (A × (B × C)) (IsEarlierChild table child t)
     (λ h. let created = h.1.1 in
-    record { is_child = h.0; parent = h.1.0; creator = created.0; is_creator = created.1;
-        earlier = created.2 })
+    record {
+      is_child = h.0;
+      parent = h.1.0;
+      creator = created.0;
+      is_creator = created.1;
+      earlier = created.2;
+    })
     (λ c. (c.is_child, (c.parent, (c.creator, c.is_creator, c.earlier))))
     (decide_both A (B × C) (decide_less child (length table.tasks))
     (decide_both B C (decide_some (task table child).parent (segment table t).task)

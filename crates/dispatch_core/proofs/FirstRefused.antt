@@ -113,9 +113,11 @@ decide_busy history worker =
       h.2.0,
       record { started = holds_at history h.0 (Start worker h.2.0) h.1 h.2.1; unfinished = h.2.2 },
     ))
-    (λ h. let runs = h.1 in
-    (runs.started.0, runs.started.1,
-    (h.0, at_place history (Start worker h.0) runs.started, runs.unfinished)))
+    (λ h. let runs = h.1 in (
+      runs.started.0,
+      runs.started.1,
+      (h.0, at_place history (Start worker h.0) runs.started, runs.unfinished),
+    ))
     (decide_below P (length history) (λ k. keeps_busy history worker (get_or history k some_event)))
 
 -- ---- the next event

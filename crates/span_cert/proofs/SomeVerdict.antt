@@ -189,8 +189,11 @@ linked_from table chain (suc d) k sound some all linked =
           (one_link_more (MustPrecede table) chain k from to some (omega (arith, all)) linked refl
           refl edge)
       | inr apart ↦
-          inr (from, to,
-          bad_step table chain k from to some (omega (arith, all)) refl refl apart linked)
+          inr (
+            from,
+            to,
+            bad_step table chain k from to some (omega (arith, all)) refl refl apart linked,
+          )
     ]
 
 -- ---- the verdict on a claim
