@@ -1,6 +1,6 @@
 -- Each segment has one value and one input.
-use Rattle.std.proofs.Common.{ℕ, ◌+◌, ◌<◌, ◌≤◌, ◌≡◌, ◌⊎◌, ◌%◌, ◌^◌, [], ◌∷◌}
-use Rattle.std.proofs.Common.{sym, ap, ◌∙◌, arith}
+use Rattle.std.proofs.Common.{ℕ, ◌≡◌, ◌%◌, ◌^◌}
+use Rattle.std.proofs.Common.{sym, ap, ◌∙◌}
 use Rattle.task_segments.specs.Table.{Table, segment}
 use Rattle.depend_table.specs.Kept.{IsKeptEdge}
 use Rattle.dispatch_core.specs.Values.{IsValue, IsInput}

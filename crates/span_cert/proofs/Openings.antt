@@ -1,13 +1,11 @@
 -- What a segment can have to wait for, by where it opens.
-use Rattle.std.proofs.Common.{ℕ, ◌+◌, ◌<◌, ◌≤◌, ◌≡◌, ◌⊎◌, true, Some, inl, inr, sym, ◌∙◌, ap, subst}
-use Rattle.std.proofs.Common.{arith, List}
+use Rattle.std.proofs.Common.{ℕ, ◌+◌, ◌≡◌, ◌⊎◌, true, Some, inl, inr, sym, ◌∙◌, ap, subst}
+use Rattle.std.proofs.Common.{arith}
 use Rattle.std.proofs.lemmas.Option.{same_Some}
 use Rattle.program_text.specs.Conflict.{items_conflict}
-use Rattle.program_text.specs.declared.statement.Item.{Item}
 use Rattle.task_segments.specs.Nesting.{IsNestedTable}
-use Rattle.task_segments.specs.Precedence.{Continues, IsSegment, IsTask, MustPrecede}
+use Rattle.task_segments.specs.Precedence.{Continues, IsTask, MustPrecede}
 use Rattle.task_segments.specs.Table.{Table, segment, task}
-use Rattle.task_segments.specs.declared.table.Closing.TheVariants.{Waits, EndsGroup}
 use Rattle.task_segments.proofs.Order.{continues_up, depends_parts, not_root_made, one_next}
 use Rattle.span_cert.specs.Marks.{IsCut, OpensAfterChild, OpensTask}
 
