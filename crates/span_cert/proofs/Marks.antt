@@ -10,6 +10,7 @@ use Rattle.program_text.specs.declared.statement.DependKind.TheVariants.{DependI
 use Rattle.program_text.specs.declared.statement.DependKind.TheVariants.{DependInOutSet}
 use Rattle.program_text.specs.declared.statement.Item.{Item}
 use Rattle.task_segments.specs.Schedule.{at}
+use Rattle.span_cert.specs.declared.names.TheConstants.{PLACES}
 use Rattle.span_cert.specs.Marks.{AreMarked, IsMarked, is_in, is_set, meets, meets_kind, place_of}
 use Rattle.span_cert.specs.declared.names.NameMarks.{NameMarks}
 
@@ -43,7 +44,7 @@ pair_meets : (marks : NameMarks) (t : ℕ) (one other : Item)
 pair_meets marks t one other marked conflict =
     let both = and_parts (one.name == other.name) (kinds_conflict one.kind other.kind) conflict in
     let same : one.name ≡ other.name = eqb-true one.name other.name both.0 in
-    let place : place_of other ≡ place_of one = ap (λ n. n % 4096) (sym same) in
+    let place : place_of other ≡ place_of one = ap (λ n. n % PLACES) (sym same) in
     kinds_meet one.kind other.kind (at marks.not_read (place_of one) == t)
     (at marks.not_set (place_of one) == t) both.1
     (λ no. eq-eqb _ _ (ap (λ n. at marks.not_read n) (sym place) ∙ marked.not_read no))

@@ -9,6 +9,7 @@ use Rattle.task_segments.specs.Table.{Table, segment, task}
 use Rattle.task_segments.specs.declared.table.Closing.{Closing}
 use Rattle.task_segments.specs.declared.table.Closing.TheVariants.{Waits, EndsGroup}
 use Rattle.span_cert.specs.declared.names.NameMarks.{NameMarks}
+use Rattle.span_cert.specs.declared.names.TheConstants.{PLACES}
 use Rattle.span_cert.specs.declared.opening.Opening.{Opening}
 use Rattle.span_cert.specs.declared.opening.Opening.TheVariants.{First, AfterChild, AfterCut}
 
@@ -24,7 +25,7 @@ is_set other = false
 
 -- where the marks of a name stand
 abbrev pub place_of : Item → ℕ
-place_of item = item.name % 4096
+place_of item = item.name % PLACES
 
 -- the segment has marked the item
 pub record IsMarked (marks : NameMarks) (t : ℕ) (item : Item) : Type 0 where
