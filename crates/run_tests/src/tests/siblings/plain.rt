@@ -25,7 +25,7 @@ pub struct PlainTable {
 
 impl PlainTable {
     /// A table of no siblings.
-    pub fn new(alloc: Global) -> PlainTable {
+    pub(crate) fn new(alloc: Global) -> PlainTable {
         PlainTable {
             alloc,
             tasks: Vec::new(alloc),
@@ -33,7 +33,7 @@ impl PlainTable {
     }
 
     /// The earlier siblings that a new task is kept after.
-    pub fn generate(&mut self, task: u32, items: &[Item]) -> Result<Vec<u32>, AllocFault> {
+    pub(crate) fn generate(&mut self, task: u32, items: &[Item]) -> Result<Vec<u32>, AllocFault> {
         let mut ranked = Vec::new(self.alloc);
         for item in items {
             ranked.push(RankedItem {
