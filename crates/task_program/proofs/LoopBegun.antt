@@ -28,7 +28,7 @@ use Rattle.loop_text.specs.Loops.{Tree}
 use Rattle.loop_text.specs.OpenBlocks as blocks
 use Rattle.loop_text.specs.OpenBlocks.{variables_of, brace_of}
 use Rattle.loop_text.specs.FirstPass.{State, is_allowed, closes_nothing, form_fault, place_fault}
-use Rattle.loop_text.specs.FirstPass.{unless_fault, step, after_at}
+use Rattle.loop_text.specs.FirstPass.{unless_fault, step, after_at, is_number_too_large, nests_too_deep}
 use Rattle.task_program.specs.LoopViablePrefix.{IsLoopSentence, IsLoopViable}
 use Rattle.task_program.proofs.FoundPlaces.{same_text}
 use Rattle.task_program.proofs.Tallies.{other_text}
@@ -406,6 +406,8 @@ pub record Passed (state next : State) (token : Token) : Type 0 where
   pub formed : form_fault token.text ≡ None
   pub unopened : closes_nothing state.place state.tree.blocks token.text ≡ false
   pub allowed : is_allowed state.place state.head state.tree.blocks token.text ≡ true
+  pub small : is_number_too_large state.place token.text ≡ false
+  pub shallow : nests_too_deep state.place state.tree.blocks token.text ≡ false
   pub next_is : after_at state.place state token.text token.line ≡ next
 
 -- a token that is read passes both tables
@@ -418,10 +420,13 @@ step_passes state next token h =
     (λ place h2.
     let unopened_row = row_passed _ _ _ place in
     let allowed_row = row_passed _ _ _ unopened_row.1 in
+    let small_row = row_passed _ _ _ allowed_row.1 in
     record {
       formed = form;
       unopened = unopened_row.0;
       allowed = not-false _ allowed_row.0;
+      small = small_row.0;
+      shallow = (row_passed _ _ _ small_row.1).0;
       next_is = ok_is _ next h2;
     }))
 

@@ -2,8 +2,8 @@
 use Rattle.std.proofs.Common.{◌≡◌, ℕ, ◌<◌, ◌≤◌, Bool, true, false, not, List, [], ◌∷◌, ◌++◌, length}
 use Rattle.std.proofs.Common.{append_assoc, Option, Some, None, Result, Ok, Err, refl, sym, ap}
 use Rattle.std.proofs.Common.{subst, ◌∙◌, arith, codes}
-use Rattle.std.specs.Prelude.{nat_lt}
-use Rattle.std.proofs.lemmas.Bool.{leb-true, ltb-true, ltb-false, and_parts, not-false}
+use Rattle.std.specs.Prelude.{nat_le, reverse}
+use Rattle.std.proofs.lemmas.Bool.{leb-true, leb-false, ltb-true, ltb-false, and_parts, not-false}
 use Rattle.std.proofs.lemmas.List.{append-nil, length-map}
 use Rattle.program_text.specs.declared.fault.ReadKind.{ReadKind}
 use Rattle.program_text.specs.declared.fault.ReadKind.TheVariants.{TooLong, BadWord, BadNumber}
@@ -29,18 +29,16 @@ use Rattle.loop_text.specs.FirstPass.{end_at, tree_or_fault, go_on, first_pass, 
 use Rattle.task_program.specs.ReadInVersion.{begins_version_two, then_second, two_passes}
 use Rattle.task_program.specs.ReadInVersion.{program_of}
 use Rattle.task_program.specs.LoopViablePrefix.{IsLoopSentence, IsLoopViable}
-use Rattle.task_program.specs.FirstLoopFault.{IsLoopWrong, AreInPlace, EndsInLoops}
-use Rattle.task_program.specs.FirstLoopFault.{IsFirstLoopFault, body_of, HasLoopFault}
-use Rattle.task_program.specs.FirstLoopFault.{IsToldInLoops, LoopFaultIsFirst}
+use Rattle.task_program.specs.FirstLoopFault.{IsLoopWrong, AreLoopRight, EndsInLoops}
+use Rattle.task_program.specs.FirstLoopFault.{IsFirstLoopFault, IsPastLoopLimit, IsLoopRight}
 use Rattle.task_program.specs.FirstLoopFault.IsLoopMisplaced.{AfterWhole, Elsewhere}
 use Rattle.task_program.specs.FirstLoopFault.IsPastLoopLimit.{LargeNumber, DeepBlock}
 use Rattle.task_program.specs.FirstLoopFault.IsLoopWrong.{ByItself, Misplaced, PastLimit}
-use Rattle.task_program.specs.FirstLoopFault.AreInPlace.{Nothing, More}
+use Rattle.task_program.specs.FirstLoopFault.AreLoopRight.{Nothing, More}
 use Rattle.task_program.specs.FirstLoopFault.EndsInLoops.{BlockOpen, Inside}
 use Rattle.task_program.specs.FirstLoopFault.IsFirstLoopFault.{AtToken, AtEnd}
-use Rattle.task_program.specs.FirstLoopFault.HasLoopFault.{TextTooLong, OfTokens, OfExpansion}
 use Rattle.task_program.proofs.FoundPlaces.{same_text}
-use Rattle.task_program.proofs.ReadWhole.{of_two, went_through, too_long, same_fault, fault_so}
+use Rattle.task_program.proofs.ReadWhole.{fault_so}
 use Rattle.task_program.proofs.Begun.{row_cases}
 use Rattle.task_program.proofs.LoopContinued.{nothing_follows}
 use Rattle.task_program.proofs.LoopShapes.{closes_none, fits_at, FollowsAt}
@@ -48,22 +46,84 @@ use Rattle.task_program.proofs.LoopAccepting.{is_whole, accepts_none, sentence_a
 use Rattle.task_program.proofs.LoopBegun.{variables_of_each, shape_of, brace_lines, LoopBegan}
 use Rattle.task_program.proofs.LoopBegun.{closes_same, fits_of, unfit_close, unfit_word}
 use Rattle.task_program.proofs.LoopBegun.{is_not_viable, viable_next, step_passes, step_begins}
+use Rattle.task_program.proofs.LoopBegun.{Passed}
+use Rattle.task_program.proofs.LoopMost.{LastNow, last_more, large_at, small_at}
 use Rattle.program_text.proofs.Bools.{bool_cases}
 use Rattle.task_program.proofs.LoopFound.{step_went}
 
-record Counts (before : List Token) (state : State) : Type 0 where
-  began : LoopBegan before state
-  in_place : AreInPlace before
+room_left : (open_now : ℕ) → nat_le MOST_NESTING open_now ≡ false → MOST_NESTING ≤ open_now → ⊥
+room_left open_now shallow deep =
+    let fewer : open_now < MOST_NESTING = leb-false MOST_NESTING open_now shallow in
+    absurd (omega (arith, fewer, deep))
 
-counts_more : (before : List Token) (state next : State) (token : Token) → Counts before state
-    → step state token ≡ Ok next → Counts (before ++ token ∷ []) next
+blocks_open : (before : List Token) (state : State)
+    → LoopBegan before state
+    → length (open_braces before) ≡ length state.tree.blocks
+blocks_open before state began =
+    ap length began.braces_are
+    ∙ length-map state.tree.blocks (λ (one : LoopBlock). brace_of one.opening)
+
+-- a `{` that nests too deep nests too deep at its place
+shallow_at : (place : LoopPlace) (head : LoopHead) (open_now : List LoopBlock)
+    → nests_too_deep place open_now (codes "{") ≡ false
+    → is_allowed place head open_now (codes "{") ≡ true
+    → MOST_NESTING ≤ length open_now
+    → ⊥
+shallow_at GroupBrace head open_now shallow allowed deep =
+    room_left (length open_now) shallow deep
+shallow_at ForBrace head open_now shallow allowed deep =
+    room_left (length open_now) shallow deep
+shallow_at Clause head open_now shallow allowed deep =
+    room_left (length open_now) shallow deep
+shallow_at _ head open_now shallow allowed deep = absurd cc
+
+-- what is known where right tokens were read
+pub record Counts (before : List Token) (state : State) : Type 0 where
+  pub began : LoopBegan before state
+  pub last : LastNow before state
+  pub right : AreLoopRight before
+
+-- a token that passes no limit of its place passes none by the definition
+nothing_past : (before : List Token) (state next : State) (token : Token) (kind : ReadKind)
+    → Counts before state
+    → Passed state next token
+    → IsPastLoopLimit before token.text kind
+    → ⊥
+nothing_past before state next token kind c p (LargeNumber _ _ most number most_so above) =
+    small_at state.place (reverse (texts before)) state.head state.tree.blocks token.text c.last
+    p.allowed p.small (most, number, most_so, above)
+nothing_past before state next token kind c p (DeepBlock _ _ text_is deep) =
+    shallow_at state.place state.head state.tree.blocks
+    (subst (λ (t : List ℕ). nests_too_deep state.place state.tree.blocks t ≡ false) text_is
+    p.shallow)
+    (subst (λ (t : List ℕ). is_allowed state.place state.head state.tree.blocks t ≡ true) text_is
+    p.allowed)
+    (omega (arith, deep, blocks_open before state c.began))
+
+-- a token that is read is right
+pub step_right : (before : List Token) (state next : State) (token : Token)
+    → Counts before state
+    → step state token ≡ Ok next
+    → IsLoopRight before token.text
+step_right before state next token c h =
+    let passed = step_passes state next token h in
+    record {
+      formed = passed.formed;
+      viable = viable_next before state token.text c.began
+          (fits_of state token.text passed.unopened passed.allowed);
+      within = λ kind past. nothing_past before state next token kind c passed past;
+    }
+
+pub counts_more : (before : List Token) (state next : State) (token : Token)
+    → Counts before state
+    → step state token ≡ Ok next
+    → Counts (before ++ token ∷ []) next
 counts_more before state next token c h =
     let passed = step_passes state next token h in
     record {
       began = step_begins before state next token c.began h;
-      in_place = More before token c.in_place passed.formed
-          (viable_next before state token.text c.began
-          (fits_of state token.text passed.unopened passed.allowed));
+      last = last_more before state token next c.last passed.allowed passed.next_is;
+      right = More before token c.right (step_right before state next token c h);
     }
 
 -- ---- the fault of a token
@@ -93,25 +153,6 @@ whole_now : (before : List Token) (state : State)
 whole_now before state b s =
     accepts_none (shape_of state)
     (b.accepted [] (subst IsLoopSentence (sym (append-nil (texts before))) s))
-
-abbrev LargeHere : List ℕ → Type 0
-LargeHere text = (is_number text ≡ true) × (1 < value_of text)
-
--- a number too large for its place is too large there by the definition too
-large_number : (place : LoopPlace) (head : LoopHead) (open_now : List LoopBlock) (text : List ℕ)
-    → is_number_too_large place text ≡ true
-    → is_allowed place head open_now text ≡ true
-    → LargeHere text
-large_number WorkNumber head open_now text large allowed =
-    (allowed, omega (arith, ltb-true LARGEST_COST (value_of text) large))
-large_number ForFrom head open_now text large allowed =
-    (allowed, omega (arith, ltb-true LARGEST_BOUND (value_of text) large))
-large_number ForTo head open_now text large allowed =
-    (allowed, omega (arith, ltb-true LARGEST_BOUND (value_of text) large))
-large_number IfNumber head open_now text large allowed = (allowed, ltb-true 1 (value_of text) large)
-large_number FinalNumber head open_now text large allowed =
-    (allowed, ltb-true 1 (value_of text) large)
-large_number _ head open_now text large allowed = absurd cc
 
 abbrev DeepHere : List LoopBlock → List ℕ → Type 0
 DeepHere open_now text = (text ≡ codes "{") × (MOST_NESTING ≤ length open_now)
@@ -173,15 +214,14 @@ at_place before state text kind c formed h =
     viable_next before state text began (fits_of state text unopened allowed_so) in
     row_cases (is_number_too_large state.place text) BadNumber kind _ h2
     (λ large same.
-    let number = large_number state.place state.head state.tree.blocks text large allowed_so in
-    subst (IsLoopWrong before text) same
-    (PastLimit before text BadNumber formed viable (LargeNumber before text number.0 number.1)))
+    let past = large_at state.place (reverse (texts before)) state.head state.tree.blocks text
+    c.last allowed_so large in
+    subst (IsLoopWrong before text) same (PastLimit before text BadNumber formed viable
+    (LargeNumber before text past.0 past.1 past.2 past.3)))
     (λ small h3. row_cases (nests_too_deep state.place state.tree.blocks text) TooDeep kind _ h3
     (λ deep same.
     let block = deep_block state.place state.head state.tree.blocks text deep allowed_so in
-    let braces : length (open_braces before)
-    ≡ length state.tree.blocks = ap length began.braces_are
-    ∙ length-map state.tree.blocks (λ (one : LoopBlock). brace_of one.opening) in
+    let braces = blocks_open before state began in
     subst (IsLoopWrong before text) same (PastLimit before text TooDeep formed viable
     (DeepBlock before text block.0 (omega (arith, block.1, braces)))))
     (λ shallow none. absurd cc))))
@@ -194,23 +234,33 @@ unless_err : {P : Type 0} (found : Option ReadKind) (line : ℕ) (after : Result
 unless_err (Some kind) line after fault h here later = here kind refl cc
 unless_err None line after fault h here later = later refl h
 
--- the fault of a token is the first fault of the text
+abbrev pub WrongSo : List Token → Token → ReadFault → Type 0
+WrongSo before token fault =
+    (kind : ReadKind) × IsLoopWrong before token.text kind × (fault_so kind token.line ≡ fault)
+
+-- what a token is refused for is wrong with it
+pub token_wrong : (before : List Token) (state : State) (token : Token) (fault : ReadFault)
+    → Counts before state
+    → step state token ≡ Err fault
+    → WrongSo before token fault
+unfolding step
+token_wrong before state token fault c h =
+    unless_err (form_fault token.text) token.line _ fault h
+    (λ kind form same. (kind, ByItself before token.text kind form, same))
+    (λ form h1. unless_err (place_fault state token.text) token.line _ fault h1
+    (λ kind place same. (kind, at_place before state token.text kind c form place, same))
+    (λ none wrong. absurd cc))
+
+-- so its fault is the first of the text
 token_fault : (before later : List Token) (state : State) (token : Token) (end_line : ℕ)
     (fault : ReadFault)
     → Counts before state
     → step state token ≡ Err fault
     → IsFirstLoopFault (before ++ token ∷ later) end_line fault
-unfolding step
 token_fault before later state token end_line fault c h =
-    let told : (kind : ReadKind) → IsLoopWrong before token.text kind
-    → fault_so kind token.line ≡ fault → IsFirstLoopFault (before ++ token ∷ later) end_line fault =
-    λ kind wrong same. subst (IsFirstLoopFault (before ++ token ∷ later) end_line) same
-    (AtToken before later token end_line kind c.in_place wrong) in
-    unless_err (form_fault token.text) token.line _ fault h
-    (λ kind form same. told kind (ByItself before token.text kind form) same)
-    (λ form h1. unless_err (place_fault state token.text) token.line _ fault h1
-    (λ kind place same. told kind (at_place before state token.text kind c form place) same)
-    (λ none wrong. absurd cc))
+    let told = token_wrong before state token fault c h in
+    subst (IsFirstLoopFault (before ++ token ∷ later) end_line) told.2
+    (AtToken before later token end_line told.0 c.right told.1)
 
 -- ---- the end
 
@@ -257,19 +307,40 @@ ended_ok Statement has_if has_final x variables [] line state tree h = nothing_f
 ended_ok Statement has_if has_final x variables (block ∷ others) line state tree h = absurd cc
 ended_ok _ has_if has_final x variables open_now line state tree h = absurd cc
 
+pub early_at : (all : List Token) (state : State) (end_line : ℕ) (fault : ReadFault)
+    → Counts all state
+    → end_at state.place state.tree.blocks end_line ≡ Some fault
+    → EndsInLoops all end_line fault
+early_at all state end_line fault c h =
+    let shape = shape_of state in
+    end_by all state.place shape.has_if shape.has_final shape.variables state.tree.blocks end_line
+    fault
+    c.began.braces_are (viable_next all state (codes "}") c.began)
+    (is_not_viable all state (codes "}") c.began) h
+
+-- a text that ends at a place where it may not is no sentence
+pub no_sentence_at : (all : List Token) (state : State) (end_line : ℕ) (fault : ReadFault)
+    → Counts all state
+    → end_at state.place state.tree.blocks end_line ≡ Some fault
+    → IsLoopSentence (texts all)
+    → ⊥
+no_sentence_at all state end_line fault c h sentence =
+    whole_ends state.place state.tree.blocks end_line fault (whole_now all state c.began sentence) h
+
+pub end_is : (state : State) (line : ℕ) (fault : ReadFault)
+    → first_pass [] line state ≡ Err fault
+    → end_at state.place state.tree.blocks line ≡ Some fault
+unfolding first_pass
+end_is state line fault h = ended_err (end_at state.place state.tree.blocks line) state fault h
+
 end_fault : (all : List Token) (state : State) (end_line : ℕ) (fault : ReadFault)
     → Counts all state
     → end_at state.place state.tree.blocks end_line ≡ Some fault
     → IsFirstLoopFault all end_line fault
 end_fault all state end_line fault c h =
-    let began = c.began in
-    let shape = shape_of state in
-    AtEnd all end_line fault c.in_place (λ sentence.
-    whole_ends state.place state.tree.blocks end_line fault (whole_now all state began sentence) h)
-    (end_by all state.place shape.has_if shape.has_final shape.variables state.tree.blocks end_line
-    fault
-    began.braces_are (viable_next all state (codes "}") began)
-    (is_not_viable all state (codes "}") began) h)
+    AtEnd all end_line fault c.right
+    (λ sentence. no_sentence_at all state end_line fault c h sentence)
+    (early_at all state end_line fault c h)
 
 -- ---- the whole
 
@@ -281,7 +352,7 @@ by_next_or_fault (Ok next) later fault h on stops = on next refl h
 by_next_or_fault (Err other) later fault h on stops = stops cc
 
 -- the fault of the tokens that are left is the first fault of all of them
-fault_from : (tokens before : List Token) (state : State) (end_line : ℕ) (fault : ReadFault)
+pub fault_from : (tokens before : List Token) (state : State) (end_line : ℕ) (fault : ReadFault)
     → Counts before state
     → first_pass tokens end_line state ≡ Err fault
     → IsFirstLoopFault (before ++ tokens) end_line fault
@@ -298,22 +369,25 @@ fault_from (token ∷ tokens) before state end_line fault c h =
     (counts_more before state next token c one) later))
     (λ stops. token_fault before tokens state token end_line fault c stops)
 
+abbrev pub Whole : List Token → Type 0
+Whole all = IsLoopSentence (texts all) × AreLoopRight all
+
 -- where the tokens that are left are read to the end, all of them are a text
-whole_from : (tokens before : List Token) (state : State) (end_line : ℕ) (tree : Tree)
+pub whole_from : (tokens before : List Token) (state : State) (end_line : ℕ) (tree : Tree)
     → Counts before state
     → first_pass tokens end_line state ≡ Ok tree
-    → IsLoopSentence (texts (before ++ tokens))
+    → Whole (before ++ tokens)
 unfolding first_pass
 whole_from [] before state end_line tree c h =
     let shape = shape_of state in
     let whole = c.began.follows [] (ended_ok shape.place shape.has_if shape.has_final shape.variable
     shape.variables
     state.tree.blocks end_line state tree h) in
-    subst (λ (ts : List Token). IsLoopSentence (texts ts)) (sym (append-nil before))
-    (subst IsLoopSentence (append-nil (texts before)) whole)
+    subst Whole (sym (append-nil before))
+    (subst IsLoopSentence (append-nil (texts before)) whole, c.right)
 whole_from (token ∷ tokens) before state end_line tree c h =
     let went = step_went (step state token) (λ next. first_pass tokens end_line next) tree h in
-    subst (λ (ts : List Token). IsLoopSentence (texts ts)) (append_assoc before (token ∷ []) tokens)
+    subst Whole (append_assoc before (token ∷ []) tokens)
     (whole_from tokens (before ++ token ∷ []) went.0 end_line tree
     (counts_more before state went.0 token c went.1) went.2)
 
@@ -322,7 +396,8 @@ sentence_of : (later : List (List ℕ))
     → IsLoopSentence later
 sentence_of later f = record { pieces = f.pieces; spelled = f.texts_are; forms = f.forms }
 
-at_start : Counts [] after_header
+-- before the first token
+pub at_start : Counts [] after_header
 unfolding variables_of
 at_start = record {
   began = record {
@@ -330,47 +405,6 @@ at_start = record {
     accepted = λ later s. sentence_accepted later s;
     braces_are = refl;
   };
-  in_place = Nothing;
+  last = refl;
+  right = Nothing;
 }
-
-either_pass : (text : List ℕ) (read : Result Tree ReadFault) (fault : ReadFault)
-    → first_pass (body_of text) (line_at_end 1 text) after_header ≡ read
-    → then_second read ≡ Err fault
-    → HasLoopFault text fault
-either_pass text (Ok tree) fault first h =
-    OfExpansion text fault tree
-    (whole_from (body_of text) [] after_header (line_at_end 1 text) tree at_start first) first h
-either_pass text (Err other) fault first h =
-    let same : other ≡ fault = cc in
-    subst (HasLoopFault text) same (OfTokens text other
-    (fault_from (body_of text) [] after_header (line_at_end 1 text) other at_start first))
-
--- a text of version 2 is read or has a first fault, and never both
-told_in_loops : (text : List ℕ)
-    → begins_version_two (tokens_of text) ≡ true
-    → nat_lt MOST_TEXT_BYTES (length text) ≡ false
-    → IsToldInLoops text
-told_in_loops text two short =
-    let so : program_of text ≡ two_passes text =
-    of_two text (ltb-false MOST_TEXT_BYTES (length text) short) two in
-    record {
-      read = λ program h.
-          let went = went_through (first_pass (body_of text) (line_at_end 1 text) after_header)
-          program (sym so ∙ h) in
-          whole_from (body_of text) [] after_header (line_at_end 1 text) went.0 at_start went.1;
-      refused = λ fault h. either_pass text
-          (first_pass (body_of text) (line_at_end 1 text) after_header) fault refl (sym so ∙ h);
-    }
-
-long_in_loops : (text : List ℕ) → nat_lt MOST_TEXT_BYTES (length text) ≡ true → IsToldInLoops text
-long_in_loops text long = record {
-  read = λ program h. absurd (let wrong = sym (too_long text long) ∙ h in cc);
-  refused = λ fault h. subst (HasLoopFault text)
-      (same_fault (program_of text) (fault_so TooLong 1) fault (too_long text long) h)
-      (TextTooLong text (ltb-true MOST_TEXT_BYTES (length text) long));
-}
-
-pub loop_fault_is_first : (text : List ℕ) → LoopFaultIsFirst text
-loop_fault_is_first text two =
-    bool_cases (nat_lt MOST_TEXT_BYTES (length text)) (λ long. long_in_loops text long)
-    (λ short. told_in_loops text two short)
