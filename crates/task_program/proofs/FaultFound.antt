@@ -322,11 +322,13 @@ token_fault before later state token end_line fault c h =
 sentence_long : (before : List (List ℕ)) → IsSentence before → 2 ≤ length before
 sentence_long before s = omega (arith, ap (λ (ts : List (List ℕ)). length ts) s.spelled)
 
-two_kinds : (one other : ReadKind) (found : Option ReadKind) → found ≡ Some one → found ≡ Some other
+pub two_kinds : (one other : ReadKind) (found : Option ReadKind)
+    → found ≡ Some one
+    → found ≡ Some other
     → one ≡ other
 two_kinds one other found h g = cc
 
-some_none : (kind : ReadKind) (found : Option ReadKind) → found ≡ Some kind → found ≡ None → ⊥
+pub some_none : (kind : ReadKind) (found : Option ReadKind) → found ≡ Some kind → found ≡ None → ⊥
 some_none kind found h g = absurd cc
 
 right_not_wrong : (before : List Token) (text : List ℕ) (kind : ReadKind) → IsRight before text

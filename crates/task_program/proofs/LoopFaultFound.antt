@@ -1,33 +1,28 @@
--- The fault of a text of version 2 that lies in its tokens is the first of them.
+-- The fault of a text of version 2 for which the first pass stops is the first of its tokens.
 use Rattle.std.proofs.Common.{◌≡◌, ℕ, ◌<◌, ◌≤◌, Bool, true, false, not, List, [], ◌∷◌, ◌++◌, length}
 use Rattle.std.proofs.Common.{append_assoc, Option, Some, None, Result, Ok, Err, refl, sym, ap}
 use Rattle.std.proofs.Common.{subst, ◌∙◌, arith, codes}
 use Rattle.std.specs.Prelude.{nat_le, reverse}
-use Rattle.std.proofs.lemmas.Bool.{leb-true, leb-false, ltb-true, ltb-false, and_parts, not-false}
+use Rattle.std.proofs.lemmas.Bool.{leb-true, leb-false, and_parts, not-false}
 use Rattle.std.proofs.lemmas.List.{append-nil, length-map}
 use Rattle.program_text.specs.declared.fault.ReadKind.{ReadKind}
-use Rattle.program_text.specs.declared.fault.ReadKind.TheVariants.{TooLong, BadWord, BadNumber}
+use Rattle.program_text.specs.declared.fault.ReadKind.TheVariants.{BadWord, BadNumber}
 use Rattle.program_text.specs.declared.fault.ReadKind.TheVariants.{Unclosed, Unopened, TooDeep}
 use Rattle.program_text.specs.declared.fault.ReadFault.{ReadFault}
 use Rattle.loop_text.specs.declared.loop_place.LoopPlace.{LoopPlace}
-use Rattle.loop_text.specs.declared.loop_place.LoopPlace.TheVariants.{Statement, WorkNumber}
-use Rattle.loop_text.specs.declared.loop_place.LoopPlace.TheVariants.{GroupBrace, ForFrom, ForTo}
-use Rattle.loop_text.specs.declared.loop_place.LoopPlace.TheVariants.{ForBrace, Clause, IfNumber}
-use Rattle.loop_text.specs.declared.loop_place.LoopPlace.TheVariants.{FinalNumber}
+use Rattle.loop_text.specs.declared.loop_place.LoopPlace.TheVariants.{Statement, GroupBrace}
+use Rattle.loop_text.specs.declared.loop_place.LoopPlace.TheVariants.{ForBrace, Clause}
 use Rattle.loop_text.specs.declared.loop_reader.LoopHead.{LoopHead}
 use Rattle.loop_text.specs.declared.open_loops.LoopBlock.{LoopBlock}
-use Rattle.program_text.specs.declared.limits.TheConstants.{MOST_TEXT_BYTES, MOST_NESTING}
-use Rattle.program_text.specs.declared.limits.TheConstants.{LARGEST_COST, LARGEST_BOUND}
-use Rattle.program_text.specs.Tokens.{Token, texts, tokens_of, line_at_end}
+use Rattle.program_text.specs.declared.limits.TheConstants.{MOST_NESTING}
+use Rattle.program_text.specs.Tokens.{Token, texts}
 use Rattle.task_program.specs.TokenCounts.{open_braces}
-use Rattle.program_text.specs.Words.{is_text, is_number, value_of}
+use Rattle.program_text.specs.Words.{is_text}
 use Rattle.loop_text.specs.Loops.{Tree}
 use Rattle.loop_text.specs.OpenBlocks.{variables_of, brace_of}
 use Rattle.loop_text.specs.FirstPass.{State, is_allowed, closes_nothing, is_number_too_large}
 use Rattle.loop_text.specs.FirstPass.{nests_too_deep, form_fault, place_fault, unless_fault, step}
 use Rattle.loop_text.specs.FirstPass.{end_at, tree_or_fault, go_on, first_pass, after_header}
-use Rattle.task_program.specs.ReadInVersion.{begins_version_two, then_second, two_passes}
-use Rattle.task_program.specs.ReadInVersion.{program_of}
 use Rattle.task_program.specs.LoopViablePrefix.{IsLoopSentence, IsLoopViable}
 use Rattle.task_program.specs.FirstLoopFault.{IsLoopWrong, AreLoopRight, EndsInLoops}
 use Rattle.task_program.specs.FirstLoopFault.{IsFirstLoopFault, IsPastLoopLimit, IsLoopRight}
@@ -48,8 +43,9 @@ use Rattle.task_program.proofs.LoopBegun.{closes_same, fits_of, unfit_close, unf
 use Rattle.task_program.proofs.LoopBegun.{is_not_viable, viable_next, step_passes, step_begins}
 use Rattle.task_program.proofs.LoopBegun.{Passed}
 use Rattle.task_program.proofs.LoopMost.{LastNow, last_more, large_at, small_at}
-use Rattle.program_text.proofs.Bools.{bool_cases}
 use Rattle.task_program.proofs.LoopFound.{step_went}
+
+-- ---- what is known where right tokens were read
 
 room_left : (open_now : ℕ) → nat_le MOST_NESTING open_now ≡ false → MOST_NESTING ≤ open_now → ⊥
 room_left open_now shallow deep =
@@ -63,21 +59,18 @@ blocks_open before state began =
     ap length began.braces_are
     ∙ length-map state.tree.blocks (λ (one : LoopBlock). brace_of one.opening)
 
--- a `{` that nests too deep nests too deep at its place
+-- a `{` that may come, and does not nest too deep for its place, has room
 shallow_at : (place : LoopPlace) (head : LoopHead) (open_now : List LoopBlock)
     → nests_too_deep place open_now (codes "{") ≡ false
     → is_allowed place head open_now (codes "{") ≡ true
     → MOST_NESTING ≤ length open_now
     → ⊥
-shallow_at GroupBrace head open_now shallow allowed deep =
-    room_left (length open_now) shallow deep
-shallow_at ForBrace head open_now shallow allowed deep =
-    room_left (length open_now) shallow deep
-shallow_at Clause head open_now shallow allowed deep =
-    room_left (length open_now) shallow deep
+shallow_at GroupBrace head open_now shallow allowed deep = room_left (length open_now) shallow deep
+shallow_at ForBrace head open_now shallow allowed deep = room_left (length open_now) shallow deep
+shallow_at Clause head open_now shallow allowed deep = room_left (length open_now) shallow deep
 shallow_at _ head open_now shallow allowed deep = absurd cc
 
--- what is known where right tokens were read
+-- what the grammar has there, what the last tokens tell of a number, and that none is wrong
 pub record Counts (before : List Token) (state : State) : Type 0 where
   pub began : LoopBegan before state
   pub last : LastNow before state

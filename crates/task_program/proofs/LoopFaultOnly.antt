@@ -1,6 +1,6 @@
 -- A text of version 2 that has a fault by the definition is refused with it, and with no other.
 use Rattle.std.proofs.Common.{◌≡◌, ℕ, ◌<◌, ◌≤◌, true, false, List, [], ◌∷◌, ◌++◌, length}
-use Rattle.std.proofs.Common.{append_assoc, Option, Some, None, Result, Ok, Err, refl, sym, ap}
+use Rattle.std.proofs.Common.{append_assoc, None, Result, Ok, Err, refl, sym, ap}
 use Rattle.std.proofs.Common.{subst, ◌∙◌, arith, codes}
 use Rattle.std.specs.Prelude.{nat_lt}
 use Rattle.std.proofs.lemmas.Bool.{ltb-true, ltb-false}
@@ -8,20 +8,17 @@ use Rattle.std.proofs.lemmas.List.{append-nil}
 use Rattle.program_text.specs.declared.fault.ReadKind.{ReadKind}
 use Rattle.program_text.specs.declared.fault.ReadKind.TheVariants.{TooLong, Unclosed}
 use Rattle.program_text.specs.declared.fault.ReadFault.{ReadFault}
-use Rattle.program_text.specs.declared.limits.TheConstants.{MOST_TEXT_BYTES, MOST_NESTING}
+use Rattle.program_text.specs.declared.limits.TheConstants.{MOST_TEXT_BYTES}
 use Rattle.program_text.specs.Tokens.{Token, texts, tokens_of, line_at_end}
-use Rattle.task_program.specs.TokenCounts.{open_braces}
 use Rattle.program_text.specs.Words.{is_number}
 use Rattle.loop_text.specs.Loops.{Tree}
 use Rattle.loop_text.specs.FirstPass.{State, form_fault, step, first_pass, after_header}
-use Rattle.task_program.specs.ProgramMarks.{ProgramMarks}
 use Rattle.task_program.specs.ReadInVersion.{begins_version_two, then_second, two_passes}
-use Rattle.task_program.specs.ReadInVersion.{second_pass, program_of}
-use Rattle.task_program.specs.LoopGrammar.{Spelled}
-use Rattle.task_program.specs.LoopViablePrefix.{IsLoopSentence, IsLoopViable}
+use Rattle.task_program.specs.ReadInVersion.{program_of}
+use Rattle.task_program.specs.LoopViablePrefix.{IsLoopSentence}
 use Rattle.task_program.specs.FirstLoopFault.{IsLoopMisplaced, IsPastLoopLimit, IsLoopWrong}
 use Rattle.task_program.specs.FirstLoopFault.{IsLoopRight, AreLoopRight, EndsInLoops}
-use Rattle.task_program.specs.FirstLoopFault.{IsFirstLoopFault, IsWholeTree, body_of, HasLoopFault}
+use Rattle.task_program.specs.FirstLoopFault.{IsFirstLoopFault, IsTreeOf, body_of, HasLoopFault}
 use Rattle.task_program.specs.FirstLoopFault.{IsToldInLoops, LoopFaultIsFirst}
 use Rattle.task_program.specs.FirstLoopFault.IsLoopMisplaced.{AfterWhole, Elsewhere}
 use Rattle.task_program.specs.FirstLoopFault.IsPastLoopLimit.{LargeNumber, DeepBlock}
@@ -32,23 +29,17 @@ use Rattle.task_program.specs.FirstLoopFault.IsFirstLoopFault.{AtToken, AtEnd}
 use Rattle.task_program.specs.FirstLoopFault.HasLoopFault.{TextTooLong, OfTokens, OfExpansion}
 use Rattle.std.proofs.lemmas.List.Elements.{All-nil, All-push}
 use Rattle.task_program.proofs.ReadWhole.{of_two, went_through, too_long, same_fault, fault_so}
+use Rattle.task_program.proofs.FaultFound.{two_kinds, some_none}
 use Rattle.task_program.proofs.LoopFound.{AreFormed, found_tree}
 use Rattle.task_program.proofs.LoopOnly.{taken_tree}
-use Rattle.task_program.proofs.LoopFaultFound.{Counts, step_right, counts_more, token_wrong, early_at}
-use Rattle.task_program.proofs.LoopFaultFound.{no_sentence_at, end_is, fault_from, whole_from}
-use Rattle.task_program.proofs.LoopFaultFound.{at_start}
+use Rattle.task_program.proofs.LoopFaultFound.{Counts, step_right, counts_more, token_wrong}
+use Rattle.task_program.proofs.LoopFaultFound.{early_at, no_sentence_at, end_is, fault_from}
+use Rattle.task_program.proofs.LoopFaultFound.{whole_from, at_start}
 use Rattle.program_text.proofs.Bools.{bool_cases}
 
 -- ---- one fault at most
 
-two_kinds : (one other : ReadKind) (found : Option ReadKind) → found ≡ Some one
-    → found ≡ Some other
-    → one ≡ other
-two_kinds one other found h g = cc
-
-some_none : (kind : ReadKind) (found : Option ReadKind) → found ≡ Some kind → found ≡ None → ⊥
-some_none kind found h g = absurd cc
-
+-- no token is both right and wrong
 right_not_wrong : (before : List Token) (text : List ℕ) (kind : ReadKind)
     → IsLoopRight before text
     → IsLoopWrong before text kind
@@ -275,7 +266,7 @@ all_formed tokens (More before token rights right) =
 -- the first pass makes the tree that they spell
 whole_tree : (tokens : List Token) (line : ℕ) (tree : Tree)
     → first_pass tokens line after_header ≡ Ok tree
-    → IsWholeTree tokens tree
+    → IsTreeOf tokens tree
 whole_tree tokens line tree h =
     let whole = whole_from tokens [] after_header line tree at_start h in
     record {
@@ -285,10 +276,19 @@ whole_tree tokens line tree h =
     }
 
 tree_read : (tokens : List Token) (line : ℕ) (tree : Tree)
-    → IsWholeTree tokens tree
+    → IsTreeOf tokens tree
     → first_pass tokens line after_header ≡ Ok tree
 tree_read tokens line tree w =
     taken_tree tokens line tree (all_formed tokens w.right) w.spelled
+
+-- a sentence of right tokens has a tree
+tree_of : (tokens : List Token) (line : ℕ)
+    → IsLoopSentence (texts tokens)
+    → AreLoopRight tokens
+    → (tree : Tree) × IsTreeOf tokens tree
+tree_of tokens line sentence rights =
+    let read_whole = whole_read tokens line sentence rights in
+    (read_whole.0, whole_tree tokens line read_whole.0 read_whole.1)
 
 -- ---- the whole
 
@@ -342,6 +342,7 @@ told_in_loops text two short =
             (sym so ∙ h),
         λ h. short_refused text fault fits so h,
       );
+      has_tree = λ sentence rights. tree_of (body_of text) line sentence rights;
     }
 
 long_refused : (text : List ℕ) (fault : ReadFault)
@@ -369,6 +370,8 @@ long_in_loops text long =
             (TextTooLong text longer),
         λ h. long_refused text fault longer (too_long text long) h,
       );
+      has_tree = λ sentence rights.
+          tree_of (body_of text) (line_at_end 1 text) sentence rights;
     }
 
 pub loop_fault_is_first : (text : List ℕ) → LoopFaultIsFirst text

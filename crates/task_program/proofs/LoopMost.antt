@@ -1,7 +1,7 @@
 -- How large a number may be where the first pass stands, told by the last tokens.
-use Rattle.std.proofs.Common.{◌≡◌, ℕ, ◌<◌, ◌≤◌, Bool, true, false, not, ◌&&◌, ◌||◌, List, []}
-use Rattle.std.proofs.Common.{◌∷◌, ◌++◌}
-use Rattle.std.proofs.Common.{Option, Some, None, refl, sym, ap, subst, ◌∙◌, arith, codes}
+use Rattle.std.proofs.Common.{◌≡◌, ℕ, ◌<◌, ◌≤◌, Bool, true, false, ◌||◌, List, []}
+use Rattle.std.proofs.Common.{◌∷◌, ◌++◌, Option, Some, None, refl, sym, ap, subst, ◌∙◌, arith}
+use Rattle.std.proofs.Common.{codes}
 use Rattle.std.specs.Prelude.{nat_lt, reverse}
 use Rattle.std.proofs.lemmas.Bool.{and_parts, ltb-true, ltb-false}
 use Rattle.std.proofs.Math.Bool.{and-false}
@@ -23,18 +23,19 @@ use Rattle.loop_text.specs.declared.loop_reader.LoopHead.{LoopHead}
 use Rattle.loop_text.specs.declared.open_loops.LoopBlock.{LoopBlock}
 use Rattle.program_text.specs.declared.limits.TheConstants.{LARGEST_COST, LARGEST_BOUND}
 use Rattle.program_text.specs.Tokens.{Token, texts}
-use Rattle.program_text.specs.Words.{begins_with_digit, is_run, is_text, is_word, is_number, is_type, value_of}
+use Rattle.program_text.specs.Words.{begins_with_digit, is_run, is_text, is_word, is_number}
+use Rattle.program_text.specs.Words.{is_type, value_of}
 use Rattle.loop_text.specs.FirstPass.{State, is_allowed, is_number_too_large, after_at}
 use Rattle.loop_text.specs.FirstPass.{is_plus_or_minus, ends_item}
 use Rattle.task_program.specs.FirstLoopFault.{ends_with, ends_with_variable, ends_with_bound}
-use Rattle.task_program.specs.FirstLoopFault.{most_by_last, most_after}
+use Rattle.task_program.specs.FirstLoopFault.{most_by_last}
 use Rattle.task_program.proofs.FoundPlaces.{same_text}
 use Rattle.task_program.proofs.Tallies.{other_text}
 use Rattle.task_program.proofs.Begun.{texts_more}
 use Rattle.task_program.proofs.LoopShapes.{is_loop_end}
 use Rattle.program_text.proofs.Bools.{bool_cases}
 
--- the most that a number may be at a place
+-- the most that a number may be at a place, if there is a most
 abbrev pub most_at : LoopPlace → Option ℕ
 most_at WorkNumber = Some LARGEST_COST
 most_at ForFrom = Some LARGEST_BOUND
@@ -208,21 +209,34 @@ no_statement : (head : LoopHead) (open_now : List LoopBlock) (text : List ℕ)
     → is_number text ≡ true
     → is_allowed Statement head open_now text ≡ false
 no_statement head open_now text n =
-    rw (no_text text (codes "work") n refl, no_text text (codes "task") n refl,
-    no_text text (codes "taskwait") n refl, no_text text (codes "taskgroup") n refl,
-    no_text text (codes "for") n refl, no_text text (codes "}") n refl) refl
+    rw (
+      no_text text (codes "work") n refl,
+      no_text text (codes "task") n refl,
+      no_text text (codes "taskwait") n refl,
+      no_text text (codes "taskgroup") n refl,
+      no_text text (codes "for") n refl,
+      no_text text (codes "}") n refl,
+    ) refl
 
 no_clause : (head : LoopHead) (open_now : List LoopBlock) (text : List ℕ)
     → is_number text ≡ true
     → is_allowed Clause head open_now text ≡ false
 no_clause head open_now text n =
-    rw (no_text text (codes "{") n refl, no_text text (codes "depend") n refl,
-    no_text text (codes "if") n refl, no_text text (codes "final") n refl) refl
+    rw (
+      no_text text (codes "{") n refl,
+      no_text text (codes "depend") n refl,
+      no_text text (codes "if") n refl,
+      no_text text (codes "final") n refl,
+    ) refl
 
 no_type : (text : List ℕ) → is_number text ≡ true → is_type text ≡ false
 no_type text n =
-    rw (no_text text (codes "in") n refl, no_text text (codes "out") n refl,
-    no_text text (codes "inout") n refl, no_text text (codes "inoutset") n refl) refl
+    rw (
+      no_text text (codes "in") n refl,
+      no_text text (codes "out") n refl,
+      no_text text (codes "inout") n refl,
+      no_text text (codes "inoutset") n refl,
+    ) refl
 
 no_end : (text : List ℕ) → is_number text ≡ true → ends_item text ≡ false
 no_end text n = rw (no_text text (codes ",") n refl, no_text text (codes ")") n refl) refl

@@ -1,5 +1,5 @@
--- The fault of a text of version 2, apart from any reading of its tokens: the first of them at which
--- something is wrong, and what it is; or else the fault of its expansion.
+-- The fault of a text of version 2, apart from any reading of its tokens: the first of them at
+-- which something is wrong, and what it is; or else the fault of its expansion.
 use Rattle.std.specs.Prelude.{◌≡◌, ℕ, ◌<◌, ◌≤◌, ◌↔◌, Bool, true, false, ◌&&◌, ◌||◌}
 use Rattle.std.specs.Prelude.{if◌then◌else◌, List, [], ◌∷◌, ◌++◌, length, drop, reverse, Option}
 use Rattle.std.specs.Prelude.{Some, None, Ok, Err, codes}
@@ -37,7 +37,7 @@ ends_with_bound [] = false
 ends_with_bound (last ∷ others) = is_number last && ends_with_variable others
 
 -- A variable may be called `work`, so a `for` is looked for first. The number of an index may be of
--- any size: it comes after `[`, `+` or `-`.
+-- any size: it comes after `[`, `+` or `-`, also where the name or variable before is called `for`.
 abbrev pub most_by_last : List (List ℕ) → Option ℕ
 most_by_last before =
     if ends_with_variable before || ends_with_bound before then Some LARGEST_BOUND
@@ -45,8 +45,8 @@ most_by_last before =
     else (if ends_with (codes "(") before then Some 1
     else None))
 
--- the most that a number may be after these, where the grammar has a number: of a bound, of the cost
--- of a `work`, and 1 of an `if` or `final`
+-- the most that a number may be after these, where the grammar has a number: that of a bound, that
+-- of the cost of a `work`, and 1 for an `if` or `final`
 abbrev pub most_after : List (List ℕ) → Option ℕ
 most_after before = most_by_last (reverse before)
 
@@ -135,7 +135,7 @@ pub data IsFirstLoopFault : (tokens : List Token) (end_line : ℕ) → ReadFault
       → IsFirstLoopFault tokens end_line fault
 
 -- these are a sentence, each token right, and spell this tree
-pub record IsWholeTree (tokens : List Token) (tree : Tree) : Type 0 where
+pub record IsTreeOf (tokens : List Token) (tree : Tree) : Type 0 where
   pub sentence : IsLoopSentence (texts tokens)
   pub right : AreLoopRight tokens
   pub spelled : Spelled [] MOST_NESTING tokens tree
@@ -156,7 +156,7 @@ pub data HasLoopFault : List ℕ → ReadFault → Type 0 where
   OfExpansion : (text : List ℕ) (fault : ReadFault)
       → length text ≤ MOST_TEXT_BYTES
       → (tree : Tree)
-      → IsWholeTree (body_of text) tree
+      → IsTreeOf (body_of text) tree
       → second_pass tree ≡ Err fault
       → HasLoopFault text fault
 
@@ -164,7 +164,7 @@ pub data HasLoopFault : List ℕ → ReadFault → Type 0 where
 pub record IsRightLoopText (text : List ℕ) (program : ProgramMarks) : Type 0 where
   pub text_fits : length text ≤ MOST_TEXT_BYTES
   pub tree : Tree
-  pub whole : IsWholeTree (body_of text) tree
+  pub whole : IsTreeOf (body_of text) tree
   pub expanded : second_pass tree ≡ Ok program
 
 -- What is read is a sentence within the limits, each token right, of which the expansion is the
@@ -173,6 +173,10 @@ pub record IsToldInLoops (text : List ℕ) : Type 0 where
   pub read : (program : ProgramMarks)
       → (program_of text ≡ Ok program) ↔ IsRightLoopText text program
   pub refused : (fault : ReadFault) → (program_of text ≡ Err fault) ↔ HasLoopFault text fault
+  -- and a sentence of right tokens has a tree
+  pub has_tree : IsLoopSentence (texts (body_of text))
+      → AreLoopRight (body_of text)
+      → (tree : Tree) × IsTreeOf (body_of text) tree
 
 -- the header is that of version 2
 abbrev pub LoopFaultIsFirst : List ℕ → Type 0
