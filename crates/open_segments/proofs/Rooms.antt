@@ -163,26 +163,27 @@ fuller_step before now after places k x within is once so_far here = record {
       (so_far.others count place (λ has. none (still_has places k x place within has)) room);
 }
 
--- room has been made in the lists at these places that have no value
-pub record IsRoomMade (values : List (Option ℕ)) (these : ℕ → Type 0)
+-- room has been made in the lists at these places that have no value, but for one of them
+pub record IsRoomMade (values : List (Option ℕ)) (but : ℕ) (these : ℕ → Type 0)
     (before after : List (Vec ℕ Global))
     : Type 0 where
   pub roomier : IsRoomier before after
-  pub room : (place : ℕ) → these place → entry values place ≡ None → HasRoom after 2 place
+  pub room : (place : ℕ) → these place → place ≢ but → entry values place ≡ None
+      → HasRoom after 2 place
 
-pub room_made_step : (values : List (Option ℕ)) (before now after : List (Vec ℕ Global))
+pub room_made_step : (values : List (Option ℕ)) (but : ℕ) (before now after : List (Vec ℕ Global))
     (places : List ℕ) (k x : ℕ)
     → k < length places
     → x ≡ get_or places k x
-    → IsRoomMade values (Contains (take k places)) before now
+    → IsRoomMade values but (Contains (take k places)) before now
     → IsRoomier now after
-    → (entry values x ≡ None → HasRoom after 2 x)
-    → IsRoomMade values (Contains (take (k + 1) places)) before after
-room_made_step values before now after places k x within is so_far more here = record {
+    → (x ≢ but → entry values x ≡ None → HasRoom after 2 x)
+    → IsRoomMade values but (Contains (take (k + 1) places)) before after
+room_made_step values but before now after places k x within is so_far more here = record {
   roomier = roomier_then before now after so_far.roomier more;
-  room = λ place has none. elim (next_cases places k x place within is has) [
-    | inl earlier ↦ more.still 2 place (so_far.room place earlier none)
+  room = λ place has apart none. elim (next_cases places k x place within is has) [
+    | inl earlier ↦ more.still 2 place (so_far.room place earlier apart none)
     | inr same ↦ subst (λ (n : ℕ). HasRoom after 2 n) (sym same)
-        (here (ap (λ (n : ℕ). entry values n) (sym same) ∙ none))
+        (here (λ is_it. apart (same ∙ is_it)) (ap (λ (n : ℕ). entry values n) (sym same) ∙ none))
   ];
 }

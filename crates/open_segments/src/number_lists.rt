@@ -21,34 +21,39 @@ pub fn no_lists(alloc: Global, count: u32) -> Result<Vec<Vec<u32>>, AllocFault>
     Ok(lists)
 }
 
-/// Makes room for two more numbers in the lists at those of these places that have no value.
+/// Makes room for two more numbers in the lists at those of these places that have no value, but
+/// for the place that gets its value next.
 pub fn make_room(
     lists: &mut Vec<Vec<u32>>,
     values: &[Option<u64>],
     places: &[u32],
+    but: u32,
 ) -> Result<(), AllocFault>
     requires { (place : ℕ) → Contains places.now place → place < length lists.old.items }
     ensures roomier { IsRoomier lists.old.items lists.new.items }
-    ensures room { OnOk result ((place : ℕ) → Contains places.now place
+    ensures room { OnOk result ((place : ℕ) → Contains places.now place → place ≢ but
         → entry values.now place ≡ None → HasRoom lists.new.items 2 place) }
 {
     for place in places {
-        make_room_at(lists, values, *place)?;
+        make_room_at(lists, values, *place, but)?;
     }
     Ok(())
 }
 
-/// Makes room for two more numbers in the list at the place, if it has no value.
+/// Makes room for two more numbers in the list at the place, if it has no value and is not the one
+/// that gets its value next.
 fn make_room_at(
     lists: &mut Vec<Vec<u32>>,
     values: &[Option<u64>],
     place: u32,
+    but: u32,
 ) -> Result<(), AllocFault>
     requires { place < length lists.old.items }
     ensures roomier { IsRoomier lists.old.items lists.new.items }
-    ensures room { OnOk result (entry values.now place ≡ None → HasRoom lists.new.items 2 place) }
+    ensures room { OnOk result (place ≢ but → entry values.now place ≡ None
+        → HasRoom lists.new.items 2 place) }
 {
-    if value_entry(values, place).is_some() {
+    if place == but || value_entry(values, place).is_some() {
         return Ok(());
     }
     lists[place as usize].reserve(2)?;

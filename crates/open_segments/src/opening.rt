@@ -62,7 +62,7 @@ pub fn next_opening(
         None => return Ok(None),
     };
     let preds = next_predecessors(alloc, table, finished, next)?;
-    make_room(successors, values, preds.as_slice())?;
+    make_room(successors, values, preds.as_slice(), finished)?;
     Ok(Some(Opening {
         segment: next,
         preds,
@@ -102,7 +102,7 @@ pub fn first_opening(
         segment: table.first(child),
         preds: first_predecessors(table, child, kept),
     };
-    make_room(successors, values, opening.preds.as_slice())?;
+    make_room(successors, values, opening.preds.as_slice(), finished)?;
     add_sibling(table, siblings, child)?;
     Ok(Some(opening))
 }

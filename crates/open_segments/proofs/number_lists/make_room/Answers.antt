@@ -21,7 +21,7 @@ make_room_at-requires c =
 pub loop-place-init : goal.loop-place-init
 loop-place-init c = record {
   roomier = roomier_same c.args.lists.now.items;
-  room = λ place has none. let within = has.1 in absurd (omega (arith, within));
+  room = λ place has apart none. let within = has.1 in absurd (omega (arith, within));
 }
 
 pub loop-place-preserved : goal.loop-place-preserved
@@ -31,7 +31,7 @@ loop-place-preserved c =
     let place : ℕ = slice_index_or list index 0 in
     let within : index < length list = c.loop-place-test.true in
     let is : place ≡ get_or list index place = sym (get_or_default list index place 0 within) in
-    room_made_step c.args.values.now c.args.lists.now.items c.loop-place.lists.items
+    room_made_step c.args.values.now c.args.but c.args.lists.now.items c.loop-place.lists.items
     c.make_room_at.new.lists.items list index place within is c.loop-place.invariant
     c.in_ok-make_room_at.ensures.roomier c.in_ok-make_room_at.ensures.room
 
@@ -41,8 +41,8 @@ returns c =
     take_all c.loop-place.place-index c.args.places.now (omega (arith, c.loop-place-test.false)) in
     record {
       roomier = c.loop-place.invariant.roomier;
-      room = λ place has none. c.loop-place.invariant.room place
-          (subst (λ (l : List ℕ). Contains l place) (sym whole) has) none;
+      room = λ place has apart none. c.loop-place.invariant.room place
+          (subst (λ (l : List ℕ). Contains l place) (sym whole) has) apart none;
     }
 
 pub returns-in_err-make_room_at-clause-roomier : goal.returns-in_err-make_room_at-clause-roomier

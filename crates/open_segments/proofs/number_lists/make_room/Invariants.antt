@@ -5,4 +5,5 @@ use Rattle.open_segments.proofs.number_lists.make_room.Given as goal
 
 abbrev pub invariant-loop-place : goal.invariant-loop-place
 invariant-loop-place l =
-    IsRoomMade l.values (Contains (take l.place-index l.places)) l.initial.lists.items l.lists.items
+    IsRoomMade l.values l.but (Contains (take l.place-index l.places)) l.initial.lists.items
+    l.lists.items

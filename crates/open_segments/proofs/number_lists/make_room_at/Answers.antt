@@ -9,7 +9,7 @@ returns-clause-roomier c =
     c.reserve.ensures.capacity
 
 pub returns-clause-room : goal.returns-clause-room
-returns-clause-room c none =
+returns-clause-room c apart none =
     room_at c.args.lists.now.items 2 c.args.place c.reserve.new.self
     (let less = c.requires in omega (arith, less)) c.in_ok-reserve.ensures.ok
 

@@ -151,4 +151,4 @@ returns-in_err-kept-clause-roomier c = roomier_same c.args.successors.now.items
 pub returns-clause-room : goal.returns-clause-room
 returns-clause-room c p has apart none =
     c.in_ok-make_room.ensures.room p
-    (subst (λ (l : List ℕ). Contains l p) (sym c.as_slice-2.ensures.value) has) none
+    (subst (λ (l : List ℕ). Contains l p) (sym c.as_slice-2.ensures.value) has) apart none

@@ -30,4 +30,4 @@ returns-clause-next c = record {
 pub returns-clause-room : goal.returns-clause-room
 returns-clause-room c p has apart none =
     c.in_ok-make_room.ensures.room p
-    (subst (λ (l : List ℕ). Contains l p) (sym c.as_slice.ensures.value) has) none
+    (subst (λ (l : List ℕ). Contains l p) (sym c.as_slice.ensures.value) has) apart none
