@@ -1,6 +1,6 @@
 -- Lists that have each number of a set once, in ascending order.
-use Rattle.std.proofs.Common.{ℕ, ◌+◌, ◌-◌, ◌<◌, ◌≡◌, ◌⊎◌, ◌↔◌, List, [], ◌∷◌, ◌++◌, length, get_or}
-use Rattle.std.proofs.Common.{map, take, drop, refl, sym, ap, ◌∙◌, subst, arith, inl, inr}
+use Rattle.std.proofs.Common.{ℕ, ◌+◌, ◌-◌, ◌<◌, ◌≤◌, ◌≡◌, ◌⊎◌, ◌↔◌, List, [], ◌∷◌, ◌++◌, length}
+use Rattle.std.proofs.Common.{get_or, map, take, drop, refl, sym, ap, ◌∙◌, subst, arith, inl, inr}
 use Rattle.std.specs.Prelude.{Contains, IsTrue, Bool, true, false, if◌then◌else◌}
 use Rattle.std.specs.List.Sorted.{IsStrictlyIncreasing}
 use Rattle.std.proofs.lemmas.Bool.{cases_lt, both_ways}
@@ -28,16 +28,28 @@ Lists-like P Q list there back lists = record {
 abbrev pub Below : (ℕ → Type 0) → ℕ → ℕ → Type 0
 Below P i n = (n < i) × P n
 
+-- where none passes from there to a further place
+pub Lists-further : (P : ℕ → Type 0) (i j : ℕ) (list : List ℕ)
+    → i ≤ j
+    → ((n : ℕ) → P n → i ≤ n → n < j → ⊥)
+    → Lists (Below P i) list
+    → Lists (Below P j) list
+Lists-further P i j list up none lists =
+    Lists-like (Below P i) (Below P j) list (λ n h. (omega (arith, h.0, up), h.1))
+    (λ n h. elim (cases_lt n i) [
+      | inl below ↦ (below, h.1)
+      | inr above ↦ absurd (none n h.1 above h.0)
+    ])
+    lists
+
 pub Lists-skip : (P : ℕ → Type 0) (i : ℕ) (list : List ℕ)
     → ¬ P i
     → Lists (Below P i) list
     → Lists (Below P (i + 1)) list
 Lists-skip P i list not_here lists =
-    Lists-like (Below P i) (Below P (i + 1)) list (λ n h. (omega (arith, h.0), h.1))
-    (λ n h. elim (cases_lt n i) [
-      | inl below ↦ (below, h.1)
-      | inr above ↦ absurd (let same : n ≡ i = omega (arith, h.0) in not_here (subst P same h.1))
-    ])
+    Lists-further P i (i + 1) list (omega arith)
+    (λ n here above below.
+    let same : n ≡ i = omega (arith, above, below) in not_here (subst P same here))
     lists
 
 get_or-push_last : (xs : List ℕ) (i : ℕ) → get_or (xs ++ i ∷ []) (length xs) 0 ≡ i

@@ -15,7 +15,7 @@ use Rattle.task_segments.proofs.Order.{ancestor_lower, descendant_last, goes_up,
 use Rattle.task_segments.proofs.Order.{siblings_apart}
 use Rattle.depend_table.specs.Kept.{KeptWait, KeptGroupEnd}
 use Rattle.depend_table.proofs.Groups.{innermost_encloses}
-use Rattle.open_segments.specs.WaysToOpen.{Joins, EndsChild}
+use Rattle.open_segments.specs.WaysToOpen.{Joins}
 use Rattle.open_segments.proofs.Edges.{waits_not_creates}
 
 -- the task does not wait from this segment on before that one
@@ -98,11 +98,11 @@ waited_since table from before next child facts follows waits since generated ab
     }
 
 -- the creator of a child that is waited for
-record Created (table : Table) (before p : ℕ) (creator : ℕ) : Type 0 where
-  of_task : IsOf table (segment table before).task creator
-  earlier : creator < p
+pub record Created (table : Table) (before p : ℕ) (creator : ℕ) : Type 0 where
+  pub of_task : IsOf table (segment table before).task creator
+  pub earlier : creator < p
 
-creator_precedes : (table : Table) (before next p : ℕ)
+pub creator_precedes : (table : Table) (before next p : ℕ)
     → IsReadInPlace table
     → Continues table before next
     → (kept : KeptWait table p next)
@@ -148,13 +148,6 @@ since_first table from before next p facts follows of_task none kept =
                 omega (arith, low, at_first, earlier)
           ]
     ]
-
--- the task whose last segment it is
-pub ends_task : (table : Table) (u s : ℕ) → IsReadInPlace table → IsTask table u
-    → (task table u).last ≡ s
-    → (segment table s).task ≡ u
-ends_task table u s facts known last = ap (λ (n : ℕ). (segment table n).task) (sym last) ∙
-    (facts.last_of u known).of_task
 
 -- and none before the previous wait
 pub since_wait : (table : Table) (earlier from before next p : ℕ) → IsReadInPlace table
@@ -229,41 +222,6 @@ group_no_wait table before next s facts follows ends kept =
     no_group (segment table kept.wait.before).closing kept.wait.waits
     (ap (λ (n : ℕ). (segment table n).closing)
     (facts.follows_one kept.wait.before before next kept.wait.opens follows) ∙ ends)
-
-pub wait_joins : (table : Table) (from before next s : ℕ)
-    → IsReadInPlace table
-    → Continues table before next
-    → (segment table before).closing ≡ Waits
-    → ((c : ℕ) → IsEarlierChild table c next → from ≤ (task table c).last
-    → KeptWait table (task table c).last next)
-    → from ≤ s
-    → s < before
-    → EndsChild table (segment table before).task s ↔ Joins table s next
-wait_joins table from before next s facts follows waits waited above below = (
-  λ ends.
-      let known = facts.with_parent ends.child (segment table before).task ends.of_parent in
-      let creator = facts.has_creator ends.child (segment table before).task known ends.of_parent in
-      let made = facts.created_before ends.child creator.0 known creator.1 in
-      let later = facts.follows_later before next follows in
-      let generated : IsEarlierChild table ends.child next = record {
-        is_child = known;
-        parent = ends.of_parent ∙ ap (λ (n : ℕ). Some n) (sym follows.same_task);
-        creator = creator.0;
-        is_creator = creator.1;
-        earlier = omega (arith, made, later, below, ends.last);
-      } in
-      inl (subst (λ (n : ℕ). KeptWait table n next) ends.last
-      (waited ends.child generated (omega (arith, above, ends.last)))),
-  λ joins. elim joins [
-    | inl kept ↦ record {
-      child = kept.wait.child;
-      of_parent = kept.wait.generated.parent ∙ ap
-          (λ (n : ℕ). Some n) follows.same_task;
-      last = kept.wait.last;
-    }
-    | inr group ↦ absurd (wait_no_group table before next s facts follows waits group)
-  ],
-)
 
 pub group_joins : (table : Table) (before next s : ℕ)
     → IsReadInPlace table

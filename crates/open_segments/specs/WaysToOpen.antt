@@ -20,9 +20,3 @@ last_segment table u = (task table u).last
 -- after for that
 abbrev pub Joins : Table → ℕ → ℕ → Type 0
 Joins table s t = KeptWait table s t ⊎ KeptGroupEnd table s t
-
--- s is the last segment of a child of the task
-pub record EndsChild (table : Table) (parent s : ℕ) : Type 0 where
-  pub child : ℕ
-  pub of_parent : (task table child).parent ≡ Some parent
-  pub last : (task table child).last ≡ s

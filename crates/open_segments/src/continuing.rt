@@ -5,10 +5,10 @@
 //! ascending:
 //! - of the next one here, by how the finished segment closes. Where it creates a task: the
 //!   finished segment, and then the task's last one if the task is undeferred. At a wait: the last
-//!   segments of the children since the previous wait, and then the finished segment. At the end of
-//!   a group: the last segments of the tasks whose innermost group it is, and then the finished
-//!   segment. From where on these stand `wait_begin` and `group_begin` tell, and one pass from
-//!   there finds them.
+//!   segments of the children since the previous wait, and then the finished segment. A walk along
+//!   the task's own segments, from `wait_begin` on, meets these children where it creates them. At
+//!   the end of a group: the last segments of the tasks whose innermost group it is, and then the
+//!   finished segment. One pass over all segments from `group_begin` on finds them.
 //! - of the first one in `record`: the last segments of the kept siblings, as the table of its
 //!   parent's children tells them (`depend_table`), and then the finished segment.
 //!
@@ -16,10 +16,10 @@
 ghost use Rattle.std.specs.Prelude.{ℕ, Some, ◌≡◌, ◌<◌, ◌≤◌, ◌↔◌, IfOk, IsTrue};
 ghost use Rattle.task_segments.specs.Table.{segment, task};
 ghost use Rattle.task_segments.specs.declared.table.Closing.TheVariants as closings;
+ghost use Rattle.task_segments.specs.InPlace.{IsOf};
 ghost use Rattle.task_segments.specs.Precedence.{Continues, IsEarlierChild, IsSegment, IsTask};
 ghost use Rattle.depend_table.specs.Kept.{IsKeptEdge, KeptGroupEnd, KeptWait};
 ghost use Rattle.depend_table.specs.Lists.{Lists};
-ghost use Rattle.open_segments.specs.WaysToOpen.{EndsChild};
 
 use crate::entries::push_if;
 use crate::opener::opener;
@@ -72,7 +72,7 @@ fn after_task(
 }
 
 /// After a wait: the last segments of the children since the task's previous wait, and then the one
-/// that waits.
+/// that waits. Of the segments between only the task's own are looked at.
 fn after_wait(
     alloc: Global,
     table: &SegTable,
@@ -84,12 +84,13 @@ fn after_wait(
     ensures { IfOk result (λ preds. Lists (λ p. IsKeptEdge table.now p next) preds.items) }
 {
     reads_in_place(table);
-    let parent = table.task_of(before);
-    let from = wait_begin(table, before, next);
     let mut preds = Vec::new(alloc);
-    for segment in from..before {
-        let waited = ends_child(table, segment, parent);
-        push_if(&mut preds, segment, waited)?;
+    let mut segment = wait_begin(table, before, next);
+    while segment < before {
+        if let Closing::Creates(child) = table.closing(segment) {
+            preds.push(table.last(child))?;
+        }
+        segment = table.next(segment).unwrap();
     }
     preds.push(before)?;
     Ok(preds)
@@ -100,6 +101,7 @@ fn after_wait(
 fn wait_begin(table: &SegTable, before: u32, next: u32) -> u32
     requires follows { Continues table.now before next }
     requires waits { (segment table.now before).closing ≡ closings.Waits }
+    ensures of_task { IsOf table.now (segment table.now before).task result }
     ensures up_to { result ≤ before }
     ensures reached { (s : ℕ) → KeptWait table.now s next → result ≤ s }
     ensures waited { (c : ℕ) → IsEarlierChild table.now c next → result ≤ (task table.now c).last
@@ -126,19 +128,6 @@ fn previous_segment(table: &SegTable, segment: u32) -> Option<u32>
         return None;
     }
     opener(table, segment)
-}
-
-/// Whether a segment is the last one of a child of the task.
-fn ends_child(table: &SegTable, segment: u32, parent: u32) -> bool
-    requires { IsSegment table.now segment }
-    ensures { IsTrue result ↔ EndsChild table.now parent segment }
-{
-    reads_in_place(table);
-    let task = table.task_of(segment);
-    if table.last(task) != segment {
-        return false;
-    }
-    table.parent(task) == Some(parent)
 }
 
 /// After the end of a group: the last segments of the tasks whose innermost group it is, and then

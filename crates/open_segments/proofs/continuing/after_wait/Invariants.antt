@@ -1,7 +1,9 @@
-use Rattle.depend_table.specs.Lists.{Lists}
-use Rattle.open_segments.specs.WaysToOpen.{Joins}
-use Rattle.open_segments.proofs.ListLemmas.{Below}
+use Rattle.std.proofs.Common.{◌-◌}
+use Rattle.open_segments.proofs.Joining.{IsWalked}
 use Rattle.open_segments.proofs.continuing.after_wait.Given as goal
 
 abbrev pub invariant-loop-segment : goal.invariant-loop-segment
-invariant-loop-segment l = Lists (Below (λ p. Joins l.table p l.next) l.segment) l.preds.items
+invariant-loop-segment l = IsWalked l.table l.before l.next l.segment l.preds.items
+
+abbrev pub decreases-loop-segment : goal.decreases-loop-segment
+decreases-loop-segment l = l.before - l.segment
