@@ -15,6 +15,7 @@ use Rattle.loop_text.specs.Loops.{Tree}
 use Rattle.loop_text.specs.FirstPass.{State, form_fault, step, first_pass, after_header}
 use Rattle.task_program.specs.ReadInVersion.{begins_version_two, then_second, two_passes}
 use Rattle.task_program.specs.ReadInVersion.{program_of}
+use Rattle.task_program.specs.LoopGrammar.{IsSpelled}
 use Rattle.task_program.specs.LoopViablePrefix.{IsLoopSentence}
 use Rattle.task_program.specs.FirstLoopFault.{IsLoopMisplaced, IsPastLoopLimit, IsLoopWrong}
 use Rattle.task_program.specs.FirstLoopFault.{IsLoopRight, AreLoopRight, EndsInLoops}
@@ -29,12 +30,15 @@ use Rattle.task_program.specs.FirstLoopFault.IsFirstLoopFault.{AtToken, AtEnd}
 use Rattle.task_program.specs.FirstLoopFault.HasLoopFault.{TextTooLong, OfTokens, OfExpansion}
 use Rattle.std.proofs.lemmas.List.Elements.{All-nil, All-push}
 use Rattle.task_program.proofs.ReadWhole.{of_two, went_through, too_long, same_fault, fault_so}
+use Rattle.task_program.proofs.ReadWhole.{short_words}
 use Rattle.task_program.proofs.FaultFound.{two_kinds, some_none}
 use Rattle.task_program.proofs.LoopFound.{AreFormed, found_tree}
 use Rattle.task_program.proofs.LoopOnly.{taken_tree}
 use Rattle.task_program.proofs.LoopFaultFound.{Counts, step_right, counts_more, token_wrong}
 use Rattle.task_program.proofs.LoopFaultFound.{early_at, no_sentence_at, end_is, fault_from}
 use Rattle.task_program.proofs.LoopFaultFound.{whole_from, at_start}
+use Rattle.task_program.proofs.Allowed.{expansion_taken, expansion_is}
+use Rattle.task_program.proofs.ExpansionRefused.{expansion_fault}
 use Rattle.program_text.proofs.Bools.{bool_cases}
 
 -- ---- one fault at most
@@ -281,6 +285,14 @@ tree_read : (tokens : List Token) (line : ℕ) (tree : Tree)
 tree_read tokens line tree w =
     taken_tree tokens line tree (all_formed tokens w.right) w.spelled
 
+-- and its words are no longer than a word may be
+spelled_short : (tokens : List Token) (tree : Tree) → IsTreeOf tokens tree → IsSpelled tree
+spelled_short tokens tree w = record {
+  tokens = tokens;
+  spelled = w.spelled;
+  words_fit = short_words tokens (all_formed tokens w.right);
+}
+
 -- a sentence of right tokens has a tree
 tree_of : (tokens : List Token) (line : ℕ)
     → IsLoopSentence (texts tokens)
@@ -299,7 +311,8 @@ fault_by_pass : (text : List ℕ) (read : Result Tree ReadFault) (fault : ReadFa
     → HasLoopFault text fault
 fault_by_pass text (Ok tree) fault fits first h =
     OfExpansion text fault fits tree
-    (whole_tree (body_of text) (line_at_end 1 text) tree first) h
+    (whole_tree (body_of text) (line_at_end 1 text) tree first)
+    ((expansion_fault tree fault).0 h)
 fault_by_pass text (Err other) fault fits first h =
     let same : other ≡ fault = cc in
     subst (HasLoopFault text) same (OfTokens text other fits
@@ -314,7 +327,9 @@ short_refused text fault fits so (TextTooLong _ long) = absurd (omega (arith, fi
 short_refused text fault fits so (OfTokens _ _ short first) =
     so ∙ ap then_second (refused_first (body_of text) (line_at_end 1 text) fault first)
 short_refused text fault fits so (OfExpansion _ _ short tree whole expanded) =
-    so ∙ ap then_second (tree_read (body_of text) (line_at_end 1 text) tree whole) ∙ expanded
+    so
+    ∙ ap then_second (tree_read (body_of text) (line_at_end 1 text) tree whole)
+    ∙ (expansion_fault tree fault).1 expanded
 
 -- a text of version 2 is read or has a first fault, and never both
 told_in_loops : (text : List ℕ)
@@ -329,13 +344,17 @@ told_in_loops text two short =
       read = λ program. (
         λ h. let went = went_through (first_pass (body_of text) line after_header) program
             (sym so ∙ h) in
+            let whole = whole_tree (body_of text) line went.0 went.1 in
             record {
               text_fits = fits;
               tree = went.0;
-              whole = whole_tree (body_of text) line went.0 went.1;
-              expanded = went.2;
+              whole = whole;
+              expanded = expansion_is went.0 program
+                  (spelled_short (body_of text) went.0 whole) went.2;
             },
-        λ w. so ∙ ap then_second (tree_read (body_of text) line w.tree w.whole) ∙ w.expanded,
+        λ w. so
+            ∙ ap then_second (tree_read (body_of text) line w.tree w.whole)
+            ∙ expansion_taken w.tree program w.expanded,
       );
       refused = λ fault. (
         λ h. fault_by_pass text (first_pass (body_of text) line after_header) fault fits refl

@@ -16,8 +16,10 @@ use Rattle.loop_text.specs.Loops.{Tree}
 use Rattle.loop_text.specs.FirstPass.{form_fault}
 use Rattle.task_program.specs.LoopGrammar.{Spelled}
 use Rattle.task_program.specs.ProgramMarks.{ProgramMarks}
-use Rattle.task_program.specs.ReadInVersion.{begins_version_two, second_pass, program_of}
+use Rattle.task_program.specs.ReadInVersion.{begins_version_two, program_of}
 use Rattle.task_program.specs.LoopViablePrefix.{IsLoopSentence, IsLoopViable}
+use Rattle.task_program.specs.ExpandsTo.{ExpandsTo}
+use Rattle.task_program.specs.ExpansionFault.{HasExpansionFault}
 
 -- ---- how large a number may be, by the tokens before it, of which the last comes first here
 
@@ -157,7 +159,7 @@ pub data HasLoopFault : List ℕ → ReadFault → Type 0 where
       → length text ≤ MOST_TEXT_BYTES
       → (tree : Tree)
       → IsTreeOf (body_of text) tree
-      → second_pass tree ≡ Err fault
+      → HasExpansionFault tree fault
       → HasLoopFault text fault
 
 -- a text without a fault, the expansion of which is this program
@@ -165,7 +167,7 @@ pub record IsRightLoopText (text : List ℕ) (program : ProgramMarks) : Type 0 w
   pub text_fits : length text ≤ MOST_TEXT_BYTES
   pub tree : Tree
   pub whole : IsTreeOf (body_of text) tree
-  pub expanded : second_pass tree ≡ Ok program
+  pub expanded : ExpandsTo tree program
 
 -- What is read is a sentence within the limits, each token right, of which the expansion is the
 -- program, and each such text is read. What is refused has this fault, and no other.
