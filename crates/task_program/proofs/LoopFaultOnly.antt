@@ -141,12 +141,13 @@ record ReadSo (before : List Token) : Type 0 where
   goes_on : (later : List Token) (line : ℕ)
       → first_pass (before ++ later) line after_header ≡ first_pass later line state
 
-step_cases : {P : Type 0} (read : Result State ReadFault)
-    → ((next : State) → read ≡ Ok next → P)
+-- what was read is a value or a fault
+either_read : {A P : Type 0} (read : Result A ReadFault)
+    → ((value : A) → read ≡ Ok value → P)
     → ((fault : ReadFault) → read ≡ Err fault → P)
     → P
-step_cases (Ok next) on stops = on next refl
-step_cases (Err fault) on stops = stops fault refl
+either_read (Ok value) on stops = on value refl
+either_read (Err fault) on stops = stops fault refl
 
 one_on : (token : Token) (later : List Token) (line : ℕ) (state next : State)
     → step state token ≡ Ok next
@@ -166,7 +167,7 @@ right_read before
     Nothing = record { state = after_header; counts = at_start; goes_on = λ later line. refl }
 right_read before (More others token rights right) =
     let read_on = right_read others rights in
-    step_cases (step read_on.state token)
+    either_read (step read_on.state token)
     (λ next one. record {
       state = next;
       counts = counts_more others read_on.state next token read_on.counts one;
@@ -189,7 +190,7 @@ refused_at : (before later : List Token) (token : Token) (line : ℕ) (kind : Re
     → first_pass (before ++ token ∷ later) line after_header ≡ Err (fault_so kind token.line)
 refused_at before later token line kind rights wrong =
     let read_on = right_read before rights in
-    step_cases (step read_on.state token)
+    either_read (step read_on.state token)
     (λ next one. absurd (right_not_wrong before token.text kind
     (step_right before read_on.state next token read_on.counts one) wrong))
     (λ fault stops.
@@ -201,13 +202,6 @@ refused_at before later token line kind rights wrong =
     read_on.goes_on (token ∷ later) line
     ∙ one_stops token later line read_on.state fault stops
     ∙ ap (λ (f : ReadFault). fault_of_tree f) same)
-
-read_cases : {P : Type 0} (read : Result Tree ReadFault)
-    → ((tree : Tree) → read ≡ Ok tree → P)
-    → ((fault : ReadFault) → read ≡ Err fault → P)
-    → P
-read_cases (Ok tree) on stops = on tree refl
-read_cases (Err fault) on stops = stops fault refl
 
 -- a text of right tokens that ends too early is refused for that alone
 early_once : (all : List Token) (line : ℕ) (one other : ReadFault)
@@ -230,7 +224,7 @@ refused_end : (all : List Token) (line : ℕ) (fault : ReadFault)
     → EndsInLoops all line fault
     → first_pass all line after_header ≡ Err fault
 refused_end all line fault rights no_sentence early =
-    read_cases (first_pass all line after_header)
+    either_read (first_pass all line after_header)
     (λ tree h. absurd (no_sentence (whole_from all [] after_header line tree at_start h).0))
     (λ other h. h
     ∙ ap (λ (f : ReadFault). fault_of_tree f)
@@ -254,7 +248,7 @@ whole_read all line sentence rights =
     let to_end : first_pass all line after_header ≡ first_pass [] line read_on.state = ap
     (λ (ts : List Token). first_pass ts line after_header) (sym (append-nil all))
     ∙ read_on.goes_on [] line in
-    read_cases (first_pass all line after_header)
+    either_read (first_pass all line after_header)
     (λ tree h. (tree, h))
     (λ fault h. absurd (no_sentence_at all read_on.state line fault read_on.counts
     (end_is read_on.state line fault (sym to_end ∙ h)) sentence))
