@@ -11,6 +11,7 @@ use greedy_sim::greedy::{GreedyFault, bound, greedy};
 use std::alloc::Global;
 use std::fmt::Write;
 use std::test::Fail;
+use std::thread::Threads;
 use task_program::read::read_program;
 use task_segments::cut;
 
@@ -45,26 +46,23 @@ fn rows(alloc: Global, text: &str, threads: u32) -> Result<String, Fail> {
 #[test]
 fn worked_runs(rt: HostRuntime) -> Result<(), Fail> {
     let alloc = rt.alloc();
-    assert_eq!(rt;
-        rows(alloc, WORKED, 2)?.as_str(),
-        "0,0,5,0; 1,5,8,0; 2,5,7,1; 3,8,9,0; end 9"
-    );
-    assert_eq!(rt;
-        rows(alloc, WORKED, 1)?.as_str(),
-        "0,0,5,0; 1,5,8,0; 2,8,10,0; 3,10,11,0; end 11"
-    );
-    assert_eq!(rt;
-        rows(alloc, WORKED, 1_024)?.as_str(),
-        "0,0,5,0; 1,5,8,0; 2,5,7,1; 3,8,9,0; end 9"
-    );
-    assert_eq!(rt;
-        rows(alloc, CHILDREN, 2)?.as_str(),
-        "0,0,0,; 1,0,1,0; 2,0,0,; 3,0,1,1; 4,0,0,; 5,1,3,0; 6,0,0,; end 3"
-    );
-    assert_eq!(rt;
-        rows(alloc, "omptasks 1\ntaskgroup { } taskwait", 1)?.as_str(),
-        "0,0,0,; 1,0,0,; 2,0,0,; end 0"
-    );
+    for (text, threads, wanted) in [
+        (WORKED, 2, "0,0,5,0; 1,5,8,0; 2,5,7,1; 3,8,9,0; end 9"),
+        (WORKED, 1, "0,0,5,0; 1,5,8,0; 2,8,10,0; 3,10,11,0; end 11"),
+        (WORKED, 1_024, "0,0,5,0; 1,5,8,0; 2,5,7,1; 3,8,9,0; end 9"),
+        (
+            CHILDREN,
+            2,
+            "0,0,0,; 1,0,1,0; 2,0,0,; 3,0,1,1; 4,0,0,; 5,1,3,0; 6,0,0,; end 3",
+        ),
+        (
+            "omptasks 1\ntaskgroup { } taskwait",
+            1,
+            "0,0,0,; 1,0,0,; 2,0,0,; end 0",
+        ),
+    ] {
+        assert_eq!(rt; rows(alloc, text, threads)?.as_str(), wanted);
+    }
     Ok(())
 }
 
@@ -79,39 +77,53 @@ fn a_run_by_no_levels(rt: HostRuntime) -> Result<(), Fail> {
     Ok(())
 }
 
+/// The ends of a program on one thread up to so many.
+fn ends_of(
+    rt: &(impl Threads + Sync),
+    alloc: Global,
+    text: &str,
+    threads: u32,
+) -> Result<Vec<u64>, Fail> {
+    Ok(curve(rt, alloc, &graph_of(alloc, text)?, threads)?)
+}
+
 #[test]
 fn worked_curves(rt: HostRuntime) -> Result<(), Fail> {
     let alloc = rt.alloc();
-    let ends = curve(&rt, alloc, &graph_of(alloc, CHILDREN)?, 3)?;
+    let ends = ends_of(&rt, alloc, CHILDREN, 3)?;
     assert_eq!(rt; ends.as_slice(), [4, 3, 2].as_slice());
-    let ends = curve(&rt, alloc, &graph_of(alloc, WORKED)?, 2)?;
+    let ends = ends_of(&rt, alloc, WORKED, 2)?;
     assert_eq!(rt; ends.as_slice(), [11, 9].as_slice());
-    let ends = curve(&rt, alloc, &graph_of(alloc, CHILDREN)?, 1_024)?;
+    let ends = ends_of(&rt, alloc, CHILDREN, 1_024)?;
     assert_eq!(rt; ends.len(), 1_024);
     Ok(())
+}
+
+/// How a greedy run ends.
+fn end_of(alloc: Global, graph: &Graph, threads: u32) -> Result<u64, GreedyFault> {
+    Ok(greedy(alloc, graph, threads)?.end())
+}
+
+/// Why a curve is refused.
+fn curve_fault(
+    rt: &(impl Threads + Sync),
+    alloc: Global,
+    graph: &Graph,
+    threads: u32,
+) -> Option<GreedyFault> {
+    curve(rt, alloc, graph, threads).err()
 }
 
 #[test]
 fn refused_counts(rt: HostRuntime) -> Result<(), Fail> {
     let alloc = rt.alloc();
     let graph = graph_of(alloc, WORKED)?;
-    assert_eq!(rt;
-        greedy(alloc, &graph, 0).err(),
-        Some(GreedyFault::ThreadCount)
-    );
-    assert_eq!(rt;
-        greedy(alloc, &graph, 1_025).err(),
-        Some(GreedyFault::ThreadCount)
-    );
-    assert_eq!(rt;
-        curve(&rt, alloc, &graph, 0).err(),
-        Some(GreedyFault::ThreadCount)
-    );
-    assert_eq!(rt;
-        curve(&rt, alloc, &graph, 1_025).err(),
-        Some(GreedyFault::ThreadCount)
-    );
-    assert_eq!(rt; greedy(alloc, &graph, 1_024)?.end(), 9);
+    let refused = GreedyFault::ThreadCount;
+    for threads in [0, 1_025] {
+        assert_eq!(rt; end_of(alloc, &graph, threads), Err(refused));
+        assert_eq!(rt; curve_fault(&rt, alloc, &graph, threads), Some(refused));
+    }
+    assert_eq!(rt; end_of(alloc, &graph, 1_024), Ok(9));
     Ok(())
 }
 
@@ -133,26 +145,32 @@ fn draw(seed: &mut u64, below: u64) -> u64
     (*seed >> 33) % below
 }
 
+/// Writes a statement that stands below so many tasks, and answers how many are open after it.
+fn add_statement(text: &mut String, seed: &mut u64, depth: u32) -> Result<u32, Fail> {
+    match draw(seed, 6) {
+        0 => write!(text, "taskwait ")?,
+        1 | 2 => write!(text, "work {} ", draw(seed, 4))?,
+        3 if depth > 0 => {
+            write!(text, "}} ")?;
+            return Ok(depth - 1);
+        }
+        _ if depth < 4 => {
+            let kind = if draw(seed, 2) == 0 { "in" } else { "out" };
+            write!(text, "task depend({kind}: n{}) {{ ", draw(seed, 3))?;
+            return Ok(depth + 1);
+        }
+        _ => {}
+    }
+    Ok(depth)
+}
+
 /// A program of tasks that share three names.
 fn random_text(alloc: Global, seed: &mut u64) -> Result<String, Fail> {
     let mut text = String::new(alloc);
     write!(text, "omptasks 1\n")?;
     let mut depth = 0u32;
     for _ in 0..20 + draw(seed, 20) {
-        match draw(seed, 6) {
-            0 => write!(text, "taskwait ")?,
-            1 | 2 => write!(text, "work {} ", draw(seed, 4))?,
-            3 if depth > 0 => {
-                write!(text, "}} ")?;
-                depth -= 1;
-            }
-            _ if depth < 4 => {
-                let kind = if draw(seed, 2) == 0 { "in" } else { "out" };
-                write!(text, "task depend({kind}: n{}) {{ ", draw(seed, 3))?;
-                depth += 1;
-            }
-            _ => {}
-        }
+        depth = add_statement(&mut text, seed, depth)?;
     }
     for _ in 0..depth {
         write!(text, "}} ")?;

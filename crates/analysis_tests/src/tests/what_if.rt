@@ -1,4 +1,6 @@
 //! Changed costs of worked programs, and many changes beside analyses from nothing.
+ghost use Rattle.std.specs.Prelude.{◌≡◌, ◌<◌, length};
+
 mod changes;
 
 use dispatch_core::graph::Graph;
@@ -21,6 +23,32 @@ fn trial_of(alloc: Global, text: &str) -> Result<WhatIf, Fail> {
     Ok(WhatIf::new(alloc, graph_of(alloc, text)?).map_err(|_| "memory")?)
 }
 
+/// Sets the cost of a segment.
+fn set(trial: &mut WhatIf, segment: u32, cost: u64) -> Result<u64, WhatFault>
+    ensures { length trial.new.graph.costs ≡ length trial.old.graph.costs }
+{
+    trial.set(segment, cost)
+}
+
+/// Takes back all changes.
+fn reset(trial: &mut WhatIf) -> Result<u64, WhatFault>
+    ensures { length trial.new.graph.costs ≡ length trial.old.graph.costs }
+{
+    trial.reset()
+}
+
+/// The work and the span.
+fn totals(trial: &WhatIf) -> (u64, u64) {
+    (trial.work(), trial.span())
+}
+
+/// The slacks of segments 1 and 2 and the start of segment 3.
+fn places(trial: &WhatIf) -> (u64, u64, u64)
+    requires { 3 < length trial.now.graph.costs }
+{
+    (trial.slack(1), trial.slack(2), trial.start(3))
+}
+
 #[test]
 fn a_raised_cost_and_back(rt: HostRuntime) -> Result<(), Fail> {
     let graph = graph_of(rt.alloc(), WORKED)?;
@@ -29,13 +57,13 @@ fn a_raised_cost_and_back(rt: HostRuntime) -> Result<(), Fail> {
         Ok(trial) => trial,
         Err(_) => return Err("memory".into()),
     };
-    assert_eq!(rt; (trial.work(), trial.span()), (11, 9));
-    assert_eq!(rt; trial.set(2, 4), Ok(10));
-    assert_eq!(rt; (trial.work(), trial.span()), (13, 10));
-    assert_eq!(rt; (trial.slack(1), trial.slack(2), trial.start(3)), (1, 0, 9));
-    assert_eq!(rt; trial.reset(), Ok(9));
-    assert_eq!(rt; (trial.work(), trial.span()), (11, 9));
-    assert_eq!(rt; (trial.slack(1), trial.slack(2), trial.start(3)), (0, 1, 8));
+    assert_eq!(rt; totals(&trial), (11, 9));
+    assert_eq!(rt; set(&mut trial, 2, 4), Ok(10));
+    assert_eq!(rt; totals(&trial), (13, 10));
+    assert_eq!(rt; places(&trial), (1, 0, 9));
+    assert_eq!(rt; reset(&mut trial), Ok(9));
+    assert_eq!(rt; totals(&trial), (11, 9));
+    assert_eq!(rt; places(&trial), (0, 1, 8));
     Ok(())
 }
 
@@ -75,10 +103,10 @@ fn refused_changes(rt: HostRuntime) -> Result<(), Fail> {
         (2, most - 8, Err(WhatFault::WorkTooLarge)),
     ];
     for (segment, cost, answer) in changes {
-        assert_eq!(rt; trial.set(segment, cost), answer);
-        assert_eq!(rt; (trial.work(), trial.span()), (11, 9));
+        assert_eq!(rt; set(&mut trial, segment, cost), answer);
+        assert_eq!(rt; totals(&trial), (11, 9));
     }
-    assert_eq!(rt; trial.set(2, most - 9), Ok(most - 3));
-    assert_eq!(rt; trial.work(), most);
+    assert_eq!(rt; set(&mut trial, 2, most - 9), Ok(most - 3));
+    assert_eq!(rt; totals(&trial).0, most);
     Ok(())
 }

@@ -3,11 +3,38 @@
 use super::examples::{CERTIFICATE, WORKED};
 use super::gives;
 use spanprof_command::Status;
+use std::alloc::AllocGlobal;
+use std::sync::Wait;
 use std::test::Fail;
+use std::thread::Threads;
 
 const CHECK: [&str; 2] = ["spanprof", "check"];
 
 const ACCEPTED: &str = "accepted\nsegments 4\nend 9\n";
+
+/// Whether `check` gives this text and status on a program with this claim after it.
+fn checks_to<H: AllocGlobal + Threads + Wait + Sync>(
+    rt: &H,
+    program: &str,
+    claim: &str,
+    text: &str,
+    status: Status,
+) -> Result<bool, Fail> {
+    let document = format!(in rt.alloc(); "{program}{claim}")?;
+    gives(rt, &CHECK, document.as_str(), text, status)
+}
+
+/// Whether this end, these starts and this chain are refused with this fault.
+fn is_refused<H: AllocGlobal + Threads + Wait + Sync>(
+    rt: &H,
+    claim: (&str, &str, &str),
+    line: &str,
+) -> Result<bool, Fail> {
+    let (end, starts, chain) = claim;
+    let claim = format!(in rt.alloc(); "---\nend {end}\n{starts}\nchain {chain}\n")?;
+    let text = format!(in rt.alloc(); "error: {line}\n")?;
+    checks_to(rt, WORKED, claim.as_str(), text.as_str(), Status::Refused)
+}
 
 /// Each with a change in the claim.
 #[test]
@@ -105,29 +132,21 @@ fn changed_claims(rt: HostRuntime) -> Result<(), Fail> {
             "BadForm",
         ),
     ] {
-        let document = format!(in rt.alloc(); "{WORKED}---\nend {end}\n{starts}\nchain {chain}\n")?;
-        let text = format!(in rt.alloc(); "error: {line}\n")?;
         assert!(rt;
-            gives(
-                &rt,
-                &CHECK,
-                document.as_str(),
-                text.as_str(),
-                Status::Refused
-            )?,
+            is_refused(&rt, (end, starts, chain), line)?,
             "{end} {starts} {chain}"
         );
     }
     // A legal schedule that is not the earliest.
     let later = "---\nend 9 start 0 0 start 1 5 start 2 6 start 3 8 chain 0 1 3";
-    let document = format!(in rt.alloc(); "{WORKED}{later}")?;
-    assert!(rt; gives(&rt, &CHECK, document.as_str(), ACCEPTED, Status::Done)?);
+    assert!(rt; checks_to(&rt, WORKED, later, ACCEPTED, Status::Done)?);
     Ok(())
 }
 
 /// What is left of it, after the program or within.
 #[test]
 fn cut_certificates(rt: HostRuntime) -> Result<(), Fail> {
+    let program = "omptasks 1\nwork 5\ntask {\nwork 3\n}\nwork 2\ntaskwait\nwork 1\n";
     let claimed = "---\nend 9\nstart 0 0\nstart 1 5\nstart 2 5\nstart 3 8\nchain";
     for (claim, last, text, status) in [
         (claimed, " 0 1 3", ACCEPTED, Status::Done),
@@ -137,23 +156,12 @@ fn cut_certificates(rt: HostRuntime) -> Result<(), Fail> {
         ("--", "", "error: line 9: BadByte\n", Status::Refused),
         ("", "", "error: BadForm\n", Status::Refused),
     ] {
-        let program = "omptasks 1\nwork 5\ntask {\nwork 3\n}\nwork 2\ntaskwait\nwork 1\n";
-        let document = format!(in rt.alloc(); "{program}{claim}{last}")?;
-        assert!(rt;
-            gives(&rt, &CHECK, document.as_str(), text, status)?,
-            "{claim}{last}"
-        );
+        let claim = format!(in rt.alloc(); "{claim}{last}")?;
+        let claim = claim.as_str();
+        assert!(rt; checks_to(&rt, program, claim, text, status)?, "{claim}");
     }
     let begun = "omptasks 1\nwork 5\ntask {";
-    assert!(rt;
-        gives(
-            &rt,
-            &CHECK,
-            begun,
-            "error: line 3: Unclosed\n",
-            Status::Refused
-        )?
-    );
+    assert!(rt; checks_to(&rt, begun, "", "error: line 3: Unclosed\n", Status::Refused)?);
     Ok(())
 }
 

@@ -11,6 +11,8 @@ const SHOWN: &str = "omptasks 2\ntask depend(in: x[0]) depend(out: x[1]) {\nwork
     task depend(in: x[1]) depend(out: x[2]) {\nwork 2\n}\ntask depend(in: x[2]) depend(out: x[3]) \
     {\nwork 2\n}\n";
 
+const UNDER_FINAL: &str = "omptasks 2\ntask final(1) { task { work 3 } work 1 } work 2";
+
 const CLAIM: &str =
     "---\nend 6\nstart 0 0\nstart 1 0\nstart 2 0\nstart 3 2\nstart 4 0\nstart 5 4\nstart 6 0\n\
     chain 0 1 3 5\n";
@@ -31,7 +33,16 @@ fn measures_of_loops(rt: HostRuntime) -> Result<(), Fail> {
             "task final(0) { task { work 3 } work 1 } work 2",
             "segments 5\nwork 6\nspan 3\n",
         ),
+        (
+            "task final(1) { task if(1) { task { work 1 } work 1 } work 1 }",
+            "segments 7\nwork 3\nspan 3\n",
+        ),
+        (
+            "task { task if(1) { task { work 1 } work 1 } work 1 }",
+            "segments 7\nwork 3\nspan 1\n",
+        ),
         ("for i 0 65535 { }", "segments 1\nwork 0\nspan 0\n"),
+        ("", "segments 1\nwork 0\nspan 0\n"),
         (
             "task depend(out: x[-1]) { }",
             "segments 3\nwork 0\nspan 0\n",
@@ -82,6 +93,8 @@ fn shown_loops(rt: HostRuntime) -> Result<(), Fail> {
     let text = "omptasks 2\ntask depend(out: x[-1]) { }";
     let shown = "omptasks 2\ntask depend(out: x[-1]) {\n}\n";
     assert!(rt; gives(&rt, &words, text, shown, Status::Done)?);
+    let shown = "omptasks 2\ntask {\ntask if(0) {\nwork 3\n}\nwork 1\n}\nwork 2\n";
+    assert!(rt; gives(&rt, &words, UNDER_FINAL, shown, Status::Done)?);
     Ok(())
 }
 
@@ -89,12 +102,11 @@ fn shown_loops(rt: HostRuntime) -> Result<(), Fail> {
 /// nothing.
 #[test]
 fn slack_under_final(rt: HostRuntime) -> Result<(), Fail> {
-    let text = "omptasks 2\ntask final(1) { task { work 3 } work 1 } work 2";
     let table =
         "segment,task,cost,start,slack,chain\n0,0,0,0,0,1\n1,1,0,0,0,1\n2,2,3,0,0,1\n3,1,1,3,0,1\n\
         4,0,2,0,2,0\n";
     let words = ["spanprof", "slack"];
-    assert!(rt; gives(&rt, &words, text, table, Status::Done)?);
+    assert!(rt; gives(&rt, &words, UNDER_FINAL, table, Status::Done)?);
     Ok(())
 }
 
@@ -120,6 +132,20 @@ fn loops_run(rt: HostRuntime) -> Result<(), Fail> {
     for workers in ["1", "3"] {
         let words = ["spanprof", "run", "--workers", workers];
         assert!(rt; gives(&rt, &words, CHAIN, text, Status::Done)?, "{workers}");
+    }
+    Ok(())
+}
+
+#[test]
+fn runs_under_final(rt: HostRuntime) -> Result<(), Fail> {
+    let text =
+        "segments 5\nedges 5\ndigest 2564\npreds 0\npreds 1 0\npreds 2 1\npreds 3 1 2\npreds 4 0\n";
+    for workers in ["1", "2", "64"] {
+        let words = ["spanprof", "run", "--workers", workers];
+        assert!(rt;
+            gives(&rt, &words, UNDER_FINAL, text, Status::Done)?,
+            "{workers}"
+        );
     }
     Ok(())
 }

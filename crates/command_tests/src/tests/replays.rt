@@ -41,6 +41,11 @@ fn worked_replays(rt: HostRuntime) -> Result<(), Fail> {
             whole,
         ),
         (
+            "start 0 0\nfinish 0 0\nstart 0 2\nstart 1 1\nfinish 0 2\nfinish 1 1\nstart 0 3\n\
+            finish 0 3",
+            whole,
+        ),
+        (
             "start 0 0\nfinish 0 0\n",
             "events 2\nfinished 1\npreds 0\npreds 1 0\npreds 2 0\n",
         ),

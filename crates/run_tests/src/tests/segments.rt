@@ -3,6 +3,7 @@
 
 use std::alloc::Global;
 use std::fmt::Write;
+use std::process::Abort;
 use std::test::Fail;
 use task_program::AllocFault;
 use task_program::fault::ReadFault;
@@ -177,18 +178,21 @@ fn segments_of(alloc: Global, table: &SegTable) -> Result<String, AllocFault> {
     Ok(text)
 }
 
+fn kind_name(kind: DependKind) -> &'static str {
+    match kind {
+        DependKind::DependIn => "in",
+        DependKind::DependOut => "out",
+        DependKind::DependInOut => "inout",
+        DependKind::DependInOutSet => "set",
+    }
+}
+
 fn write_items(text: &mut String, table: &SegTable, t: u32) -> Result<(), AllocFault> {
     if t >= table.tasks() {
         return Ok(());
     }
     for item in table.items(t) {
-        let kind = match item.kind {
-            DependKind::DependIn => "in",
-            DependKind::DependOut => "out",
-            DependKind::DependInOut => "inout",
-            DependKind::DependInOutSet => "set",
-        };
-        write!(text, " {kind}{}", item.name)?;
+        write!(text, " {}{}", kind_name(item.kind), item.name)?;
     }
     Ok(())
 }
@@ -275,6 +279,16 @@ fn copies_are_the_same(rt: HostRuntime) -> Result<(), Fail> {
     Ok(())
 }
 
+fn table_of_body(alloc: Global, body: &str) -> Result<SegTable, Fail> {
+    let text = format!(in alloc; "omptasks 1\n{body}")?;
+    Ok(table_of(alloc, text.as_str())?)
+}
+
+/// The two tables are not the same, whichever is asked.
+fn check_other(rt: &impl Abort, one: &SegTable, other: &SegTable) {
+    assert!(rt; !one.same(other) && !other.same(one));
+}
+
 #[test]
 fn other_programs_are_not_the_same(rt: HostRuntime) -> Result<(), Fail> {
     let alloc = rt.alloc();
@@ -291,9 +305,11 @@ fn other_programs_are_not_the_same(rt: HostRuntime) -> Result<(), Fail> {
         ("task { } taskgroup { }", "taskgroup { task { } }"),
     ];
     for (one, other) in pairs {
-        let one = table_of(alloc, format!(in alloc; "omptasks 1\n{one}")?.as_str())?;
-        let other = table_of(alloc, format!(in alloc; "omptasks 1\n{other}")?.as_str())?;
-        assert!(rt; !one.same(&other) && !other.same(&one));
+        check_other(
+            &rt,
+            &table_of_body(alloc, one)?,
+            &table_of_body(alloc, other)?,
+        );
     }
     Ok(())
 }

@@ -117,6 +117,17 @@ fn many_writers_then_many_readers(rt: HostRuntime) -> Result<(), Fail> {
     Ok(())
 }
 
+/// Two writers that are added without being asked for: a reader is kept after the later one.
+#[test]
+fn added_siblings(rt: HostRuntime) -> Result<(), Fail> {
+    let mut table = SiblingTable::new(rt.alloc())?;
+    table.add(1, &[item(DependOut, 0)])?;
+    table.add(2, &[item(DependOut, 0)])?;
+    let kept = table.kept_siblings(&[item(DependIn, 0)])?;
+    assert_eq!(rt; kept.as_slice(), [2].as_slice());
+    Ok(())
+}
+
 /// A generator of numbers that look random.
 #[derive(Drop)]
 struct Dice {

@@ -2,12 +2,16 @@
 mod faults;
 mod overlap;
 
+use dispatch_core::dispatch::Core;
 use dispatch_core::graph::Graph;
 use dispatch_core::kernel::MixKernel;
 use dispatch_core::replay::{in_order, replay};
 use std::alloc::Global;
 use std::fmt::Write;
+use std::process::Abort;
+use std::sync::Wait;
 use std::test::Fail;
+use std::thread::Threads;
 use task_program::AllocFault;
 use task_program::read::read_program;
 use task_segments::cut;
@@ -31,38 +35,54 @@ fn preds_text(alloc: Global, graph: &Graph) -> Result<String, AllocFault> {
     let mut text = String::new(alloc);
     for segment in 0..graph.len() {
         write!(text, "{segment}:")?;
-        for pred in graph.preds(segment) {
-            write!(text, " {pred}")?;
-        }
+        write_preds(&mut text, graph, segment)?;
         write!(text, "; ")?;
     }
     Ok(text)
+}
+
+fn write_preds(text: &mut String, graph: &Graph, segment: u32) -> Result<(), AllocFault> {
+    if segment >= graph.len() {
+        return Ok(());
+    }
+    for pred in graph.preds(segment) {
+        write!(text, " {pred}")?;
+    }
+    Ok(())
+}
+
+/// The record of a run of a program by so many workers.
+fn made_by<R: Threads + Wait + Sync>(
+    rt: &R,
+    alloc: Global,
+    body: &str,
+    workers: u32,
+) -> Result<RunRecord, Fail> {
+    let table = table_of(alloc, body)?;
+    Ok(run(rt, alloc, table, &MixKernel, &OpenGate, workers).map_err(|_| "no record")?)
+}
+
+/// This is a record of the worked program.
+fn check_worked(rt: &impl Abort, alloc: Global, made: &RunRecord) -> Result<(), Fail> {
+    assert_eq!(rt;
+        made.values.as_slice(),
+        [781, 97781, 19581, 586826].as_slice()
+    );
+    assert_eq!(rt; digest(made.values.as_slice()), 704969);
+    assert_eq!(rt; made.graph.edges(), 4);
+    assert_eq!(rt;
+        preds_text(alloc, &made.graph)?.as_str(),
+        "0:; 1: 0; 2: 0; 3: 1 2; "
+    );
+    assert_eq!(rt; made.history.len(), 8);
+    Ok(())
 }
 
 #[test]
 fn worked_program_by_any_number_of_workers(rt: HostRuntime) -> Result<(), Fail> {
     let alloc = rt.alloc();
     for workers in [1, 2, 64] {
-        let made = run(
-            &rt,
-            alloc,
-            table_of(alloc, WORKED)?,
-            &MixKernel,
-            &OpenGate,
-            workers,
-        )
-        .map_err(|_| "no record")?;
-        assert_eq!(rt;
-            made.values.as_slice(),
-            [781, 97781, 19581, 586826].as_slice()
-        );
-        assert_eq!(rt; digest(made.values.as_slice()), 704969);
-        assert_eq!(rt; made.graph.edges(), 4);
-        assert_eq!(rt;
-            preds_text(alloc, &made.graph)?.as_str(),
-            "0:; 1: 0; 2: 0; 3: 1 2; "
-        );
-        assert_eq!(rt; made.history.len(), 8);
+        check_worked(&rt, alloc, &made_by(&rt, alloc, WORKED, workers)?)?;
     }
     Ok(())
 }
@@ -109,8 +129,7 @@ fn large_program_agrees(rt: HostRuntime) -> Result<(), Fail> {
     let wanted = preds_text(alloc, &in_turn)?;
     let mut first: Option<u64> = None;
     for workers in [1, 2, 3, 4, 8, 64] {
-        let table = table_of(alloc, body.as_str())?;
-        let made = run(&rt, alloc, table, &MixKernel, &OpenGate, workers).map_err(|_| "no record")?;
+        let made = made_by(&rt, alloc, body.as_str(), workers)?;
         assert_eq!(rt; preds_text(alloc, &made.graph)?.as_str(), wanted.as_str());
         let total = digest(made.values.as_slice());
         assert_eq!(rt; first.unwrap_or(total), total, "{workers} workers");
@@ -126,11 +145,16 @@ fn replays(alloc: Global, body: &str, made: &RunRecord) -> Result<bool, Fail> {
     let core = replay(alloc, table_of(alloc, body)?, made.history.as_slice()).map_err(
         |_| "not legal",
     )?;
-    let mut agree = core.is_finished();
+    Ok(core.is_finished() && has_values(&core, made))
+}
+
+/// Whether the run has the record's values.
+fn has_values(core: &Core<MixKernel>, made: &RunRecord) -> bool {
+    let mut agree = true;
     for segment in 0..made.graph.len() {
         agree = agree && core.value(segment) == made.values.get(segment as usize).copied();
     }
-    Ok(agree)
+    agree
 }
 
 #[test]

@@ -3,6 +3,12 @@ use program_text::document::split_document;
 use program_text::plain_words::{is_blank, read_number};
 use std::test::*;
 
+/// The program of a document, and what follows it.
+fn parts_of(document: &[u8]) -> (&[u8], Option<&[u8]>) {
+    let parts = split_document(document);
+    (parts.program, parts.rest)
+}
+
 #[test]
 fn documents_split(rt: HostRuntime) {
     let rows: [(&[u8], &[u8], Option<&[u8]>); 13] = [
@@ -29,9 +35,7 @@ fn documents_split(rt: HostRuntime) {
         (b"a\n---\r\r\nb", b"a\n---\r\r\nb", None),
     ];
     for (document, program, rest) in rows {
-        let parts = split_document(document);
-        assert_eq!(rt; parts.program, program);
-        assert_eq!(rt; parts.rest, rest);
+        assert_eq!(rt; parts_of(document), (program, rest));
     }
 }
 

@@ -1,7 +1,7 @@
 //! The worked certificate with one change to its claim, and with two, of which the first test that
 //! fails is told.
-use super::{ACCEPTED, SCHEDULE, bad_step, broken, document};
-use span_cert::{CheckFault, check};
+use super::{ACCEPTED, SCHEDULE, answer_to, bad_step, broken, document};
+use span_cert::CheckFault;
 use std::test::Fail;
 
 #[test]
@@ -33,7 +33,7 @@ fn starts_are_tested(rt: HostRuntime) -> Result<(), Fail> {
     ] {
         let claim = format!(in alloc; "end 9\n{starts}\nchain 0 1 3\n")?;
         let text = document(alloc, claim.as_str())?;
-        assert_eq!(rt; check(&rt, alloc, text.as_bytes()), wanted, "{starts}");
+        assert_eq!(rt; answer_to(&rt, alloc, text.as_bytes()), wanted, "{starts}");
     }
     Ok(())
 }
@@ -48,7 +48,7 @@ fn ends_are_tested(rt: HostRuntime) -> Result<(), Fail> {
     ] {
         let text = document(alloc, claim)?;
         assert_eq!(rt;
-            check(&rt, alloc, text.as_bytes()),
+            answer_to(&rt, alloc, text.as_bytes()),
             Err(CheckFault::EndWrong),
             "{claim}"
         );
@@ -74,7 +74,7 @@ fn chains_are_tested(rt: HostRuntime) -> Result<(), Fail> {
     ] {
         let claim = format!(in alloc; "{SCHEDULE}chain {chain}\n")?;
         let text = document(alloc, claim.as_str())?;
-        assert_eq!(rt; check(&rt, alloc, text.as_bytes()), wanted, "{chain}");
+        assert_eq!(rt; answer_to(&rt, alloc, text.as_bytes()), wanted, "{chain}");
     }
     Ok(())
 }
@@ -93,7 +93,7 @@ fn starts_are_those_of_the_segments(rt: HostRuntime) -> Result<(), Fail> {
     ] {
         let text = document(alloc, claim)?;
         assert_eq!(rt;
-            check(&rt, alloc, text.as_bytes()),
+            answer_to(&rt, alloc, text.as_bytes()),
             Err(CheckFault::WrongCount),
             "{claim}"
         );
@@ -127,7 +127,7 @@ fn first_failed_test_is_told(rt: HostRuntime) -> Result<(), Fail> {
         ),
     ] {
         let text = document(alloc, claim)?;
-        assert_eq!(rt; check(&rt, alloc, text.as_bytes()), wanted, "{claim}");
+        assert_eq!(rt; answer_to(&rt, alloc, text.as_bytes()), wanted, "{claim}");
     }
     Ok(())
 }

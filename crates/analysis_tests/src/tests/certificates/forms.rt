@@ -1,6 +1,6 @@
 //! Documents of other forms, and the worked certificate cut short.
-use super::{ACCEPTED, bad_program, document, holds, worked};
-use span_cert::{CheckFault, Checked, check};
+use super::{ACCEPTED, answer_to, bad_program, document, holds, worked};
+use span_cert::{CheckFault, Checked};
 use std::test::Fail;
 use task_program::fault::ReadKind;
 
@@ -28,7 +28,7 @@ fn claims_have_one_form(rt: HostRuntime) -> Result<(), Fail> {
     ] {
         let text = document(alloc, claim)?;
         assert_eq!(rt;
-            check(&rt, alloc, text.as_bytes()),
+            answer_to(&rt, alloc, text.as_bytes()),
             Err(CheckFault::BadForm),
             "{claim}"
         );
@@ -44,7 +44,7 @@ fn blanks_and_leading_zeros_do_not_count(rt: HostRuntime) -> Result<(), Fail> {
         "\t end\r\n0009  start 0 0 start 1 5\tstart 002 5 start 3 8\r\nchain 0 1 3 \n",
     ] {
         let text = document(alloc, claim)?;
-        assert_eq!(rt; check(&rt, alloc, text.as_bytes()), ACCEPTED, "{claim}");
+        assert_eq!(rt; answer_to(&rt, alloc, text.as_bytes()), ACCEPTED, "{claim}");
     }
     Ok(())
 }
@@ -62,7 +62,7 @@ fn claims_have_a_greatest_length(rt: HostRuntime) -> Result<(), Fail> {
         text.extend_from_slice(b"omptasks 1\n---\n")?;
         text.extend_from_slice(&vec![in alloc; b' '; blanks]?)?;
         text.extend_from_slice(claim)?;
-        assert_eq!(rt; check(&rt, alloc, &text), wanted, "{blanks} blanks");
+        assert_eq!(rt; answer_to(&rt, alloc, &text), wanted, "{blanks} blanks");
     }
     Ok(())
 }
@@ -88,7 +88,7 @@ fn certificates_cut_short(rt: HostRuntime) -> Result<(), Fail> {
     for (less, wanted) in rows {
         let kept = text.len().saturating_sub(less);
         assert_eq!(rt;
-            check(&rt, alloc, &text.as_bytes()[..kept]),
+            answer_to(&rt, alloc, &text.as_bytes()[..kept]),
             wanted,
             "{less} bytes less"
         );
@@ -117,7 +117,7 @@ fn programs_come_first(rt: HostRuntime) -> Result<(), Fail> {
         ),
         ("omptasks 1\n", Err(CheckFault::BadForm)),
     ] {
-        assert_eq!(rt; check(&rt, alloc, text.as_bytes()), wanted, "{text}");
+        assert_eq!(rt; answer_to(&rt, alloc, text.as_bytes()), wanted, "{text}");
     }
     Ok(())
 }

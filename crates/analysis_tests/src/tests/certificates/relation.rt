@@ -1,6 +1,6 @@
 //! Chains over a pair that must precede, for which a chain of others stands too.
-use super::{bad_step, holds};
-use span_cert::{CheckFault, Checked, check};
+use super::{answer_to, bad_step, holds};
+use span_cert::{CheckFault, Checked};
 use std::test::Fail;
 
 /// Five siblings on one location, by their segments: 1 and 3 beside each other, then 5, then 7,
@@ -26,7 +26,7 @@ fn whole_relation_is_asked(rt: HostRuntime) -> Result<(), Fail> {
             "{BEFORE}2{AFTER}end 10 start 0 0 start 1 0 start 2 0 start 3 0 start 4 0 start 5 6 \
             start 6 0 start 7 7 start 8 0 start 9 9 start 10 0 chain {chain}"
         )?;
-        assert_eq!(rt; check(&rt, alloc, text.as_bytes()), wanted, "{chain}");
+        assert_eq!(rt; answer_to(&rt, alloc, text.as_bytes()), wanted, "{chain}");
     }
     Ok(())
 }
@@ -40,7 +40,11 @@ fn chain_may_leave_a_segment_out(rt: HostRuntime) -> Result<(), Fail> {
             "{BEFORE}0{AFTER}end 8 start 0 0 start 1 0 start 2 0 start 3 0 start 4 0 start 5 6 \
             start 6 0 start 7 7 start 8 0 start 9 7 start 10 0 chain {chain}"
         )?;
-        assert_eq!(rt; check(&rt, alloc, text.as_bytes()), holds(11, 8), "{chain}");
+        assert_eq!(rt;
+            answer_to(&rt, alloc, text.as_bytes()),
+            holds(11, 8),
+            "{chain}"
+        );
     }
     Ok(())
 }

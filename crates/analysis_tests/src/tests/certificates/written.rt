@@ -3,11 +3,11 @@ ghost use Rattle.std.specs.Prelude.{◌≡◌, IfOk};
 ghost use Rattle.counted_io.specs.Counted.{faults_of};
 ghost use Rattle.span_cert.specs.Analysed.{IsAnalysisOf};
 
-use super::{ACCEPTED, PROGRAM, worked};
+use super::{ACCEPTED, PROGRAM, answer_to, worked};
 use counted_io::Counted;
 use dispatch_core::replay::in_order;
 use span_analysis::analysis::{Analysis, analyse};
-use span_cert::{Checked, WriteFault, check, write_certificate};
+use span_cert::{Checked, WriteFault, write_certificate};
 use std::alloc::{AllocError, Global};
 use std::io;
 use std::io::{ErrorKind, Write};
@@ -70,6 +70,23 @@ fn analysis_of(alloc: Global, program: &Program) -> Result<Analysis, AllocFault>
     analyse(alloc, &graph)
 }
 
+/// The program of a text.
+fn program_of(alloc: Global, text: &str) -> Result<Program, Fail> {
+    Ok(read_program(alloc, text.as_bytes())?)
+}
+
+/// Writes the certificate of a program.
+fn write_analysed(
+    alloc: Global,
+    program: &Program,
+    sink: &mut Counted<Sink>,
+) -> Result<Result<(), WriteFault>, Fail>
+    requires { faults_of sink.old ≡ 0 }
+{
+    let analysis = analysis_of(alloc, program)?;
+    Ok(write_certificate(alloc, program, &analysis, sink))
+}
+
 /// Writes the certificate of a text, and answers what was taken too.
 fn written(
     alloc: Global,
@@ -79,9 +96,8 @@ fn written(
     requires { faults_of sink ≡ 0 }
 {
     let mut sink = sink;
-    let program = read_program(alloc, text.as_bytes())?;
-    let analysis = analysis_of(alloc, &program)?;
-    let answer = write_certificate(alloc, &program, &analysis, &mut sink);
+    let program = program_of(alloc, text)?;
+    let answer = write_analysed(alloc, &program, &mut sink)?;
     Ok((answer, sink.into_inner().taken))
 }
 
@@ -148,7 +164,7 @@ fn written_certificates_are_accepted(rt: HostRuntime) -> Result<(), Fail> {
         let (answer, taken) = written(alloc, text, Sink::new(alloc, 100, None))?;
         assert_eq!(rt; answer, Ok(()));
         let checked = Checked { segments, ends_at };
-        assert_eq!(rt; check(&rt, alloc, &taken), Ok(checked), "{text}");
+        assert_eq!(rt; answer_to(&rt, alloc, &taken), Ok(checked), "{text}");
     }
     Ok(())
 }
@@ -176,6 +192,6 @@ fn failed_writes_leave_a_prefix(rt: HostRuntime) -> Result<(), Fail> {
             &whole.as_bytes()[..taken.min(whole.len())]
         );
     }
-    assert_eq!(rt; check(&rt, alloc, whole.as_bytes()), ACCEPTED);
+    assert_eq!(rt; answer_to(&rt, alloc, whole.as_bytes()), ACCEPTED);
     Ok(())
 }

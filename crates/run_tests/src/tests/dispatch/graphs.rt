@@ -1,10 +1,9 @@
 //! Whole recorded graphs, predecessor by predecessor, and a run with another kernel.
 ghost use Rattle.std.specs.Prelude.{◌≡◌, ◌+◌, ◌%◌, ◌^◌, ◌==◌, IfOk, IsTrue, OnErr};
 
-use super::{fields_of, preds_text, table_of};
+use super::{fields_of, graph_of, preds_text, table_of};
 use dispatch_core::dispatch::Core;
 use dispatch_core::kernel::{Kernel, KernelFault, SegResult};
-use dispatch_core::replay::in_order;
 use std::test::Fail;
 
 /// In each, the first segment of a task has the task's creator and the last segments of its kept
@@ -27,7 +26,7 @@ fn graphs_of_siblings(rt: HostRuntime) -> Result<(), Fail> {
     ];
     for (body, predecessors) in programs {
         let text = format!(in alloc; "omptasks 1\n{body}")?;
-        let graph = in_order(alloc, table_of(alloc, text.as_str())?).map_err(|_| "out of memory")?;
+        let graph = graph_of(alloc, text.as_str())?;
         assert_eq!(rt;
             preds_text(alloc, &graph)?.as_str(),
             predecessors,

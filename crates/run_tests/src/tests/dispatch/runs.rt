@@ -1,31 +1,44 @@
 //! Whole runs, with values of the mixing kernel that were computed apart from this program.
-use super::{WORKED, fields_of, preds_text, table_of};
+use super::{
+    WORKED, WORKED_PREDS, check_preds, check_ready, check_refusal, check_worked_graph, finish_on,
+    graph_of, preds_text, start_on, table_of,
+};
 use dispatch_core::dispatch::Core;
 use dispatch_core::event::FinishKind;
 use dispatch_core::kernel::{MixKernel, SegResult};
-use dispatch_core::replay::in_order;
 use std::alloc::Global;
+use std::process::Abort;
 use std::test::Fail;
+use task_program::AllocFault;
 
 /// Starts and finishes a segment on a worker; answers the segments that become ready.
 fn step(core: &mut Core<MixKernel>, worker: u32, segment: u32) -> Result<Vec<u32>, Fail> {
-    let input = core
-        .start(worker, segment)
-        .map_err(|_| "the start is refused")?;
+    let input = start_on(core, worker, segment)?;
     if segment >= core.table().len() {
         return Err("no segment of this number".into());
     }
     let cost = core.table().cost(segment);
-    let outcome = SegResult::compute(&MixKernel, segment, cost, input).map_err(|_| "a fault")?;
-    Ok(
-        core.finish(worker, outcome)
-            .map_err(|_| "the finish is refused")?,
-    )
+    finish_on(core, worker, segment, cost, input)
 }
 
 fn new_core(alloc: Global, body: &str) -> Result<Core<MixKernel>, Fail> {
     let text = format!(in alloc; "omptasks 1\n{body}")?;
     Ok(Core::new(alloc, table_of(alloc, text.as_str())?).map_err(|_| "out of memory")?)
+}
+
+/// The run's values are these, of segments 0, 1, ..
+fn check_values(rt: &impl Abort, core: &Core<MixKernel>, values: &[u64], body: &str) {
+    for segment in 0..core.table().len() {
+        let value = values.get(segment as usize).copied();
+        assert_eq!(rt; core.value(segment), value, "of {body}");
+    }
+}
+
+/// The graph of the finished run has so many edges.
+fn check_edges(rt: &impl Abort, core: Core<MixKernel>, edges: u64, body: &str) -> Result<(), Fail> {
+    let graph = core.into_graph().map_err(|_| "unfinished")?;
+    assert_eq!(rt; graph.edges(), edges, "of {body}");
+    Ok(())
 }
 
 #[test]
@@ -56,13 +69,21 @@ fn values_of_programs(rt: HostRuntime) -> Result<(), Fail> {
         for segment in 0..values.len() as u32 {
             step(&mut core, 63, segment)?;
         }
-        for (segment, value) in values.iter().enumerate() {
-            assert_eq!(rt; core.value(segment as u32), Some(*value), "of {body}");
-        }
-        let graph = core.into_graph().map_err(|_| "unfinished")?;
-        assert_eq!(rt; graph.edges(), edges, "of {body}");
+        check_values(&rt, &core, values, body);
+        check_edges(&rt, core, edges, body)?;
     }
     Ok(())
+}
+
+/// The value of a segment of this cost and input.
+fn mixed_value(segment: u32, cost: u64, input: u64) -> Result<u64, Fail> {
+    let outcome = SegResult::compute(&MixKernel, segment, cost, input).map_err(|_| "a fault")?;
+    Ok(outcome.value())
+}
+
+/// The run that an unfinished run is given back as.
+fn unfinished_core(core: Core<MixKernel>) -> Result<Core<MixKernel>, Fail> {
+    Ok(core.into_graph().err().ok_or("a graph")?.core)
 }
 
 /// What becomes ready, who runs what, and a run that goes on after a refused result.
@@ -70,29 +91,57 @@ fn values_of_programs(rt: HostRuntime) -> Result<(), Fail> {
 fn a_run_goes_on(rt: HostRuntime) -> Result<(), Fail> {
     let alloc = rt.alloc();
     let mut core = Core::new(alloc, table_of(alloc, WORKED)?).map_err(|_| "out of memory")?;
-    assert_eq!(rt; core.ready()?.as_slice(), [0].as_slice());
-    assert_eq!(rt; step(&mut core, 0, 0)?.as_slice(), [1, 2].as_slice());
-    assert_eq!(rt; core.start(7, 1).ok(), Some(781));
+    check_ready(&rt, &core, &[0])?;
+    check_step(&rt, &mut core, 0, &[1, 2])?;
+    assert_eq!(rt; start_on(&mut core, 7, 1)?, 781);
     assert_eq!(rt; core.running(7), Some(1));
     assert_eq!(rt; core.running(0), None);
-    let wrong = SegResult::compute(&MixKernel, 1, 3, 780).map_err(|_| "a fault")?;
-    let refusal = core.finish(7, wrong).err().ok_or("accepted")?;
-    assert_eq!(rt; refusal.kind, FinishKind::WrongInput);
-    assert_eq!(rt; fields_of(&refusal.result), (1, 3, 780, 97656));
-    let mut core = core.into_graph().err().ok_or("a graph")?.core;
+    check_refusal(
+        &rt,
+        &mut core,
+        7,
+        (1, 3, 780, 97656),
+        FinishKind::WrongInput,
+    )?;
+    let mut core = unfinished_core(core)?;
     assert_eq!(rt; core.history().len(), 3);
-    assert_eq!(rt; step(&mut core, 0, 2)?.len(), 0);
-    let right = SegResult::compute(&MixKernel, 1, 3, 781).map_err(|_| "a fault")?;
-    assert_eq!(rt; right.value(), 97781);
-    let ready = core.finish(7, right).map_err(|_| "refused")?;
-    assert_eq!(rt; ready.as_slice(), [3].as_slice());
+    check_step(&rt, &mut core, 2, &[])?;
+    assert_eq!(rt; mixed_value(1, 3, 781)?, 97781);
+    assert_eq!(rt;
+        finish_on(&mut core, 7, 1, 3, 781)?.as_slice(),
+        [3].as_slice()
+    );
     step(&mut core, 63, 3)?;
     assert!(rt; core.is_finished());
-    let graph = core.into_graph().map_err(|_| "unfinished")?;
+    check_worked_graph(&rt, alloc, core)
+}
+
+/// Worker 0 runs a segment, and these become ready.
+fn check_step(
+    rt: &impl Abort,
+    core: &mut Core<MixKernel>,
+    segment: u32,
+    ready: &[u32],
+) -> Result<(), Fail> {
     assert_eq!(rt;
-        preds_text(alloc, &graph)?.as_str(),
-        "0:; 1: 0; 2: 0; 3: 1 2; "
+        step(core, 0, segment)?.as_slice(),
+        ready,
+        "after {segment}"
     );
+    Ok(())
+}
+
+/// These are ready, and segments 3 and 5 have these predecessors, if they are open.
+fn check_open(
+    rt: &impl Abort,
+    core: &Core<MixKernel>,
+    ready: &[u32],
+    third: Option<&[u32]>,
+    fifth: Option<&[u32]>,
+) -> Result<(), AllocFault> {
+    check_ready(rt, core, ready)?;
+    check_preds(rt, core, 3, third);
+    check_preds(rt, core, 5, fifth);
     Ok(())
 }
 
@@ -100,35 +149,34 @@ fn a_run_goes_on(rt: HostRuntime) -> Result<(), Fail> {
 /// they open.
 #[test]
 fn siblings_open_before_they_are_ready(rt: HostRuntime) -> Result<(), Fail> {
-    let alloc = rt.alloc();
     let body = "task depend(out: x) { } task depend(in: x) { } task depend(in: x) { }";
-    let mut core = new_core(alloc, body)?;
-    assert_eq!(rt; step(&mut core, 0, 0)?.as_slice(), [1, 2].as_slice());
-    assert_eq!(rt; step(&mut core, 0, 2)?.as_slice(), [4].as_slice());
-    assert_eq!(rt; core.preds_of(3).ok_or("not open")?, [1, 2].as_slice());
-    assert_eq!(rt; core.preds_of(5).is_none(), true);
-    assert_eq!(rt; step(&mut core, 0, 4)?.as_slice(), [6].as_slice());
-    assert_eq!(rt; core.ready()?.as_slice(), [1, 6].as_slice());
-    assert_eq!(rt; step(&mut core, 0, 1)?.as_slice(), [3, 5].as_slice());
-    assert_eq!(rt; core.preds_of(5).ok_or("not open")?, [1, 4].as_slice());
-    assert_eq!(rt; core.preds_of(3).ok_or("not open")?, [1, 2].as_slice());
+    let mut core = new_core(rt.alloc(), body)?;
+    // A segment, those that it makes ready, all that are ready after it, and the predecessors of
+    // segments 3 and 5.
+    let steps: [(u32, &[u32], &[u32], Option<&[u32]>, Option<&[u32]>); 4] = [
+        (0, &[1, 2], &[1, 2], None, None),
+        (2, &[4], &[1, 4], Some(&[1, 2]), None),
+        (4, &[6], &[1, 6], Some(&[1, 2]), Some(&[1, 4])),
+        (1, &[3, 5], &[3, 5, 6], Some(&[1, 2]), Some(&[1, 4])),
+    ];
+    for (segment, becomes, ready, third, fifth) in steps {
+        check_step(&rt, &mut core, segment, becomes)?;
+        check_open(&rt, &core, ready, third, fifth)?;
+    }
     Ok(())
 }
 
 #[test]
 fn changed_costs(rt: HostRuntime) -> Result<(), Fail> {
     let alloc = rt.alloc();
-    let mut graph = in_order(alloc, table_of(alloc, WORKED)?).map_err(|_| "out of memory")?;
+    let mut graph = graph_of(alloc, WORKED)?;
     if graph.len() != 4 {
         return Err("four segments".into());
     }
     assert_eq!(rt; (graph.cost(0), graph.cost(3)), (5, 1));
     graph.set_costs(&[1, 2, 3, 4]);
     assert_eq!(rt; graph.work(), 10);
-    assert_eq!(rt;
-        preds_text(alloc, &graph)?.as_str(),
-        "0:; 1: 0; 2: 0; 3: 1 2; "
-    );
+    assert_eq!(rt; preds_text(alloc, &graph)?.as_str(), WORKED_PREDS);
     Ok(())
 }
 
@@ -143,7 +191,7 @@ fn many_children(rt: HostRuntime) -> Result<(), Fail> {
     for _ in 0..2048 {
         text.push_str("task depend(in: x) { }\n")?;
     }
-    let graph = in_order(alloc, table_of(alloc, text.as_str())?).map_err(|_| "out of memory")?;
+    let graph = graph_of(alloc, text.as_str())?;
     assert_eq!(rt; graph.len(), 8191);
     assert_eq!(rt; graph.edges(), 4_200_446);
     Ok(())

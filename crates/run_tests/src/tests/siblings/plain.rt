@@ -59,14 +59,22 @@ impl PlainTable {
     fn rank(&self, name: u32, items: &[Item]) -> u32 {
         let mut rank = 0;
         for earlier in &self.tasks {
-            for one in &earlier.items {
-                if one.item.name == name && conflicts(&[one.item], items) {
-                    rank = rank.max(one.rank.saturating_add(1));
-                }
-            }
+            rank = rank.max(rank_after(&earlier.items, name, items));
         }
         rank
     }
+}
+
+/// One more than the greatest rank at the name among the earlier items that conflict with the later
+/// ones, else 0.
+fn rank_after(earlier: &[RankedItem], name: u32, later: &[Item]) -> u32 {
+    let mut rank = 0;
+    for one in earlier {
+        if one.item.name == name && conflicts(&[one.item], later) {
+            rank = rank.max(one.rank.saturating_add(1));
+        }
+    }
+    rank
 }
 
 /// Whether two items conflict where the earlier task's rank is one less.

@@ -1,5 +1,5 @@
 //! Kernels that fault.
-use super::{WORKED, table_of};
+use super::{WORKED, made_by, table_of};
 use dispatch_core::kernel::{Kernel, KernelFault, MixKernel};
 use std::alloc::Global;
 use std::process::Abort;
@@ -49,8 +49,7 @@ fn fault_of<R: Threads + Wait + Abort + Sync>(
         &OpenGate,
         workers,
     );
-    let table = table_of(alloc, WORKED)?;
-    let made = run(rt, alloc, table, &MixKernel, &OpenGate, workers).map_err(|_| "no record")?;
+    let made = made_by(rt, alloc, WORKED, workers)?;
     assert_eq!(rt; digest(made.values.as_slice()), 704969);
     match told {
         Err(RunFault::Kernel { segment }) => Ok(segment),

@@ -1,8 +1,25 @@
 //! What the calls on a program answer.
+use super::{is_named, names_of};
 use program_text::fault::{ReadFault, ReadKind};
-use program_text::statement::{DependKind, Item, Items, Stmt, conflicts};
+use program_text::statement::{Body, DependKind, Item, Items, Stmt, conflicts};
+use std::alloc::Global;
 use std::test::Fail;
 use task_program::read::read_program;
+
+/// Whether these are the items, in this order.
+fn are_items(items: &Items, wanted: &[Item]) -> bool {
+    items.as_slice() == wanted
+}
+
+/// Whether a body works 3 and then waits.
+fn works_and_waits(body: &Body) -> bool {
+    matches!(body.as_slice(), [Stmt::Work(3), Stmt::Wait])
+}
+
+/// Whether a body works 4.
+fn works(body: &Body) -> bool {
+    matches!(body.as_slice(), [Stmt::Work(4)])
+}
 
 #[test]
 fn statements(rt: HostRuntime) -> Result<(), Fail> {
@@ -13,7 +30,7 @@ fn statements(rt: HostRuntime) -> Result<(), Fail> {
     let [Stmt::Task(task), Stmt::Group(group)] = program.body() else {
         return Err(Fail::new("a task and a group"));
     };
-    assert!(rt; task.undeferred);
+    assert!(rt; task.undeferred && works_and_waits(&task.body));
     let items = [
         Item {
             kind: DependKind::DependIn,
@@ -28,10 +45,17 @@ fn statements(rt: HostRuntime) -> Result<(), Fail> {
             name: 0,
         },
     ];
-    assert_eq!(rt; task.items.as_slice(), items.as_slice());
-    assert!(rt; matches!(task.body.as_slice(), [Stmt::Work(3), Stmt::Wait]));
-    assert!(rt; matches!(group.as_slice(), [Stmt::Work(4)]));
+    assert!(rt; are_items(&task.items, &items) && works(group));
     Ok(())
+}
+
+/// Whether the one task of a text is undeferred.
+fn undeferred_of(alloc: Global, text: &[u8]) -> Result<bool, Fail> {
+    let program = read_program(alloc, text)?;
+    let [Stmt::Task(task)] = program.body() else {
+        return Err(Fail::new("a task"));
+    };
+    Ok(task.undeferred)
 }
 
 #[test]
@@ -43,30 +67,47 @@ fn undeferred(rt: HostRuntime) -> Result<(), Fail> {
         (b"omptasks 1 task depend(in: a) if(00) { }".as_slice(), true),
     ];
     for (text, wanted) in rows {
-        let program = read_program(rt.alloc(), text)?;
-        let [Stmt::Task(task)] = program.body() else {
-            return Err(Fail::new("a task"));
-        };
-        assert_eq!(rt; task.undeferred, wanted);
+        assert_eq!(rt; undeferred_of(rt.alloc(), text)?, wanted);
     }
     Ok(())
+}
+
+/// Whether the program of a text has no statement.
+fn is_empty(alloc: Global, text: &str) -> Result<bool, Fail> {
+    Ok(read_program(alloc, text.as_bytes())?.body().is_empty())
 }
 
 #[test]
 fn names_by_first_mention(rt: HostRuntime) -> Result<(), Fail> {
     let text =
-        b"omptasks 1 task depend(in: b, a) { task depend(out: a, c) { } } task depend(in: B, b, d) \
+        "omptasks 1 task depend(in: b, a) { task depend(out: a, c) { } } task depend(in: B, b, d) \
         { }";
-    let program = read_program(rt.alloc(), text)?;
-    assert_eq!(rt; program.names(), 5);
-    let wanted = ["b", "a", "c", "B", "d"];
-    for (number, name) in wanted.iter().enumerate() {
-        assert!(rt; program.name(number as u32) == Some(*name), "{number}");
+    let empty = "omptasks 1";
+    let alloc = rt.alloc();
+    assert!(rt; names_of(alloc, text)? == 5 && names_of(alloc, empty)? == 0);
+    for (text, number, name) in [
+        (text, 0, Some("b")),
+        (text, 1, Some("a")),
+        (text, 2, Some("c")),
+        (text, 3, Some("B")),
+        (text, 4, Some("d")),
+        (text, 5, None),
+        (text, u32::MAX, None),
+        (empty, 0, None),
+    ] {
+        assert!(rt; is_named(alloc, text, number, name)?, "{number} {text}");
     }
-    assert!(rt; program.name(5).is_none() && program.name(u32::MAX).is_none());
-    let empty = read_program(rt.alloc(), b"omptasks 1")?;
-    assert!(rt; empty.names() == 0 && empty.name(0).is_none() && empty.body().is_empty());
+    assert!(rt; is_empty(alloc, empty)?);
     Ok(())
+}
+
+/// Whether an item of name 3 conflicts with a later one of this name.
+fn kinds_conflict(earlier: DependKind, later: DependKind, name: u32) -> bool {
+    let one = [Item {
+        kind: earlier,
+        name: 3,
+    }];
+    conflicts(&one, &[Item { kind: later, name }])
 }
 
 /// Rows are the later item's kind, columns the earlier item's.
@@ -86,20 +127,9 @@ fn conflicts_by_kind(rt: HostRuntime) {
     ];
     for (later, row) in kinds.iter().zip(table.iter()) {
         for (earlier, wanted) in kinds.iter().zip(row.iter()) {
-            let one = [Item {
-                kind: *earlier,
-                name: 3,
-            }];
-            let same = [Item {
-                kind: *later,
-                name: 3,
-            }];
-            let other = [Item {
-                kind: *later,
-                name: 4,
-            }];
-            assert_eq!(rt; conflicts(&one, &same), *wanted, "{earlier:?} {later:?}");
-            assert!(rt; !conflicts(&one, &other));
+            let same = kinds_conflict(*earlier, *later, 3);
+            assert_eq!(rt; same, *wanted, "{earlier:?} {later:?}");
+            assert!(rt; !kinds_conflict(*earlier, *later, 4));
         }
     }
 }
@@ -140,6 +170,7 @@ fn numbers_of_the_faults(rt: HostRuntime) -> Result<(), Fail> {
         ReadKind::TooManyItems,
         ReadKind::WorkTooLarge,
         ReadKind::OutOfMemory,
+        ReadKind::TooManyTurns,
     ];
     for (before, kind) in kinds.iter().enumerate() {
         assert_eq!(rt; *kind as usize, before + 1);
@@ -155,6 +186,11 @@ fn numbers_of_the_faults(rt: HostRuntime) -> Result<(), Fail> {
     Ok(())
 }
 
+/// Whether the copy of a list has these items.
+fn copies_to(items: &Items, wanted: &[Item]) -> Result<bool, Fail> {
+    Ok(are_items(&items.copy()?, wanted))
+}
+
 #[test]
 fn items_copied(rt: HostRuntime) -> Result<(), Fail> {
     let read = Item {
@@ -166,10 +202,10 @@ fn items_copied(rt: HostRuntime) -> Result<(), Fail> {
         name: 0,
     };
     let mut items = Items::new(rt.alloc());
-    assert_eq!(rt; items.copy()?.as_slice().len(), 0);
+    assert!(rt; copies_to(&items, &[])?);
     items.push(read)?;
     items.push(written)?;
-    assert_eq!(rt; items.copy()?.as_slice(), [read, written].as_slice());
-    assert_eq!(rt; items.as_slice(), [read, written].as_slice());
+    assert!(rt; copies_to(&items, &[read, written])?);
+    assert!(rt; are_items(&items, &[read, written]));
     Ok(())
 }

@@ -1,5 +1,5 @@
 //! Texts of version 2: what they are read as, and what is wrong with them.
-use super::{fault_of, shown};
+use super::{fault_of, is_named, names_of, shown_twice};
 use program_text::fault::ReadKind;
 use std::alloc::Global;
 use std::test::Fail;
@@ -13,8 +13,14 @@ fn with_header(alloc: Global, body: &str) -> Result<String, AllocFault> {
     Ok(text)
 }
 
+/// The fault of a body on the line after the header.
+fn fault_of_body(alloc: Global, body: &str) -> Result<Option<(ReadKind, u32)>, Fail> {
+    let text = with_header(alloc, body)?;
+    Ok(fault_of(alloc, text.as_bytes()))
+}
+
 /// A body, and the canonical text after its header.
-const SHOWN: [(&str, &str); 12] = [
+const SHOWN: &[(&str, &str)] = &[
     (
         "for i 1 3 { task depend(in: x[i-1]) depend(out: x[i]) { work 2 } }",
         "task depend(in: x[0]) depend(out: x[1]) {\nwork 2\n}\n\
@@ -57,7 +63,7 @@ const SHOWN: [(&str, &str); 12] = [
 ];
 
 /// A body, its fault, and the line.
-const REFUSED: [(&str, ReadKind, u32); 32] = [
+const REFUSED: &[(&str, ReadKind, u32)] = &[
     ("for i 0 65536 { }", ReadKind::TooManyTurns, 2),
     (
         "for i 1 256\n{ for j 1 256 { } }",
@@ -130,9 +136,8 @@ fn loops_shown(rt: HostRuntime) -> Result<(), Fail> {
         let alloc = rt.alloc();
         let text = with_header(alloc, body)?;
         let wanted = with_header(alloc, wanted)?;
-        let once = shown(alloc, text.as_bytes())?;
+        let (once, twice) = shown_twice(alloc, text.as_bytes())?;
         assert_eq!(rt; once.as_slice(), wanted.as_bytes(), "{body}");
-        let twice = shown(alloc, &once)?;
         assert_eq!(rt; twice.as_slice(), wanted.as_bytes(), "{body}");
     }
     Ok(())
@@ -142,14 +147,23 @@ fn loops_shown(rt: HostRuntime) -> Result<(), Fail> {
 fn loops_refused(rt: HostRuntime) -> Result<(), Fail> {
     for (body, kind, line) in REFUSED {
         let alloc = rt.alloc();
-        let text = with_header(alloc, body)?;
-        assert_eq!(rt;
-            fault_of(alloc, text.as_bytes()),
-            Some((kind, line)),
-            "{body}"
-        );
+        let fault = fault_of_body(alloc, body)?;
+        assert_eq!(rt; fault, Some((*kind, *line)), "{body}");
     }
     Ok(())
+}
+
+/// So many groups in one another, in a loop.
+fn groups_in_a_loop(alloc: Global, groups: u32) -> Result<String, AllocFault> {
+    let mut text = with_header(alloc, "for i 1 1 { ")?;
+    for _ in 0..groups {
+        text.push_str("taskgroup { ")?;
+    }
+    text.push_str("} ")?;
+    for _ in 0..groups {
+        text.push_str("} ")?;
+    }
+    Ok(text)
 }
 
 /// A loop in a text of version 1, and 65 blocks of which one is a loop.
@@ -167,13 +181,7 @@ fn version_and_depth(rt: HostRuntime) -> Result<(), Fail> {
         Some((ReadKind::BadByte, 2))
     );
     for (more, wanted) in [(1, None), (2, Some((ReadKind::TooDeep, 2)))] {
-        let mut text = with_header(alloc, "for i 1 1 { ")?;
-        for _ in 0..62 + more {
-            text.push_str("taskgroup { ")?;
-        }
-        for _ in 0..63 + more {
-            text.push_str("} ")?;
-        }
+        let text = groups_in_a_loop(alloc, 62 + more)?;
         assert_eq!(rt; fault_of(alloc, text.as_bytes()), wanted);
     }
     Ok(())
@@ -241,7 +249,7 @@ fn each_token_left_out(rt: HostRuntime) -> Result<(), Fail> {
 }
 
 /// A body at a limit, and one past it.
-const LIMITS: [(&str, &str, ReadKind); 10] = [
+const LIMITS: &[(&str, &str, ReadKind)] = &[
     (
         "for i 1 256 { for j 1 255 { } }",
         "for i 1 256 { for j 1 255 { } } for k 0 0 { }",
@@ -304,10 +312,8 @@ const LIMITS: [(&str, &str, ReadKind); 10] = [
 fn limits_of_loops(rt: HostRuntime) -> Result<(), Fail> {
     for (most, more, kind) in LIMITS {
         let alloc = rt.alloc();
-        let text = with_header(alloc, most)?;
-        assert_eq!(rt; fault_of(alloc, text.as_bytes()), None, "{most}");
-        let text = with_header(alloc, more)?;
-        assert_eq!(rt; fault_of(alloc, text.as_bytes()), Some((kind, 2)), "{more}");
+        assert_eq!(rt; fault_of_body(alloc, most)?, None, "{most}");
+        assert_eq!(rt; fault_of_body(alloc, more)?, Some((*kind, 2)), "{more}");
     }
     Ok(())
 }
@@ -329,8 +335,8 @@ fn text_before_expansion(rt: HostRuntime) -> Result<(), Fail> {
         ),
     ] {
         let alloc = rt.alloc();
-        let text = with_header(alloc, body)?;
-        assert_eq!(rt; fault_of(alloc, text.as_bytes()), Some((kind, 3)), "{body}");
+        let fault = fault_of_body(alloc, body)?;
+        assert_eq!(rt; fault, Some((kind, 3)), "{body}");
     }
     Ok(())
 }
@@ -365,16 +371,20 @@ fn zeros_of_a_header(rt: HostRuntime) -> Result<(), Fail> {
     Ok(())
 }
 
+/// The version of a text.
+fn version_of(alloc: Global, text: &str) -> Result<u32, Fail> {
+    Ok(read_program(alloc, text.as_bytes())?.version())
+}
+
 #[test]
 fn versions(rt: HostRuntime) -> Result<(), Fail> {
     for (text, version) in [("omptasks 1", 1), ("omptasks 2", 2), ("omptasks 0002", 2)] {
-        let program = read_program(rt.alloc(), text.as_bytes())?;
-        assert_eq!(rt; program.version(), version);
+        assert_eq!(rt; version_of(rt.alloc(), text)?, version);
     }
     let text = "omptasks 2 task depend(in: x, x[3]) depend(out: x[-1]) { }";
-    let program = read_program(rt.alloc(), text.as_bytes())?;
-    assert_eq!(rt; program.names(), 3);
-    assert_eq!(rt; program.name(1), Some("x[3]"));
-    assert_eq!(rt; program.name(2), Some("x[-1]"));
+    assert_eq!(rt; names_of(rt.alloc(), text)?, 3);
+    for (number, name) in [(1, "x[3]"), (2, "x[-1]")] {
+        assert!(rt; is_named(rt.alloc(), text, number, Some(name))?, "{name}");
+    }
     Ok(())
 }
