@@ -11,7 +11,7 @@ use Rattle.dispatch_core.specs.declared.event.Event.TheVariants.{Start}
 use Rattle.open_segments.specs.Facts.{IsSoundTable}
 use Rattle.dispatch_core.specs.Graph.{IsGraphOf}
 use Rattle.dispatch_core.specs.RecordedGraph.{RecordedGraph, Precedes}
-use Rattle.dispatch_core.specs.Run.{Runs, IsLegalRun, IsOpen, IsRunning}
+use Rattle.dispatch_core.specs.Run.{Runs, IsLegalRun, IsOpen, MayRun}
 use Rattle.dispatch_core.proofs.Ends.{no_more, precedes_of}
 use Rattle.dispatch_core.proofs.FinishStep.{started_known, started_after_preds}
 
@@ -65,7 +65,7 @@ pub runs_so : (table : Table) (history : List Event) (worker s : ℕ)
     → IsSoundTable table
     → IsLegalRun table history
     → Runs history worker s
-    → IsRunning table history worker s
+    → MayRun table history worker s
 runs_so table history worker s sound legal runs =
     let known = started_known table history worker s legal runs.started in
     record {

@@ -1,7 +1,7 @@
 //! Events of a run, and why one is refused.
 use crate::kernel::{Kernel, SegResult};
 
-/// A run has at most so many workers, numbered from 0.
+/// The most workers that a run has. They are numbered from 0.
 pub const MOST_WORKERS: u32 = 64;
 
 /// A worker, by its number, starts a segment, by its number, or finishes it.
@@ -37,7 +37,7 @@ pub enum FinishKind {
     WrongCost,
     /// The result was computed on another input than the segment's.
     WrongInput,
-    /// There is no memory for the list of segments that become ready.
+    /// There is no memory for what the finish opens, or for the list of segments that become ready.
     OutOfMemory,
 }
 

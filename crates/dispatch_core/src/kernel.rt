@@ -25,7 +25,7 @@ pub trait Kernel: Send + Sync {
         ensures err { OnErr result (IsTrue (may_fault segment cost input)) };
 }
 
-/// The mixing kernel makes at most so many turns, however great the cost.
+/// The most turns that the mixing kernel makes, however great the cost.
 pub const MOST_MIX_TURNS: u64 = 4096;
 
 /// A kernel that begins with segment + input and makes a turn of x = 5 * x + 1 for each unit of the

@@ -9,7 +9,7 @@ ghost use Rattle.depend_table.specs.Kept.{IsKeptEdge};
 ghost use Rattle.dispatch_core.specs.declared.event.Event.{Event};
 ghost use Rattle.dispatch_core.specs.Graph.{IsGraphOf};
 ghost use Rattle.dispatch_core.specs.RecordedGraph.{RecordedGraph, Precedes};
-ghost use Rattle.dispatch_core.specs.Run.{Runs, IsFinished, IsReady, IsLegalRun, IsRunning};
+ghost use Rattle.dispatch_core.specs.Run.{Runs, IsFinished, IsReady, IsLegalRun, MayRun};
 ghost use Rattle.dispatch_core.specs.Replays.{IsFirstRefused};
 ghost use Rattle.dispatch_core.specs.Values.{IsValue, IsInput};
 ghost use Rattle.dispatch_core.specs.declared.replay.ReplayRefusal.{ReplayRefusal};
@@ -25,7 +25,7 @@ pub fn never_stuck(table: &SegTable)
     serves_runs(table);
 }
 
-/// A segment has one value and one input, whatever run it is part of.
+/// A segment has at most one value and at most one input, whatever run it is part of.
 pub fn one_value()
     ensures values { (table : Table) (value_of : ℕ → ℕ → ℕ → ℕ) (s v w : ℕ)
         → IsValue table value_of s v → IsValue table value_of s w → v ≡ w }
@@ -56,12 +56,12 @@ pub fn some_value()
 /// workers, is a segment, is open, and all that must precede it is finished.
 pub fn what_runs(table: &SegTable)
     ensures { (history : List Event) (worker s : ℕ) → IsLegalRun table.now history
-        → Runs history worker s → IsRunning table.now history worker s }
+        → Runs history worker s → MayRun table.now history worker s }
 {
     serves_runs(table);
 }
 
-/// In a legal history each segment is started once and finished once.
+/// In a legal history each segment is started at most once and finished at most once.
 pub fn each_once()
     ensures starts { (table : Table) (history : List Event) (i j one other s : ℕ)
         → IsLegalRun table history → slice_get history i ≡ Some (Event.Start one s)

@@ -34,7 +34,7 @@ pub enum ReplayFault {
         index: usize,
         refusal: ReplayRefusal,
     },
-    /// A growth was refused.
+    /// An allocation failed.
     OutOfMemory,
 }
 
@@ -45,8 +45,8 @@ enum StepFault {
     NoMemory,
 }
 
-/// The program's graph, by a run of every segment in the order of numbers on worker 0. It is
-/// refused for want of memory alone, and then the table comes back.
+/// The program's graph, by a run of every segment in the order of numbers on worker 0. It fails
+/// only if memory runs out, and then the table comes back.
 pub fn in_order(alloc: Global, table: SegTable) -> Result<Graph, NewFault>
     ensures ok { IfOk result (IsGraphOf table) }
     ensures err { IfErr result (λ fault. fault.table ≡ table) }
@@ -65,7 +65,7 @@ pub fn in_order(alloc: Global, table: SegTable) -> Result<Graph, NewFault>
     }
 }
 
-/// Runs the next segment from its start to its finish. It is refused for memory alone.
+/// Runs the next segment from its start to its finish. It fails only if memory runs out.
 fn run_next(core: &mut Core<MixKernel>, segment: u32) -> Result<(), AllocFault>
     requires known { segment < length core.old.table.segments }
     requires next { AreDone core.old.history segment }
@@ -84,7 +84,7 @@ fn run_next(core: &mut Core<MixKernel>, segment: u32) -> Result<(), AllocFault>
     }
 }
 
-/// Finishes a running segment with the mixing kernel's value. It is refused for memory alone, and
+/// Finishes a running segment with the mixing kernel's value. It fails only if memory runs out, and
 /// then nothing is changed.
 fn finish_computed(
     core: &mut Core<MixKernel>,

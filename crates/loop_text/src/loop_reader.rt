@@ -590,7 +590,7 @@ impl LoopReader {
         self.take_formed(place, token)
     }
 
-    /// The same of a token that is one by itself.
+    /// The same for a token that is well formed by itself.
     fn take_formed(&mut self, place: LoopPlace, token: Token<'_>) -> Result<LoopPlace, ReadFault>
         ensures { Gives (loop_state_of self.new) result (place_step (loop_state_of self.old place)
             (token_seen token.entry)) }

@@ -1,4 +1,4 @@
-//! Why a text is no program.
+//! Why a text is not a program.
 ghost use Rattle.std.specs.Prelude.{◌≡◌};
 ghost use Rattle.program_text.specs.declared.fault.ReadKind.TheVariants.{OutOfMemory};
 
@@ -9,14 +9,16 @@ use thiserror::Error;
 /// What is wrong with a text. The limits stand in `limits`.
 #[derive(Clone, Copy, Debug, PartialEq, Eq)]
 pub enum ReadKind {
-    /// More than `MOST_TEXT_BYTES`, or more than `MOST_TOKEN_BYTES` outside blanks and comments.
+    /// More than `MOST_TEXT_BYTES`, or more than `MOST_TOKEN_BYTES` outside blanks and comments:
+    /// those of the text in version 1, those of the canonical text in version 2.
     TooLong = 1,
-    /// The text does not begin with the word `omptasks` and a number of value 1.
+    /// The text does not begin with the word `omptasks` and a number of value 1 or 2.
     BadHeader = 2,
-    /// A byte outside comments that begins no token and is no blank.
+    /// A byte outside comments that is not a blank and begins no token.
     BadByte = 3,
-    /// A token, or the end of the text, where the grammar has none, a second `if` too; or a word of
-    /// more than `MOST_WORD_BYTES`.
+    /// A token, or the end of the text, where the grammar has none: a second `if` or `final` too,
+    /// and a variable that a loop around it already has, or that none has; or a word of more than
+    /// `MOST_WORD_BYTES`.
     BadWord = 4,
     /// A digit begins a run with another character than digits; or a number is too large: that of a
     /// `work` above `LARGEST_COST`, of an `if` or `final` above 1, of a `for` above
@@ -37,7 +39,7 @@ pub enum ReadKind {
     TooManyItems = 11,
     /// A total work above `MOST_WORK`.
     WorkTooLarge = 12,
-    /// A growth was refused.
+    /// An allocation failed.
     OutOfMemory = 13,
     /// More than `MOST_TURNS` turns of all `for` blocks together.
     TooManyTurns = 14,

@@ -133,7 +133,7 @@ impl<'a> Scanner<'a> {
     }
 }
 
-/// How many run bytes stand in front.
+/// How many run bytes the text begins with.
 fn run_length(bytes: &[u8]) -> usize
     ensures { result ≡ prefix_len is_run_byte bytes.now }
 {

@@ -103,8 +103,8 @@ pub enum Stmt {
     Group(Body),
 }
 
-/// A task that is created here: whether it is undeferred (an `if` clause of value 0), its depend
-/// items, and its code.
+/// A task that is created here: whether it is undeferred (an `if` clause of value 0, or a task with
+/// `final(1)` around it), its depend items, and its code.
 #[derive(Drop)]
 #[cycle(body)]
 pub struct TaskStmt {

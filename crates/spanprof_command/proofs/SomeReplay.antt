@@ -23,7 +23,7 @@ use Rattle.spanprof_command.proofs.Spelling.{reads_spells, spells_reads}
 use Rattle.spanprof_command.specs.Events.{Spells, word_says}
 use Rattle.spanprof_command.specs.EventSteps.{Progress, begin, step}
 use Rattle.spanprof_command.specs.Replaying.{Recounts, Replays, Row, SaysOfEvents, bad_form}
-use Rattle.spanprof_command.specs.Replaying.{event_refusal, row_line, segments_of_rows}
+use Rattle.spanprof_command.specs.Replaying.{event_refusal, preds_line, segments_of_rows}
 use Rattle.spanprof_command.specs.Report.{Report, number_line}
 use Rattle.spanprof_command.specs.declared.events.Expected.{Expected}
 use Rattle.spanprof_command.specs.declared.events.Expected.TheVariants as expected
@@ -132,7 +132,7 @@ some_recount table events sound legal =
     some_rows table opened.0 sound in (
       record {
         text = number_line (codes "events") (length events) ++
-            (number_line (codes "finished") (length finished.0) ++ flat_map row_line rows.0);
+            (number_line (codes "finished") (length finished.0) ++ flat_map preds_line rows.0);
         status = Done;
       },
       record {

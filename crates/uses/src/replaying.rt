@@ -14,7 +14,7 @@ use task_program::AllocFault;
 use task_segments::table::SegTable;
 
 /// What a run recorded of a segment: its predecessors by kept edges, ascending, or none if the
-/// segment is not open.
+/// segment is not open. The table is used up in every case.
 pub fn record_of(
     alloc: Global,
     table: SegTable,
