@@ -3,27 +3,19 @@ ghost use Rattle.std.specs.Prelude.{◌<◌};
 
 mod plain;
 
+use crate::tests::graph_of;
 use crate::tests::greedy::plain::PlainRun;
 use dispatch_core::graph::Graph;
-use dispatch_core::replay::in_order;
 use greedy_sim::curve::curve;
 use greedy_sim::greedy::{GreedyFault, bound, greedy};
 use std::alloc::Global;
 use std::fmt::Write;
 use std::test::Fail;
 use std::thread::Threads;
-use task_program::read::read_program;
-use task_segments::cut;
 
 const WORKED: &str = "omptasks 1\nwork 5 task { work 3 } work 2 taskwait work 1";
 
 const CHILDREN: &str = "omptasks 1\ntask { work 1 } task { work 1 } task { work 2 }";
-
-fn graph_of(alloc: Global, text: &str) -> Result<Graph, Fail> {
-    let program = read_program(alloc, text.as_bytes())?;
-    let table = cut(alloc, &program)?;
-    Ok(in_order(alloc, table).map_err(|_| "memory")?)
-}
 
 /// The segments of a greedy run, each with its start, end and thread, and the end of the run.
 fn rows(alloc: Global, text: &str, threads: u32) -> Result<String, Fail> {

@@ -1,19 +1,19 @@
 //! Worked programs: their earliest schedules, slacks and chains, as they follow by hand from what
 //! must precede what.
+ghost use Rattle.std.specs.Prelude.{◌≡◌, length};
+
 mod examples;
 
+use crate::tests::graph_of;
 use crate::tests::spans::examples::EXAMPLES;
 use dispatch_core::graph::Graph;
-use dispatch_core::replay::in_order;
-use span_analysis::analysis::analyse;
+use span_analysis::analysis::{Analysis, analyse};
 use span_analysis::legal::is_legal;
 use std::alloc::Global;
 use std::fmt::Write;
 use std::process::Abort;
 use std::test::Fail;
 use task_program::AllocFault;
-use task_program::read::read_program;
-use task_segments::cut;
 
 const WORKED_PROGRAM: &str = "omptasks 1\nwork 5 task { work 3 } work 2 taskwait work 1";
 
@@ -155,11 +155,6 @@ static WORKED: [Worked; 13] = [
     },
 ];
 
-fn graph_of(alloc: Global, text: &str) -> Result<Graph, Fail> {
-    let program = read_program(alloc, text.as_bytes())?;
-    Ok(in_order(alloc, cut(alloc, &program)?).map_err(|_| "memory")?)
-}
-
 fn list_of<T: Copy + Into<u64>>(alloc: Global, numbers: &[T]) -> Result<String, AllocFault> {
     let mut text = String::new(alloc);
     for number in numbers {
@@ -167,6 +162,35 @@ fn list_of<T: Copy + Into<u64>>(alloc: Global, numbers: &[T]) -> Result<String, 
         write!(text, "{number} ")?;
     }
     Ok(text)
+}
+
+/// Asserts that these numbers stand in a list.
+fn assert_list<T: Copy + Into<u64>>(
+    rt: &impl Abort,
+    alloc: Global,
+    numbers: &[T],
+    wanted: &str,
+) -> Result<(), Fail> {
+    assert_eq!(rt; list_of(alloc, numbers)?.as_str(), wanted);
+    Ok(())
+}
+
+/// Asserts that an analysis has these slacks.
+fn assert_slacks(
+    rt: &impl Abort,
+    alloc: Global,
+    graph: &Graph,
+    found: &Analysis,
+    wanted: &str,
+) -> Result<(), Fail>
+    requires { length found.now.slacks ≡ length graph.now.costs }
+{
+    let mut slacks = String::new(alloc);
+    for segment in 0..graph.len() {
+        write!(slacks, "{} ", found.slack(segment))?;
+    }
+    assert_eq!(rt; slacks.as_str(), wanted);
+    Ok(())
 }
 
 /// Asserts that the analysis of a program finds what is wanted.
@@ -179,21 +203,9 @@ fn assert_found(rt: &impl Abort, alloc: Global, worked: &Worked) -> Result<(), F
         (worked.work, worked.span),
         "of {name}"
     );
-    assert_eq!(rt;
-        list_of(alloc, found.starts())?.as_str(),
-        worked.starts,
-        "of {name}"
-    );
-    assert_eq!(rt;
-        list_of(alloc, found.chain())?.as_str(),
-        worked.chain,
-        "of {name}"
-    );
-    let mut slacks = String::new(alloc);
-    for segment in 0..graph.len() {
-        write!(slacks, "{} ", found.slack(segment))?;
-    }
-    assert_eq!(rt; slacks.as_str(), worked.slacks, "of {name}");
+    assert_list(rt, alloc, found.starts(), worked.starts)?;
+    assert_list(rt, alloc, found.chain(), worked.chain)?;
+    assert_slacks(rt, alloc, &graph, &found, worked.slacks)?;
     assert!(rt; is_legal(&graph, found.starts()), "of {name}");
     Ok(())
 }

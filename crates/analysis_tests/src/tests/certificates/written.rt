@@ -11,6 +11,7 @@ use span_cert::{Checked, WriteFault, write_certificate};
 use std::alloc::{AllocError, Global};
 use std::io;
 use std::io::{ErrorKind, Write};
+use std::process::Abort;
 use std::test::Fail;
 use task_program::AllocFault;
 use task_program::program::Program;
@@ -101,28 +102,30 @@ fn written(
     Ok((answer, sink.into_inner().taken))
 }
 
+/// Asserts that a certificate is written whole, at most so many bytes in each call.
+fn assert_written(
+    rt: &impl Abort,
+    alloc: Global,
+    text: &str,
+    piece: usize,
+    whole: &[u8],
+) -> Result<(), Fail> {
+    let (answer, taken) = written(alloc, text, Sink::new(alloc, piece, None))?;
+    assert_eq!(rt; answer, Ok(()));
+    assert_eq!(rt; taken.as_slice(), whole);
+    Ok(())
+}
+
 #[test]
 fn certificates_are_written_whole(rt: HostRuntime) -> Result<(), Fail> {
     let alloc = rt.alloc();
-    let (answer, taken) = written(alloc, PROGRAM, Sink::new(alloc, 1_000, None))?;
-    assert_eq!(rt; answer, Ok(()));
-    assert_eq!(rt; taken.as_slice(), worked(alloc)?.as_bytes());
-    // one byte at a time
-    let (answer, taken) = written(alloc, PROGRAM, Sink::new(alloc, 1, None))?;
-    assert_eq!(rt; answer, Ok(()));
-    assert_eq!(rt; taken.as_slice(), worked(alloc)?.as_bytes());
+    let whole = worked(alloc)?;
+    for piece in [1_000, 1] {
+        assert_written(&rt, alloc, PROGRAM, piece, whole.as_bytes())?;
+    }
     // a program without statements, and a text that is not canonical
-    let (answer, taken) = written(
-        alloc,
-        "omptasks 01 # nothing",
-        Sink::new(alloc, 1_000, None),
-    )?;
-    assert_eq!(rt; answer, Ok(()));
-    assert_eq!(rt;
-        taken.as_slice(),
-        b"omptasks 1\n---\nend 0\nstart 0 0\nchain 0\n".as_slice()
-    );
-    Ok(())
+    let empty = b"omptasks 1\n---\nend 0\nstart 0 0\nchain 0\n";
+    assert_written(&rt, alloc, "omptasks 01 # nothing", 1_000, empty)
 }
 
 #[test]

@@ -2,7 +2,8 @@
 //! from nothing.
 ghost use Rattle.std.specs.Prelude.{◌≡◌, ◌-◌, ◌<◌, ◌≤◌, ◌^◌, IsTrue, length, sum};
 
-use super::{WORKED, graph_of};
+use super::{WORKED, reset, set};
+use crate::tests::graph_of;
 use dispatch_core::graph::Graph;
 use span_analysis::analysis::analyse;
 use std::alloc::Global;
@@ -106,31 +107,79 @@ fn agrees(alloc: Global, trial: &WhatIf, graph: &Graph) -> Result<bool, AllocFau
     Ok(true)
 }
 
+/// Takes back all changes of a trial, and of the costs as they ought to be.
+fn take_back(trial: &mut WhatIf, own: &[u64], costs: &mut [u64]) -> Result<u64, WhatFault>
+    ensures { length trial.new.graph.costs ≡ length trial.old.graph.costs }
+{
+    let answer = reset(trial);
+    if answer.is_ok() && costs.len() == own.len() {
+        costs.copy_from_slice(own);
+    }
+    answer
+}
+
+/// Changes one cost of a trial, and of the costs as they ought to be.
+fn change(trial: &mut WhatIf, segment: u32, cost: u64, costs: &mut [u64]) -> Result<u64, WhatFault>
+    ensures { length trial.new.graph.costs ≡ length trial.old.graph.costs }
+{
+    let answer = set(trial, segment, cost);
+    if answer.is_ok() && (segment as usize) < costs.len() {
+        costs[segment as usize] = cost;
+    }
+    answer
+}
+
 /// Makes one call on a trial, and the same change in the costs as they ought to be.
-fn change(
+fn call(
     dice: &mut Dice,
     trial: &mut WhatIf,
     count: u32,
     own: &[u64],
-    costs: &mut Vec<u64>,
+    costs: &mut [u64],
 ) -> Result<u64, WhatFault>
     requires { count < 2 ^ 32 - 1 }
     ensures { length trial.new.graph.costs ≡ length trial.old.graph.costs }
 {
     if dice.below(16) == 0 {
-        let answer = trial.reset();
-        if answer.is_ok() && costs.len() == own.len() {
-            costs.copy_from_slice(own);
-        }
-        return answer;
+        return take_back(trial, own, costs);
     }
     let segment = dice.below(count + 1);
     let cost = dice.cost();
-    let answer = trial.set(segment, cost);
-    if answer.is_ok() && (segment as usize) < costs.len() {
-        costs[segment as usize] = cost;
+    change(trial, segment, cost, costs)
+}
+
+/// Makes one call on a trial, and compares it with an analysis of the second graph, with the costs as
+/// they ought to be.
+fn compare_once(
+    alloc: Global,
+    dice: &mut Dice,
+    trial: &mut WhatIf,
+    second: &mut Graph,
+    own: &[u64],
+    costs: &mut [u64],
+) -> Result<Result<u64, WhatFault>, Fail>
+    requires { length trial.old.graph.costs ≡ length second.old.costs }
+    ensures trial { length trial.new.graph.costs ≡ length trial.old.graph.costs }
+    ensures second { length second.new.costs ≡ length second.old.costs }
+{
+    let answer = call(dice, trial, second.len(), own, costs);
+    if answer.is_ok() && answer != Ok(trial.span()) {
+        return Err("another span is answered".into());
     }
-    answer
+    put(second, costs)?;
+    if !agrees(alloc, trial, second)? {
+        return Err("another analysis".into());
+    }
+    Ok(answer)
+}
+
+/// The costs of a graph.
+fn costs_of(alloc: Global, graph: &Graph) -> Result<Vec<u64>, AllocFault> {
+    let mut costs = Vec::new(alloc);
+    for segment in 0..graph.len() {
+        costs.push(graph.cost(segment))?;
+    }
+    Ok(costs)
 }
 
 /// Makes many calls on a trial of a program's graph, and after each compares it with an analysis of
@@ -141,11 +190,8 @@ fn compare(alloc: Global, text: &str, calls: u32) -> Result<Counts, Fail> {
     if first.len() != second.len() {
         return Err("two graphs of one program".into());
     }
-    let mut own = Vec::new(alloc);
-    for segment in 0..second.len() {
-        own.push(second.cost(segment))?;
-    }
-    let mut costs = own.clone()?;
+    let own = costs_of(alloc, &second)?;
+    let mut costs = costs_of(alloc, &second)?;
     let mut trial = match WhatIf::new(alloc, first) {
         Ok(trial) => trial,
         Err(_) => return Err("memory".into()),
@@ -158,15 +204,8 @@ fn compare(alloc: Global, text: &str, calls: u32) -> Result<Counts, Fail> {
         work_too_large: 0,
     };
     for _ in 0..calls {
-        let answer = change(&mut dice, &mut trial, second.len(), &own, &mut costs);
+        let answer = compare_once(alloc, &mut dice, &mut trial, &mut second, &own, &mut costs)?;
         counts.count(answer);
-        if answer.is_ok() && answer != Ok(trial.span()) {
-            return Err("another span is answered".into());
-        }
-        put(&mut second, &costs)?;
-        if !agrees(alloc, &trial, &second)? {
-            return Err("another analysis".into());
-        }
     }
     Ok(counts)
 }

@@ -1,0 +1,14 @@
+use Rattle.clap.specs.Words.{app_of}
+use Rattle.std.proofs.Common.{◌∙◌, ap, ap₂}
+use Rattle.std.proofs.lemmas.Result.{IfOk-weaker}
+use Rattle.command_words.specs.Program.{and_then}
+use Rattle.command_words.proofs.program.with_runs.Goals as goal
+
+-- each command in turn
+pub returns : goal.returns
+returns c =
+    let span = c.in_ok-command.ensures ∙ ap (and_then (app_of c.args.command)) (c.new.ensures.app) in
+    let show = c.in_ok-command-2.ensures ∙ ap₂ and_then span (c.new-2.ensures.app) in
+    let replay = c.in_ok-command-3.ensures ∙ ap₂ and_then show (c.new-3.ensures.app) in
+    IfOk-weaker c.with_command-4.result _ _ (λ command added. added
+    ∙ ap₂ and_then replay c.in_ok-with_option.ensures.app) c.with_command-4.ensures
