@@ -2,35 +2,22 @@
 mod graphs;
 mod runs;
 
+use crate::tests::{graph_of_body, preds_text, table_of_body};
 use dispatch_core::dispatch::Core;
 use dispatch_core::event::{Event, FinishKind, StartRefusal};
 use dispatch_core::graph::Graph;
 use dispatch_core::kernel::{Kernel, MixKernel, SegResult};
-use dispatch_core::replay::{ReplayFault, ReplayRefusal, in_order, replay};
+use dispatch_core::replay::{ReplayFault, ReplayRefusal, replay};
 use std::alloc::Global;
-use std::fmt::Write;
 use std::process::Abort;
 use std::test::Fail;
 use task_program::AllocFault;
-use task_program::fault::ReadFault;
-use task_program::read::read_program;
-use task_segments::cut;
-use task_segments::table::SegTable;
 
-const WORKED: &str = "omptasks 1\nwork 5 task { work 3 } work 2 taskwait work 1";
+/// The worked program, by its body.
+const WORKED: &str = "work 5 task { work 3 } work 2 taskwait work 1";
 
 /// The predecessors of the worked program's segments.
 const WORKED_PREDS: &str = "0:; 1: 0; 2: 0; 3: 1 2; ";
-
-fn table_of(alloc: Global, text: &str) -> Result<SegTable, Fail> {
-    let program = read_program(alloc, text.as_bytes()).map_err(|_| "refused")?;
-    Ok(cut(alloc, &program)?)
-}
-
-/// The graph of a program's run in order.
-fn graph_of(alloc: Global, text: &str) -> Result<Graph, Fail> {
-    Ok(in_order(alloc, table_of(alloc, text)?).map_err(|_| "out of memory")?)
-}
 
 fn start(worker: u32, segment: u32) -> Event {
     Event::Start { worker, segment }
@@ -38,26 +25,6 @@ fn start(worker: u32, segment: u32) -> Event {
 
 fn finish(worker: u32, segment: u32) -> Event {
     Event::Finish { worker, segment }
-}
-
-fn preds_text(alloc: Global, graph: &Graph) -> Result<String, AllocFault> {
-    let mut text = String::new(alloc);
-    for segment in 0..graph.len() {
-        write!(text, "{segment}:")?;
-        write_preds(&mut text, graph, segment)?;
-        write!(text, "; ")?;
-    }
-    Ok(text)
-}
-
-fn write_preds(text: &mut String, graph: &Graph, segment: u32) -> Result<(), AllocFault> {
-    if segment >= graph.len() {
-        return Ok(());
-    }
-    for pred in graph.preds(segment) {
-        write!(text, " {pred}")?;
-    }
-    Ok(())
 }
 
 /// The segment, the cost, the input and the value.
@@ -70,17 +37,50 @@ fn fields_of<K: Kernel>(outcome: &SegResult<K>) -> (u32, u64, u64, u64) {
     )
 }
 
+/// A run of a program's table that has not begun.
+fn new_core<K: Kernel>(alloc: Global, body: &str) -> Result<Core<K>, Fail> {
+    match Core::new(alloc, table_of_body(alloc, body)?) {
+        Ok(core) => Ok(core),
+        Err(_) => Err("out of memory".into()),
+    }
+}
+
 /// A run of the worked program, by its events.
 fn worked_run(alloc: Global, events: &[Event]) -> Result<Core<MixKernel>, Fail> {
-    Ok(replay(alloc, table_of(alloc, WORKED)?, events).map_err(|_| "refused")?)
+    match replay(alloc, table_of_body(alloc, WORKED)?, events) {
+        Ok(core) => Ok(core),
+        Err(_) => Err("refused".into()),
+    }
 }
 
 /// Starts a segment on a worker; answers the segment's input.
 fn start_on(core: &mut Core<MixKernel>, worker: u32, segment: u32) -> Result<u64, Fail> {
-    Ok(
-        core.start(worker, segment)
-            .map_err(|_| "the start is refused")?,
-    )
+    match core.start(worker, segment) {
+        Ok(input) => Ok(input),
+        Err(_) => Err("the start is refused".into()),
+    }
+}
+
+/// The result of a segment of this cost and input.
+fn mixed_result(segment: u32, cost: u64, input: u64) -> Result<SegResult<MixKernel>, Fail> {
+    Ok(SegResult::compute(&MixKernel, segment, cost, input)?)
+}
+
+/// The worker starts the segment, on this input.
+fn check_start(
+    rt: &impl Abort,
+    core: &mut Core<MixKernel>,
+    worker: u32,
+    segment: u32,
+    input: u64,
+) -> Result<(), Fail> {
+    assert_eq!(rt; start_on(core, worker, segment)?, input);
+    Ok(())
+}
+
+/// How many events were accepted.
+fn event_count(core: &Core<MixKernel>) -> usize {
+    core.history().len()
 }
 
 /// Finishes a segment of this cost and input on a worker; answers the segments that become ready.
@@ -91,11 +91,10 @@ fn finish_on(
     cost: u64,
     input: u64,
 ) -> Result<Vec<u32>, Fail> {
-    let outcome = SegResult::compute(&MixKernel, segment, cost, input).map_err(|_| "a fault")?;
-    Ok(
-        core.finish(worker, outcome)
-            .map_err(|_| "the finish is refused")?,
-    )
+    match core.finish(worker, mixed_result(segment, cost, input)?) {
+        Ok(ready) => Ok(ready),
+        Err(_) => Err("the finish is refused".into()),
+    }
 }
 
 /// A worker's result is refused, for this reason, and given back with these fields.
@@ -107,7 +106,7 @@ fn check_refusal(
     kind: FinishKind,
 ) -> Result<(), Fail> {
     let (segment, cost, input, _) = fields;
-    let outcome = SegResult::compute(&MixKernel, segment, cost, input).map_err(|_| "a fault")?;
+    let outcome = mixed_result(segment, cost, input)?;
     let refusal = core.finish(worker, outcome).err().ok_or("accepted")?;
     assert_eq!(rt; refusal.kind, kind);
     assert_eq!(rt; fields_of(&refusal.result), fields);
@@ -125,9 +124,17 @@ fn check_preds(rt: &impl Abort, core: &Core<MixKernel>, segment: u32, preds: Opt
     assert_eq!(rt; core.preds_of(segment), preds, "of segment {segment}");
 }
 
+/// The graph of a finished run.
+fn finished_graph(core: Core<MixKernel>) -> Result<Graph, Fail> {
+    match core.into_graph() {
+        Ok(graph) => Ok(graph),
+        Err(_) => Err("unfinished".into()),
+    }
+}
+
 /// The finished run of the worked program has the program's graph.
 fn check_worked_graph(rt: &impl Abort, alloc: Global, core: Core<MixKernel>) -> Result<(), Fail> {
-    let graph = core.into_graph().map_err(|_| "unfinished")?;
+    let graph = finished_graph(core)?;
     assert_eq!(rt; preds_text(alloc, &graph)?.as_str(), WORKED_PREDS);
     Ok(())
 }
@@ -135,7 +142,7 @@ fn check_worked_graph(rt: &impl Abort, alloc: Global, core: Core<MixKernel>) -> 
 #[test]
 fn worked_program_in_order(rt: HostRuntime) -> Result<(), Fail> {
     let alloc = rt.alloc();
-    let graph = graph_of(alloc, WORKED)?;
+    let graph = graph_of_body(alloc, WORKED)?;
     assert_eq!(rt; graph.len(), 4);
     assert_eq!(rt; graph.edges(), 4);
     assert_eq!(rt; graph.work(), 11);
@@ -158,7 +165,7 @@ fn worked_replay(rt: HostRuntime) -> Result<(), Fail> {
     ];
     let core = worked_run(alloc, &events)?;
     assert!(rt; core.is_finished());
-    assert_eq!(rt; core.history().len(), 8);
+    assert_eq!(rt; event_count(&core), 8);
     assert_eq!(rt; core.value(0), Some(781));
     Ok(())
 }
@@ -183,7 +190,7 @@ fn refused_events(rt: HostRuntime) -> Result<(), Fail> {
         (start(0, 3), StartRefusal::NotReady { pred: 1 }),
     ];
     for (event, refusal) in cases {
-        match replay(alloc, table_of(alloc, WORKED)?, &[event]) {
+        match replay(alloc, table_of_body(alloc, WORKED)?, &[event]) {
             Ok(_) => assert!(rt; false, "accepted"),
             Err((fault, _)) => assert_eq!(rt;
                 fault,
@@ -197,12 +204,8 @@ fn refused_events(rt: HostRuntime) -> Result<(), Fail> {
     Ok(())
 }
 
-#[test]
-fn results_refused_in_a_run(rt: HostRuntime) -> Result<(), Fail> {
-    let alloc = rt.alloc();
-    let mut core = worked_run(alloc, &[start(0, 0), finish(0, 0)])?;
-    let input = start_on(&mut core, 0, 1)?;
-    assert_eq!(rt; input, 781);
+/// Results that are refused while worker 0 runs segment 1 of the worked program.
+fn check_refusals(rt: &impl Abort, core: &mut Core<MixKernel>) -> Result<(), Fail> {
     let cases = [
         (0, (2, 2, 781, 19581), FinishKind::NotRunning),
         (0, (1, 4, 781, 488906), FinishKind::WrongCost),
@@ -210,13 +213,27 @@ fn results_refused_in_a_run(rt: HostRuntime) -> Result<(), Fail> {
         (1, (1, 3, 781, 97781), FinishKind::NotRunning),
     ];
     for (worker, fields, kind) in cases {
-        check_refusal(&rt, &mut core, worker, fields, kind)?;
-        assert_eq!(rt; core.history().len(), 3);
+        check_refusal(rt, core, worker, fields, kind)?;
+        assert_eq!(rt; event_count(core), 3);
     }
-    assert_eq!(rt; finish_on(&mut core, 0, 1, 3, input)?.len(), 0);
+    Ok(())
+}
+
+/// Worker 0 finishes segment 1 and runs the others.
+fn finish_worked(rt: &impl Abort, core: &mut Core<MixKernel>) -> Result<(), Fail> {
+    assert_eq!(rt; finish_on(core, 0, 1, 3, 781)?.len(), 0);
     for (segment, cost) in [(2, 2), (3, 1)] {
-        let input = start_on(&mut core, 0, segment)?;
-        finish_on(&mut core, 0, segment, cost, input)?;
+        let input = start_on(core, 0, segment)?;
+        finish_on(core, 0, segment, cost, input)?;
     }
-    check_worked_graph(&rt, alloc, core)
+    Ok(())
+}
+
+#[test]
+fn results_refused_in_a_run(rt: HostRuntime) -> Result<(), Fail> {
+    let mut core = worked_run(rt.alloc(), &[start(0, 0), finish(0, 0)])?;
+    check_start(&rt, &mut core, 0, 1, 781)?;
+    check_refusals(&rt, &mut core)?;
+    finish_worked(&rt, &mut core)?;
+    check_worked_graph(&rt, rt.alloc(), core)
 }

@@ -1,15 +1,13 @@
 //! Worked programs: their tables and the pairs that must precede, as the rules of tasks give them
 //! by hand.
 
+use crate::tests::{table_of, table_of_body};
 use std::alloc::Global;
 use std::fmt::Write;
 use std::process::Abort;
 use std::test::Fail;
 use task_program::AllocFault;
-use task_program::fault::ReadFault;
-use task_program::read::read_program;
 use task_program::statement::DependKind;
-use task_segments::cut;
 use task_segments::table::{Closing, SegTable};
 
 /// A program and what is wanted of its table.
@@ -140,11 +138,6 @@ static WORKED: [Worked; 14] = [
     },
 ];
 
-fn table_of(alloc: Global, text: &str) -> Result<SegTable, ReadFault> {
-    let program = read_program(alloc, text.as_bytes())?;
-    Ok(cut(alloc, &program)?)
-}
-
 fn write_number(text: &mut String, number: Option<u32>) -> Result<(), AllocFault> {
     match number {
         Some(number) => write!(text, " {number}"),
@@ -223,31 +216,35 @@ fn pairs_of(alloc: Global, table: &SegTable) -> Result<String, AllocFault> {
     Ok(text)
 }
 
+/// The table is the wanted one.
+fn check_table(
+    rt: &impl Abort,
+    alloc: Global,
+    table: &SegTable,
+    worked: &Worked,
+) -> Result<(), AllocFault> {
+    let name = worked.name;
+    let segments = segments_of(alloc, table)?;
+    assert_eq!(rt; segments.as_str(), worked.segments, "{name}");
+    let tasks = tasks_of(alloc, table)?;
+    assert_eq!(rt; tasks.as_str(), worked.tasks, "{name}");
+    let pairs = pairs_of(alloc, table)?;
+    assert_eq!(rt; pairs.as_str(), worked.pairs, "{name}");
+    Ok(())
+}
+
 #[test]
 fn worked_programs(rt: HostRuntime) -> Result<(), Fail> {
     let alloc = rt.alloc();
     for worked in &WORKED {
-        let table = table_of(alloc, worked.text)?;
-        assert_eq!(rt;
-            segments_of(alloc, &table)?.as_str(),
-            worked.segments,
-            "{}",
-            worked.name
-        );
-        assert_eq!(rt;
-            tasks_of(alloc, &table)?.as_str(),
-            worked.tasks,
-            "{}",
-            worked.name
-        );
-        assert_eq!(rt;
-            pairs_of(alloc, &table)?.as_str(),
-            worked.pairs,
-            "{}",
-            worked.name
-        );
+        check_table(&rt, alloc, &table_of(alloc, worked.text)?, worked)?;
     }
     Ok(())
+}
+
+/// The two tables are the same, whichever is asked.
+fn check_same(rt: &impl Abort, one: &SegTable, other: &SegTable, name: &str) {
+    assert!(rt; one.same(other) && other.same(one), "{name}");
 }
 
 #[test]
@@ -256,32 +253,10 @@ fn copies_are_the_same(rt: HostRuntime) -> Result<(), Fail> {
     for worked in &WORKED {
         let table = table_of(alloc, worked.text)?;
         let copy = table.copy()?;
-        assert!(rt; table.same(&copy) && copy.same(&table), "{}", worked.name);
-        assert_eq!(rt;
-            segments_of(alloc, &copy)?.as_str(),
-            worked.segments,
-            "{}",
-            worked.name
-        );
-        assert_eq!(rt;
-            tasks_of(alloc, &copy)?.as_str(),
-            worked.tasks,
-            "{}",
-            worked.name
-        );
-        assert_eq!(rt;
-            pairs_of(alloc, &copy)?.as_str(),
-            worked.pairs,
-            "{}",
-            worked.name
-        );
+        check_same(&rt, &table, &copy, worked.name);
+        check_table(&rt, alloc, &copy, worked)?;
     }
     Ok(())
-}
-
-fn table_of_body(alloc: Global, body: &str) -> Result<SegTable, Fail> {
-    let text = format!(in alloc; "omptasks 1\n{body}")?;
-    Ok(table_of(alloc, text.as_str())?)
 }
 
 /// The two tables are not the same, whichever is asked.

@@ -2,21 +2,17 @@
 mod faults;
 mod overlap;
 
+use crate::tests::{graph_of_body, preds_text, table_of_body};
 use dispatch_core::dispatch::Core;
-use dispatch_core::graph::Graph;
-use dispatch_core::kernel::MixKernel;
-use dispatch_core::replay::{in_order, replay};
+use dispatch_core::kernel::{Kernel, MixKernel};
+use dispatch_core::replay::replay;
 use std::alloc::Global;
 use std::fmt::Write;
 use std::process::Abort;
 use std::sync::Wait;
 use std::test::Fail;
 use std::thread::Threads;
-use task_program::AllocFault;
-use task_program::read::read_program;
-use task_segments::cut;
-use task_segments::table::SegTable;
-use worker_run::gate::OpenGate;
+use worker_run::gate::{Gate, OpenGate};
 use worker_run::lane::{close, lane};
 use worker_run::record::{RunFault, RunRecord};
 use worker_run::run::{digest, run};
@@ -24,31 +20,17 @@ use worker_run::run::{digest, run};
 /// A program with 4 segments, of which the last waits for the one that a child is.
 const WORKED: &str = "work 5 task { work 3 } work 2 taskwait work 1";
 
-/// The table of a program, by its body.
-fn table_of(alloc: Global, body: &str) -> Result<SegTable, Fail> {
-    let text = format!(in alloc; "omptasks 1\n{body}")?;
-    let program = read_program(alloc, text.as_bytes()).map_err(|_| "no program")?;
-    Ok(cut(alloc, &program)?)
-}
-
-fn preds_text(alloc: Global, graph: &Graph) -> Result<String, AllocFault> {
-    let mut text = String::new(alloc);
-    for segment in 0..graph.len() {
-        write!(text, "{segment}:")?;
-        write_preds(&mut text, graph, segment)?;
-        write!(text, "; ")?;
-    }
-    Ok(text)
-}
-
-fn write_preds(text: &mut String, graph: &Graph, segment: u32) -> Result<(), AllocFault> {
-    if segment >= graph.len() {
-        return Ok(());
-    }
-    for pred in graph.preds(segment) {
-        write!(text, " {pred}")?;
-    }
-    Ok(())
+/// What a run of a program, by its body, answers.
+fn answer_of<K: Kernel, G: Gate, R: Threads + Wait + Sync>(
+    rt: &R,
+    alloc: Global,
+    body: &str,
+    kernel: &K,
+    gate: &G,
+    workers: u32,
+) -> Result<Result<RunRecord, RunFault>, Fail> {
+    let table = table_of_body(alloc, body)?;
+    Ok(run(rt, alloc, table, kernel, gate, workers))
 }
 
 /// The record of a run of a program by so many workers.
@@ -58,8 +40,7 @@ fn made_by<R: Threads + Wait + Sync>(
     body: &str,
     workers: u32,
 ) -> Result<RunRecord, Fail> {
-    let table = table_of(alloc, body)?;
-    Ok(run(rt, alloc, table, &MixKernel, &OpenGate, workers).map_err(|_| "no record")?)
+    Ok(answer_of(rt, alloc, body, &MixKernel, &OpenGate, workers)??)
 }
 
 /// This is a record of the worked program.
@@ -91,11 +72,10 @@ fn worked_program_by_any_number_of_workers(rt: HostRuntime) -> Result<(), Fail> 
 fn too_few_or_too_many_workers(rt: HostRuntime) -> Result<(), Fail> {
     let alloc = rt.alloc();
     for workers in [0, 65, u32::MAX] {
-        let table = table_of(alloc, WORKED)?;
-        let fault = run(&rt, alloc, table, &MixKernel, &OpenGate, workers)
-            .err()
-            .ok_or("a record")?;
-        assert_eq!(rt; fault, RunFault::WorkerCount, "{workers} workers");
+        match answer_of(&rt, alloc, WORKED, &MixKernel, &OpenGate, workers)? {
+            Ok(_) => assert!(rt; false, "a record"),
+            Err(fault) => assert_eq!(rt; fault, RunFault::WorkerCount, "{workers} workers"),
+        }
     }
     Ok(())
 }
@@ -119,22 +99,31 @@ fn large_body(alloc: Global) -> Result<String, Fail> {
     Ok(body)
 }
 
+/// The digest of a run by so many workers, which records this graph and a history that replays.
+fn checked_digest<R: Threads + Wait + Abort + Sync>(
+    rt: &R,
+    alloc: Global,
+    body: &str,
+    workers: u32,
+    preds: &str,
+) -> Result<u64, Fail> {
+    let made = made_by(rt, alloc, body, workers)?;
+    assert_eq!(rt; preds_text(alloc, &made.graph)?.as_str(), preds);
+    assert!(rt; replays(alloc, body, &made)?, "{workers} workers");
+    Ok(digest(made.values.as_slice()))
+}
+
 /// The same values, the graph of a run in order, and a history that replays to its end, whatever
 /// the number of workers.
 #[test]
 fn large_program_agrees(rt: HostRuntime) -> Result<(), Fail> {
     let alloc = rt.alloc();
     let body = large_body(alloc)?;
-    let in_turn = in_order(alloc, table_of(alloc, body.as_str())?).map_err(|_| "no memory")?;
-    let wanted = preds_text(alloc, &in_turn)?;
-    let mut first: Option<u64> = None;
-    for workers in [1, 2, 3, 4, 8, 64] {
-        let made = made_by(&rt, alloc, body.as_str(), workers)?;
-        assert_eq!(rt; preds_text(alloc, &made.graph)?.as_str(), wanted.as_str());
-        let total = digest(made.values.as_slice());
-        assert_eq!(rt; first.unwrap_or(total), total, "{workers} workers");
-        first = Some(total);
-        assert!(rt; replays(alloc, body.as_str(), &made)?, "{workers} workers");
+    let preds = preds_text(alloc, &graph_of_body(alloc, body.as_str())?)?;
+    let first = checked_digest(&rt, alloc, body.as_str(), 1, preds.as_str())?;
+    for workers in [2, 3, 4, 8, 64] {
+        let total = checked_digest(&rt, alloc, body.as_str(), workers, preds.as_str())?;
+        assert_eq!(rt; first, total, "{workers} workers");
     }
     Ok(())
 }
@@ -142,10 +131,10 @@ fn large_program_agrees(rt: HostRuntime) -> Result<(), Fail> {
 /// Whether the record's history is a run of the program from its start to its end, with the
 /// record's values.
 fn replays(alloc: Global, body: &str, made: &RunRecord) -> Result<bool, Fail> {
-    let core = replay(alloc, table_of(alloc, body)?, made.history.as_slice()).map_err(
-        |_| "not legal",
-    )?;
-    Ok(core.is_finished() && has_values(&core, made))
+    match replay(alloc, table_of_body(alloc, body)?, made.history.as_slice()) {
+        Ok(core) => Ok(core.is_finished() && has_values(&core, made)),
+        Err(_) => Err("not legal".into()),
+    }
 }
 
 /// Whether the run has the record's values.
@@ -170,7 +159,12 @@ fn tokens_of_a_lane(rt: HostRuntime) -> Result<(), Fail> {
     assert_eq!(rt; owner.take(), None);
     assert_eq!(rt; thieves[0].steal(), None);
     assert_eq!(rt; close(owner, thieves), 0);
-    let (mut owner, none) = lane(alloc, 2, 0)?;
+    Ok(())
+}
+
+#[test]
+fn a_token_left_in_a_lane(rt: HostRuntime) -> Result<(), Fail> {
+    let (mut owner, none) = lane(rt.alloc(), 2, 0)?;
     owner.put(9);
     assert_eq!(rt; close(owner, none), 1);
     Ok(())

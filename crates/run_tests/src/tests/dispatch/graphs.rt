@@ -1,9 +1,11 @@
 //! Whole recorded graphs, predecessor by predecessor, and a run with another kernel.
 ghost use Rattle.std.specs.Prelude.{◌≡◌, ◌+◌, ◌%◌, ◌^◌, ◌==◌, IfOk, IsTrue, OnErr};
 
-use super::{fields_of, graph_of, preds_text, table_of};
+use super::{WORKED, fields_of, new_core};
+use crate::tests::{graph_of_body, preds_text};
 use dispatch_core::dispatch::Core;
 use dispatch_core::kernel::{Kernel, KernelFault, SegResult};
+use std::process::Abort;
 use std::test::Fail;
 
 /// In each, the first segment of a task has the task's creator and the last segments of its kept
@@ -25,8 +27,7 @@ fn graphs_of_siblings(rt: HostRuntime) -> Result<(), Fail> {
         ),
     ];
     for (body, predecessors) in programs {
-        let text = format!(in alloc; "omptasks 1\n{body}")?;
-        let graph = graph_of(alloc, text.as_str())?;
+        let graph = graph_of_body(alloc, body)?;
         assert_eq!(rt;
             preds_text(alloc, &graph)?.as_str(),
             predecessors,
@@ -56,20 +57,27 @@ impl Kernel for AddingKernel {
     }
 }
 
+/// Worker 9 runs a segment: the segment, its cost, its input and its value are these.
+fn check_adding(
+    rt: &impl Abort,
+    core: &mut Core<AddingKernel>,
+    fields: (u32, u64, u64, u64),
+) -> Result<(), Fail> {
+    let (segment, cost, input, value) = fields;
+    assert_eq!(rt; core.start(9, segment).ok(), Some(input));
+    let outcome = SegResult::compute(&AddingKernel, segment, cost, input)?;
+    assert_eq!(rt; fields_of(&outcome), fields);
+    assert!(rt; core.finish(9, outcome).is_ok());
+    assert_eq!(rt; core.value(segment), Some(value));
+    Ok(())
+}
+
 #[test]
 fn a_run_with_another_kernel(rt: HostRuntime) -> Result<(), Fail> {
-    let alloc = rt.alloc();
     assert!(rt; SegResult::compute(&AddingKernel, 0, 0, 7).is_err());
-    let table = table_of(alloc, super::WORKED)?;
-    let mut core = Core::new(alloc, table).map_err(|_| "out of memory")?;
-    let steps = [(0, 5, 0, 5), (1, 3, 5, 8), (2, 2, 5, 7), (3, 1, 15, 16)];
-    for fields in steps {
-        let (segment, cost, input, value) = fields;
-        assert_eq!(rt; core.start(9, segment).ok(), Some(input));
-        let outcome = SegResult::compute(&AddingKernel, segment, cost, input).map_err(|_| "fault")?;
-        assert_eq!(rt; fields_of(&outcome), fields);
-        assert!(rt; core.finish(9, outcome).is_ok());
-        assert_eq!(rt; core.value(segment), Some(value));
+    let mut core = new_core(rt.alloc(), WORKED)?;
+    for fields in [(0, 5, 0, 5), (1, 3, 5, 8), (2, 2, 5, 7), (3, 1, 15, 16)] {
+        check_adding(&rt, &mut core, fields)?;
     }
     assert!(rt; core.into_graph().is_ok());
     Ok(())

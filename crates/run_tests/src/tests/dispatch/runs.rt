@@ -1,29 +1,41 @@
 //! Whole runs, with values of the mixing kernel that were computed apart from this program.
 use super::{
-    WORKED, WORKED_PREDS, check_preds, check_ready, check_refusal, check_worked_graph, finish_on,
-    graph_of, preds_text, start_on, table_of,
+    WORKED, WORKED_PREDS, check_preds, check_ready, check_refusal, check_start, check_worked_graph,
+    event_count, finish_on, finished_graph, mixed_result, new_core, start_on,
 };
+use crate::tests::{graph_of_body, preds_text};
 use dispatch_core::dispatch::Core;
 use dispatch_core::event::FinishKind;
-use dispatch_core::kernel::{MixKernel, SegResult};
+use dispatch_core::graph::Graph;
+use dispatch_core::kernel::MixKernel;
 use std::alloc::Global;
 use std::process::Abort;
 use std::test::Fail;
 use task_program::AllocFault;
+use task_segments::table::SegTable;
+
+/// The cost of a segment.
+fn cost_of(table: &SegTable, segment: u32) -> Result<u64, Fail> {
+    if segment >= table.len() {
+        return Err("no segment of this number".into());
+    }
+    Ok(table.cost(segment))
+}
 
 /// Starts and finishes a segment on a worker; answers the segments that become ready.
 fn step(core: &mut Core<MixKernel>, worker: u32, segment: u32) -> Result<Vec<u32>, Fail> {
+    let cost = cost_of(core.table(), segment)?;
     let input = start_on(core, worker, segment)?;
-    if segment >= core.table().len() {
-        return Err("no segment of this number".into());
-    }
-    let cost = core.table().cost(segment);
     finish_on(core, worker, segment, cost, input)
 }
 
-fn new_core(alloc: Global, body: &str) -> Result<Core<MixKernel>, Fail> {
-    let text = format!(in alloc; "omptasks 1\n{body}")?;
-    Ok(Core::new(alloc, table_of(alloc, text.as_str())?).map_err(|_| "out of memory")?)
+/// A run of a program in which worker 63 ran so many segments, in order.
+fn run_in_order(alloc: Global, body: &str, segments: u32) -> Result<Core<MixKernel>, Fail> {
+    let mut core = new_core(alloc, body)?;
+    for segment in 0..segments {
+        step(&mut core, 63, segment)?;
+    }
+    Ok(core)
 }
 
 /// The run's values are these, of segments 0, 1, ..
@@ -36,8 +48,7 @@ fn check_values(rt: &impl Abort, core: &Core<MixKernel>, values: &[u64], body: &
 
 /// The graph of the finished run has so many edges.
 fn check_edges(rt: &impl Abort, core: Core<MixKernel>, edges: u64, body: &str) -> Result<(), Fail> {
-    let graph = core.into_graph().map_err(|_| "unfinished")?;
-    assert_eq!(rt; graph.edges(), edges, "of {body}");
+    assert_eq!(rt; finished_graph(core)?.edges(), edges, "of {body}");
     Ok(())
 }
 
@@ -65,55 +76,63 @@ fn values_of_programs(rt: HostRuntime) -> Result<(), Fail> {
         ),
     ];
     for (body, values, edges) in programs {
-        let mut core = new_core(alloc, body)?;
-        for segment in 0..values.len() as u32 {
-            step(&mut core, 63, segment)?;
-        }
+        let core = run_in_order(alloc, body, values.len() as u32)?;
         check_values(&rt, &core, values, body);
         check_edges(&rt, core, edges, body)?;
     }
     Ok(())
 }
 
-/// The value of a segment of this cost and input.
-fn mixed_value(segment: u32, cost: u64, input: u64) -> Result<u64, Fail> {
-    let outcome = SegResult::compute(&MixKernel, segment, cost, input).map_err(|_| "a fault")?;
-    Ok(outcome.value())
-}
-
 /// The run that an unfinished run is given back as.
 fn unfinished_core(core: Core<MixKernel>) -> Result<Core<MixKernel>, Fail> {
-    Ok(core.into_graph().err().ok_or("a graph")?.core)
+    match core.into_graph() {
+        Ok(_) => Err("a graph".into()),
+        Err(unfinished) => Ok(unfinished.core),
+    }
+}
+
+/// A worker runs this segment, or none.
+fn check_running(rt: &impl Abort, core: &Core<MixKernel>, worker: u32, segment: Option<u32>) {
+    assert_eq!(rt; core.running(worker), segment);
+}
+
+/// A run of the worked program in which segment 0 is finished and worker 7 runs segment 1.
+fn begun_core(rt: &impl Abort, alloc: Global) -> Result<Core<MixKernel>, Fail> {
+    let mut core = new_core(alloc, WORKED)?;
+    check_ready(rt, &core, &[0])?;
+    check_step(rt, &mut core, 0, &[1, 2])?;
+    check_start(rt, &mut core, 7, 1, 781)?;
+    check_running(rt, &core, 7, Some(1));
+    check_running(rt, &core, 0, None);
+    Ok(core)
+}
+
+/// Segments 2, 1 and 3 are finished after a refused result.
+fn check_rest(rt: &impl Abort, core: &mut Core<MixKernel>) -> Result<(), Fail> {
+    assert_eq!(rt; event_count(core), 3);
+    check_step(rt, core, 2, &[])?;
+    let ready = finish_on(core, 7, 1, 3, 781)?;
+    assert_eq!(rt; ready.as_slice(), [3].as_slice());
+    step(core, 63, 3)?;
+    assert!(rt; core.is_finished());
+    Ok(())
 }
 
 /// What becomes ready, who runs what, and a run that goes on after a refused result.
 #[test]
 fn a_run_goes_on(rt: HostRuntime) -> Result<(), Fail> {
-    let alloc = rt.alloc();
-    let mut core = Core::new(alloc, table_of(alloc, WORKED)?).map_err(|_| "out of memory")?;
-    check_ready(&rt, &core, &[0])?;
-    check_step(&rt, &mut core, 0, &[1, 2])?;
-    assert_eq!(rt; start_on(&mut core, 7, 1)?, 781);
-    assert_eq!(rt; core.running(7), Some(1));
-    assert_eq!(rt; core.running(0), None);
-    check_refusal(
-        &rt,
-        &mut core,
-        7,
-        (1, 3, 780, 97656),
-        FinishKind::WrongInput,
-    )?;
+    let mut core = begun_core(&rt, rt.alloc())?;
+    let wrong = (1, 3, 780, 97656);
+    check_refusal(&rt, &mut core, 7, wrong, FinishKind::WrongInput)?;
     let mut core = unfinished_core(core)?;
-    assert_eq!(rt; core.history().len(), 3);
-    check_step(&rt, &mut core, 2, &[])?;
-    assert_eq!(rt; mixed_value(1, 3, 781)?, 97781);
-    assert_eq!(rt;
-        finish_on(&mut core, 7, 1, 3, 781)?.as_slice(),
-        [3].as_slice()
-    );
-    step(&mut core, 63, 3)?;
-    assert!(rt; core.is_finished());
-    check_worked_graph(&rt, alloc, core)
+    check_rest(&rt, &mut core)?;
+    check_worked_graph(&rt, rt.alloc(), core)
+}
+
+#[test]
+fn a_mixed_value(rt: HostRuntime) -> Result<(), Fail> {
+    assert_eq!(rt; mixed_result(1, 3, 781)?.value(), 97781);
+    Ok(())
 }
 
 /// Worker 0 runs a segment, and these become ready.
@@ -166,32 +185,43 @@ fn siblings_open_before_they_are_ready(rt: HostRuntime) -> Result<(), Fail> {
     Ok(())
 }
 
-#[test]
-fn changed_costs(rt: HostRuntime) -> Result<(), Fail> {
-    let alloc = rt.alloc();
-    let mut graph = graph_of(alloc, WORKED)?;
+/// Other costs in the graph of the worked program.
+fn change_costs(rt: &impl Abort, graph: &mut Graph) -> Result<(), Fail> {
     if graph.len() != 4 {
         return Err("four segments".into());
     }
     assert_eq!(rt; (graph.cost(0), graph.cost(3)), (5, 1));
     graph.set_costs(&[1, 2, 3, 4]);
+    Ok(())
+}
+
+#[test]
+fn changed_costs(rt: HostRuntime) -> Result<(), Fail> {
+    let alloc = rt.alloc();
+    let mut graph = graph_of_body(alloc, WORKED)?;
+    change_costs(&rt, &mut graph)?;
     assert_eq!(rt; graph.work(), 10);
     assert_eq!(rt; preds_text(alloc, &graph)?.as_str(), WORKED_PREDS);
     Ok(())
 }
 
+/// As many children as the first number write together, and then as many as the second read.
+fn children(alloc: Global, writers: u32, readers: u32) -> Result<String, AllocFault> {
+    let mut body = String::new(alloc);
+    for _ in 0..writers {
+        body.push_str("task depend(inoutset: x) { }\n")?;
+    }
+    for _ in 0..readers {
+        body.push_str("task depend(in: x) { }\n")?;
+    }
+    Ok(body)
+}
+
 /// Many children on one name: each of the second half is recorded after each of the first.
 #[test]
 fn many_children(rt: HostRuntime) -> Result<(), Fail> {
-    let alloc = rt.alloc();
-    let mut text = String::from_str(alloc, "omptasks 1\n")?;
-    for _ in 0..2047 {
-        text.push_str("task depend(inoutset: x) { }\n")?;
-    }
-    for _ in 0..2048 {
-        text.push_str("task depend(in: x) { }\n")?;
-    }
-    let graph = graph_of(alloc, text.as_str())?;
+    let body = children(rt.alloc(), 2047, 2048)?;
+    let graph = graph_of_body(rt.alloc(), body.as_str())?;
     assert_eq!(rt; graph.len(), 8191);
     assert_eq!(rt; graph.edges(), 4_200_446);
     Ok(())

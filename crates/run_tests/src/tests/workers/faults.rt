@@ -1,5 +1,5 @@
 //! Kernels that fault.
-use super::{WORKED, made_by, table_of};
+use super::{WORKED, answer_of, made_by};
 use dispatch_core::kernel::{Kernel, KernelFault, MixKernel};
 use std::alloc::Global;
 use std::process::Abort;
@@ -8,7 +8,7 @@ use std::test::Fail;
 use std::thread::Threads;
 use worker_run::gate::OpenGate;
 use worker_run::record::RunFault;
-use worker_run::run::{digest, run};
+use worker_run::run::digest;
 
 /// The mixing kernel, with a fault at each of these segments.
 #[derive(Drop)]
@@ -41,14 +41,7 @@ fn fault_of<R: Threads + Wait + Abort + Sync>(
     workers: u32,
 ) -> Result<u32, Fail> {
     let kernel = FaultyKernel { at };
-    let told = run(
-        rt,
-        alloc,
-        table_of(alloc, WORKED)?,
-        &kernel,
-        &OpenGate,
-        workers,
-    );
+    let told = answer_of(rt, alloc, WORKED, &kernel, &OpenGate, workers)?;
     let made = made_by(rt, alloc, WORKED, workers)?;
     assert_eq!(rt; digest(made.values.as_slice()), 704969);
     match told {

@@ -1,6 +1,6 @@
 //! That workers overlap, and that gate and kernel are called with no lock held: a run in one
 //! thread, or one that calls them behind the dispatcher's lock, gives up at the limit and fails.
-use super::table_of;
+use super::answer_of;
 use dispatch_core::kernel::{Kernel, KernelFault, MixKernel};
 use std::alloc::Global;
 use std::fmt::Write;
@@ -9,8 +9,9 @@ use std::sync::Wait;
 use std::sync::atomic::{AtomicBool, AtomicU64, Ordering};
 use std::test::Fail;
 use std::thread::Threads;
+use task_program::AllocFault;
 use worker_run::gate::{Gate, OpenGate};
-use worker_run::run::{digest, run};
+use worker_run::run::digest;
 
 /// How often a flag or a counter is read at most.
 const LIMIT: u64 = 1_000_000_000;
@@ -76,6 +77,13 @@ impl Gate for MeetingGate {
     }
 }
 
+/// The meeting took place, and both calls were made for each of the five segments.
+fn check_gate(rt: &impl Abort, gate: &MeetingGate) {
+    assert!(rt; gate.meeting.was_seen(), "the other segment came in time");
+    assert_eq!(rt; gate.before.load(Ordering::SeqCst), 5);
+    assert_eq!(rt; gate.after.load(Ordering::SeqCst), 5);
+}
+
 fn meet_at_the_gate<R: Threads + Wait + Abort + Sync>(
     rt: &R,
     alloc: Global,
@@ -87,11 +95,8 @@ fn meet_at_the_gate<R: Threads + Wait + Abort + Sync>(
         before: AtomicU64::new(0),
         after: AtomicU64::new(0),
     };
-    let table = table_of(alloc, TWO_TASKS)?;
-    let made = run(rt, alloc, table, &MixKernel, &gate, 2).map_err(|_| "no record")?;
-    assert!(rt; gate.meeting.was_seen(), "the other segment came in time");
-    assert_eq!(rt; gate.before.load(Ordering::SeqCst), 5);
-    assert_eq!(rt; gate.after.load(Ordering::SeqCst), 5);
+    let made = answer_of(rt, alloc, TWO_TASKS, &MixKernel, &gate, 2)??;
+    check_gate(rt, &gate);
     assert_eq!(rt; (made.graph.len(), made.graph.edges()), (5, 4));
     assert_eq!(rt; digest(made.values.as_slice()), 40);
     Ok(())
@@ -136,8 +141,7 @@ fn meet_in_the_kernel<R: Threads + Wait + Abort + Sync>(
     let kernel = MeetingKernel {
         meeting: Meeting::new(waits, tells),
     };
-    let table = table_of(alloc, TWO_TASKS)?;
-    let made = run(rt, alloc, table, &kernel, &OpenGate, 2).map_err(|_| "no record")?;
+    let made = answer_of(rt, alloc, TWO_TASKS, &kernel, &OpenGate, 2)??;
     assert!(rt; kernel.meeting.was_seen(), "the other segment came in time");
     assert_eq!(rt; digest(made.values.as_slice()), 40);
     Ok(())
@@ -178,21 +182,26 @@ impl Gate for Gathering {
     fn after(&self, _segment: u32) {}
 }
 
+/// A program of as many empty tasks.
+fn empty_tasks(alloc: Global, count: u32) -> Result<String, AllocFault> {
+    let mut body = String::new(alloc);
+    for _ in 0..count {
+        write!(body, "task {{ }} ")?;
+    }
+    Ok(body)
+}
+
 #[test]
 fn all_workers_overlap(rt: HostRuntime) -> Result<(), Fail> {
     let alloc = rt.alloc();
     for workers in 2..9u32 {
-        let mut body = String::new(alloc);
-        for _ in 0..workers {
-            write!(body, "task {{ }} ")?;
-        }
+        let body = empty_tasks(alloc, workers)?;
         let gate = Gathering {
             size: u64::from(workers),
             here: AtomicU64::new(0),
             in_time: AtomicU64::new(0),
         };
-        let table = table_of(alloc, body.as_str())?;
-        let made = run(&rt, alloc, table, &MixKernel, &gate, workers);
+        let made = answer_of(&rt, alloc, body.as_str(), &MixKernel, &gate, workers)?;
         assert!(rt; made.is_ok(), "{workers} workers");
         assert_eq!(rt; gate.in_time.load(Ordering::SeqCst), u64::from(workers));
     }
