@@ -8,6 +8,7 @@ use dispatch_core::graph::Graph;
 use dispatch_core::replay::in_order;
 use std::alloc::Global;
 use std::fmt::Write;
+use std::process::Abort;
 use std::test::Fail;
 use task_program::AllocFault;
 use task_program::program::Program;
@@ -48,7 +49,7 @@ fn preds_text(alloc: Global, graph: &Graph) -> Result<String, AllocFault> {
     for segment in 0..graph.len() {
         write!(text, "{segment}:")?;
         write_preds(&mut text, graph, segment)?;
-        write!(text, "; ")?;
+        text.push_str("; ")?;
     }
     Ok(text)
 }
@@ -60,5 +61,16 @@ fn write_preds(text: &mut String, graph: &Graph, segment: u32) -> Result<(), All
     for pred in graph.preds(segment) {
         write!(text, " {pred}")?;
     }
+    Ok(())
+}
+
+/// The graph's segments have these predecessors.
+fn check_graph(
+    rt: &impl Abort,
+    alloc: Global,
+    graph: &Graph,
+    preds: &str,
+) -> Result<(), AllocFault> {
+    assert_eq!(rt; preds_text(alloc, graph)?.as_str(), preds);
     Ok(())
 }

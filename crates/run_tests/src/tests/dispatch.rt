@@ -2,7 +2,7 @@
 mod graphs;
 mod runs;
 
-use crate::tests::{graph_of_body, preds_text, table_of_body};
+use crate::tests::{check_graph, graph_of_body, table_of_body};
 use dispatch_core::dispatch::Core;
 use dispatch_core::event::{Event, FinishKind, StartRefusal};
 use dispatch_core::graph::Graph;
@@ -134,20 +134,15 @@ fn finished_graph(core: Core<MixKernel>) -> Result<Graph, Fail> {
 
 /// The finished run of the worked program has the program's graph.
 fn check_worked_graph(rt: &impl Abort, alloc: Global, core: Core<MixKernel>) -> Result<(), Fail> {
-    let graph = finished_graph(core)?;
-    assert_eq!(rt; preds_text(alloc, &graph)?.as_str(), WORKED_PREDS);
-    Ok(())
+    Ok(check_graph(rt, alloc, &finished_graph(core)?, WORKED_PREDS)?)
 }
 
 #[test]
 fn worked_program_in_order(rt: HostRuntime) -> Result<(), Fail> {
     let alloc = rt.alloc();
     let graph = graph_of_body(alloc, WORKED)?;
-    assert_eq!(rt; graph.len(), 4);
-    assert_eq!(rt; graph.edges(), 4);
-    assert_eq!(rt; graph.work(), 11);
-    assert_eq!(rt; preds_text(alloc, &graph)?.as_str(), WORKED_PREDS);
-    Ok(())
+    assert_eq!(rt; (graph.len(), graph.edges(), graph.work()), (4, 4, 11));
+    Ok(check_graph(&rt, alloc, &graph, WORKED_PREDS)?)
 }
 
 #[test]
@@ -164,9 +159,8 @@ fn worked_replay(rt: HostRuntime) -> Result<(), Fail> {
         finish(0, 3),
     ];
     let core = worked_run(alloc, &events)?;
-    assert!(rt; core.is_finished());
-    assert_eq!(rt; event_count(&core), 8);
-    assert_eq!(rt; core.value(0), Some(781));
+    let state = (core.is_finished(), event_count(&core), core.value(0));
+    assert_eq!(rt; state, (true, 8, Some(781)));
     Ok(())
 }
 

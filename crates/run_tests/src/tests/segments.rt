@@ -141,16 +141,16 @@ static WORKED: [Worked; 14] = [
 fn write_number(text: &mut String, number: Option<u32>) -> Result<(), AllocFault> {
     match number {
         Some(number) => write!(text, " {number}"),
-        None => write!(text, " -"),
+        None => text.push_str(" -"),
     }
 }
 
 fn write_closing(text: &mut String, closing: Closing) -> Result<(), AllocFault> {
     match closing {
         Closing::Creates(child) => write!(text, " c{child}"),
-        Closing::Waits => write!(text, " w"),
-        Closing::EndsGroup => write!(text, " g"),
-        Closing::EndsTask => write!(text, " e"),
+        Closing::Waits => text.push_str(" w"),
+        Closing::EndsGroup => text.push_str(" g"),
+        Closing::EndsTask => text.push_str(" e"),
     }
 }
 
@@ -166,7 +166,7 @@ fn segments_of(alloc: Global, table: &SegTable) -> Result<String, AllocFault> {
         )?;
         write_closing(&mut text, table.closing(s))?;
         write_number(&mut text, table.next(s))?;
-        write!(text, "; ")?;
+        text.push_str("; ")?;
     }
     Ok(text)
 }
@@ -195,11 +195,11 @@ fn tasks_of(alloc: Global, table: &SegTable) -> Result<String, AllocFault> {
     for t in 0..table.tasks() {
         write_number(&mut text, table.parent(t))?;
         write_number(&mut text, table.creator(t))?;
-        write!(text, " {}", if table.undeferred(t) { "u" } else { "d" })?;
-        write!(text, " {} {}", table.first(t), table.last(t))?;
+        let mode = if table.undeferred(t) { "u" } else { "d" };
+        write!(text, " {mode} {} {}", table.first(t), table.last(t))?;
         write_number(&mut text, table.innermost_group(t))?;
         write_items(&mut text, table, t)?;
-        write!(text, ";")?;
+        text.push_str(";")?;
     }
     Ok(text)
 }
@@ -216,6 +216,11 @@ fn pairs_of(alloc: Global, table: &SegTable) -> Result<String, AllocFault> {
     Ok(text)
 }
 
+/// The text is the wanted one, of the program of this name.
+fn check_text(rt: &impl Abort, text: &str, wanted: &str, name: &str) {
+    assert_eq!(rt; text, wanted, "{name}");
+}
+
 /// The table is the wanted one.
 fn check_table(
     rt: &impl Abort,
@@ -224,12 +229,14 @@ fn check_table(
     worked: &Worked,
 ) -> Result<(), AllocFault> {
     let name = worked.name;
-    let segments = segments_of(alloc, table)?;
-    assert_eq!(rt; segments.as_str(), worked.segments, "{name}");
-    let tasks = tasks_of(alloc, table)?;
-    assert_eq!(rt; tasks.as_str(), worked.tasks, "{name}");
-    let pairs = pairs_of(alloc, table)?;
-    assert_eq!(rt; pairs.as_str(), worked.pairs, "{name}");
+    check_text(
+        rt,
+        segments_of(alloc, table)?.as_str(),
+        worked.segments,
+        name,
+    );
+    check_text(rt, tasks_of(alloc, table)?.as_str(), worked.tasks, name);
+    check_text(rt, pairs_of(alloc, table)?.as_str(), worked.pairs, name);
     Ok(())
 }
 

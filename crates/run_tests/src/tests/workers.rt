@@ -2,7 +2,7 @@
 mod faults;
 mod overlap;
 
-use crate::tests::{graph_of_body, preds_text, table_of_body};
+use crate::tests::{check_graph, graph_of_body, preds_text, table_of_body};
 use dispatch_core::dispatch::Core;
 use dispatch_core::kernel::{Kernel, MixKernel};
 use dispatch_core::replay::replay;
@@ -45,18 +45,11 @@ fn made_by<R: Threads + Wait + Sync>(
 
 /// This is a record of the worked program.
 fn check_worked(rt: &impl Abort, alloc: Global, made: &RunRecord) -> Result<(), Fail> {
-    assert_eq!(rt;
-        made.values.as_slice(),
-        [781, 97781, 19581, 586826].as_slice()
-    );
-    assert_eq!(rt; digest(made.values.as_slice()), 704969);
-    assert_eq!(rt; made.graph.edges(), 4);
-    assert_eq!(rt;
-        preds_text(alloc, &made.graph)?.as_str(),
-        "0:; 1: 0; 2: 0; 3: 1 2; "
-    );
-    assert_eq!(rt; made.history.len(), 8);
-    Ok(())
+    let values = made.values.as_slice();
+    assert_eq!(rt; values, [781, 97781, 19581, 586826].as_slice());
+    let counts = (digest(values), made.graph.edges(), made.history.len());
+    assert_eq!(rt; counts, (704969, 4, 8));
+    Ok(check_graph(rt, alloc, &made.graph, "0:; 1: 0; 2: 0; 3: 1 2; ")?)
 }
 
 #[test]
@@ -108,7 +101,7 @@ fn checked_digest<R: Threads + Wait + Abort + Sync>(
     preds: &str,
 ) -> Result<u64, Fail> {
     let made = made_by(rt, alloc, body, workers)?;
-    assert_eq!(rt; preds_text(alloc, &made.graph)?.as_str(), preds);
+    check_graph(rt, alloc, &made.graph, preds)?;
     assert!(rt; replays(alloc, body, &made)?, "{workers} workers");
     Ok(digest(made.values.as_slice()))
 }
@@ -153,11 +146,9 @@ fn tokens_of_a_lane(rt: HostRuntime) -> Result<(), Fail> {
     owner.put(3);
     owner.put(5);
     owner.put(7);
-    assert_eq!(rt; owner.take(), Some(3));
-    assert_eq!(rt; thieves[0].steal(), Some(5));
-    assert_eq!(rt; owner.take(), Some(7));
-    assert_eq!(rt; owner.take(), None);
-    assert_eq!(rt; thieves[0].steal(), None);
+    let tokens = (owner.take(), thieves[0].steal(), owner.take());
+    assert_eq!(rt; tokens, (Some(3), Some(5), Some(7)));
+    assert_eq!(rt; (owner.take(), thieves[0].steal()), (None, None));
     assert_eq!(rt; close(owner, thieves), 0);
     Ok(())
 }

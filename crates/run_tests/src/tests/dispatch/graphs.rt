@@ -2,7 +2,7 @@
 ghost use Rattle.std.specs.Prelude.{◌≡◌, ◌+◌, ◌%◌, ◌^◌, ◌==◌, IfOk, IsTrue, OnErr};
 
 use super::{WORKED, fields_of, new_core};
-use crate::tests::{graph_of_body, preds_text};
+use crate::tests::{check_graph, graph_of_body};
 use dispatch_core::dispatch::Core;
 use dispatch_core::kernel::{Kernel, KernelFault, SegResult};
 use std::process::Abort;
@@ -27,12 +27,7 @@ fn graphs_of_siblings(rt: HostRuntime) -> Result<(), Fail> {
         ),
     ];
     for (body, predecessors) in programs {
-        let graph = graph_of_body(alloc, body)?;
-        assert_eq!(rt;
-            preds_text(alloc, &graph)?.as_str(),
-            predecessors,
-            "of {body}"
-        );
+        check_graph(&rt, alloc, &graph_of_body(alloc, body)?, predecessors)?;
     }
     Ok(())
 }
@@ -57,6 +52,16 @@ impl Kernel for AddingKernel {
     }
 }
 
+/// Worker 9 starts a segment; answers the input.
+fn start_adding(core: &mut Core<AddingKernel>, segment: u32) -> Option<u64> {
+    core.start(9, segment).ok()
+}
+
+/// Worker 9 finishes a segment with this result.
+fn finish_adding(core: &mut Core<AddingKernel>, outcome: SegResult<AddingKernel>) -> bool {
+    core.finish(9, outcome).is_ok()
+}
+
 /// Worker 9 runs a segment: the segment, its cost, its input and its value are these.
 fn check_adding(
     rt: &impl Abort,
@@ -64,11 +69,11 @@ fn check_adding(
     fields: (u32, u64, u64, u64),
 ) -> Result<(), Fail> {
     let (segment, cost, input, value) = fields;
-    assert_eq!(rt; core.start(9, segment).ok(), Some(input));
+    assert_eq!(rt; start_adding(core, segment), Some(input));
     let outcome = SegResult::compute(&AddingKernel, segment, cost, input)?;
     assert_eq!(rt; fields_of(&outcome), fields);
-    assert!(rt; core.finish(9, outcome).is_ok());
-    assert_eq!(rt; core.value(segment), Some(value));
+    let finished = finish_adding(core, outcome);
+    assert_eq!(rt; (finished, core.value(segment)), (true, Some(value)));
     Ok(())
 }
 

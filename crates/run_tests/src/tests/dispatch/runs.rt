@@ -3,7 +3,7 @@ use super::{
     WORKED, WORKED_PREDS, check_preds, check_ready, check_refusal, check_start, check_worked_graph,
     event_count, finish_on, finished_graph, mixed_result, new_core, start_on,
 };
-use crate::tests::{graph_of_body, preds_text};
+use crate::tests::{check_graph, graph_of_body};
 use dispatch_core::dispatch::Core;
 use dispatch_core::event::FinishKind;
 use dispatch_core::graph::Graph;
@@ -201,8 +201,7 @@ fn changed_costs(rt: HostRuntime) -> Result<(), Fail> {
     let mut graph = graph_of_body(alloc, WORKED)?;
     change_costs(&rt, &mut graph)?;
     assert_eq!(rt; graph.work(), 10);
-    assert_eq!(rt; preds_text(alloc, &graph)?.as_str(), WORKED_PREDS);
-    Ok(())
+    Ok(check_graph(&rt, alloc, &graph, WORKED_PREDS)?)
 }
 
 /// As many children as the first number write together, and then as many as the second read.
@@ -222,7 +221,6 @@ fn children(alloc: Global, writers: u32, readers: u32) -> Result<String, AllocFa
 fn many_children(rt: HostRuntime) -> Result<(), Fail> {
     let body = children(rt.alloc(), 2047, 2048)?;
     let graph = graph_of_body(rt.alloc(), body.as_str())?;
-    assert_eq!(rt; graph.len(), 8191);
-    assert_eq!(rt; graph.edges(), 4_200_446);
+    assert_eq!(rt; (graph.len(), graph.edges()), (8191, 4_200_446));
     Ok(())
 }

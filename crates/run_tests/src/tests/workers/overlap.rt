@@ -80,8 +80,8 @@ impl Gate for MeetingGate {
 /// The meeting took place, and both calls were made for each of the five segments.
 fn check_gate(rt: &impl Abort, gate: &MeetingGate) {
     assert!(rt; gate.meeting.was_seen(), "the other segment came in time");
-    assert_eq!(rt; gate.before.load(Ordering::SeqCst), 5);
-    assert_eq!(rt; gate.after.load(Ordering::SeqCst), 5);
+    let before = gate.before.load(Ordering::SeqCst);
+    assert_eq!(rt; (before, gate.after.load(Ordering::SeqCst)), (5, 5));
 }
 
 fn meet_at_the_gate<R: Threads + Wait + Abort + Sync>(
@@ -97,8 +97,8 @@ fn meet_at_the_gate<R: Threads + Wait + Abort + Sync>(
     };
     let made = answer_of(rt, alloc, TWO_TASKS, &MixKernel, &gate, 2)??;
     check_gate(rt, &gate);
-    assert_eq!(rt; (made.graph.len(), made.graph.edges()), (5, 4));
-    assert_eq!(rt; digest(made.values.as_slice()), 40);
+    let sizes = (made.graph.len(), made.graph.edges());
+    assert_eq!(rt; (sizes, digest(made.values.as_slice())), ((5, 4), 40));
     Ok(())
 }
 
