@@ -1,4 +1,4 @@
-//! Commands over devices in memory.
+//! Words, and commands over devices in memory.
 mod certificates;
 mod devices;
 mod events;
@@ -8,6 +8,7 @@ mod graphs;
 mod long_inputs;
 mod loops;
 mod replays;
+mod requests;
 mod rows;
 mod starts;
 mod words;
@@ -30,9 +31,13 @@ fn words_of(alloc: Global, words: &[&str]) -> Result<Vec<String>, Fail> {
     Ok(list)
 }
 
-/// A text of version 1 with this body, the header on line 1.
-fn program(alloc: Global, body: &str) -> Result<String, Fail> {
-    Ok(format!(in alloc; "omptasks 1\n{body}")?)
+/// A text so many times.
+fn repeated(alloc: Global, piece: &str, times: u32) -> Result<String, Fail> {
+    let mut text = String::new(alloc);
+    for _ in 0..times {
+        text.push_str(piece)?;
+    }
+    Ok(text)
 }
 
 /// A reader that gives a text at once.
@@ -103,21 +108,4 @@ fn gives<H: AllocGlobal + Threads + Wait + Sync>(
 ) -> Result<bool, Fail> {
     let (got, written, _) = run(rt, words, source(input.as_bytes()), sink(rt.alloc()))?;
     Ok(got == status && written.as_slice() == text.as_bytes())
-}
-
-/// What a command gives on a program with this body.
-fn run_body<H: AllocGlobal + Threads + Wait + Sync>(
-    rt: &H,
-    word: &str,
-    body: &str,
-) -> Result<(Status, Vec<u8>), Fail> {
-    let alloc = rt.alloc();
-    let text = program(alloc, body)?;
-    let (status, written, _) = run(
-        rt,
-        &["spanprof", word],
-        source(text.as_bytes()),
-        sink(alloc),
-    )?;
-    Ok((status, written))
 }

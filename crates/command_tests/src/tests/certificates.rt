@@ -143,10 +143,21 @@ fn changed_claims(rt: HostRuntime) -> Result<(), Fail> {
     Ok(())
 }
 
+/// Whether `check` gives this text and status on a program and this part of a claim.
+fn cut_checks_to<H: AllocGlobal + Threads + Wait + Sync>(
+    rt: &H,
+    (claim, last): (&str, &str),
+    text: &str,
+    status: Status,
+) -> Result<bool, Fail> {
+    let program = "omptasks 1\nwork 5\ntask {\nwork 3\n}\nwork 2\ntaskwait\nwork 1\n";
+    let claim = format!(in rt.alloc(); "{claim}{last}")?;
+    checks_to(rt, program, claim.as_str(), text, status)
+}
+
 /// What is left of it, after the program or within.
 #[test]
 fn cut_certificates(rt: HostRuntime) -> Result<(), Fail> {
-    let program = "omptasks 1\nwork 5\ntask {\nwork 3\n}\nwork 2\ntaskwait\nwork 1\n";
     let claimed = "---\nend 9\nstart 0 0\nstart 1 5\nstart 2 5\nstart 3 8\nchain";
     for (claim, last, text, status) in [
         (claimed, " 0 1 3", ACCEPTED, Status::Done),
@@ -156,9 +167,10 @@ fn cut_certificates(rt: HostRuntime) -> Result<(), Fail> {
         ("--", "", "error: line 9: BadByte\n", Status::Refused),
         ("", "", "error: BadForm\n", Status::Refused),
     ] {
-        let claim = format!(in rt.alloc(); "{claim}{last}")?;
-        let claim = claim.as_str();
-        assert!(rt; checks_to(&rt, program, claim, text, status)?, "{claim}");
+        assert!(rt;
+            cut_checks_to(&rt, (claim, last), text, status)?,
+            "{claim}{last}"
+        );
     }
     let begun = "omptasks 1\nwork 5\ntask {";
     assert!(rt; checks_to(&rt, begun, "", "error: line 3: Unclosed\n", Status::Refused)?);

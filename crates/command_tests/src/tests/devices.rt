@@ -4,93 +4,139 @@ use super::examples::{Example, examples};
 use super::fake_devices::{Endless, Faults};
 use super::{run_on, sink, slow_sink, slow_source, source};
 use spanprof_command::Status;
+use std::alloc::AllocGlobal;
 use std::io::ErrorKind;
+use std::sync::Wait;
 use std::test::Fail;
+use std::thread::Threads;
+
+/// Whether an example gives its text on devices that move a byte in each call, and one flush.
+fn is_done_slowly<H: AllocGlobal + Threads + Wait + Sync>(
+    rt: &H,
+    example: Example,
+) -> Result<bool, Fail> {
+    let Example { words, input, text } = example;
+    let reader = slow_source(input.as_bytes(), 1, Faults::NONE);
+    let writer = slow_sink(rt.alloc(), 1, Faults::NONE);
+    let (status, reader, writer) = run_on(rt, words, reader, writer)?;
+    let is_read = reader.calls.saturating_sub(1) == input.len();
+    let is_written = writer.calls == text.len() && writer.taken.as_slice() == text.as_bytes();
+    Ok(status == Status::Done && writer.flushes == 1 && is_read && is_written)
+}
 
 /// A byte in each call, to read and to write, and one flush.
 #[test]
 fn slow_devices(rt: HostRuntime) -> Result<(), Fail> {
-    for Example { words, input, text } in examples() {
-        let reader = slow_source(input.as_bytes(), 1, Faults::NONE);
-        let writer = slow_sink(rt.alloc(), 1, Faults::NONE);
-        let (status, reader, writer) = run_on(&rt, words, reader, writer)?;
-        assert!(rt; status == Status::Done && writer.flushes == 1, "{text}");
-        assert!(rt; reader.calls.saturating_sub(1) == input.len(), "{text}");
-        assert!(rt; writer.calls == text.len(), "{text}");
-        assert!(rt; writer.taken.as_slice() == text.as_bytes(), "{text}");
+    for example in examples() {
+        assert!(rt; is_done_slowly(&rt, example)?, "{}", example.text);
     }
     Ok(())
+}
+
+/// Two kinds of failure by turns.
+fn kind_at(call: usize) -> ErrorKind {
+    if call % 2 == 0 {
+        ErrorKind::Other
+    } else {
+        ErrorKind::WouldBlock
+    }
+}
+
+/// Whether an example tells of a read that fails, and does not try it again.
+fn tells_of_read<H: AllocGlobal + Threads + Wait + Sync>(
+    rt: &H,
+    example: Example,
+    call: usize,
+) -> Result<bool, Fail> {
+    let faults = Faults::fail_call(call, kind_at(call));
+    let reader = slow_source(example.input.as_bytes(), 1, faults);
+    let (status, reader, writer) = run_on(rt, example.words, reader, sink(rt.alloc()))?;
+    let is_told = writer.taken.as_slice() == b"error: read fault\n".as_slice();
+    let is_last = reader.calls.saturating_sub(1) == call;
+    Ok(status == Status::Fault && writer.flushes == 1 && is_last && is_told)
 }
 
 /// A failure at each read in turn, which is not tried again.
 #[test]
 fn failing_readers(rt: HostRuntime) -> Result<(), Fail> {
-    let line = b"error: read fault\n".as_slice();
-    for Example { words, input, text } in examples() {
-        for call in 0..=input.len() {
-            let kind = if call % 2 == 0 {
-                ErrorKind::Other
-            } else {
-                ErrorKind::WouldBlock
-            };
-            let reader = slow_source(input.as_bytes(), 1, Faults::fail_call(call, kind));
-            let (status, reader, writer) = run_on(&rt, words, reader, sink(rt.alloc()))?;
+    for example in examples() {
+        for call in 0..=example.input.len() {
             assert!(rt;
-                status == Status::Fault && writer.flushes == 1,
-                "{call} {text}"
+                tells_of_read(&rt, example, call)?,
+                "{call} {}",
+                example.text
             );
-            assert!(rt; reader.calls.saturating_sub(1) == call, "{call} {text}");
-            assert!(rt; writer.taken.as_slice() == line, "{call} {text}");
         }
     }
     Ok(())
+}
+
+/// Whether an example ends at a write that fails: it is not tried again, and nothing is flushed.
+fn ends_at_write<H: AllocGlobal + Threads + Wait + Sync>(
+    rt: &H,
+    example: Example,
+    call: usize,
+) -> Result<bool, Fail> {
+    let Example { words, input, text } = example;
+    let writer = slow_sink(rt.alloc(), 1, Faults::fail_call(call, kind_at(call)));
+    let (status, _, writer) = run_on(rt, words, source(input.as_bytes()), writer)?;
+    let taken = writer.taken.as_slice();
+    let is_start = taken.len() == call && text.as_bytes().starts_with(taken);
+    let is_last = writer.calls.saturating_sub(1) == call;
+    Ok(status == Status::Fault && writer.flushes == 0 && is_last && is_start)
 }
 
 /// A failure at each write in turn, which is not tried again; nothing is flushed then.
 #[test]
 fn failing_writers(rt: HostRuntime) -> Result<(), Fail> {
-    for Example { words, input, text } in examples() {
-        for call in 0..text.len() {
-            let kind = if call % 2 == 0 {
-                ErrorKind::Other
-            } else {
-                ErrorKind::WouldBlock
-            };
-            let writer = slow_sink(rt.alloc(), 1, Faults::fail_call(call, kind));
-            let (status, _, writer) = run_on(&rt, words, source(input.as_bytes()), writer)?;
+    for example in examples() {
+        for call in 0..example.text.len() {
             assert!(rt;
-                status == Status::Fault && writer.flushes == 0,
-                "{call} {text}"
-            );
-            assert!(rt; writer.calls.saturating_sub(1) == call, "{call} {text}");
-            assert!(rt; writer.taken.len() == call, "{call} {text}");
-            assert!(rt;
-                text.as_bytes().starts_with(writer.taken.as_slice()),
-                "{call} {text}"
+                ends_at_write(&rt, example, call)?,
+                "{call} {}",
+                example.text
             );
         }
     }
     Ok(())
 }
 
+/// Whether an example ends where a writer takes no byte.
+fn ends_when_full<H: AllocGlobal + Threads + Wait + Sync>(
+    rt: &H,
+    example: Example,
+) -> Result<bool, Fail> {
+    let full = slow_sink(rt.alloc(), 0, Faults::NONE);
+    let (status, _, writer) = run_on(rt, example.words, source(example.input.as_bytes()), full)?;
+    let is_left = writer.taken.is_empty() && writer.flushes == 0;
+    Ok(status == Status::Fault && writer.calls == 1 && is_left)
+}
+
+/// Whether an example ends at a flush that fails so.
+fn ends_at_flush<H: AllocGlobal + Threads + Wait + Sync>(
+    rt: &H,
+    example: Example,
+    kind: ErrorKind,
+) -> Result<bool, Fail> {
+    let Example { words, input, text } = example;
+    let mut stuck = sink(rt.alloc());
+    stuck.flush_fault = Some(kind);
+    let (status, _, writer) = run_on(rt, words, source(input.as_bytes()), stuck)?;
+    let is_written = writer.taken.as_slice() == text.as_bytes();
+    Ok(status == Status::Fault && writer.flushes == 1 && is_written)
+}
+
 /// A writer that takes no byte, and a flush that fails, which is not tried again.
 #[test]
 fn stuck_writers(rt: HostRuntime) -> Result<(), Fail> {
-    for Example { words, input, text } in examples() {
-        let full = slow_sink(rt.alloc(), 0, Faults::NONE);
-        let (status, _, writer) = run_on(&rt, words, source(input.as_bytes()), full)?;
-        assert!(rt; status == Status::Fault && writer.calls == 1, "{text}");
-        assert!(rt; writer.taken.is_empty() && writer.flushes == 0, "{text}");
+    for example in examples() {
+        assert!(rt; ends_when_full(&rt, example)?, "{}", example.text);
         for kind in [
             ErrorKind::Interrupted,
             ErrorKind::WouldBlock,
             ErrorKind::Other,
         ] {
-            let mut stuck = sink(rt.alloc());
-            stuck.flush_fault = Some(kind);
-            let (status, _, writer) = run_on(&rt, words, source(input.as_bytes()), stuck)?;
-            assert!(rt; status == Status::Fault && writer.flushes == 1, "{text}");
-            assert!(rt; writer.taken.as_slice() == text.as_bytes(), "{text}");
+            assert!(rt; ends_at_flush(&rt, example, kind)?, "{}", example.text);
         }
     }
     Ok(())

@@ -1,7 +1,8 @@
 //! Texts of events.
+use super::repeated;
 use dispatch_core::event::Event;
 use spanprof_command::{EventsFault, read_events};
-use std::alloc::{AllocError, Global};
+use std::alloc::Global;
 use std::test::*;
 
 /// The fault of a text, or its number of events.
@@ -10,14 +11,6 @@ fn outcome(alloc: Global, text: &[u8]) -> (Option<EventsFault>, usize) {
         Ok(events) => (None, events.len()),
         Err(fault) => (Some(fault), 0),
     }
-}
-
-fn repeated(alloc: Global, line: &str, count: u32) -> Result<String, AllocError> {
-    let mut text = String::new(alloc);
-    for _ in 0..count {
-        text.push_str(line)?;
-    }
-    Ok(text)
 }
 
 #[test]
@@ -79,7 +72,7 @@ fn forms(rt: HostRuntime) {
 }
 
 #[test]
-fn most_events(rt: HostRuntime) -> Result<(), AllocError> {
+fn most_events(rt: HostRuntime) -> Result<(), Fail> {
     let alloc = rt.alloc();
     let most = repeated(alloc, "start 0 0\n", 65_536)?;
     assert_eq!(rt; outcome(alloc, most.as_bytes()), (None, 65_536));

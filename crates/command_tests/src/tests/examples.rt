@@ -1,8 +1,9 @@
 //! Each command on the worked program.
 
-use super::gives;
+use super::{gives, words_of};
 use command_words::request::{Request, read_words};
 use spanprof_command::Status;
+use std::alloc::Global;
 use std::test::Fail;
 
 /// The words of a command, its input, and what it writes.
@@ -97,15 +98,20 @@ fn place_of(request: &Request) -> usize {
     }
 }
 
+/// The place of the command that the words ask for, if they ask for one.
+pub(super) fn place_asked(alloc: Global, words: &[&str]) -> Result<Option<usize>, Fail> {
+    let list = words_of(alloc, words)?;
+    Ok(match read_words(alloc, list.as_slice()) {
+        Ok(request) => Some(place_of(&request)),
+        Err(_) => None,
+    })
+}
+
 #[test]
 fn each_command(rt: HostRuntime) -> Result<(), Fail> {
     for (place, example) in examples().iter().enumerate() {
         let Example { words, input, text } = example;
-        let asked = super::words_of(rt.alloc(), words)?;
-        match read_words(rt.alloc(), asked.as_slice()) {
-            Ok(request) => assert!(rt; place_of(&request) == place, "{place}"),
-            Err(_) => assert!(rt; false, "{place}"),
-        }
+        assert!(rt; place_asked(rt.alloc(), words)? == Some(place), "{place}");
         assert!(rt; gives(&rt, words, input, text, Status::Done)?, "{place}");
     }
     Ok(())

@@ -3,9 +3,24 @@
 use super::examples::WORKED;
 use super::gives;
 use spanprof_command::Status;
+use std::alloc::AllocGlobal;
+use std::sync::Wait;
 use std::test::Fail;
+use std::thread::Threads;
 
 const THREE: &str = "omptasks 1\ntask { work 1 } task { work 1 } task { work 2 }";
+
+/// Whether the words give a table with this heading and these rows.
+fn gives_table<H: AllocGlobal + Threads + Wait + Sync>(
+    rt: &H,
+    words: &[&str],
+    input: &str,
+    heading: &str,
+    rows: &str,
+) -> Result<bool, Fail> {
+    let table = format!(in rt.alloc(); "{heading}\n{rows}")?;
+    gives(rt, words, input, table.as_str(), Status::Done)
+}
 
 #[test]
 fn slacks(rt: HostRuntime) -> Result<(), Fail> {
@@ -65,11 +80,8 @@ fn greedy_runs(rt: HostRuntime) -> Result<(), Fail> {
         ("1024", WORKED, "0,0,5,0\n1,5,8,0\n2,5,7,1\n3,8,9,0\n"),
     ] {
         let words = ["spanprof", "greedy", "--threads", threads];
-        let table = format!(in rt.alloc(); "segment,start,end,thread\n{rows}")?;
-        assert!(rt;
-            gives(&rt, &words, text, table.as_str(), Status::Done)?,
-            "{text}"
-        );
+        let heading = "segment,start,end,thread";
+        assert!(rt; gives_table(&rt, &words, text, heading, rows)?, "{text}");
     }
     Ok(())
 }
@@ -82,13 +94,21 @@ fn curves(rt: HostRuntime) -> Result<(), Fail> {
         ("1", "omptasks 1\ntaskgroup { } taskwait", "1,0,0,0\n"),
     ] {
         let words = ["spanprof", "curve", "--upto", upto];
-        let table = format!(in rt.alloc(); "threads,end,least,bound\n{rows}")?;
-        assert!(rt;
-            gives(&rt, &words, text, table.as_str(), Status::Done)?,
-            "{text}"
-        );
+        let heading = "threads,end,least,bound";
+        assert!(rt; gives_table(&rt, &words, text, heading, rows)?, "{text}");
     }
     Ok(())
+}
+
+/// Whether the words give this line on a program, and the text's own fault on another text.
+fn refuse_after_text<H: AllocGlobal + Threads + Wait + Sync>(
+    rt: &H,
+    words: &[&str],
+    line: &str,
+) -> Result<bool, Fail> {
+    let unopened = "error: line 2: Unopened\n";
+    let is_told = gives(rt, words, WORKED, line, Status::Refused)?;
+    Ok(is_told && gives(rt, words, "omptasks 1\n}", unopened, Status::Refused)?)
 }
 
 /// A count out of range is told only of a text that is a program.
@@ -104,17 +124,21 @@ fn counts_out_of_range(rt: HostRuntime) -> Result<(), Fail> {
         ("run", "--workers", "65", "error: WorkerCount\n"),
     ] {
         let words = ["spanprof", word, option, number];
-        assert!(rt;
-            gives(&rt, &words, WORKED, line, Status::Refused)?,
-            "{word} {number}"
-        );
-        let unopened = "error: line 2: Unopened\n";
-        assert!(rt;
-            gives(&rt, &words, "omptasks 1\n}", unopened, Status::Refused)?,
-            "{word}"
-        );
+        assert!(rt; refuse_after_text(&rt, &words, line)?, "{word} {number}");
     }
     Ok(())
+}
+
+/// Whether a `whatif` with these changes gives this text and status on the worked program.
+fn changes_give<H: AllocGlobal + Threads + Wait + Sync>(
+    rt: &H,
+    changes: &[&str],
+    text: &str,
+    status: Status,
+) -> Result<bool, Fail> {
+    let mut words = vec![in rt.alloc(); "spanprof", "whatif"]?;
+    words.extend_from_slice(changes)?;
+    gives(rt, words.as_slice(), WORKED, text, status)
 }
 
 /// Changes are made in their order, up to the first that is refused.
@@ -154,12 +178,7 @@ fn tried_costs(rt: HostRuntime) -> Result<(), Fail> {
         ),
     ];
     for (place, (changes, text, status)) in rows.iter().enumerate() {
-        let mut words = vec![in rt.alloc(); "spanprof", "whatif"]?;
-        words.extend_from_slice(changes)?;
-        assert!(rt;
-            gives(&rt, words.as_slice(), WORKED, text, *status)?,
-            "{place}"
-        );
+        assert!(rt; changes_give(&rt, changes, text, *status)?, "{place}");
     }
     Ok(())
 }

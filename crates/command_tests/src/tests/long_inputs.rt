@@ -1,6 +1,6 @@
 //! Long inputs, and exit statuses.
 
-use super::{run, sink, source};
+use super::{gives, repeated};
 use spanprof_command::Status;
 use spanprof_command::laws::one_report;
 use std::test::Fail;
@@ -21,16 +21,13 @@ fn exit_statuses(rt: HostRuntime) {
 /// At the limit, and one byte past it.
 #[test]
 fn long_inputs(rt: HostRuntime) -> Result<(), Fail> {
-    let alloc = rt.alloc();
     for (length, line) in [
         (8_388_608, "error: line 1: TooLong\n"),
         (8_388_609, "error: input too long\n"),
     ] {
-        let blanks = Vec::from_elem(alloc, b' ', length)?;
-        let reader = source(blanks.as_slice());
-        let (status, text, _) = run(&rt, &["spanprof"], reader, sink(alloc))?;
-        assert!(rt; status == Status::Refused, "{length}");
-        assert!(rt; text.as_slice() == line.as_bytes(), "{length}");
+        let blanks = repeated(rt.alloc(), " ", length)?;
+        let is_told = gives(&rt, &["spanprof"], blanks.as_str(), line, Status::Refused)?;
+        assert!(rt; is_told, "{length}");
     }
     Ok(())
 }

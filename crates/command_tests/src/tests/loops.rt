@@ -2,7 +2,10 @@
 
 use super::gives;
 use spanprof_command::Status;
+use std::alloc::AllocGlobal;
+use std::sync::Wait;
 use std::test::Fail;
+use std::thread::Threads;
 
 const CHAIN: &str =
     "omptasks 2\nfor i 1 3 { task depend(in: x[i-1]) depend(out: x[i]) { work 2 } }";
@@ -16,6 +19,22 @@ const UNDER_FINAL: &str = "omptasks 2\ntask final(1) { task { work 3 } work 1 } 
 const CLAIM: &str =
     "---\nend 6\nstart 0 0\nstart 1 0\nstart 2 0\nstart 3 2\nstart 4 0\nstart 5 4\nstart 6 0\n\
     chain 0 1 3 5\n";
+
+/// Whether `span` gives this report on a program with this body.
+fn measures_to<H: AllocGlobal + Threads + Wait + Sync>(
+    rt: &H,
+    body: &str,
+    report: &str,
+) -> Result<bool, Fail> {
+    let text = format!(in rt.alloc(); "omptasks 2\n{body}")?;
+    gives(
+        rt,
+        &["spanprof", "span"],
+        text.as_str(),
+        report,
+        Status::Done,
+    )
+}
 
 #[test]
 fn measures_of_loops(rt: HostRuntime) -> Result<(), Fail> {
@@ -48,14 +67,24 @@ fn measures_of_loops(rt: HostRuntime) -> Result<(), Fail> {
             "segments 3\nwork 0\nspan 0\n",
         ),
     ] {
-        let text = format!(in rt.alloc(); "omptasks 2\n{body}")?;
-        let words = ["spanprof", "span"];
-        assert!(rt;
-            gives(&rt, &words, text.as_str(), report, Status::Done)?,
-            "{body}"
-        );
+        assert!(rt; measures_to(&rt, body, report)?, "{body}");
     }
     Ok(())
+}
+
+/// Whether the commands refuse a text with this line.
+fn is_refused<H: AllocGlobal + Threads + Wait + Sync>(
+    rt: &H,
+    text: &str,
+    line: &str,
+) -> Result<bool, Fail> {
+    for word in ["span", "show", "slack", "certify", "check"] {
+        if !gives(rt, &["spanprof", word], text, line, Status::Refused)? {
+            return Ok(false);
+        }
+    }
+    let words = ["spanprof", "run", "--workers", "2"];
+    gives(rt, &words, text, line, Status::Refused)
 }
 
 #[test]
@@ -75,12 +104,7 @@ fn refused_loops(rt: HostRuntime) -> Result<(), Fail> {
         ),
         ("omptasks 3\nfor i 1 3 { }", "error: line 1: BadHeader\n"),
     ] {
-        for word in ["span", "show", "slack", "certify", "check"] {
-            let words = ["spanprof", word];
-            assert!(rt; gives(&rt, &words, text, line, Status::Refused)?, "{word}");
-        }
-        let words = ["spanprof", "run", "--workers", "2"];
-        assert!(rt; gives(&rt, &words, text, line, Status::Refused)?, "{line}");
+        assert!(rt; is_refused(&rt, text, line)?, "{text}");
     }
     Ok(())
 }
@@ -88,13 +112,20 @@ fn refused_loops(rt: HostRuntime) -> Result<(), Fail> {
 #[test]
 fn shown_loops(rt: HostRuntime) -> Result<(), Fail> {
     let words = ["spanprof", "show"];
-    assert!(rt; gives(&rt, &words, CHAIN, SHOWN, Status::Done)?);
-    assert!(rt; gives(&rt, &words, SHOWN, SHOWN, Status::Done)?);
-    let text = "omptasks 2\ntask depend(out: x[-1]) { }";
-    let shown = "omptasks 2\ntask depend(out: x[-1]) {\n}\n";
-    assert!(rt; gives(&rt, &words, text, shown, Status::Done)?);
-    let shown = "omptasks 2\ntask {\ntask if(0) {\nwork 3\n}\nwork 1\n}\nwork 2\n";
-    assert!(rt; gives(&rt, &words, UNDER_FINAL, shown, Status::Done)?);
+    for (text, shown) in [
+        (CHAIN, SHOWN),
+        (SHOWN, SHOWN),
+        (
+            "omptasks 2\ntask depend(out: x[-1]) { }",
+            "omptasks 2\ntask depend(out: x[-1]) {\n}\n",
+        ),
+        (
+            UNDER_FINAL,
+            "omptasks 2\ntask {\ntask if(0) {\nwork 3\n}\nwork 1\n}\nwork 2\n",
+        ),
+    ] {
+        assert!(rt; gives(&rt, &words, text, shown, Status::Done)?, "{text}");
+    }
     Ok(())
 }
 
@@ -110,17 +141,35 @@ fn slack_under_final(rt: HostRuntime) -> Result<(), Fail> {
     Ok(())
 }
 
+/// Whether `certify` gives the claim after the text that is shown.
+fn certifies<H: AllocGlobal + Threads + Wait + Sync>(rt: &H) -> Result<bool, Fail> {
+    let certificate = format!(in rt.alloc(); "{SHOWN}{CLAIM}")?;
+    let certify = ["spanprof", "certify"];
+    gives(rt, &certify, CHAIN, certificate.as_str(), Status::Done)
+}
+
+/// Whether `check` accepts the claim after this program and this much between them.
+fn accepts<H: AllocGlobal + Threads + Wait + Sync>(
+    rt: &H,
+    program: &str,
+    between: &str,
+) -> Result<bool, Fail> {
+    let document = format!(in rt.alloc(); "{program}{between}{CLAIM}")?;
+    let accepted = "accepted\nsegments 7\nend 6\n";
+    gives(
+        rt,
+        &["spanprof", "check"],
+        document.as_str(),
+        accepted,
+        Status::Done,
+    )
+}
+
 #[test]
 fn certified_loops(rt: HostRuntime) -> Result<(), Fail> {
-    let alloc = rt.alloc();
-    let certificate = format!(in alloc; "{SHOWN}{CLAIM}")?;
-    let certify = ["spanprof", "certify"];
-    assert!(rt; gives(&rt, &certify, CHAIN, certificate.as_str(), Status::Done)?);
-    let check = ["spanprof", "check"];
-    let accepted = "accepted\nsegments 7\nend 6\n";
-    assert!(rt; gives(&rt, &check, certificate.as_str(), accepted, Status::Done)?);
-    let with_loop = format!(in alloc; "{CHAIN}\n{CLAIM}")?;
-    assert!(rt; gives(&rt, &check, with_loop.as_str(), accepted, Status::Done)?);
+    assert!(rt; certifies(&rt)?);
+    assert!(rt; accepts(&rt, SHOWN, "")?);
+    assert!(rt; accepts(&rt, CHAIN, "\n")?);
     Ok(())
 }
 

@@ -1,7 +1,7 @@
 //! Replay documents and their reports.
 
 use super::examples::WORKED;
-use super::gives;
+use super::{gives, repeated};
 use spanprof_command::Status;
 use std::alloc::AllocGlobal;
 use std::sync::Wait;
@@ -129,10 +129,7 @@ fn dividers(rt: HostRuntime) -> Result<(), Fail> {
 
 #[test]
 fn too_many_events(rt: HostRuntime) -> Result<(), Fail> {
-    let mut events = String::new(rt.alloc());
-    for _ in 0..65_537 {
-        events.push_str("start 0 0\n")?;
-    }
+    let events = repeated(rt.alloc(), "start 0 0\n", 65_537)?;
     assert!(rt; replays(&rt, events.as_str(), "error: BadForm\n", Status::Refused)?);
     Ok(())
 }

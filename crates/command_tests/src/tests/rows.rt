@@ -1,13 +1,63 @@
 //! Texts and what the commands write of them.
 
-use super::{run, run_body, sink, source};
+use super::{gives, repeated};
 use spanprof_command::Status;
-use std::alloc::Global;
+use std::alloc::AllocGlobal;
+use std::sync::Wait;
 use std::test::Fail;
+use std::thread::Threads;
+
+/// Whether the words give this text and status on a program of version 1 with this body.
+fn body_gives<H: AllocGlobal + Threads + Wait + Sync>(
+    rt: &H,
+    words: &[&str],
+    body: &str,
+    text: &str,
+    status: Status,
+) -> Result<bool, Fail> {
+    let program = format!(in rt.alloc(); "omptasks 1\n{body}")?;
+    gives(rt, words, program.as_str(), text, status)
+}
+
+/// Whether a program with this body has so many segments, this work and this span.
+fn measures_to<H: AllocGlobal + Threads + Wait + Sync>(
+    rt: &H,
+    body: &str,
+    (segments, work, span): (u32, u32, u32),
+) -> Result<bool, Fail> {
+    let report = format!(in rt.alloc(); "segments {segments}\nwork {work}\nspan {span}\n")?;
+    body_gives(
+        rt,
+        &["spanprof", "span"],
+        body,
+        report.as_str(),
+        Status::Done,
+    )
+}
+
+/// Whether `span` and `show` refuse a program with this body.
+fn is_refused<H: AllocGlobal + Threads + Wait + Sync>(
+    rt: &H,
+    body: &str,
+    line: &str,
+) -> Result<bool, Fail> {
+    let is_told = body_gives(rt, &["spanprof", "span"], body, line, Status::Refused)?;
+    Ok(is_told && body_gives(rt, &["spanprof", "show"], body, line, Status::Refused)?)
+}
+
+/// Whether the program gives this text and status on a line so many times.
+fn lines_give<H: AllocGlobal + Threads + Wait + Sync>(
+    rt: &H,
+    (line, times): (&str, u32),
+    text: &str,
+    status: Status,
+) -> Result<bool, Fail> {
+    let body = repeated(rt.alloc(), line, times)?;
+    body_gives(rt, &["spanprof"], body.as_str(), text, status)
+}
 
 #[test]
 fn measures(rt: HostRuntime) -> Result<(), Fail> {
-    let alloc = rt.alloc();
     for (body, segments, work, span) in [
         ("", 1, 0, 0),
         ("work 5 task { work 3 } work 2 taskwait work 1", 4, 11, 9),
@@ -52,10 +102,8 @@ fn measures(rt: HostRuntime) -> Result<(), Fail> {
         ),
         ("task { work 1 } task { work 1 } task { work 2 }", 7, 4, 2),
     ] {
-        let report = format!(in alloc; "segments {segments}\nwork {work}\nspan {span}\n")?;
-        let (status, written) = run_body(&rt, "span", body)?;
-        assert!(rt; status == Status::Done, "{body}");
-        assert!(rt; written.as_slice() == report.as_bytes(), "{body}");
+        let wanted = (segments, work, span);
+        assert!(rt; measures_to(&rt, body, wanted)?, "{body}");
     }
     Ok(())
 }
@@ -86,9 +134,10 @@ fn canonical_texts(rt: HostRuntime) -> Result<(), Fail> {
             "omptasks 1\ntaskgroup {\n}\ntaskwait\n",
         ),
     ] {
-        let (status, written) = run_body(&rt, "show", body)?;
-        assert!(rt; status == Status::Done, "{body}");
-        assert!(rt; written.as_slice() == canonical.as_bytes(), "{body}");
+        assert!(rt;
+            body_gives(&rt, &["spanprof", "show"], body, canonical, Status::Done)?,
+            "{body}"
+        );
     }
     Ok(())
 }
@@ -118,56 +167,37 @@ fn refused_texts(rt: HostRuntime) -> Result<(), Fail> {
             "error: line 2: BadWord\n",
         ),
     ] {
-        for word in ["span", "show"] {
-            let (status, written) = run_body(&rt, word, body)?;
-            assert!(rt; status == Status::Refused, "{word} {body}");
-            assert!(rt; written.as_slice() == line.as_bytes(), "{word} {body}");
-        }
+        assert!(rt; is_refused(&rt, body, line)?, "{body}");
     }
     Ok(())
 }
 
 #[test]
 fn bad_headers(rt: HostRuntime) -> Result<(), Fail> {
-    let alloc = rt.alloc();
+    let line = "error: line 1: BadHeader\n";
     for text in ["", "omptasks 3", "omptasks", "tasks 1"] {
-        let (status, written, _) = run(&rt, &["spanprof"], source(text.as_bytes()), sink(alloc))?;
-        assert!(rt; status == Status::Refused, "{text}");
-        assert!(rt;
-            written.as_slice() == b"error: line 1: BadHeader\n".as_slice(),
-            "{text}"
-        );
+        let is_told = gives(&rt, &["spanprof"], text, line, Status::Refused)?;
+        assert!(rt; is_told, "{text}");
     }
     Ok(())
 }
 
-/// The header, and then a line so many times.
-fn lines(alloc: Global, line: &str, times: u32) -> Result<String, Fail> {
-    let mut text = String::from_str(alloc, "omptasks 1\n")?;
-    for _ in 0..times {
-        text.push_str(line)?;
-        text.push_str("\n")?;
-    }
-    Ok(text)
-}
-
 #[test]
 fn limits_of_lines(rt: HostRuntime) -> Result<(), Fail> {
-    let alloc = rt.alloc();
-    for (line, times, written) in [
+    for (line, times, text) in [
         (
-            "work 1000000000000",
+            "work 1000000000000\n",
             1001,
             "error: line 1002: WorkTooLarge\n",
         ),
-        ("task {", 65, "error: line 66: TooDeep\n"),
-        ("task { }", 4097, "error: line 4098: TooManyTasks\n"),
-        ("taskwait", 16384, "error: line 16385: TooManySegments\n"),
+        ("task {\n", 65, "error: line 66: TooDeep\n"),
+        ("task { }\n", 4097, "error: line 4098: TooManyTasks\n"),
+        ("taskwait\n", 16384, "error: line 16385: TooManySegments\n"),
     ] {
-        let text = lines(alloc, line, times)?;
-        let (status, got, _) = run(&rt, &["spanprof"], source(text.as_bytes()), sink(alloc))?;
-        assert!(rt; status == Status::Refused, "{line}");
-        assert!(rt; got.as_slice() == written.as_bytes(), "{line}");
+        assert!(rt;
+            lines_give(&rt, (line, times), text, Status::Refused)?,
+            "{line}"
+        );
     }
     Ok(())
 }
@@ -175,64 +205,68 @@ fn limits_of_lines(rt: HostRuntime) -> Result<(), Fail> {
 /// So many times is accepted.
 #[test]
 fn lines_within_limits(rt: HostRuntime) -> Result<(), Fail> {
-    let alloc = rt.alloc();
     for (line, times, report) in [
         (
-            "work 1000000000000",
+            "work 1000000000000\n",
             1000,
             "segments 1\nwork 1000000000000000\nspan 1000000000000000\n",
         ),
-        ("task { }", 4096, "segments 8193\nwork 0\nspan 0\n"),
-        ("taskwait", 16383, "segments 16384\nwork 0\nspan 0\n"),
+        ("task { }\n", 4096, "segments 8193\nwork 0\nspan 0\n"),
+        ("taskwait\n", 16383, "segments 16384\nwork 0\nspan 0\n"),
     ] {
-        let text = lines(alloc, line, times)?;
-        let (status, got, _) = run(&rt, &["spanprof"], source(text.as_bytes()), sink(alloc))?;
-        assert!(rt; status == Status::Done, "{line}");
-        assert!(rt; got.as_slice() == report.as_bytes(), "{line}");
+        assert!(rt;
+            lines_give(&rt, (line, times), report, Status::Done)?,
+            "{line}"
+        );
     }
     Ok(())
 }
 
-/// A number of so many zeros.
+/// Whether a number of so many zeros gives this text and status.
+fn zeros_give<H: AllocGlobal + Threads + Wait + Sync>(
+    rt: &H,
+    zeros: u32,
+    text: &str,
+    status: Status,
+) -> Result<bool, Fail> {
+    let number = repeated(rt.alloc(), "0", zeros)?;
+    let body = format!(in rt.alloc(); "work {number}")?;
+    body_gives(rt, &["spanprof"], body.as_str(), text, status)
+}
+
 #[test]
 fn long_numbers(rt: HostRuntime) -> Result<(), Fail> {
-    let alloc = rt.alloc();
-    for (zeros, status, report) in [
+    for (zeros, status, text) in [
         (1_048_563, Status::Done, "segments 1\nwork 0\nspan 0\n"),
         (1_048_564, Status::Refused, "error: line 2: TooLong\n"),
     ] {
-        let mut text = String::from_str(alloc, "omptasks 1\nwork ")?;
-        for _ in 0..zeros {
-            text.push_str("0")?;
-        }
-        let (got, written, _) = run(&rt, &["spanprof"], source(text.as_bytes()), sink(alloc))?;
-        assert!(rt; got == status, "{zeros}");
-        assert!(rt; written.as_slice() == report.as_bytes(), "{zeros}");
+        assert!(rt; zeros_give(&rt, zeros, text, status)?, "{zeros}");
     }
     Ok(())
 }
 
 #[test]
 fn limits_of_a_text(rt: HostRuntime) -> Result<(), Fail> {
-    let alloc = rt.alloc();
-    let blanks = Vec::from_elem(alloc, b' ', 4_194_305)?;
-    let (status, written, _) = run(&rt, &["spanprof"], source(blanks.as_slice()), sink(alloc))?;
-    assert!(rt; status == Status::Refused);
-    assert!(rt; written.as_slice() == b"error: line 1: TooLong\n".as_slice());
+    let blanks = repeated(rt.alloc(), " ", 4_194_305)?;
+    let line = "error: line 1: TooLong\n";
+    assert!(rt; gives(&rt, &["spanprof"], blanks.as_str(), line, Status::Refused)?);
     Ok(())
 }
 
 /// A task with 33 items.
 #[test]
 fn many_items(rt: HostRuntime) -> Result<(), Fail> {
-    let alloc = rt.alloc();
-    let mut body = String::from_str(alloc, "task depend(in: a")?;
-    for _ in 0..32 {
-        body.push_str(", a")?;
-    }
-    body.push_str(") { }")?;
-    let (status, written) = run_body(&rt, "show", body.as_str())?;
-    assert!(rt; status == Status::Refused);
-    assert!(rt; written.as_slice() == b"error: line 2: TooManyItems\n".as_slice());
+    let items = repeated(rt.alloc(), ", a", 32)?;
+    let body = format!(in rt.alloc(); "task depend(in: a{items}) {{ }}")?;
+    let line = "error: line 2: TooManyItems\n";
+    assert!(rt;
+        body_gives(
+            &rt,
+            &["spanprof", "show"],
+            body.as_str(),
+            line,
+            Status::Refused
+        )?
+    );
     Ok(())
 }

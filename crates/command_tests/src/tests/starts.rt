@@ -1,7 +1,7 @@
 //! The program's way in.
 
 use super::fake_devices::{Faults, Sink};
-use super::{sink, source, words_of};
+use super::{slow_sink, source, words_of};
 use counted_io::Counted;
 use spanprof_command::start;
 use std::alloc::AllocGlobal;
@@ -15,18 +15,45 @@ use std::thread::Threads;
 fn started<H: AllocGlobal + Threads + Wait + Sync>(
     rt: &H,
     words: io::Result<Vec<String>>,
-    failing: Option<usize>,
+    faults: Faults,
 ) -> Result<(u8, Vec<u8>, usize), Fail> {
     let mut reader = Counted::new(source(b"omptasks 1\nwork 3"));
-    let mut writer = Counted::new(sink(rt.alloc()));
-    if let Some(call) = failing {
-        let mut device = sink(rt.alloc());
-        device.faults = Faults::fail_call(call, ErrorKind::Other);
-        writer = Counted::new(device);
-    }
+    let mut writer = Counted::new(slow_sink(rt.alloc(), usize::MAX, faults));
     let code = start(rt, words, &mut reader, &mut writer);
     let Sink { taken, .. } = writer.into_inner();
     Ok((code, taken, reader.into_inner().calls))
+}
+
+/// Whether this word gives this exit status and text.
+fn word_starts<H: AllocGlobal + Threads + Wait + Sync>(
+    rt: &H,
+    word: &str,
+    code: u8,
+    text: &str,
+) -> Result<bool, Fail> {
+    let words = words_of(rt.alloc(), &["spanprof", word])?;
+    let (got, written, _) = started(rt, Ok(words), Faults::NONE)?;
+    Ok(got == code && written.as_slice() == text.as_bytes())
+}
+
+/// Whether words that are no text give this exit status and text, and nothing is read.
+fn none_starts<H: AllocGlobal + Threads + Wait + Sync>(
+    rt: &H,
+    kind: ErrorKind,
+    code: u8,
+    text: &str,
+) -> Result<bool, Fail> {
+    let (got, written, calls) = started(rt, Err(io::Error::from(kind)), Faults::NONE)?;
+    Ok(got == code && calls == 0 && written.as_slice() == text.as_bytes())
+}
+
+/// Whether nothing is written where the first write fails.
+fn is_silent<H: AllocGlobal + Threads + Wait + Sync>(
+    rt: &H,
+    words: io::Result<Vec<String>>,
+) -> Result<bool, Fail> {
+    let (code, written, _) = started(rt, words, Faults::fail_call(0, ErrorKind::Other))?;
+    Ok(code == 3 && written.is_empty())
 }
 
 #[test]
@@ -36,15 +63,9 @@ fn given_words(rt: HostRuntime) -> Result<(), Fail> {
         ("replay", 1, "error: BadForm\n"),
         ("--help", 2, "error: wrong words\n"),
     ] {
-        let words = words_of(rt.alloc(), &["spanprof", word])?;
-        let (got, written, _) = started(&rt, Ok(words), None)?;
-        assert!(rt;
-            got == code && written.as_slice() == text.as_bytes(),
-            "{code}"
-        );
+        assert!(rt; word_starts(&rt, word, code, text)?, "{code}");
     }
-    let (code, written, _) = started(&rt, Ok(words_of(rt.alloc(), &["spanprof"])?), Some(0))?;
-    assert!(rt; code == 3 && written.is_empty());
+    assert!(rt; is_silent(&rt, Ok(words_of(rt.alloc(), &["spanprof"])?))?);
     Ok(())
 }
 
@@ -56,11 +77,8 @@ fn no_words(rt: HostRuntime) -> Result<(), Fail> {
         (ErrorKind::Other, 2, "error: wrong words\n"),
         (ErrorKind::OutOfMemory, 3, "error: out of memory\n"),
     ] {
-        let (got, written, calls) = started(&rt, Err(io::Error::from(kind)), None)?;
-        assert!(rt; got == code && calls == 0, "{code}");
-        assert!(rt; written.as_slice() == text.as_bytes(), "{code}");
-        let (got, written, _) = started(&rt, Err(io::Error::from(kind)), Some(0))?;
-        assert!(rt; got == 3 && written.is_empty(), "{code}");
+        assert!(rt; none_starts(&rt, kind, code, text)?, "{code}");
+        assert!(rt; is_silent(&rt, Err(io::Error::from(kind)))?, "{code}");
     }
     Ok(())
 }

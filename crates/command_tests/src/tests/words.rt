@@ -1,13 +1,25 @@
 //! Wrong words.
 
-use super::{run, sink, source};
+use super::{gives, run, sink, source};
 use spanprof_command::Status;
+use std::alloc::AllocGlobal;
+use std::sync::Wait;
 use std::test::Fail;
+use std::thread::Threads;
+
+/// Whether these words after the name are told to be wrong, and nothing is read.
+fn are_wrong<H: AllocGlobal + Threads + Wait + Sync>(rt: &H, row: &[&str]) -> Result<bool, Fail> {
+    let mut words = vec![in rt.alloc(); "spanprof"]?;
+    words.extend_from_slice(row)?;
+    let reader = source(b"omptasks 1");
+    let (status, text, reader) = run(rt, words.as_slice(), reader, sink(rt.alloc()))?;
+    let is_told = text.as_slice() == b"error: wrong words\n".as_slice();
+    Ok(status == Status::Usage && is_told && reader.calls == 0)
+}
 
 /// They read nothing.
 #[test]
 fn wrong_words(rt: HostRuntime) -> Result<(), Fail> {
-    let alloc = rt.alloc();
     let rows: [&[&str]; 27] = [
         &["help"],
         &["--help"],
@@ -38,19 +50,7 @@ fn wrong_words(rt: HostRuntime) -> Result<(), Fail> {
         &["whatif", "1=18446744073709551616"],
     ];
     for (place, row) in rows.iter().enumerate() {
-        let mut words = vec![in alloc; "spanprof"]?;
-        words.extend_from_slice(row)?;
-        let (status, text, reader) = run(
-            &rt,
-            words.as_slice(),
-            source(b"omptasks 1"),
-            sink(alloc),
-        )?;
-        assert!(rt; status == Status::Usage && reader.calls == 0, "{place}");
-        assert!(rt;
-            text.as_slice() == b"error: wrong words\n".as_slice(),
-            "{place}"
-        );
+        assert!(rt; are_wrong(&rt, row)?, "{place}");
     }
     Ok(())
 }
@@ -59,11 +59,10 @@ fn wrong_words(rt: HostRuntime) -> Result<(), Fail> {
 #[test]
 fn no_words(rt: HostRuntime) -> Result<(), Fail> {
     let rows: [&[&str]; 2] = [&["spanprof"], &[]];
+    let report = "segments 1\nwork 3\nspan 3\n";
     for words in rows {
-        let (status, text, _) = run(&rt, words, source(b"omptasks 1\nwork 3"), sink(rt.alloc()))?;
-        assert!(rt; status == Status::Done, "{}", words.len());
         assert!(rt;
-            text.as_slice() == b"segments 1\nwork 3\nspan 3\n".as_slice(),
+            gives(&rt, words, "omptasks 1\nwork 3", report, Status::Done)?,
             "{}",
             words.len()
         );
