@@ -18,6 +18,7 @@ use counted_io::Counted;
 use spanprof_command::{Status, command};
 use std::alloc::{AllocGlobal, Global};
 use std::io::Read;
+use std::process::Abort;
 use std::sync::Wait;
 use std::test::Fail;
 use std::thread::Threads;
@@ -108,4 +109,38 @@ fn gives<H: AllocGlobal + Threads + Wait + Sync>(
 ) -> Result<bool, Fail> {
     let (got, written, _) = run(rt, words, source(input.as_bytes()), sink(rt.alloc()))?;
     Ok(got == status && written.as_slice() == text.as_bytes())
+}
+
+/// The words give the text of each row, and this status, on the row's input after this beginning.
+fn all_give<H: AllocGlobal + Threads + Wait + Abort + Sync>(
+    rt: &H,
+    words: &[&str],
+    begin: &str,
+    rows: &[(&str, &str)],
+    status: Status,
+) -> Result<(), Fail> {
+    for (input, text) in rows {
+        let whole = format!(in rt.alloc(); "{begin}{input}")?;
+        assert!(rt; gives(rt, words, whole.as_str(), text, status)?, "{input}");
+    }
+    Ok(())
+}
+
+/// These words with each row's further words give the row's text and status on an input.
+fn all_answer<H: AllocGlobal + Threads + Wait + Abort + Sync>(
+    rt: &H,
+    words: &[&str],
+    input: &str,
+    rows: &[(&[&str], &str, Status)],
+) -> Result<(), Fail> {
+    for (place, (more, text, status)) in rows.iter().enumerate() {
+        let mut whole = Vec::new(rt.alloc());
+        whole.extend_from_slice(words)?;
+        whole.extend_from_slice(more)?;
+        assert!(rt;
+            gives(rt, whole.as_slice(), input, text, *status)?,
+            "{place}"
+        );
+    }
+    Ok(())
 }

@@ -42,30 +42,21 @@ fn kind_at(call: usize) -> ErrorKind {
     }
 }
 
-/// Whether an example tells of a read that fails, and does not try it again.
-fn tells_of_read<H: AllocGlobal + Threads + Wait + Sync>(
-    rt: &H,
-    example: Example,
-    call: usize,
-) -> Result<bool, Fail> {
-    let faults = Faults::fail_call(call, kind_at(call));
-    let reader = slow_source(example.input.as_bytes(), 1, faults);
-    let (status, reader, writer) = run_on(rt, example.words, reader, sink(rt.alloc()))?;
-    let is_told = writer.taken.as_slice() == b"error: read fault\n".as_slice();
-    let is_last = reader.calls.saturating_sub(1) == call;
-    Ok(status == Status::Fault && writer.flushes == 1 && is_last && is_told)
-}
-
 /// A failure at each read in turn, which is not tried again.
 #[test]
 fn failing_readers(rt: HostRuntime) -> Result<(), Fail> {
-    for example in examples() {
-        for call in 0..=example.input.len() {
+    let line = b"error: read fault\n".as_slice();
+    for Example { words, input, text } in examples() {
+        for call in 0..=input.len() {
+            let faults = Faults::fail_call(call, kind_at(call));
+            let reader = slow_source(input.as_bytes(), 1, faults);
+            let (status, reader, writer) = run_on(&rt, words, reader, sink(rt.alloc()))?;
             assert!(rt;
-                tells_of_read(&rt, example, call)?,
-                "{call} {}",
-                example.text
+                status == Status::Fault && writer.flushes == 1,
+                "{call} {text}"
             );
+            assert!(rt; reader.calls.saturating_sub(1) == call, "{call} {text}");
+            assert!(rt; writer.taken.as_slice() == line, "{call} {text}");
         }
     }
     Ok(())

@@ -16,6 +16,10 @@ pub(super) struct Example {
 
 pub(super) const WORKED: &str = "omptasks 1\nwork 5 task { work 3 } work 2 taskwait work 1\n";
 
+/// The worked program, and the line after which a claim or the events come.
+pub(super) const WORKED_BEGUN: &str =
+    "omptasks 1\nwork 5 task { work 3 } work 2 taskwait work 1\n---\n";
+
 pub(super) const CERTIFICATE: &str =
     "omptasks 1\nwork 5\ntask {\nwork 3\n}\nwork 2\ntaskwait\nwork 1\n---\nend 9\nstart 0 0\n\
     start 1 5\nstart 2 5\nstart 3 8\nchain 0 1 3\n";

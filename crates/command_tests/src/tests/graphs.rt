@@ -1,31 +1,38 @@
 //! Tables of slacks and greedy runs, changed costs, and runs on workers.
 
 use super::examples::WORKED;
-use super::gives;
+use super::{all_answer, all_give, gives};
 use spanprof_command::Status;
 use std::alloc::AllocGlobal;
+use std::process::Abort;
 use std::sync::Wait;
 use std::test::Fail;
 use std::thread::Threads;
 
 const THREE: &str = "omptasks 1\ntask { work 1 } task { work 1 } task { work 2 }";
 
-/// Whether the words give a table with this heading and these rows.
-fn gives_table<H: AllocGlobal + Threads + Wait + Sync>(
+/// A command with this option gives a table with this heading and each row's text.
+fn all_give_tables<H: AllocGlobal + Threads + Wait + Abort + Sync>(
     rt: &H,
-    words: &[&str],
-    input: &str,
+    (command, option): (&str, &str),
     heading: &str,
-    rows: &str,
-) -> Result<bool, Fail> {
-    let table = format!(in rt.alloc(); "{heading}\n{rows}")?;
-    gives(rt, words, input, table.as_str(), Status::Done)
+    rows: &[(&str, &str, &str)],
+) -> Result<(), Fail> {
+    for (number, input, text) in rows {
+        let words = ["spanprof", command, option, number];
+        let table = format!(in rt.alloc(); "{heading}\n{text}")?;
+        assert!(rt;
+            gives(rt, &words, input, table.as_str(), Status::Done)?,
+            "{input}"
+        );
+    }
+    Ok(())
 }
 
 #[test]
 fn slacks(rt: HostRuntime) -> Result<(), Fail> {
     let words = ["spanprof", "slack"];
-    for (text, table) in [
+    let rows = [
         (
             WORKED,
             "segment,task,cost,start,slack,chain\n0,0,5,0,0,1\n1,1,3,5,0,1\n2,0,2,5,1,0\n\
@@ -51,9 +58,8 @@ fn slacks(rt: HostRuntime) -> Result<(), Fail> {
             3,2,6,0,0,1\n4,0,0,0,6,0\n5,3,1,6,0,1\n6,0,0,0,7,0\n7,4,2,7,0,1\n8,0,0,0,9,0\n\
             9,5,1,9,0,1\n10,0,0,0,10,0\n",
         ),
-    ] {
-        assert!(rt; gives(&rt, &words, text, table, Status::Done)?, "{text}");
-    }
+    ];
+    all_give(&rt, &words, "", &rows, Status::Done)?;
     let line = "error: line 2: Unclosed\n";
     assert!(rt; gives(&rt, &words, "omptasks 1\ntask {", line, Status::Refused)?);
     Ok(())
@@ -61,7 +67,7 @@ fn slacks(rt: HostRuntime) -> Result<(), Fail> {
 
 #[test]
 fn greedy_runs(rt: HostRuntime) -> Result<(), Fail> {
-    for (threads, text, rows) in [
+    let rows = [
         (
             "2",
             THREE,
@@ -78,67 +84,54 @@ fn greedy_runs(rt: HostRuntime) -> Result<(), Fail> {
             "0,0,0,\n1,0,7,0\n2,0,0,\n3,0,1,1\n4,0,0,\n5,1,2,1\n",
         ),
         ("1024", WORKED, "0,0,5,0\n1,5,8,0\n2,5,7,1\n3,8,9,0\n"),
-    ] {
-        let words = ["spanprof", "greedy", "--threads", threads];
-        let heading = "segment,start,end,thread";
-        assert!(rt; gives_table(&rt, &words, text, heading, rows)?, "{text}");
-    }
+    ];
+    let heading = "segment,start,end,thread";
+    all_give_tables(&rt, ("greedy", "--threads"), heading, &rows)?;
     Ok(())
 }
 
 #[test]
 fn curves(rt: HostRuntime) -> Result<(), Fail> {
-    for (upto, text, rows) in [
+    let rows = [
         ("3", THREE, "1,4,4,4\n2,3,2,3\n3,2,2,2\n"),
         ("2", "omptasks 1\nwork 7", "1,7,7,7\n2,7,7,7\n"),
         ("1", "omptasks 1\ntaskgroup { } taskwait", "1,0,0,0\n"),
-    ] {
-        let words = ["spanprof", "curve", "--upto", upto];
-        let heading = "threads,end,least,bound";
-        assert!(rt; gives_table(&rt, &words, text, heading, rows)?, "{text}");
-    }
+    ];
+    let heading = "threads,end,least,bound";
+    all_give_tables(&rt, ("curve", "--upto"), heading, &rows)?;
     Ok(())
 }
 
-/// Whether the words give this line on a program, and the text's own fault on another text.
-fn refuse_after_text<H: AllocGlobal + Threads + Wait + Sync>(
+/// The words give each row's line on a program, and the text's own fault on another text.
+fn all_refuse_after_text<H: AllocGlobal + Threads + Wait + Abort + Sync>(
     rt: &H,
-    words: &[&str],
-    line: &str,
-) -> Result<bool, Fail> {
+    rows: &[(&[&str], &str)],
+) -> Result<(), Fail> {
     let unopened = "error: line 2: Unopened\n";
-    let is_told = gives(rt, words, WORKED, line, Status::Refused)?;
-    Ok(is_told && gives(rt, words, "omptasks 1\n}", unopened, Status::Refused)?)
+    for (place, (words, line)) in rows.iter().enumerate() {
+        assert!(rt; gives(rt, words, WORKED, line, Status::Refused)?, "{place}");
+        let is_told = gives(rt, words, "omptasks 1\n}", unopened, Status::Refused)?;
+        assert!(rt; is_told, "{place}");
+    }
+    Ok(())
 }
 
 /// A count out of range is told only of a text that is a program.
 #[test]
 fn counts_out_of_range(rt: HostRuntime) -> Result<(), Fail> {
-    for (word, option, number, line) in [
-        ("greedy", "--threads", "0", "error: ThreadCount\n"),
-        ("greedy", "--threads", "1025", "error: ThreadCount\n"),
-        ("greedy", "--threads", "4294967295", "error: ThreadCount\n"),
-        ("curve", "--upto", "0", "error: ThreadCount\n"),
-        ("curve", "--upto", "1025", "error: ThreadCount\n"),
-        ("run", "--workers", "0", "error: WorkerCount\n"),
-        ("run", "--workers", "65", "error: WorkerCount\n"),
-    ] {
-        let words = ["spanprof", word, option, number];
-        assert!(rt; refuse_after_text(&rt, &words, line)?, "{word} {number}");
-    }
+    let threads = "error: ThreadCount\n";
+    let workers = "error: WorkerCount\n";
+    let rows: [(&[&str], &str); 7] = [
+        (&["spanprof", "greedy", "--threads", "0"], threads),
+        (&["spanprof", "greedy", "--threads", "1025"], threads),
+        (&["spanprof", "greedy", "--threads", "4294967295"], threads),
+        (&["spanprof", "curve", "--upto", "0"], threads),
+        (&["spanprof", "curve", "--upto", "1025"], threads),
+        (&["spanprof", "run", "--workers", "0"], workers),
+        (&["spanprof", "run", "--workers", "65"], workers),
+    ];
+    all_refuse_after_text(&rt, &rows)?;
     Ok(())
-}
-
-/// Whether a `whatif` with these changes gives this text and status on the worked program.
-fn changes_give<H: AllocGlobal + Threads + Wait + Sync>(
-    rt: &H,
-    changes: &[&str],
-    text: &str,
-    status: Status,
-) -> Result<bool, Fail> {
-    let mut words = vec![in rt.alloc(); "spanprof", "whatif"]?;
-    words.extend_from_slice(changes)?;
-    gives(rt, words.as_slice(), WORKED, text, status)
 }
 
 /// Changes are made in their order, up to the first that is refused.
@@ -177,21 +170,18 @@ fn tried_costs(rt: HostRuntime) -> Result<(), Fail> {
             Status::Refused,
         ),
     ];
-    for (place, (changes, text, status)) in rows.iter().enumerate() {
-        assert!(rt; changes_give(&rt, changes, text, *status)?, "{place}");
-    }
+    all_answer(&rt, &["spanprof", "whatif"], WORKED, &rows)?;
     Ok(())
 }
 
 #[test]
 fn worker_runs(rt: HostRuntime) -> Result<(), Fail> {
     let text = "segments 4\nedges 4\ndigest 704969\npreds 0\npreds 1 0\npreds 2 0\npreds 3 1 2\n";
-    for workers in ["1", "2", "64"] {
-        let words = ["spanprof", "run", "--workers", workers];
-        assert!(rt;
-            gives(&rt, &words, WORKED, text, Status::Done)?,
-            "{workers}"
-        );
-    }
+    let rows: [(&[&str], &str, Status); 3] = [
+        (&["1"], text, Status::Done),
+        (&["2"], text, Status::Done),
+        (&["64"], text, Status::Done),
+    ];
+    all_answer(&rt, &["spanprof", "run", "--workers"], WORKED, &rows)?;
     Ok(())
 }

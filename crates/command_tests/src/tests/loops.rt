@@ -1,6 +1,6 @@
 //! Texts of version 2, and what the commands write of them.
 
-use super::gives;
+use super::{all_answer, all_give, gives};
 use spanprof_command::Status;
 use std::alloc::AllocGlobal;
 use std::sync::Wait;
@@ -20,25 +20,9 @@ const CLAIM: &str =
     "---\nend 6\nstart 0 0\nstart 1 0\nstart 2 0\nstart 3 2\nstart 4 0\nstart 5 4\nstart 6 0\n\
     chain 0 1 3 5\n";
 
-/// Whether `span` gives this report on a program with this body.
-fn measures_to<H: AllocGlobal + Threads + Wait + Sync>(
-    rt: &H,
-    body: &str,
-    report: &str,
-) -> Result<bool, Fail> {
-    let text = format!(in rt.alloc(); "omptasks 2\n{body}")?;
-    gives(
-        rt,
-        &["spanprof", "span"],
-        text.as_str(),
-        report,
-        Status::Done,
-    )
-}
-
 #[test]
 fn measures_of_loops(rt: HostRuntime) -> Result<(), Fail> {
-    for (body, report) in [
+    let rows = [
         (
             "for i 1 3 { task depend(in: x[i-1]) depend(out: x[i]) { work 2 } }",
             "segments 7\nwork 6\nspan 6\n",
@@ -66,30 +50,20 @@ fn measures_of_loops(rt: HostRuntime) -> Result<(), Fail> {
             "task depend(out: x[-1]) { }",
             "segments 3\nwork 0\nspan 0\n",
         ),
-    ] {
-        assert!(rt; measures_to(&rt, body, report)?, "{body}");
-    }
+    ];
+    all_give(
+        &rt,
+        &["spanprof", "span"],
+        "omptasks 2\n",
+        &rows,
+        Status::Done,
+    )?;
     Ok(())
-}
-
-/// Whether the commands refuse a text with this line.
-fn is_refused<H: AllocGlobal + Threads + Wait + Sync>(
-    rt: &H,
-    text: &str,
-    line: &str,
-) -> Result<bool, Fail> {
-    for word in ["span", "show", "slack", "certify", "check"] {
-        if !gives(rt, &["spanprof", word], text, line, Status::Refused)? {
-            return Ok(false);
-        }
-    }
-    let words = ["spanprof", "run", "--workers", "2"];
-    gives(rt, &words, text, line, Status::Refused)
 }
 
 #[test]
 fn refused_loops(rt: HostRuntime) -> Result<(), Fail> {
-    for (text, line) in [
+    let rows = [
         (
             "omptasks 2\nfor i 0 65536 { }",
             "error: line 2: TooManyTurns\n",
@@ -103,16 +77,24 @@ fn refused_loops(rt: HostRuntime) -> Result<(), Fail> {
             "error: line 2: BadWord\n",
         ),
         ("omptasks 3\nfor i 1 3 { }", "error: line 1: BadHeader\n"),
-    ] {
-        assert!(rt; is_refused(&rt, text, line)?, "{text}");
+    ];
+    let commands: [&[&str]; 6] = [
+        &["spanprof", "span"],
+        &["spanprof", "show"],
+        &["spanprof", "slack"],
+        &["spanprof", "certify"],
+        &["spanprof", "check"],
+        &["spanprof", "run", "--workers", "2"],
+    ];
+    for words in commands {
+        all_give(&rt, words, "", &rows, Status::Refused)?;
     }
     Ok(())
 }
 
 #[test]
 fn shown_loops(rt: HostRuntime) -> Result<(), Fail> {
-    let words = ["spanprof", "show"];
-    for (text, shown) in [
+    let rows = [
         (CHAIN, SHOWN),
         (SHOWN, SHOWN),
         (
@@ -123,9 +105,8 @@ fn shown_loops(rt: HostRuntime) -> Result<(), Fail> {
             UNDER_FINAL,
             "omptasks 2\ntask {\ntask if(0) {\nwork 3\n}\nwork 1\n}\nwork 2\n",
         ),
-    ] {
-        assert!(rt; gives(&rt, &words, text, shown, Status::Done)?, "{text}");
-    }
+    ];
+    all_give(&rt, &["spanprof", "show"], "", &rows, Status::Done)?;
     Ok(())
 }
 
@@ -178,10 +159,11 @@ fn loops_run(rt: HostRuntime) -> Result<(), Fail> {
     let text =
         "segments 7\nedges 8\ndigest 23888\npreds 0\npreds 1 0\npreds 2 0\npreds 3 1 2\npreds 4 2\n\
         preds 5 3 4\npreds 6 4\n";
-    for workers in ["1", "3"] {
-        let words = ["spanprof", "run", "--workers", workers];
-        assert!(rt; gives(&rt, &words, CHAIN, text, Status::Done)?, "{workers}");
-    }
+    let rows: [(&[&str], &str, Status); 2] = [
+        (&["1"], text, Status::Done),
+        (&["3"], text, Status::Done),
+    ];
+    all_answer(&rt, &["spanprof", "run", "--workers"], CHAIN, &rows)?;
     Ok(())
 }
 
@@ -189,12 +171,11 @@ fn loops_run(rt: HostRuntime) -> Result<(), Fail> {
 fn runs_under_final(rt: HostRuntime) -> Result<(), Fail> {
     let text =
         "segments 5\nedges 5\ndigest 2564\npreds 0\npreds 1 0\npreds 2 1\npreds 3 1 2\npreds 4 0\n";
-    for workers in ["1", "2", "64"] {
-        let words = ["spanprof", "run", "--workers", workers];
-        assert!(rt;
-            gives(&rt, &words, UNDER_FINAL, text, Status::Done)?,
-            "{workers}"
-        );
-    }
+    let rows: [(&[&str], &str, Status); 3] = [
+        (&["1"], text, Status::Done),
+        (&["2"], text, Status::Done),
+        (&["64"], text, Status::Done),
+    ];
+    all_answer(&rt, &["spanprof", "run", "--workers"], UNDER_FINAL, &rows)?;
     Ok(())
 }

@@ -1,25 +1,11 @@
 //! Replay documents and their reports.
 
-use super::examples::WORKED;
-use super::{gives, repeated};
+use super::examples::{WORKED, WORKED_BEGUN};
+use super::{all_give, repeated};
 use spanprof_command::Status;
-use std::alloc::AllocGlobal;
-use std::sync::Wait;
 use std::test::Fail;
-use std::thread::Threads;
 
 const REPLAY: [&str; 2] = ["spanprof", "replay"];
-
-/// Whether a document of the worked program and these events gives this text and status.
-fn replays<H: AllocGlobal + Threads + Wait + Sync>(
-    rt: &H,
-    events: &str,
-    text: &str,
-    status: Status,
-) -> Result<bool, Fail> {
-    let document = format!(in rt.alloc(); "{WORKED}---\n{events}")?;
-    gives(rt, &REPLAY, document.as_str(), text, status)
-}
 
 #[test]
 fn worked_replays(rt: HostRuntime) -> Result<(), Fail> {
@@ -51,9 +37,7 @@ fn worked_replays(rt: HostRuntime) -> Result<(), Fail> {
         ),
         ("", "events 0\nfinished 0\npreds 0\n"),
     ];
-    for (events, text) in rows {
-        assert!(rt; replays(&rt, events, text, Status::Done)?, "{events}");
-    }
+    all_give(&rt, &REPLAY, WORKED_BEGUN, &rows, Status::Done)?;
     Ok(())
 }
 
@@ -79,25 +63,22 @@ fn refused_events(rt: HostRuntime) -> Result<(), Fail> {
             "error: event 0: NotRunning\n",
         ),
     ];
-    for (events, text) in rows {
-        assert!(rt; replays(&rt, events, text, Status::Refused)?, "{events}");
-    }
+    all_give(&rt, &REPLAY, WORKED_BEGUN, &rows, Status::Refused)?;
     Ok(())
 }
 
 #[test]
 fn wrong_forms(rt: HostRuntime) -> Result<(), Fail> {
     let bad = "error: BadForm\n";
-    for events in [
-        "start 0",
-        "start 0 0 0",
-        "go",
-        "start 0 4294967296",
-        "start 0 0 # begins",
-        "start 0 9 finish",
-    ] {
-        assert!(rt; replays(&rt, events, bad, Status::Refused)?, "{events}");
-    }
+    let rows = [
+        ("start 0", bad),
+        ("start 0 0 0", bad),
+        ("go", bad),
+        ("start 0 4294967296", bad),
+        ("start 0 0 # begins", bad),
+        ("start 0 9 finish", bad),
+    ];
+    all_give(&rt, &REPLAY, WORKED_BEGUN, &rows, Status::Refused)?;
     Ok(())
 }
 
@@ -106,30 +87,22 @@ fn wrong_forms(rt: HostRuntime) -> Result<(), Fail> {
 #[test]
 fn dividers(rt: HostRuntime) -> Result<(), Fail> {
     let none = "events 0\nfinished 0\npreds 0\n";
-    for (document, text, status) in [
-        (WORKED, "error: BadForm\n", Status::Refused),
-        (
-            "omptasks 1\ntask {\n---\ngo",
-            "error: line 2: Unclosed\n",
-            Status::Refused,
-        ),
-        (
-            "omptasks 1\n----\n",
-            "error: line 2: BadByte\n",
-            Status::Refused,
-        ),
-        ("", "error: line 1: BadHeader\n", Status::Refused),
-        ("omptasks 1\n---", none, Status::Done),
-        ("omptasks 1\r\n---\r\n", none, Status::Done),
-    ] {
-        assert!(rt; gives(&rt, &REPLAY, document, text, status)?, "{document}");
-    }
+    let refused = [
+        (WORKED, "error: BadForm\n"),
+        ("omptasks 1\ntask {\n---\ngo", "error: line 2: Unclosed\n"),
+        ("omptasks 1\n----\n", "error: line 2: BadByte\n"),
+        ("", "error: line 1: BadHeader\n"),
+    ];
+    all_give(&rt, &REPLAY, "", &refused, Status::Refused)?;
+    let done = [("omptasks 1\n---", none), ("omptasks 1\r\n---\r\n", none)];
+    all_give(&rt, &REPLAY, "", &done, Status::Done)?;
     Ok(())
 }
 
 #[test]
 fn too_many_events(rt: HostRuntime) -> Result<(), Fail> {
     let events = repeated(rt.alloc(), "start 0 0\n", 65_537)?;
-    assert!(rt; replays(&rt, events.as_str(), "error: BadForm\n", Status::Refused)?);
+    let rows = [(events.as_str(), "error: BadForm\n")];
+    all_give(&rt, &REPLAY, WORKED_BEGUN, &rows, Status::Refused)?;
     Ok(())
 }

@@ -5,15 +5,32 @@ use super::words_of;
 use command_words::changes::Change;
 use command_words::laws::worked_words;
 use command_words::request::{Request, WordsFault, read_words};
-use std::alloc::Global;
+use std::alloc::{AllocGlobal, Global};
+use std::process::Abort;
 use std::test::Fail;
 
+/// Whether the words are told to be wrong.
 fn are_wrong(alloc: Global, words: &[&str]) -> Result<bool, Fail> {
     let list = words_of(alloc, words)?;
     Ok(match read_words(alloc, list.as_slice()) {
         Err(fault) => fault == WordsFault::WrongWords,
         Ok(_) => false,
     })
+}
+
+/// These words with each of the last words are wrong.
+fn all_are_wrong<H: AllocGlobal + Abort>(
+    rt: &H,
+    words: &[&str],
+    last_words: &[&str],
+) -> Result<(), Fail> {
+    for last in last_words {
+        let mut whole = Vec::new(rt.alloc());
+        whole.extend_from_slice(words)?;
+        whole.push(last)?;
+        assert!(rt; are_wrong(rt.alloc(), whole.as_slice())?, "{last}");
+    }
+    Ok(())
 }
 
 /// The command and its number, where the words ask for one that has a number.
@@ -76,25 +93,21 @@ fn options(rt: HostRuntime) -> Result<(), Fail> {
 
 #[test]
 fn wrong_options(rt: HostRuntime) -> Result<(), Fail> {
-    for (first, second, third) in [
-        ("run", "--workers", "4294967296"),
-        ("run", "--workers", "99999999999999999999999"),
-        ("run", "--workers", "-1"),
-        ("run", "--workers", "+1"),
-        ("run", "--workers", "1.0"),
-        ("run", "--workers", " 1"),
-        ("run", "--workers", "two"),
-        ("run", "--workers", ""),
-        ("run", "--threads", "2"),
-        ("run", "2", "--workers"),
-        ("slack", "--workers", "2"),
-        ("--workers", "2", "run"),
-    ] {
-        assert!(rt;
-            are_wrong(rt.alloc(), &["spanprof", first, second, third])?,
-            "{first} {second} {third}"
-        );
-    }
+    let numbers = [
+        "4294967296",
+        "99999999999999999999999",
+        "-1",
+        "+1",
+        "1.0",
+        " 1",
+        "two",
+        "",
+    ];
+    all_are_wrong(&rt, &["spanprof", "run", "--workers"], &numbers)?;
+    all_are_wrong(&rt, &["spanprof", "run", "--threads"], &["2"])?;
+    all_are_wrong(&rt, &["spanprof", "run", "2"], &["--workers"])?;
+    all_are_wrong(&rt, &["spanprof", "slack", "--workers"], &["2"])?;
+    all_are_wrong(&rt, &["spanprof", "--workers", "2"], &["run"])?;
     Ok(())
 }
 
@@ -127,7 +140,7 @@ fn changes(rt: HostRuntime) -> Result<(), Fail> {
 
 #[test]
 fn wrong_changes(rt: HostRuntime) -> Result<(), Fail> {
-    for word in [
+    let changes = [
         "2",
         "2=",
         "=4",
@@ -142,18 +155,14 @@ fn wrong_changes(rt: HostRuntime) -> Result<(), Fail> {
         "4294967296=4",
         "2 =4",
         "",
-    ] {
-        assert!(rt;
-            are_wrong(rt.alloc(), &["spanprof", "whatif", "1=1", word])?,
-            "{word}"
-        );
-    }
+    ];
+    all_are_wrong(&rt, &["spanprof", "whatif", "1=1"], &changes)?;
     Ok(())
 }
 
 #[test]
 fn wrong_words(rt: HostRuntime) -> Result<(), Fail> {
-    for word in [
+    let first_words = [
         "help",
         "--help",
         "-h",
@@ -168,32 +177,18 @@ fn wrong_words(rt: HostRuntime) -> Result<(), Fail> {
         "curve",
         "whatif",
         "replays",
-    ] {
-        assert!(rt; are_wrong(rt.alloc(), &["spanprof", word])?, "{word}");
-    }
+    ];
+    all_are_wrong(&rt, &["spanprof"], &first_words)?;
     Ok(())
 }
 
 /// Each after the word of a command.
 #[test]
 fn wrong_words_of_commands(rt: HostRuntime) -> Result<(), Fail> {
-    for (command, word) in [
-        ("slack", "span"),
-        ("slack", "help"),
-        ("slack", "--help"),
-        ("slack", "-h"),
-        ("slack", "1"),
-        ("run", "help"),
-        ("run", "--help"),
-        ("run", "-h"),
-        ("whatif", "help"),
-        ("whatif", "--help"),
-        ("whatif", "-h"),
-    ] {
-        assert!(rt;
-            are_wrong(rt.alloc(), &["spanprof", command, word])?,
-            "{command} {word}"
-        );
-    }
+    let helps = ["help", "--help", "-h"];
+    all_are_wrong(&rt, &["spanprof", "slack"], &["span", "1"])?;
+    all_are_wrong(&rt, &["spanprof", "slack"], &helps)?;
+    all_are_wrong(&rt, &["spanprof", "run"], &helps)?;
+    all_are_wrong(&rt, &["spanprof", "whatif"], &helps)?;
     Ok(())
 }

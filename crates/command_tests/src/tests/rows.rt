@@ -1,11 +1,14 @@
 //! Texts and what the commands write of them.
 
-use super::{gives, repeated};
+use super::{all_give, gives, repeated};
 use spanprof_command::Status;
 use std::alloc::AllocGlobal;
 use std::sync::Wait;
 use std::test::Fail;
 use std::thread::Threads;
+
+/// Of a program of version 1.
+const HEADER: &str = "omptasks 1\n";
 
 /// Whether the words give this text and status on a program of version 1 with this body.
 fn body_gives<H: AllocGlobal + Threads + Wait + Sync>(
@@ -15,34 +18,8 @@ fn body_gives<H: AllocGlobal + Threads + Wait + Sync>(
     text: &str,
     status: Status,
 ) -> Result<bool, Fail> {
-    let program = format!(in rt.alloc(); "omptasks 1\n{body}")?;
+    let program = format!(in rt.alloc(); "{HEADER}{body}")?;
     gives(rt, words, program.as_str(), text, status)
-}
-
-/// Whether a program with this body has so many segments, this work and this span.
-fn measures_to<H: AllocGlobal + Threads + Wait + Sync>(
-    rt: &H,
-    body: &str,
-    (segments, work, span): (u32, u32, u32),
-) -> Result<bool, Fail> {
-    let report = format!(in rt.alloc(); "segments {segments}\nwork {work}\nspan {span}\n")?;
-    body_gives(
-        rt,
-        &["spanprof", "span"],
-        body,
-        report.as_str(),
-        Status::Done,
-    )
-}
-
-/// Whether `span` and `show` refuse a program with this body.
-fn is_refused<H: AllocGlobal + Threads + Wait + Sync>(
-    rt: &H,
-    body: &str,
-    line: &str,
-) -> Result<bool, Fail> {
-    let is_told = body_gives(rt, &["spanprof", "span"], body, line, Status::Refused)?;
-    Ok(is_told && body_gives(rt, &["spanprof", "show"], body, line, Status::Refused)?)
 }
 
 /// Whether the program gives this text and status on a line so many times.
@@ -58,59 +35,68 @@ fn lines_give<H: AllocGlobal + Threads + Wait + Sync>(
 
 #[test]
 fn measures(rt: HostRuntime) -> Result<(), Fail> {
-    for (body, segments, work, span) in [
-        ("", 1, 0, 0),
-        ("work 5 task { work 3 } work 2 taskwait work 1", 4, 11, 9),
-        ("work 5 task { work 3 } work 2 work 1", 3, 11, 8),
-        ("work 5 task { work 3 } work 2 taskwait", 4, 10, 8),
-        ("taskgroup { } taskwait", 3, 0, 0),
+    let rows = [
+        ("", "segments 1\nwork 0\nspan 0\n"),
+        (
+            "work 5 task { work 3 } work 2 taskwait work 1",
+            "segments 4\nwork 11\nspan 9\n",
+        ),
+        (
+            "work 5 task { work 3 } work 2 work 1",
+            "segments 3\nwork 11\nspan 8\n",
+        ),
+        (
+            "work 5 task { work 3 } work 2 taskwait",
+            "segments 4\nwork 10\nspan 8\n",
+        ),
+        ("taskgroup { } taskwait", "segments 3\nwork 0\nspan 0\n"),
         (
             "task depend(inoutset: x) { work 4 } task depend(inoutset: x) { work 6 } task \
             depend(in: x) { work 1 } task depend(inoutset: x) { work 2 } task depend(out: x) { \
             work 1 }",
-            11,
-            14,
-            10,
+            "segments 11\nwork 14\nspan 10\n",
         ),
         (
             "task depend(in: x) depend(inoutset: x) { work 3 } task depend(in: x) depend(inoutset: \
             x) { work 3 }",
-            5,
-            6,
-            6,
+            "segments 5\nwork 6\nspan 6\n",
         ),
         (
             "task depend(out: x) { work 9 } task if(0) depend(in: x) { work 1 } work 1",
-            5,
-            11,
-            11,
+            "segments 5\nwork 11\nspan 11\n",
         ),
-        ("task if(0) { task { work 8 } work 1 } work 2", 5, 11, 8),
-        ("task { task { work 8 } } taskwait work 2", 6, 10, 8),
-        ("taskgroup { task { task { work 8 } } } work 2", 6, 10, 10),
+        (
+            "task if(0) { task { work 8 } work 1 } work 2",
+            "segments 5\nwork 11\nspan 8\n",
+        ),
+        (
+            "task { task { work 8 } } taskwait work 2",
+            "segments 6\nwork 10\nspan 8\n",
+        ),
+        (
+            "taskgroup { task { task { work 8 } } } work 2",
+            "segments 6\nwork 10\nspan 10\n",
+        ),
         (
             "task { work 7 } taskgroup { task { work 1 } } work 1",
-            6,
-            9,
-            7,
+            "segments 6\nwork 9\nspan 7\n",
         ),
         (
             "task { task depend(out: x) { work 5 } } task { task depend(in: x) { work 5 } }",
-            9,
-            10,
-            5,
+            "segments 9\nwork 10\nspan 5\n",
         ),
-        ("task { work 1 } task { work 1 } task { work 2 }", 7, 4, 2),
-    ] {
-        let wanted = (segments, work, span);
-        assert!(rt; measures_to(&rt, body, wanted)?, "{body}");
-    }
+        (
+            "task { work 1 } task { work 1 } task { work 2 }",
+            "segments 7\nwork 4\nspan 2\n",
+        ),
+    ];
+    all_give(&rt, &["spanprof", "span"], HEADER, &rows, Status::Done)?;
     Ok(())
 }
 
 #[test]
 fn canonical_texts(rt: HostRuntime) -> Result<(), Fail> {
-    for (body, canonical) in [
+    let rows = [
         ("", "omptasks 1\n"),
         (
             "work 5 task { work 3 } work 2 taskwait work 1",
@@ -133,19 +119,15 @@ fn canonical_texts(rt: HostRuntime) -> Result<(), Fail> {
             "taskgroup { } taskwait",
             "omptasks 1\ntaskgroup {\n}\ntaskwait\n",
         ),
-    ] {
-        assert!(rt;
-            body_gives(&rt, &["spanprof", "show"], body, canonical, Status::Done)?,
-            "{body}"
-        );
-    }
+    ];
+    all_give(&rt, &["spanprof", "show"], HEADER, &rows, Status::Done)?;
     Ok(())
 }
 
 /// The lines that both commands write of texts that are no programs.
 #[test]
 fn refused_texts(rt: HostRuntime) -> Result<(), Fail> {
-    for (body, line) in [
+    let rows = [
         ("task {", "error: line 2: Unclosed\n"),
         ("}", "error: line 2: Unopened\n"),
         ("work", "error: line 2: BadWord\n"),
@@ -166,19 +148,22 @@ fn refused_texts(rt: HostRuntime) -> Result<(), Fail> {
             "work 5 task { work 3 } work 2 taskw",
             "error: line 2: BadWord\n",
         ),
-    ] {
-        assert!(rt; is_refused(&rt, body, line)?, "{body}");
-    }
+    ];
+    all_give(&rt, &["spanprof", "span"], HEADER, &rows, Status::Refused)?;
+    all_give(&rt, &["spanprof", "show"], HEADER, &rows, Status::Refused)?;
     Ok(())
 }
 
 #[test]
 fn bad_headers(rt: HostRuntime) -> Result<(), Fail> {
     let line = "error: line 1: BadHeader\n";
-    for text in ["", "omptasks 3", "omptasks", "tasks 1"] {
-        let is_told = gives(&rt, &["spanprof"], text, line, Status::Refused)?;
-        assert!(rt; is_told, "{text}");
-    }
+    let rows = [
+        ("", line),
+        ("omptasks 3", line),
+        ("omptasks", line),
+        ("tasks 1", line),
+    ];
+    all_give(&rt, &["spanprof"], "", &rows, Status::Refused)?;
     Ok(())
 }
 
