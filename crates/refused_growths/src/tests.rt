@@ -66,6 +66,14 @@ fn make<H: AllocGlobal + Threads + Wait + Abort + Sync>(
     }
 }
 
+/// What a call answers that is made once more.
+fn made_again<T, E: Drop>(answer: Result<T, E>) -> Result<T, Fail> {
+    match answer {
+        Ok(made) => Ok(made),
+        Err(_) => Err("refused twice".into()),
+    }
+}
+
 /// What is left at a turn: 32 bytes more at each, since no growth takes less, and twice as much at
 /// each of the last ones, which have room for the stacks of threads.
 fn left_at(turn: usize) -> usize {

@@ -77,28 +77,54 @@ fn analysis_of(alloc: Global, program: &Program) -> Result<Analysis, AllocFault>
     analyse(alloc, &graph)
 }
 
-/// Nothing is written where a growth is refused.
-pub(super) fn written<H: AllocGlobal + Abort>(rt: &H, supply: &mut Supply) -> Result<(), Fail> {
-    let alloc = rt.alloc();
-    let program = program_of(rt, supply, WORKED)?;
-    let analysis = match analysis_of(alloc, &program) {
-        Ok(analysis) => analysis,
+fn analysed(alloc: Global, supply: &mut Supply, program: &Program) -> Result<Analysis, Fail>
+    ensures { IfOk result (λ analysis. IsAnalysisOf program.now analysis) }
+{
+    match analysis_of(alloc, program) {
+        Ok(analysis) => Ok(analysis),
         Err(_) => {
             supply.refused();
-            analysis_of(alloc, &program)?
+            Ok(analysis_of(alloc, program)?)
         }
-    };
-    let mut writer = empty_room();
-    if let Err(fault) = write_certificate(alloc, &program, &analysis, &mut writer) {
-        supply.refused();
-        assert_eq!(rt; fault, WriteFault::OutOfMemory);
-        assert!(rt; writer.inner().taken().is_empty() && writer.faults() == 0);
-        let mut again = empty_room();
-        assert!(rt; write_certificate(alloc, &program, &analysis, &mut again).is_ok());
-        assert_eq!(rt; again.inner().taken(), CERTIFICATE.as_bytes());
-        return Ok(());
     }
+}
+
+/// Writes a certificate with ample memory.
+fn write_again(rt: &impl Abort, alloc: Global, program: &Program, analysis: &Analysis)
+    requires { IsAnalysisOf program.now analysis.now }
+{
+    let mut writer = empty_room();
+    assert!(rt; write_certificate(alloc, program, analysis, &mut writer).is_ok());
     assert_eq!(rt; writer.inner().taken(), CERTIFICATE.as_bytes());
+}
+
+/// Writes a certificate.
+fn write(
+    rt: &impl Abort,
+    alloc: Global,
+    supply: &mut Supply,
+    program: &Program,
+    analysis: &Analysis,
+)
+    requires { IsAnalysisOf program.now analysis.now }
+{
+    let mut writer = empty_room();
+    match write_certificate(alloc, program, analysis, &mut writer) {
+        Ok(()) => assert_eq!(rt; writer.inner().taken(), CERTIFICATE.as_bytes()),
+        Err(fault) => {
+            supply.refused();
+            assert_eq!(rt; fault, WriteFault::OutOfMemory);
+            assert!(rt; writer.inner().taken().is_empty() && writer.faults() == 0);
+            write_again(rt, alloc, program, analysis);
+        }
+    }
+}
+
+/// Nothing is written where a growth is refused.
+pub(super) fn written<H: AllocGlobal + Abort>(rt: &H, supply: &mut Supply) -> Result<(), Fail> {
+    let program = program_of(rt, supply, WORKED)?;
+    let analysis = analysed(rt.alloc(), supply, &program)?;
+    write(rt, rt.alloc(), supply, &program, &analysis);
     Ok(())
 }
 

@@ -1,5 +1,5 @@
 //! The ten commands, over devices that take no memory.
-use super::certificates::{CERTIFICATE, empty_room};
+use super::certificates::{CERTIFICATE, Room, empty_room};
 use super::supply::Supply;
 use super::texts::command_line;
 use counted_io::Counted;
@@ -89,6 +89,18 @@ fn example_of(command: Command) -> Example {
     }
 }
 
+/// What a command answers and writes.
+fn answer_to<H: AllocGlobal + Threads + Wait + Abort + Sync>(
+    rt: &H,
+    line: &[String],
+    input: &str,
+) -> (Status, Room) {
+    let mut reader = Counted::new(input.as_bytes());
+    let mut writer = empty_room();
+    let status = command(rt, line, &mut reader, &mut writer);
+    (status, writer.into_inner())
+}
+
 /// A command writes its text, or the one line that tells of memory.
 pub(super) fn report<H: AllocGlobal + Threads + Wait + Abort + Sync>(
     rt: &H,
@@ -97,23 +109,19 @@ pub(super) fn report<H: AllocGlobal + Threads + Wait + Abort + Sync>(
 ) -> Result<(), Fail> {
     let Example { words, input, text } = example_of(asked);
     let line = command_line(rt.alloc(), supply, words)?;
-    let mut reader = Counted::new(input.as_bytes());
-    let mut writer = empty_room();
-    let status = command(rt, line.as_slice(), &mut reader, &mut writer);
+    let (status, room) = answer_to(rt, line.as_slice(), input);
     if status == Status::Done {
-        assert!(rt; writer.inner().taken() == text.as_bytes(), "{text}");
+        assert!(rt; room.taken() == text.as_bytes(), "{text}");
         return Ok(());
     }
     supply.refused();
     assert!(rt; status == Status::Fault, "{text}");
     assert!(rt;
-        writer.inner().taken() == b"error: out of memory\n".as_slice(),
+        room.taken() == b"error: out of memory\n".as_slice(),
         "{text}"
     );
-    let mut reader = Counted::new(input.as_bytes());
-    let mut writer = empty_room();
-    let status = command(rt, line.as_slice(), &mut reader, &mut writer);
+    let (status, room) = answer_to(rt, line.as_slice(), input);
     assert!(rt; status == Status::Done, "{text}");
-    assert!(rt; writer.inner().taken() == text.as_bytes(), "{text}");
+    assert!(rt; room.taken() == text.as_bytes(), "{text}");
     Ok(())
 }

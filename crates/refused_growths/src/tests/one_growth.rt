@@ -4,183 +4,150 @@ use super::commands::Command;
 use super::supply::Supply;
 use super::{Calls, make};
 use std::alloc::AllocGlobal;
+use std::process::Abort;
+use std::sync::Wait;
 use std::test::Fail;
+use std::thread::Threads;
+
+/// Makes the calls with ample memory, but for what is refused from outside.
+fn make_once<H: AllocGlobal + Threads + Wait + Abort + Sync>(
+    rt: &H,
+    calls: Calls,
+) -> Result<(), Fail> {
+    make(rt, calls, &mut Supply::ample(rt.alloc()))
+}
 
 #[test]
 fn programs(rt: HostRuntime) -> Result<(), Fail> {
-    make(&rt, Calls::Program, &mut Supply::ample(rt.alloc()))
+    make_once(&rt, Calls::Program)
 }
 
 #[test]
 fn words(rt: HostRuntime) -> Result<(), Fail> {
-    make(&rt, Calls::Words, &mut Supply::ample(rt.alloc()))
+    make_once(&rt, Calls::Words)
 }
 
 #[test]
 fn inputs(rt: HostRuntime) -> Result<(), Fail> {
-    make(&rt, Calls::Input, &mut Supply::ample(rt.alloc()))
+    make_once(&rt, Calls::Input)
 }
 
 #[test]
 fn rows(rt: HostRuntime) -> Result<(), Fail> {
-    make(&rt, Calls::Rows, &mut Supply::ample(rt.alloc()))
+    make_once(&rt, Calls::Rows)
 }
 
 #[test]
 fn segments(rt: HostRuntime) -> Result<(), Fail> {
-    make(&rt, Calls::Segments, &mut Supply::ample(rt.alloc()))
+    make_once(&rt, Calls::Segments)
 }
 
 #[test]
 fn siblings(rt: HostRuntime) -> Result<(), Fail> {
-    make(&rt, Calls::Siblings, &mut Supply::ample(rt.alloc()))
+    make_once(&rt, Calls::Siblings)
 }
 
 #[test]
 fn cores(rt: HostRuntime) -> Result<(), Fail> {
-    make(&rt, Calls::Core, &mut Supply::ample(rt.alloc()))
+    make_once(&rt, Calls::Core)
 }
 
 #[test]
 fn given_runs(rt: HostRuntime) -> Result<(), Fail> {
-    make(&rt, Calls::GivenRuns, &mut Supply::ample(rt.alloc()))
+    make_once(&rt, Calls::GivenRuns)
 }
 
 #[test]
 fn analyses(rt: HostRuntime) -> Result<(), Fail> {
-    make(&rt, Calls::Analysis, &mut Supply::ample(rt.alloc()))
+    make_once(&rt, Calls::Analysis)
 }
 
 #[test]
 fn greedy_runs(rt: HostRuntime) -> Result<(), Fail> {
-    make(&rt, Calls::Greedy, &mut Supply::ample(rt.alloc()))
+    make_once(&rt, Calls::Greedy)
 }
 
 #[test]
 fn curves(rt: HostRuntime) -> Result<(), Fail> {
-    make(&rt, Calls::Curve, &mut Supply::ample(rt.alloc()))
+    make_once(&rt, Calls::Curve)
 }
 
 #[test]
 fn trials(rt: HostRuntime) -> Result<(), Fail> {
-    make(&rt, Calls::Trial, &mut Supply::ample(rt.alloc()))
+    make_once(&rt, Calls::Trial)
 }
 
 #[test]
 fn certificates(rt: HostRuntime) -> Result<(), Fail> {
-    make(&rt, Calls::Certificate, &mut Supply::ample(rt.alloc()))
+    make_once(&rt, Calls::Certificate)
 }
 
 #[test]
 fn checks(rt: HostRuntime) -> Result<(), Fail> {
-    make(&rt, Calls::Check, &mut Supply::ample(rt.alloc()))
+    make_once(&rt, Calls::Check)
 }
 
 #[test]
 fn lanes(rt: HostRuntime) -> Result<(), Fail> {
-    make(&rt, Calls::Lane, &mut Supply::ample(rt.alloc()))
+    make_once(&rt, Calls::Lane)
 }
 
 #[test]
 fn one_worker(rt: HostRuntime) -> Result<(), Fail> {
-    make(
-        &rt,
-        Calls::Run { workers: 1 },
-        &mut Supply::ample(rt.alloc()),
-    )
+    make_once(&rt, Calls::Run { workers: 1 })
 }
 
 #[test]
 fn two_workers(rt: HostRuntime) -> Result<(), Fail> {
-    make(
-        &rt,
-        Calls::Run { workers: 2 },
-        &mut Supply::ample(rt.alloc()),
-    )
+    make_once(&rt, Calls::Run { workers: 2 })
 }
 
 #[test]
 fn command_span(rt: HostRuntime) -> Result<(), Fail> {
-    make(
-        &rt,
-        Calls::Of(Command::Span),
-        &mut Supply::ample(rt.alloc()),
-    )
+    make_once(&rt, Calls::Of(Command::Span))
 }
 
 #[test]
 fn command_show(rt: HostRuntime) -> Result<(), Fail> {
-    make(
-        &rt,
-        Calls::Of(Command::Show),
-        &mut Supply::ample(rt.alloc()),
-    )
+    make_once(&rt, Calls::Of(Command::Show))
 }
 
 #[test]
 fn command_slack(rt: HostRuntime) -> Result<(), Fail> {
-    make(
-        &rt,
-        Calls::Of(Command::Slack),
-        &mut Supply::ample(rt.alloc()),
-    )
+    make_once(&rt, Calls::Of(Command::Slack))
 }
 
 #[test]
 fn command_greedy(rt: HostRuntime) -> Result<(), Fail> {
-    make(
-        &rt,
-        Calls::Of(Command::Greedy),
-        &mut Supply::ample(rt.alloc()),
-    )
+    make_once(&rt, Calls::Of(Command::Greedy))
 }
 
 #[test]
 fn command_curve(rt: HostRuntime) -> Result<(), Fail> {
-    make(
-        &rt,
-        Calls::Of(Command::Curve),
-        &mut Supply::ample(rt.alloc()),
-    )
+    make_once(&rt, Calls::Of(Command::Curve))
 }
 
 #[test]
 fn command_whatif(rt: HostRuntime) -> Result<(), Fail> {
-    make(
-        &rt,
-        Calls::Of(Command::WhatIf),
-        &mut Supply::ample(rt.alloc()),
-    )
+    make_once(&rt, Calls::Of(Command::WhatIf))
 }
 
 #[test]
 fn command_certify(rt: HostRuntime) -> Result<(), Fail> {
-    make(
-        &rt,
-        Calls::Of(Command::Certify),
-        &mut Supply::ample(rt.alloc()),
-    )
+    make_once(&rt, Calls::Of(Command::Certify))
 }
 
 #[test]
 fn command_run(rt: HostRuntime) -> Result<(), Fail> {
-    make(&rt, Calls::Of(Command::Run), &mut Supply::ample(rt.alloc()))
+    make_once(&rt, Calls::Of(Command::Run))
 }
 
 #[test]
 fn command_check(rt: HostRuntime) -> Result<(), Fail> {
-    make(
-        &rt,
-        Calls::Of(Command::Check),
-        &mut Supply::ample(rt.alloc()),
-    )
+    make_once(&rt, Calls::Of(Command::Check))
 }
 
 #[test]
 fn command_replay(rt: HostRuntime) -> Result<(), Fail> {
-    make(
-        &rt,
-        Calls::Of(Command::Replay),
-        &mut Supply::ample(rt.alloc()),
-    )
+    make_once(&rt, Calls::Of(Command::Replay))
 }

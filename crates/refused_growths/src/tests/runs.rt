@@ -1,4 +1,5 @@
 //! Runs on worker threads, and lanes.
+use super::made_again;
 use super::programs::{WORKED, table_of};
 use super::supply::Supply;
 use dispatch_core::kernel::MixKernel;
@@ -7,9 +8,10 @@ use std::process::Abort;
 use std::sync::Wait;
 use std::test::Fail;
 use std::thread::Threads;
+use task_segments::table::SegTable;
 use worker_run::gate::OpenGate;
 use worker_run::lane::{close, lane};
-use worker_run::record::RunFault;
+use worker_run::record::{RunFault, RunRecord};
 use worker_run::run::{digest, run};
 
 /// A lane with two thieves.
@@ -28,6 +30,14 @@ pub(super) fn lane_of_two<H: AllocGlobal + Abort>(rt: &H, supply: &mut Supply) -
     Ok(())
 }
 
+fn run_table<H: AllocGlobal + Threads + Wait + Sync>(
+    rt: &H,
+    table: SegTable,
+    workers: u32,
+) -> Result<RunRecord, RunFault> {
+    run(rt, rt.alloc(), table, &MixKernel, &OpenGate, workers)
+}
+
 /// A refused run spends its table, so that it is cut anew. A thread that does not start is out of
 /// memory too.
 pub(super) fn recorded<H: AllocGlobal + Threads + Wait + Abort + Sync>(
@@ -36,13 +46,13 @@ pub(super) fn recorded<H: AllocGlobal + Threads + Wait + Abort + Sync>(
     workers: u32,
 ) -> Result<(), Fail> {
     let table = table_of(rt, supply, WORKED)?;
-    let made = match run(rt, rt.alloc(), table, &MixKernel, &OpenGate, workers) {
+    let made = match run_table(rt, table, workers) {
         Ok(made) => made,
         Err(fault) => {
             supply.refused();
             assert_eq!(rt; fault, RunFault::OutOfMemory);
             let table = table_of(rt, supply, WORKED)?;
-            run(rt, rt.alloc(), table, &MixKernel, &OpenGate, workers).map_err(|_| "refused twice")?
+            made_again(run_table(rt, table, workers))?
         }
     };
     assert_eq!(rt; digest(made.values.as_slice()), 704969);

@@ -1,4 +1,5 @@
 //! Texts: programs, words, inputs and rows.
+use super::made_again;
 use super::supply::Supply;
 use command_io::{InputFault, read_input};
 use command_words::request::{Request, WordsFault, read_words};
@@ -7,7 +8,8 @@ use csv_table::Table;
 use std::alloc::{AllocError, AllocGlobal, Global};
 use std::process::Abort;
 use std::test::Fail;
-use task_program::fault::ReadKind;
+use task_program::AllocFault;
+use task_program::fault::{ReadFault, ReadKind};
 use task_program::print::print_program;
 use task_program::program::Program;
 use task_program::read::read_program;
@@ -27,21 +29,28 @@ const LOOPS: &[u8] =
 
 const UNOPENED: &[u8] = b"omptasks 1\ntask depend(in: a, b) { work 1 }\n}";
 
+fn read(alloc: Global, text: &[u8]) -> Result<Program, ReadFault> {
+    read_program(alloc, text)
+}
+
 /// The program of a text that has one.
 pub(super) fn program_of<H: AllocGlobal + Abort>(
     rt: &H,
     supply: &mut Supply,
     text: &[u8],
 ) -> Result<Program, Fail> {
-    let alloc = rt.alloc();
-    match read_program(alloc, text) {
+    match read(rt.alloc(), text) {
         Ok(program) => Ok(program),
         Err(fault) => {
             assert_eq!(rt; (fault.kind, fault.line), (ReadKind::OutOfMemory, 0));
             supply.refused();
-            Ok(read_program(alloc, text)?)
+            Ok(read(rt.alloc(), text)?)
         }
     }
+}
+
+fn print(alloc: Global, program: &Program) -> Result<Vec<u8>, AllocFault> {
+    print_program(alloc, program)
 }
 
 fn printed<H: AllocGlobal>(
@@ -49,12 +58,11 @@ fn printed<H: AllocGlobal>(
     supply: &mut Supply,
     program: &Program,
 ) -> Result<Vec<u8>, Fail> {
-    let alloc = rt.alloc();
-    match print_program(alloc, program) {
+    match print(rt.alloc(), program) {
         Ok(text) => Ok(text),
         Err(_) => {
             supply.refused();
-            Ok(print_program(alloc, program)?)
+            Ok(print(rt.alloc(), program)?)
         }
     }
 }
@@ -69,12 +77,27 @@ fn copied(supply: &mut Supply, items: &Items) -> Result<Items, Fail> {
     }
 }
 
-/// Programs of both versions are read and printed, a list of items is copied, and a fault is told.
-pub(super) fn program<H: AllocGlobal + Abort>(rt: &H, supply: &mut Supply) -> Result<(), Fail> {
-    let alloc = rt.alloc();
-    let program = program_of(rt, supply, TEXT)?;
-    let text = printed(rt, supply, &program)?;
+/// The fault of a text that has one.
+fn fault_of(alloc: Global, text: &[u8]) -> Result<ReadFault, Fail> {
+    match read(alloc, text) {
+        Ok(_) => Err("a program".into()),
+        Err(fault) => Ok(fault),
+    }
+}
+
+/// A program is printed.
+fn assert_printed<H: AllocGlobal + Abort>(
+    rt: &H,
+    supply: &mut Supply,
+    program: &Program,
+) -> Result<(), Fail> {
+    let text = printed(rt, supply, program)?;
     assert_eq!(rt; text.as_slice(), CANONICAL);
+    Ok(())
+}
+
+/// The items of a program's first task are copied.
+fn assert_copied(rt: &impl Abort, supply: &mut Supply, program: &Program) -> Result<(), Fail> {
     let [Stmt::Work(1), Stmt::Task(task), Stmt::Task(_)] = program.body() else {
         return Err(Fail::new("work and two tasks"));
     };
@@ -83,17 +106,34 @@ pub(super) fn program<H: AllocGlobal + Abort>(rt: &H, supply: &mut Supply) -> Re
         (program.names(), copy.as_slice()),
         (6, task.items.as_slice())
     );
+    Ok(())
+}
+
+/// A program of version 2 is read.
+fn assert_looped<H: AllocGlobal + Abort>(rt: &H, supply: &mut Supply) -> Result<(), Fail> {
     let looped = program_of(rt, supply, LOOPS)?;
     assert_eq!(rt; (looped.names(), looped.body().len()), (4, 3));
-    let fault = match read_program(alloc, UNOPENED) {
-        Err(fault) if fault.kind == ReadKind::OutOfMemory => {
-            supply.refused();
-            read_program(alloc, UNOPENED).err()
-        }
-        answer => answer.err(),
-    };
-    assert!(rt; fault.map(|fault| (fault.kind, fault.line)) == Some((ReadKind::Unopened, 3)));
     Ok(())
+}
+
+/// A fault is told.
+fn assert_unopened<H: AllocGlobal + Abort>(rt: &H, supply: &mut Supply) -> Result<(), Fail> {
+    let mut fault = fault_of(rt.alloc(), UNOPENED)?;
+    if fault.kind == ReadKind::OutOfMemory {
+        supply.refused();
+        fault = fault_of(rt.alloc(), UNOPENED)?;
+    }
+    assert_eq!(rt; (fault.kind, fault.line), (ReadKind::Unopened, 3));
+    Ok(())
+}
+
+/// Programs of both versions are read and printed, a list of items is copied, and a fault is told.
+pub(super) fn program<H: AllocGlobal + Abort>(rt: &H, supply: &mut Supply) -> Result<(), Fail> {
+    let program = program_of(rt, supply, TEXT)?;
+    assert_printed(rt, supply, &program)?;
+    assert_copied(rt, supply, &program)?;
+    assert_looped(rt, supply)?;
+    assert_unopened(rt, supply)
 }
 
 fn words_of(alloc: Global, words: &[&str]) -> Result<Vec<String>, AllocError> {
@@ -119,6 +159,10 @@ pub(super) fn command_line(
     }
 }
 
+fn request_of(alloc: Global, words: &[String]) -> Result<Request, WordsFault> {
+    read_words(alloc, words)
+}
+
 fn request<H: AllocGlobal>(
     rt: &H,
     supply: &mut Supply,
@@ -126,10 +170,10 @@ fn request<H: AllocGlobal>(
 ) -> Result<Result<Request, WordsFault>, Fail> {
     let alloc = rt.alloc();
     let list = command_line(alloc, supply, words)?;
-    match read_words(alloc, list.as_slice()) {
+    match request_of(alloc, list.as_slice()) {
         Err(WordsFault::OutOfMemory) => {
             supply.refused();
-            Ok(read_words(alloc, list.as_slice()))
+            Ok(request_of(alloc, list.as_slice()))
         }
         answer => Ok(answer),
     }
@@ -151,18 +195,21 @@ pub(super) fn words<H: AllocGlobal + Abort>(rt: &H, supply: &mut Supply) -> Resu
 /// Longer than one read asks for.
 const LONG: &[u8] = &[b' '; 10_000];
 
+/// What a read of the input answers, and how many of its calls were faults.
+fn read_long(alloc: Global) -> (Result<Vec<u8>, InputFault>, u64) {
+    let mut reader = Counted::new(LONG);
+    let answer = read_input(alloc, &mut reader, &mut 0);
+    (answer, reader.faults())
+}
+
 /// An input is read to its end.
 pub(super) fn input<H: AllocGlobal + Abort>(rt: &H, supply: &mut Supply) -> Result<(), Fail> {
-    let alloc = rt.alloc();
-    let mut retries = 0;
-    let mut reader = Counted::new(LONG);
-    let bytes = match read_input(alloc, &mut reader, &mut retries) {
-        Ok(bytes) => bytes,
-        Err(fault) => {
-            assert_eq!(rt; (fault, reader.faults()), (InputFault::OutOfMemory, 0));
+    let bytes = match read_long(rt.alloc()) {
+        (Ok(bytes), _) => bytes,
+        (Err(fault), faults) => {
+            assert_eq!(rt; (fault, faults), (InputFault::OutOfMemory, 0));
             supply.refused();
-            let mut reader = Counted::new(LONG);
-            read_input(alloc, &mut reader, &mut retries).map_err(|_| "refused twice")?
+            made_again(read_long(rt.alloc()).0)?
         }
     };
     assert!(rt; bytes.as_slice() == LONG);
