@@ -120,12 +120,21 @@ fn write(
     }
 }
 
+fn write_analysed(
+    rt: &impl Abort,
+    alloc: Global,
+    supply: &mut Supply,
+    program: &Program,
+) -> Result<(), Fail> {
+    let analysis = analysed(alloc, supply, program)?;
+    write(rt, alloc, supply, program, &analysis);
+    Ok(())
+}
+
 /// Nothing is written where a growth is refused.
 pub(super) fn written<H: AllocGlobal + Abort>(rt: &H, supply: &mut Supply) -> Result<(), Fail> {
     let program = program_of(rt, supply, WORKED)?;
-    let analysis = analysed(rt.alloc(), supply, &program)?;
-    write(rt, rt.alloc(), supply, &program, &analysis);
-    Ok(())
+    write_analysed(rt, rt.alloc(), supply, &program)
 }
 
 /// A certificate that holds, and one whose chain has a false step.

@@ -26,20 +26,24 @@ fn cut_program(alloc: Global, program: &Program) -> Result<SegTable, AllocFault>
     cut(alloc, program)
 }
 
-/// The table of a program.
+fn cut_once_more(alloc: Global, supply: &mut Supply, program: &Program) -> Result<SegTable, Fail> {
+    match cut_program(alloc, program) {
+        Ok(table) => Ok(table),
+        Err(_) => {
+            supply.refused();
+            Ok(cut_program(alloc, program)?)
+        }
+    }
+}
+
+/// The table of a text's program.
 pub(super) fn table_of<H: AllocGlobal + Abort>(
     rt: &H,
     supply: &mut Supply,
     text: &[u8],
 ) -> Result<SegTable, Fail> {
     let program = program_of(rt, supply, text)?;
-    match cut_program(rt.alloc(), &program) {
-        Ok(table) => Ok(table),
-        Err(_) => {
-            supply.refused();
-            Ok(cut_program(rt.alloc(), &program)?)
-        }
-    }
+    cut_once_more(rt.alloc(), supply, &program)
 }
 
 /// The graph of a table, or the table back.
@@ -71,6 +75,16 @@ fn copy_of(table: &SegTable) -> Result<SegTable, AllocFault> {
     table.copy()
 }
 
+fn copied(supply: &mut Supply, table: &SegTable) -> Result<SegTable, Fail> {
+    match copy_of(table) {
+        Ok(copy) => Ok(copy),
+        Err(_) => {
+            supply.refused();
+            Ok(copy_of(table)?)
+        }
+    }
+}
+
 /// A table and its copy.
 pub(super) fn segments<H: AllocGlobal + Abort>(rt: &H, supply: &mut Supply) -> Result<(), Fail> {
     let table = table_of(
@@ -78,13 +92,7 @@ pub(super) fn segments<H: AllocGlobal + Abort>(rt: &H, supply: &mut Supply) -> R
         supply,
         b"omptasks 1\ntask depend(in: x) { taskgroup { } }",
     )?;
-    let copy = match copy_of(&table) {
-        Ok(copy) => copy,
-        Err(_) => {
-            supply.refused();
-            copy_of(&table)?
-        }
-    };
+    let copy = copied(supply, &table)?;
     assert_eq!(rt; (table.len(), table.tasks()), (4, 2));
     assert!(rt; table.same(&copy));
     Ok(())
@@ -244,14 +252,23 @@ fn ready_of(supply: &mut Supply, core: &Core<MixKernel>) -> Result<Vec<u32>, Fai
     }
 }
 
+/// The first segment's end makes two more ready.
+fn assert_ready<H: Abort>(
+    rt: &H,
+    supply: &mut Supply,
+    core: &mut Core<MixKernel>,
+) -> Result<(), Fail> {
+    let ready = finished(rt, supply, core)?;
+    assert_eq!(rt; ready.as_slice(), [1, 2].as_slice());
+    let ready = ready_of(supply, core)?;
+    assert_eq!(rt; ready.as_slice(), [1, 2].as_slice());
+    Ok(())
+}
+
 /// A core whose first segment ends.
 pub(super) fn core<H: AllocGlobal + Abort>(rt: &H, supply: &mut Supply) -> Result<(), Fail> {
     let mut core = core_of(rt, supply)?;
-    let ready = finished(rt, supply, &mut core)?;
-    assert_eq!(rt; ready.as_slice(), [1, 2].as_slice());
-    let ready = ready_of(supply, &core)?;
-    assert_eq!(rt; ready.as_slice(), [1, 2].as_slice());
-    Ok(())
+    assert_ready(rt, supply, &mut core)
 }
 
 /// The core after these events, or the table back.

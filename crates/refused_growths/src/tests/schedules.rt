@@ -44,17 +44,25 @@ fn run_by_levels(alloc: Global, graph: &Graph) -> Result<GreedyRun, GreedyFault>
     greedy(alloc, graph, 2)
 }
 
-/// The greedy run on two threads.
-pub(super) fn greedy_run<H: AllocGlobal + Abort>(rt: &H, supply: &mut Supply) -> Result<(), Fail> {
-    let graph = graph_of(rt, supply)?;
-    let run = match run_by_levels(rt.alloc(), &graph) {
-        Ok(run) => run,
+fn run_of<H: AllocGlobal + Abort>(
+    rt: &H,
+    supply: &mut Supply,
+    graph: &Graph,
+) -> Result<GreedyRun, Fail> {
+    match run_by_levels(rt.alloc(), graph) {
+        Ok(run) => Ok(run),
         Err(fault) => {
             supply.refused();
             assert_eq!(rt; fault, GreedyFault::OutOfMemory);
-            run_by_levels(rt.alloc(), &graph)?
+            Ok(run_by_levels(rt.alloc(), graph)?)
         }
-    };
+    }
+}
+
+/// The greedy run on two threads.
+pub(super) fn greedy_run<H: AllocGlobal + Abort>(rt: &H, supply: &mut Supply) -> Result<(), Fail> {
+    let graph = graph_of(rt, supply)?;
+    let run = run_of(rt, supply, &graph)?;
     assert_eq!(rt; run.end(), 9);
     Ok(())
 }

@@ -109,6 +109,13 @@ fn assert_copied(rt: &impl Abort, supply: &mut Supply, program: &Program) -> Res
     Ok(())
 }
 
+/// A program of version 1 is read and printed, and a list of its items is copied.
+fn assert_read<H: AllocGlobal + Abort>(rt: &H, supply: &mut Supply) -> Result<(), Fail> {
+    let program = program_of(rt, supply, TEXT)?;
+    assert_printed(rt, supply, &program)?;
+    assert_copied(rt, supply, &program)
+}
+
 /// A program of version 2 is read.
 fn assert_looped<H: AllocGlobal + Abort>(rt: &H, supply: &mut Supply) -> Result<(), Fail> {
     let looped = program_of(rt, supply, LOOPS)?;
@@ -129,9 +136,7 @@ fn assert_unopened<H: AllocGlobal + Abort>(rt: &H, supply: &mut Supply) -> Resul
 
 /// Programs of both versions are read and printed, a list of items is copied, and a fault is told.
 pub(super) fn program<H: AllocGlobal + Abort>(rt: &H, supply: &mut Supply) -> Result<(), Fail> {
-    let program = program_of(rt, supply, TEXT)?;
-    assert_printed(rt, supply, &program)?;
-    assert_copied(rt, supply, &program)?;
+    assert_read(rt, supply)?;
     assert_looped(rt, supply)?;
     assert_unopened(rt, supply)
 }
