@@ -1,5 +1,5 @@
 //! As many names as a text can have.
-use super::report;
+use super::assert_report;
 use std::alloc::Global;
 use std::test::Fail;
 
@@ -20,9 +20,7 @@ fn distinct_names(alloc: Global) -> Result<String, Fail> {
 #[test]
 fn names(rt: HostRuntime) -> Result<(), Fail> {
     let text = distinct_names(rt.alloc())?;
-    let shown = report(&rt, &["show"], text.as_bytes())?;
-    assert!(rt; shown.as_slice() == text.as_bytes());
-    let analysed = report(&rt, &["span"], text.as_bytes())?;
-    assert!(rt; analysed.as_slice() == b"segments 8193\nwork 0\nspan 0\n".as_slice());
-    Ok(())
+    assert_report(&rt, &["show"], text.as_bytes(), text.as_bytes())?;
+    let wanted = b"segments 8193\nwork 0\nspan 0\n";
+    assert_report(&rt, &["span"], text.as_bytes(), wanted)
 }

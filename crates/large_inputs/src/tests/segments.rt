@@ -1,5 +1,5 @@
 //! As many segments as a program can have, and all events of a run of it.
-use super::{line_count, report};
+use super::{add_log, assert_certified, assert_report, line_count, report};
 use std::alloc::Global;
 use std::test::Fail;
 
@@ -15,29 +15,20 @@ fn waits(alloc: Global) -> Result<String, Fail> {
 #[test]
 fn segments(rt: HostRuntime) -> Result<(), Fail> {
     let text = waits(rt.alloc())?;
-    let analysed = report(&rt, &["span"], text.as_bytes())?;
-    assert!(rt; analysed.as_slice() == b"segments 16384\nwork 16383\nspan 16383\n".as_slice());
-    let certificate = report(&rt, &["certify"], text.as_bytes())?;
-    let verdict = report(&rt, &["check"], certificate.as_slice())?;
-    assert!(rt; verdict.as_slice() == b"accepted\nsegments 16384\nend 16383\n".as_slice());
-    Ok(())
+    let wanted = b"segments 16384\nwork 16383\nspan 16383\n";
+    assert_report(&rt, &["span"], text.as_bytes(), wanted)?;
+    let verdict = b"accepted\nsegments 16384\nend 16383\n";
+    assert_certified(&rt, text.as_bytes(), verdict)
 }
 
 #[test]
 fn events(rt: HostRuntime) -> Result<(), Fail> {
-    let alloc = rt.alloc();
-    let mut log = waits(alloc)?;
-    log.push_str("---\n")?;
-    for segment in 0..16384u32 {
-        log.push_str(&format!(in alloc; "start 0 {segment}\nfinish 0 {segment}\n")?)?;
-    }
+    let mut log = waits(rt.alloc())?;
+    add_log(rt.alloc(), &mut log, 16384)?;
     let replayed = report(&rt, &["replay"], log.as_bytes())?;
     assert_eq!(rt; line_count(&replayed), 16386);
-    assert!(rt;
-        replayed
-            .as_slice()
-            .starts_with(b"events 32768\nfinished 16384\npreds 0\npreds 1 0\n")
-    );
+    let start = b"events 32768\nfinished 16384\npreds 0\npreds 1 0\n";
+    assert!(rt; replayed.as_slice().starts_with(start));
     assert!(rt; replayed.as_slice().ends_with(b"\npreds 16383 16382\n"));
     Ok(())
 }
