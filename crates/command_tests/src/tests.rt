@@ -1,5 +1,6 @@
-//! Words, and commands over devices in memory.
+//! Counted devices, words, tables, and commands over devices in memory.
 mod certificates;
+mod counted;
 mod devices;
 mod events;
 mod examples;
@@ -11,6 +12,7 @@ mod replays;
 mod requests;
 mod rows;
 mod starts;
+mod tables;
 mod words;
 
 use crate::tests::fake_devices::{Faults, Sink, Source};
