@@ -1,6 +1,7 @@
 //! The worked texts, by the reader and the printer themselves.
 use program_text::fault::ReadKind;
 use std::alloc::Global;
+use std::process::Abort;
 use std::test::Fail;
 use task_program::AllocFault;
 use task_program::print::print_program;
@@ -22,17 +23,38 @@ fn fault_of(alloc: Global, text: &[u8]) -> Option<(ReadKind, u32)> {
     }
 }
 
+/// Asserts that this is the fault of a text and its line; none where it is a program.
+fn assert_fault(rt: &impl Abort, alloc: Global, text: &str, wanted: Option<(ReadKind, u32)>) {
+    assert_eq!(rt; fault_of(alloc, text.as_bytes()), wanted, "{text}");
+}
+
+/// Asserts that each text has its fault, on its line.
+fn assert_faults(rt: &impl Abort, alloc: Global, rows: &[(&str, ReadKind, u32)]) {
+    for (text, kind, line) in rows {
+        assert_eq!(rt;
+            fault_of(alloc, text.as_bytes()),
+            Some((*kind, *line)),
+            "{text}"
+        );
+    }
+}
+
 /// The canonical text of a text.
 fn shown(alloc: Global, text: &[u8]) -> Result<Vec<u8>, Fail> {
     let program = read_program(alloc, text)?;
     Ok(print_program(alloc, &program)?)
 }
 
-/// The canonical text of a text, and the canonical text of that.
-fn shown_twice(alloc: Global, text: &[u8]) -> Result<(Vec<u8>, Vec<u8>), Fail> {
-    let once = shown(alloc, text)?;
-    let twice = shown(alloc, &once)?;
-    Ok((once, twice))
+/// Asserts that a text has this canonical text, and that this has itself.
+fn assert_shown(rt: &impl Abort, alloc: Global, text: &str, wanted: &str) -> Result<(), Fail> {
+    for text in [text, wanted] {
+        assert_eq!(rt;
+            shown(alloc, text.as_bytes())?.as_slice(),
+            wanted.as_bytes(),
+            "{text}"
+        );
+    }
+    Ok(())
 }
 
 /// How many names the program of a text has.

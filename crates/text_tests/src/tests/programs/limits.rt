@@ -1,5 +1,5 @@
 //! Each limit of a program, at it and one past it.
-use super::{fault_of, lines};
+use super::{assert_fault, fault_of, lines};
 use program_text::fault::ReadKind;
 use std::alloc::Global;
 use std::test::Fail;
@@ -98,16 +98,13 @@ fn with_items(alloc: Global, items: u32) -> Result<String, AllocFault> {
 #[test]
 fn items_of_a_task(rt: HostRuntime) -> Result<(), Fail> {
     let alloc = rt.alloc();
-    assert_eq!(rt; fault_of(alloc, with_items(alloc, 32)?.as_bytes()), None);
-    assert_eq!(rt;
-        fault_of(alloc, with_items(alloc, 33)?.as_bytes()),
-        Some((ReadKind::TooManyItems, 2))
-    );
+    let mut text = with_items(alloc, 32)?;
+    assert_fault(&rt, alloc, text.as_str(), None);
     // Another task has its own 32.
-    let first = with_items(alloc, 32)?;
-    let mut both = String::from_str(alloc, first.as_str())?;
-    both.push_str(" task depend(in: a) { }")?;
-    assert_eq!(rt; fault_of(alloc, both.as_bytes()), None);
+    text.push_str(" task depend(in: a) { }")?;
+    assert_fault(&rt, alloc, text.as_str(), None);
+    let text = with_items(alloc, 33)?;
+    assert_fault(&rt, alloc, text.as_str(), Some((ReadKind::TooManyItems, 2)));
     Ok(())
 }
 

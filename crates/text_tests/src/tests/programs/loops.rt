@@ -1,5 +1,5 @@
 //! Texts of version 2: what they are read as, and what is wrong with them.
-use super::{fault_of, is_named, names_of, shown_twice};
+use super::{assert_fault, assert_shown, fault_of, is_named, names_of};
 use program_text::fault::ReadKind;
 use std::alloc::Global;
 use std::test::Fail;
@@ -136,9 +136,7 @@ fn loops_shown(rt: HostRuntime) -> Result<(), Fail> {
         let alloc = rt.alloc();
         let text = with_header(alloc, body)?;
         let wanted = with_header(alloc, wanted)?;
-        let (once, twice) = shown_twice(alloc, text.as_bytes())?;
-        assert_eq!(rt; once.as_slice(), wanted.as_bytes(), "{body}");
-        assert_eq!(rt; twice.as_slice(), wanted.as_bytes(), "{body}");
+        assert_shown(&rt, alloc, text.as_str(), wanted.as_str())?;
     }
     Ok(())
 }
@@ -171,18 +169,12 @@ fn groups_in_a_loop(alloc: Global, groups: u32) -> Result<String, AllocFault> {
 fn version_and_depth(rt: HostRuntime) -> Result<(), Fail> {
     let alloc = rt.alloc();
     let one = "omptasks 1\nfor i 1 3 { task depend(in: x[i-1]) depend(out: x[i]) { work 2 } }";
-    assert_eq!(rt;
-        fault_of(alloc, one.as_bytes()),
-        Some((ReadKind::BadWord, 2))
-    );
+    assert_fault(&rt, alloc, one, Some((ReadKind::BadWord, 2)));
     let bracket = "omptasks 1\ntask depend(in: x[0]) { }";
-    assert_eq!(rt;
-        fault_of(alloc, bracket.as_bytes()),
-        Some((ReadKind::BadByte, 2))
-    );
+    assert_fault(&rt, alloc, bracket, Some((ReadKind::BadByte, 2)));
     for (more, wanted) in [(1, None), (2, Some((ReadKind::TooDeep, 2)))] {
         let text = groups_in_a_loop(alloc, 62 + more)?;
-        assert_eq!(rt; fault_of(alloc, text.as_bytes()), wanted);
+        assert_fault(&rt, alloc, text.as_str(), wanted);
     }
     Ok(())
 }
@@ -211,17 +203,15 @@ fn cut_at_each_token(rt: HostRuntime) -> Result<(), Fail> {
         } else {
             Some((ReadKind::BadWord, 2))
         };
-        assert_eq!(rt; fault_of(alloc, text.as_bytes()), wanted, "{count}");
+        assert_fault(&rt, alloc, text.as_str(), wanted);
         text.push_str(*token)?;
         text.push_str(" ")?;
     }
-    let open = fault_of(alloc, text.as_bytes());
-    assert_eq!(rt; open, Some((ReadKind::Unclosed, 2)));
+    assert_fault(&rt, alloc, text.as_str(), Some((ReadKind::Unclosed, 2)));
     text.push_str("} ")?;
-    let loop_open = fault_of(alloc, text.as_bytes());
-    assert_eq!(rt; loop_open, Some((ReadKind::Unclosed, 2)));
+    assert_fault(&rt, alloc, text.as_str(), Some((ReadKind::Unclosed, 2)));
     text.push_str("}")?;
-    assert_eq!(rt; fault_of(alloc, text.as_bytes()), None);
+    assert_fault(&rt, alloc, text.as_str(), None);
     Ok(())
 }
 
@@ -243,7 +233,7 @@ fn each_token_left_out(rt: HostRuntime) -> Result<(), Fail> {
         } else {
             Some((ReadKind::BadWord, 2))
         };
-        assert_eq!(rt; fault_of(alloc, text.as_bytes()), wanted, "{left_out}");
+        assert_fault(&rt, alloc, text.as_str(), wanted);
     }
     Ok(())
 }
@@ -349,10 +339,7 @@ fn very_many_turns(rt: HostRuntime) -> Result<(), Fail> {
         alloc,
         "for i 1 1000000 { for j 1 1000000 { for k 1 1000000 { work 1 } } }",
     )?;
-    assert_eq!(rt;
-        fault_of(alloc, text.as_bytes()),
-        Some((ReadKind::TooManyTurns, 2))
-    );
+    assert_fault(&rt, alloc, text.as_str(), Some((ReadKind::TooManyTurns, 2)));
     Ok(())
 }
 
@@ -366,7 +353,7 @@ fn zeros_of_a_header(rt: HostRuntime) -> Result<(), Fail> {
             text.push('0')?;
         }
         text.push_str(digit)?;
-        assert_eq!(rt; fault_of(alloc, text.as_bytes()), wanted, "{digit}");
+        assert_fault(&rt, alloc, text.as_str(), wanted);
     }
     Ok(())
 }
