@@ -1,4 +1,4 @@
-use Rattle.std.proofs.Common.{ℕ, ◌<◌, ◌≡◌, ◌++◌, ◌∷◌, [], List, length, get_or, arith, sym}
+use Rattle.std.proofs.Common.{ℕ, ◌<◌, ◌≡◌, ◌++◌, ◌∷◌, [], List, length, get_or, arith}
 use Rattle.std.proofs.lemmas.Grind.{common_steps}
 use Rattle.worker_run.specs.LaneViews.{LaneId}
 use Rattle.worker_run.specs.declared.new_lane.NewLane.{NewLane}
