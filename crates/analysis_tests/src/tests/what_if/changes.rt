@@ -148,8 +148,8 @@ fn call(
     change(trial, segment, cost, costs)
 }
 
-/// Makes one call on a trial, and compares it with an analysis of the second graph, with the costs as
-/// they ought to be.
+/// Makes one call on a trial, and compares it with an analysis of the second graph, in which the
+/// costs are as they ought to be.
 fn compare_once(
     alloc: Global,
     dice: &mut Dice,

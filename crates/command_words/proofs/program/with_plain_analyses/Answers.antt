@@ -7,7 +7,8 @@ use Rattle.command_words.proofs.program.with_plain_analyses.Goals as goal
 -- each command in turn
 pub returns : goal.returns
 returns c =
-    let slack = c.in_ok-command.ensures ∙ ap (and_then (app_of c.args.command)) (c.new.ensures.app) in
+    let above = app_of c.args.command in
+    let slack = c.in_ok-command.ensures ∙ ap (and_then above) (c.new.ensures.app) in
     let certify = c.in_ok-command-2.ensures ∙ ap₂ and_then slack (c.new-2.ensures.app) in
     IfOk-weaker c.with_command-3.result _ _ (λ command added. added
     ∙ ap₂ and_then certify c.new-3.ensures.app) c.with_command-3.ensures

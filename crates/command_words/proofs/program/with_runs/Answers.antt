@@ -7,7 +7,8 @@ use Rattle.command_words.proofs.program.with_runs.Goals as goal
 -- each command in turn
 pub returns : goal.returns
 returns c =
-    let span = c.in_ok-command.ensures ∙ ap (and_then (app_of c.args.command)) (c.new.ensures.app) in
+    let above = app_of c.args.command in
+    let span = c.in_ok-command.ensures ∙ ap (and_then above) (c.new.ensures.app) in
     let show = c.in_ok-command-2.ensures ∙ ap₂ and_then span (c.new-2.ensures.app) in
     let replay = c.in_ok-command-3.ensures ∙ ap₂ and_then show (c.new-3.ensures.app) in
     IfOk-weaker c.with_command-4.result _ _ (λ command added. added

@@ -7,7 +7,9 @@ use Rattle.command_words.proofs.program.with_trials.Goals as goal
 -- each command in turn
 pub returns : goal.returns
 returns c =
-    let greedy = c.in_ok-command.ensures ∙ ap (and_then (app_of c.args.command)) (c.in_ok-with_option.ensures.app) in
-    let curve = c.in_ok-command-2.ensures ∙ ap₂ and_then greedy (c.in_ok-with_option-2.ensures.app) in
+    let above = app_of c.args.command in
+    let greedy = c.in_ok-command.ensures ∙ ap (and_then above) (c.in_ok-with_option.ensures.app) in
+    let curve =
+    c.in_ok-command-2.ensures ∙ ap₂ and_then greedy (c.in_ok-with_option-2.ensures.app) in
     IfOk-weaker c.with_command-3.result _ _ (λ command added. added
     ∙ ap₂ and_then curve c.in_ok-with_changes.ensures.app) c.with_command-3.ensures
