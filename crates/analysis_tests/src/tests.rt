@@ -1,4 +1,4 @@
-//! The tests, a module for each crate.
+//! The tests, a module for each crate, and what several of them need.
 mod certificates;
 mod greedy;
 mod spans;

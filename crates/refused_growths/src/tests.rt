@@ -1,4 +1,5 @@
-//! Each call that wants memory, at whichever growth it is refused.
+//! Each call that wants memory, at whichever growth it is refused. Many stand in a small function that
+//! has no clauses, so that what comes after them is proved without theirs, and sooner.
 mod certificates;
 mod commands;
 mod little_memory;

@@ -40,7 +40,7 @@ pub(super) fn analysis<H: AllocGlobal + Abort>(rt: &H, supply: &mut Supply) -> R
     Ok(())
 }
 
-fn run_by_levels(alloc: Global, graph: &Graph) -> Result<GreedyRun, GreedyFault> {
+fn run_on_two(alloc: Global, graph: &Graph) -> Result<GreedyRun, GreedyFault> {
     greedy(alloc, graph, 2)
 }
 
@@ -49,12 +49,12 @@ fn run_of<H: AllocGlobal + Abort>(
     supply: &mut Supply,
     graph: &Graph,
 ) -> Result<GreedyRun, Fail> {
-    match run_by_levels(rt.alloc(), graph) {
+    match run_on_two(rt.alloc(), graph) {
         Ok(run) => Ok(run),
         Err(fault) => {
             supply.refused();
             assert_eq!(rt; fault, GreedyFault::OutOfMemory);
-            Ok(run_by_levels(rt.alloc(), graph)?)
+            Ok(run_on_two(rt.alloc(), graph)?)
         }
     }
 }
