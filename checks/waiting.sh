@@ -1,11 +1,13 @@
 #!/usr/bin/env bash
-# Explores every interleaving of the waiting of 2 and of 3 workers, in the model checks/waiting/waiting.pml. With 2
-# workers it has up to 6 segments; with 3 up to 4 where no lane is passed over, and up to 3 where lanes are. Nobody may
-# sleep for ever, nor after the end, nor be passed over while a token lies in a lane and all others are in their kernels;
-# and every run ends. Each wrong form of the model must fail. It needs spin and a C compiler, some five minutes of
-# processor time and 2 GB of memory.
+# Explores every interleaving of the waiting of workers, in the model checks/waiting/waiting.pml: 1 worker and 2 with up to
+# 6 segments; 3 with up to 4 where no lane is passed over, and up to 3 where lanes are; 4 with up to 2. Nobody may sleep
+# for ever, nor after the end, nor be passed over while a token lies in a lane and all others are in their kernels; and
+# every run ends. Each wrong form of the model must fail. First it looks whether the model still stands for the code. It
+# needs python3, spin and a C compiler, some MINUTES minutes of processor time and MEMORY of memory.
 set -euo pipefail
 cd "$(dirname "$0")/waiting"
+python3 -B lines_test.py 2> /dev/null || { echo "FAILED: lines_test.py"; exit 1; }
+python3 -B lines.py
 for need in spin cc; do
     command -v "$need" > /dev/null || { echo "skipped: there is no $need"; exit 0; }
 done
@@ -28,10 +30,14 @@ explore() {
     stored=$(awk '/states, stored/ { print $1 }' told)
 }
 
+# must_hold NAMES.. : no state is wrong, and every run ends
 must_hold() {
-    explore "$@"
-    echo "$*: $stored states, $errors errors"
-    if [ "$errors" != 0 ]; then echo FAILED; exit 1; fi
+    local kind
+    for kind in states cycles; do
+        explore "$kind" "$@"
+        echo "$kind $*: $stored states, $errors errors"
+        if [ "$errors" != 0 ]; then echo FAILED; exit 1; fi
+    done
 }
 
 must_fail() {
@@ -46,20 +52,20 @@ for wrong in FLAG_FIRST COUNT_LAST SILENT_END ASLEEP_FIRST PASSED_AS_EMPTY; do
 done
 must_fail WORKERS=2 SEGMENTS=4 FAULTS=0 BUSY_AS_IDLE
 for segments in 1 2 3 4 5 6; do
-    must_hold states WORKERS=2 SEGMENTS=$segments FAULTS=2
+    must_hold WORKERS=1 SEGMENTS=$segments FAULTS=2
+    must_hold WORKERS=2 SEGMENTS=$segments FAULTS=2
 done
-must_hold cycles WORKERS=2 SEGMENTS=5 FAULTS=2
-must_hold states WORKERS=2 SEGMENTS=4 FAULTS=2 SPURIOUS
+must_hold WORKERS=2 SEGMENTS=4 FAULTS=2 SPURIOUS
 for segments in 1 2 3; do
-    must_hold states WORKERS=3 SEGMENTS=$segments FAULTS=1 PATIENCE=0
+    must_hold WORKERS=3 SEGMENTS=$segments FAULTS=1 PATIENCE=0
 done
-must_hold states WORKERS=3 SEGMENTS=4 FAULTS=0 PATIENCE=0
-must_hold cycles WORKERS=3 SEGMENTS=3 FAULTS=0 PATIENCE=0
-must_hold states WORKERS=3 SEGMENTS=3 FAULTS=0 PATIENCE=0 SPURIOUS
+must_hold WORKERS=3 SEGMENTS=4 FAULTS=0 PATIENCE=0
+must_hold WORKERS=3 SEGMENTS=3 FAULTS=0 PATIENCE=0 SPURIOUS
 for segments in 1 2; do
-    must_hold states WORKERS=3 SEGMENTS=$segments FAULTS=1
+    must_hold WORKERS=3 SEGMENTS=$segments FAULTS=1
 done
-must_hold states WORKERS=3 SEGMENTS=3 FAULTS=0
-must_hold cycles WORKERS=3 SEGMENTS=2 FAULTS=0
-must_hold states WORKERS=3 SEGMENTS=2 FAULTS=0 SPURIOUS
+must_hold WORKERS=3 SEGMENTS=3 FAULTS=0
+must_hold WORKERS=3 SEGMENTS=2 FAULTS=0 SPURIOUS
+must_hold WORKERS=4 SEGMENTS=1 FAULTS=1 PATIENCE=0
+must_hold WORKERS=4 SEGMENTS=2 FAULTS=0 PATIENCE=0
 echo "all interleavings explored: nobody sleeps for ever, and each wrong form is refused"

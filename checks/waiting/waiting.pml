@@ -3,6 +3,10 @@
  * dispatcher.rt do around it, one atomic access to shared memory a step. checks/waiting.sh has spin explore every
  * interleaving.
  *
+ * A comment `FILE: CODE` before a step names the line of crates/worker_run/src/FILE that the step stands for.
+ * checks/waiting/lines.py finds each of these lines in its file, and tells where a function that is modelled here has
+ * changed since the model was last compared with it.
+ *
  * The program is any program of SEGMENTS segments: a finish makes ready as many further segments as spin likes, but at
  * least one where otherwise nothing would be ready, in a lane or running, and the run is not finished. Tokens are
  * counted and not told apart. A kernel may fault, a finish may be refused, and so may the start of a thread.
@@ -53,20 +57,28 @@ bool computes[WORKERS];
 bool ended[WORKERS];
 bool started;
 
-/* Signal::end, three steps */
+/* Signal::end */
 inline end_all() {
+    /* signal.rt: self.over.store(true, Ordering::SeqCst); */
     over = true;
 #ifndef SILENT_END
+    /* signal.rt: self.news.fetch_add(1, Ordering::SeqCst); */
     news++;
 #endif
+    /* signal.rt: self.news.wake_all(); */
     d_step { wake_all(); woken = true }
 }
 
 inline wake_all() {
     parked[0] = false;
+#if WORKERS > 1
     parked[1] = false;
+#endif
 #if WORKERS > 2
     parked[2] = false;
+#endif
+#if WORKERS > 3
+    parked[3] = false;
 #endif
 }
 
@@ -74,9 +86,14 @@ inline wake_all() {
 inline wake_one() {
     if
     :: parked[0] -> parked[0] = false
+#if WORKERS > 1
     :: parked[1] -> parked[1] = false
+#endif
 #if WORKERS > 2
     :: parked[2] -> parked[2] = false
+#endif
+#if WORKERS > 3
+    :: parked[3] -> parked[3] = false
 #endif
     :: else
     fi
@@ -84,6 +101,7 @@ inline wake_one() {
 
 /* Signal::tell, of so many tokens that are for others */
 inline tell(others) {
+    /* signal.rt: if others == 0 { */
     if
     :: others == 0
     :: else ->
@@ -91,12 +109,17 @@ inline tell(others) {
         someone = (asleep > 0);
         news++;
 #else
+        /* signal.rt: self.news.fetch_add(1, Ordering::SeqCst); */
         news++;
+        /* signal.rt: if self.asleep.load(Ordering::SeqCst) == 0 { */
         someone = (asleep > 0);
 #endif
+        /* signal.rt: if others == 1 { */
         if
         :: !someone
+        /* signal.rt: self.news.wake_one(); */
         :: someone && others == 1 -> atomic { wake_one() }
+        /* signal.rt: self.news.wake_all(); */
         :: someone && others > 1 -> d_step { wake_all() }
         fi
     fi
@@ -118,11 +141,14 @@ again:  /* Crew::work */
     if :: over -> goto leave :: else fi;
     seen = news;
 #else
-    seen = news;                                    /* Signal::news */
-    if :: over -> goto leave :: else fi;            /* Signal::is_over */
+    /* crew.rt: let seen = signal.news(); */
+    seen = news;
+    /* crew.rt: if signal.is_over() { */
+    if :: over -> goto leave :: else fi;
 #endif
 
-    /* Station::find: LaneOwner::take looks at the front, moves it on, and puts it back where a thief was quicker. */
+    /* station.rt: if let Some(token) = self.take() { */
+    /* LaneOwner::take looks at the front, moves it on, and puts it back where a thief was quicker. */
     if
     :: front[me] >= back[me] -> goto steal
     :: else
@@ -135,10 +161,12 @@ again:  /* Crew::work */
 
 steal:  /* Station::steal: a patient worker may pass over a lane. LaneThief::try_steal reads the front, then the back, and then
          * moves the front if it is as read. */
+    /* station.rt: for turn in 0..count { */
     lane = (me + 1) % WORKERS;
     do
     :: lane == me -> break
     :: else ->
+        /* station.rt: if thief.goes_on(signal) && patient { */
         if
         :: passed < PATIENCE ->
 #ifdef PASSED_AS_EMPTY
@@ -146,6 +174,7 @@ steal:  /* Station::steal: a patient worker may pass over a lane. LaneThief::try
 #else
             unsure = true
 #endif
+        /* station.rt: match thief.steal() { */
         :: at = front[lane];
             if
             :: back[lane] <= at
@@ -162,14 +191,19 @@ steal:  /* Station::steal: a patient worker may pass over a lane. LaneThief::try
     :: d_step { unsure && passed < PATIENCE -> passed++; at = 0 }
     :: d_step { !(unsure && passed < PATIENCE) -> passed = 0; at = 0 }
     fi;
-    if :: unsure -> goto again :: else fi;          /* Found::Unsure */
+    /* crew.rt: Found::Unsure => signal.pause(station.passed), */
+    if :: unsure -> goto again :: else fi;
 
 #ifdef COUNT_LAST
     seen = news;
 #endif
-    /* Signal::wait. Many looks without news are as one. */
+    /* crew.rt: Found::Nothing => signal.wait(self.rt, seen), */
+    /* signal.rt: if self.news() != seen { */
+    /* Many looks without news are as one. */
     if :: news != seen -> goto again :: else fi;
+    /* signal.rt: self.asleep.fetch_add(1, Ordering::SeqCst); */
     asleep++;
+    /* signal.rt: self.news.park(rt, (seen % (1 << 32)) as u32); */
     /* AtomicU64::park compares and falls asleep in one step. */
     atomic {
         if
@@ -182,21 +216,26 @@ steal:  /* Station::steal: a patient worker may pass over a lane. LaneThief::try
 #else
     !parked[me];
 #endif
+    /* signal.rt: self.asleep.fetch_sub(1, Ordering::SeqCst); */
     asleep--;
     goto again;
 
-start:  /* Crew::run_segments: Dispatcher::start, then the kernel */
+start:  /* Crew::run_segments, then the kernel */
+    /* crew.rt: let mut job = self.dispatcher.start(self.rt, station.number, segment)?; */
     atomic { !locked -> computes[me] = true; at = 0; lane = 0; passed = 0 };
 
 kernel:
+    /* crew.rt: let outcome = match compute(self.kernel, self.gate, job) { */
     if
     :: d_step { computes[me] = false }
     :: d_step { faults > 0 -> faults--; computes[me] = false };
+        /* crew.rt: self.dispatcher.signal.end(); */
         end_all();
         goto leave
     fi;
 
-    /* Crew::hand_in: Station::take, as above */
+    /* crew.rt: let next = station.take(); */
+    /* as above */
     if
     :: front[me] >= back[me]
     :: else ->
@@ -209,9 +248,12 @@ kernel:
 
     /* Dispatcher::hand_over, which ends all behind the lock where the run is finished or the finish is refused, and which
      * starts the next token's segment where the run goes on */
+    /* dispatcher.rt: let mut core = self.lock(rt); */
     atomic { !locked -> locked = true };
+    /* dispatcher.rt: match core.finish(worker, outcome) { */
     if
     :: faults > 0 -> faults--;
+        /* dispatcher.rt: self.signal.end(); */
         end_all();
         locked = false;
         goto leave
@@ -226,20 +268,25 @@ kernel:
             open = open + tokens
         }
     fi;
+    /* dispatcher.rt: if core.is_finished() { */
     if
     :: open == 0 -> end_all()
     :: else
     fi;
+    /* dispatcher.rt: Some(segment) if !self.signal.is_over() => { */
     if
     :: busy && over -> busy = false
     :: else
     fi;
     locked = false;
     at = 0;
+    /* crew.rt: if !station.put(*segment) { */
     do
-    :: at < tokens -> d_step { back[me]++; at++ }   /* LaneOwner::put */
+    :: at < tokens -> d_step { back[me]++; at++ }
     :: else -> break
     od;
+    /* crew.rt: signal.tell(ready.len(), job.is_some()); */
+    /* signal.rt: let others = if is_busy { */
 #ifndef BUSY_AS_IDLE
     if
     :: busy || tokens == 0
@@ -266,10 +313,13 @@ leave:
 init {
     byte next;
     back[0] = 1;                                    /* open_stations */
+    /* crew.rt: for station in stations { */
     do
+    /* crew.rt: let spawned = scope.spawn(move || crew.work(station)); */
     :: next < WORKERS -> run worker(next); next++
     :: next < WORKERS && faults > 0 ->
         faults--;
+        /* crew.rt: crew.dispatcher.signal.end(); */
         end_all();
         do
         :: next < WORKERS -> d_step { ended[next] = true; next++ }
@@ -280,12 +330,18 @@ init {
     started = true
 }
 
-#if WORKERS > 2
+#if WORKERS == 1
+#define ALL(what) (what(0))
+#define ANY(what) (what(0))
+#elif WORKERS == 2
+#define ALL(what) (what(0) && what(1))
+#define ANY(what) (what(0) || what(1))
+#elif WORKERS == 3
 #define ALL(what) (what(0) && what(1) && what(2))
 #define ANY(what) (what(0) || what(1) || what(2))
 #else
-#define ALL(what) (what(0) && what(1))
-#define ANY(what) (what(0) || what(1))
+#define ALL(what) (what(0) && what(1) && what(2) && what(3))
+#define ANY(what) (what(0) || what(1) || what(2) || what(3))
 #endif
 #define SLEEPS(w) (parked[w])
 #define RESTS(w) (parked[w] || ended[w])
