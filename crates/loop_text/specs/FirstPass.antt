@@ -1,6 +1,6 @@
 -- The first pass over a text of version 2: the tokens after the header, from left to right, to a
 -- tree with loops.
-use Rattle.std.specs.Prelude.{ℕ, Bool, true, false, not, ◌&&◌, ◌||◌, ◌==◌, nat_lt, nat_le, min}
+use Rattle.std.specs.Prelude.{ℕ, Bool, true, false, not, ◌&&◌, ◌||◌, ◌==◌, nat_lt, nat_le}
 use Rattle.std.specs.Prelude.{if◌then◌else◌, List, [], ◌∷◌, ◌++◌, length, Option, Some, None}
 use Rattle.std.specs.Prelude.{Result, Ok, Err, codes}
 use Rattle.std.specs.List.{list_any}
@@ -24,7 +24,6 @@ use Rattle.loop_text.specs.declared.loop_place.LoopPlace.TheVariants.{IndexClose
 use Rattle.program_text.specs.declared.statement.DependKind.{DependKind}
 use Rattle.program_text.specs.declared.limits.TheConstants.{MOST_NESTING, MOST_WORD_BYTES}
 use Rattle.program_text.specs.declared.limits.TheConstants.{LARGEST_COST, LARGEST_BOUND}
-use Rattle.program_text.specs.declared.limits.TheConstants.{LARGEST_STEP}
 use Rattle.program_text.specs.Tokens.{Token}
 use Rattle.program_text.specs.Words.{is_text, is_sign, is_run, begins_with_digit, is_word}
 use Rattle.program_text.specs.Words.{is_number, value_of, is_type, is_statement_word, type_of}
@@ -41,6 +40,7 @@ use Rattle.loop_text.specs.OpenBlocks as loops
 use Rattle.loop_text.specs.OpenBlocks.{OpenBlocks, with_open_block, without_innermost, brace_of}
 use Rattle.loop_text.specs.OpenBlocks.{variables_of, variable_number}
 use Rattle.loop_text.specs.Loops.{Tree}
+use Rattle.loop_text.specs.Parts.{no_clauses, step_of}
 use Rattle.loop_text.specs.Loops.Tree.{NoStatement, ThenWork, ThenWait}
 
 -- ---- what was read
@@ -144,15 +144,6 @@ place_fault state text =
 
 -- ---- where a token leads
 
-abbrev pub no_clauses : LoopHead
-no_clauses = record {
-  has_if = false;
-  undeferred = false;
-  has_final = false;
-  is_final = false;
-  items = [];
-}
-
 abbrev pub no_index : Index
 no_index = record { variable = None; is_minus = false; by = 0; line = 0 }
 
@@ -202,9 +193,6 @@ with_item state kind index = record state {
 
 abbrev pub with_index : State → Index → State
 with_index state index = record state { pending = record state.pending { index = index } }
-
-abbrev pub step_of : List ℕ → ℕ
-step_of text = min (value_of text) LARGEST_STEP
 
 -- after the first token of an index
 abbrev pub after_index_start : State → DependKind → List ℕ → ℕ → State

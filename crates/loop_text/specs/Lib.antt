@@ -3,6 +3,7 @@ pub mod LoopsSeen
 pub mod LoopsShrink
 pub mod TreeCode
 pub mod OpenBlocks
+pub mod Parts
 pub mod FirstPass
 pub mod LoopReaderSeen
 pub use Rattle.program_text.specs.Answers

@@ -4,7 +4,8 @@ ghost use Rattle.std.specs.Prelude.{OnOk, IfOk, Some, None, Ok};
 ghost use Rattle.program_text.specs.Answers.{Gives};
 ghost use Rattle.program_text.specs.Words.{is_number};
 ghost use Rattle.program_text.specs.ScannerSeen.{token_seen};
-ghost use Rattle.loop_text.specs.FirstPass.{no_index, step_of, bound_of, zero_or_one_of};
+ghost use Rattle.loop_text.specs.FirstPass.{no_index, bound_of, zero_or_one_of};
+ghost use Rattle.loop_text.specs.Parts.{step_of};
 
 use crate::loop_forms::loop_form_fault;
 use crate::loop_place::LoopPlace;
@@ -58,7 +59,7 @@ pub(crate) struct LoopReader {
 }
 
 impl LoopHead {
-    ghost use Rattle.loop_text.specs.FirstPass.{no_clauses};
+    ghost use Rattle.loop_text.specs.Parts.{no_clauses};
 
     fn new(alloc: Global) -> LoopHead
         ensures { result ≡ no_clauses }

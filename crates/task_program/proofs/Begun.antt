@@ -16,8 +16,10 @@ use Rattle.program_text.specs.declared.statement.DependKind.{DependKind}
 use Rattle.program_text.specs.Marks.{Mark}
 use Rattle.program_text.specs.Tokens.{Token, texts}
 use Rattle.program_text.specs.Words.{is_text}
-use Rattle.task_program.specs.Faults.{State, Block, form_fault, place_fault, is_header}
-use Rattle.task_program.specs.Faults.{closes_nothing, is_allowed, step, after_at, after_end_of}
+use Rattle.task_program.specs.Faults.{State, form_fault, place_fault, is_header}
+use Rattle.task_program.specs.TreeSoFar.{Block}
+use Rattle.task_program.specs.Faults.{closes_nothing, is_allowed, step, after_at}
+use Rattle.task_program.specs.TreeSoFar.{after_end_of}
 use Rattle.task_program.specs.ViablePrefix.{IsSentence, IsViable}
 use Rattle.task_program.proofs.Keeping.{at, passes, unless_ok, ok_is}
 use Rattle.task_program.proofs.FoundPlaces.{same_text}

@@ -19,7 +19,8 @@ use Rattle.task_program.specs.TokenCounts.{open_braces, limit_fault_after}
 use Rattle.program_text.specs.Words.{is_text}
 use Rattle.task_program.specs.Within.{IsWithin}
 use Rattle.task_program.specs.ProgramMarks.{ProgramMarks}
-use Rattle.task_program.specs.Faults.{State, Block, form_fault, place_fault, is_header}
+use Rattle.task_program.specs.Faults.{State, form_fault, place_fault, is_header}
+use Rattle.task_program.specs.TreeSoFar.{Block}
 use Rattle.task_program.specs.Faults.{closes_nothing, is_allowed, unless_fault, step, after_at}
 use Rattle.task_program.specs.Faults.{line_of_block, end_at, program_or_fault, go_on, read_tokens}
 use Rattle.task_program.specs.Faults.{start, one_pass}

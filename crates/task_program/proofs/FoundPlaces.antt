@@ -30,8 +30,9 @@ use Rattle.task_program.specs.Grammar.{is_if, makes_undeferred, IsClause, IsItem
 use Rattle.task_program.specs.Grammar.{names_of_piece}
 use Rattle.task_program.specs.Grammar.Clause.{IfClause, DependClause}
 use Rattle.task_program.specs.Grammar.Written.{WorkWritten, TaskWritten, GroupWritten}
-use Rattle.task_program.specs.Faults.{State, Head, Block, after_at, no_clauses}
-use Rattle.task_program.specs.Faults.Block.{GroupBlock}
+use Rattle.task_program.specs.Faults.{State, Head, after_at, no_clauses}
+use Rattle.task_program.specs.TreeSoFar.{Block}
+use Rattle.task_program.specs.TreeSoFar.Block.{GroupBlock}
 use Rattle.task_program.proofs.Keeping.{at, Passes}
 use Rattle.program_text.proofs.Bools.{or_true_right, bool_cases}
 

@@ -19,13 +19,13 @@ use Rattle.program_text.specs.Marks.Mark.{Begins, Ends, Works, Waits, GroupBegin
 use Rattle.task_program.specs.Names.{number_of_name, with_name}
 use Rattle.task_program.specs.Canonical.{name_of, line_of_mark, header_line, solid_bytes}
 use Rattle.task_program.specs.Programs.{IsNamed, FitsLimits, names_of_mark}
-use Rattle.task_program.specs.Faults.{Block, after_end_of, end_mark_of}
-use Rattle.task_program.specs.Faults.Block.{TaskBlock, GroupBlock}
+use Rattle.task_program.specs.TreeSoFar.{Block, after_end_of, end_mark_of}
+use Rattle.task_program.specs.TreeSoFar.Block.{TaskBlock, GroupBlock}
 use Rattle.loop_text.specs.Loops as loops
 use Rattle.task_program.specs.Expansion.{Piece, subscript_of, item_comes, task_pieces, expansion}
 use Rattle.task_program.specs.Expansion.Piece.{TaskComes, TaskOpens, GroupComes, GroupOpens}
 use Rattle.task_program.specs.Expansion.Piece.{BlockEnds, WorkIs, WaitIs}
-use Rattle.task_program.specs.SecondPass.{ExpansionState, after_piece, bytes_after}
+use Rattle.task_program.specs.Expanded.{ExpansionState, after_piece, bytes_after}
 use Rattle.task_program.specs.ExpandsTo.{HasIndexInRange, after_pieces}
 use Rattle.task_program.proofs.FoundPlaces.{own_number}
 use Rattle.task_program.proofs.Sound.{fits_more, kept_names}

@@ -20,7 +20,7 @@ use Rattle.task_program.specs.Canonical.{same_kind, name_of}
 use Rattle.task_program.specs.Programs.{IsLocation}
 use Rattle.program_text.specs.Tokens.{Token}
 use Rattle.program_text.specs.Words.{type_word, value_of, type_of}
-use Rattle.loop_text.specs.FirstPass.{no_clauses}
+use Rattle.loop_text.specs.Parts.{no_clauses}
 use Rattle.loop_text.specs.Loops.{Tree}
 use Rattle.loop_text.specs.Loops.Tree.{NoStatement, ThenWork, ThenWait, ThenGroup, ThenTask}
 use Rattle.task_program.specs.LoopGrammar as grammar

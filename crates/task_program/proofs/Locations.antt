@@ -15,9 +15,9 @@ use Rattle.program_text.specs.declared.limits.TheConstants.{LARGEST_INDEX, LARGE
 use Rattle.program_text.specs.Tokens.{Token, texts, starts_with_run_byte}
 use Rattle.program_text.specs.Words.{is_word}
 use Rattle.task_program.specs.Expansion.{subscript_of, index_fits}
-use Rattle.loop_text.specs.FirstPass.{step_of}
+use Rattle.loop_text.specs.Parts.{step_of}
 use Rattle.task_program.specs.LoopGrammar as grammar
-use Rattle.task_program.specs.LoopGrammar.{index_of, IndexSpelled, ItemSpelled}
+use Rattle.task_program.specs.LoopGrammar.{index_of, ItemSpelled}
 use Rattle.task_program.proofs.Spelled.{spell, word_then, number_then, decimal_value}
 use Rattle.task_program.proofs.Spelled.{decimal_number, IsWritten}
 use Rattle.task_program.proofs.ReadBack.{AllShort, none_short, cons_short, number_short, is_short}

@@ -25,7 +25,8 @@ use Rattle.program_text.specs.Words.{is_text, is_word, is_number, value_of, is_s
 use Rattle.loop_text.specs.Loops.{Tree}
 use Rattle.loop_text.specs.Loops.Tree.{ThenWork, ThenWait}
 use Rattle.loop_text.specs.OpenBlocks.{variables_of}
-use Rattle.loop_text.specs.FirstPass.{no_clauses, is_allowed, is_variable, after_at, no_bounds}
+use Rattle.loop_text.specs.FirstPass.{is_allowed, is_variable, after_at, no_bounds}
+use Rattle.loop_text.specs.Parts.{no_clauses}
 use Rattle.task_program.specs.LoopGrammar.{IsNumber, task_of}
 use Rattle.task_program.specs.LoopGrammar.ClausesSpelled.{NoClause, If, Final}
 use Rattle.task_program.specs.LoopGrammar.OpeningSpelled.{Group, Task, For}

@@ -33,7 +33,8 @@ use Rattle.program_text.specs.Words.{is_text, is_word, is_type, value_of, type_o
 use Rattle.loop_text.specs.Loops.{Tree}
 use Rattle.loop_text.specs.Loops.Tree.{NoStatement}
 use Rattle.loop_text.specs.OpenBlocks.{variables_of, variables_around}
-use Rattle.loop_text.specs.FirstPass.{State, no_clauses, no_index, place_fault, closes_nothing}
+use Rattle.loop_text.specs.FirstPass.{State, no_index, place_fault, closes_nothing}
+use Rattle.loop_text.specs.Parts.{no_clauses}
 use Rattle.loop_text.specs.FirstPass.{is_allowed, is_number_too_large, nests_too_deep}
 use Rattle.loop_text.specs.FirstPass.{after_closing}
 use Rattle.task_program.specs.LoopGrammar.{IsNumber, index_of, IsVariable, IndexSpelled}

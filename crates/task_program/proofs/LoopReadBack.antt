@@ -20,9 +20,9 @@ use Rattle.task_program.specs.Programs.{IsNamed, FitsLimits, IsLocation, IsNameI
 use Rattle.task_program.specs.Programs.{names_of_mark}
 use Rattle.task_program.specs.ProgramMarks.{ProgramMarks}
 use Rattle.program_text.specs.Tokens.{Token, texts, tokens_of}
-use Rattle.task_program.specs.Faults.{Block}
+use Rattle.task_program.specs.TreeSoFar.{Block}
 use Rattle.task_program.specs.Grammar.{IsShort}
-use Rattle.task_program.specs.SecondPass.{ExpansionState, empty_expansion}
+use Rattle.task_program.specs.Expanded.{ExpansionState, empty_expansion}
 use Rattle.task_program.specs.ExpandsTo.{state_after_tree, program_of_state}
 use Rattle.task_program.specs.LoopGrammar.{HasLoopTree}
 use Rattle.task_program.proofs.Nested.{nests}

@@ -32,11 +32,13 @@ use Rattle.program_text.specs.Tokens.{Token, texts}
 use Rattle.program_text.specs.Words.{is_text, is_run, begins_with_digit, is_word, is_number}
 use Rattle.program_text.specs.Words.{value_of, type_word, type_of}
 use Rattle.task_program.specs.Within.{pending_tasks, pending_segments}
-use Rattle.task_program.specs.Faults.{State, Block, is_header, is_allowed, is_number_too_large}
+use Rattle.task_program.specs.Faults.{State, is_header, is_allowed, is_number_too_large}
+use Rattle.task_program.specs.TreeSoFar.{Block}
 use Rattle.task_program.specs.Faults.{nests_too_deep, is_task_too_many, are_segments_too_many}
-use Rattle.task_program.specs.Faults.{is_item_too_many, is_work_too_large, after_at, after_end_of}
+use Rattle.task_program.specs.Faults.{is_item_too_many, is_work_too_large, after_at}
+use Rattle.task_program.specs.TreeSoFar.{after_end_of}
 use Rattle.task_program.specs.Faults.{line_of_block}
-use Rattle.task_program.specs.Faults.Block.{TaskBlock, GroupBlock}
+use Rattle.task_program.specs.TreeSoFar.Block.{TaskBlock, GroupBlock}
 use Rattle.task_program.specs.TokenCounts.{inside_after, is_inside, outside_from, outside, tasks_by}
 use Rattle.task_program.specs.TokenCounts.{is_waiting, is_value_too_large, is_too_deep}
 use Rattle.task_program.specs.TokenCounts.{is_task_past, is_segment_past, is_work_past, segments_by}

@@ -2,7 +2,7 @@
 use Rattle.std.specs.Prelude.{◌+◌, ◌*◌, ◌≤◌, length}
 use Rattle.program_text.specs.Limits.{tasks_of}
 use Rattle.program_text.specs.declared.limits.TheConstants.{MOST_ITEMS}
-use Rattle.task_program.specs.SecondPass.{ExpansionState}
+use Rattle.task_program.specs.Expanded.{ExpansionState}
 
 pub record HasFewNames (state : ExpansionState) : Type 0 where
   pub items : length state.items ≤ MOST_ITEMS
