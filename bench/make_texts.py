@@ -139,9 +139,15 @@ def loops_written():
     return HEADER + "".join(task(i) for i in range(1, TASKS + 1))
 
 
+def recorded():
+    """Costs as a recording in nanoseconds has them: each above the 4,096 turns that the mixing kernel makes at most."""
+    each = ("task depend(inout: x%d) { work %d }\n" % (n % 64, 4_097 + n * 7919 % 1_000_000) for n in range(TASKS))
+    return HEADER + "".join(each)
+
+
 TEXTS = (
     gaps, tokens, shared_items, own_items, readers, mixed_items, fan_of_items, all_limits, all_limits_cut, waits,
-    largest, deep, fan, chain, uneven, loops, loops_written,
+    largest, deep, fan, chain, uneven, loops, loops_written, recorded,
 )
 
 

@@ -1,17 +1,16 @@
 //! Runs that are given: every segment in order, or a list of events.
 ghost use Rattle.std.specs.Prelude.{ℕ, Some, ◌≡◌, ◌<◌, ◌≤◌, ◌+◌, ◌++◌, ◌∷◌, [], length, IfOk};
-ghost use Rattle.std.specs.Prelude.{IfErr, OnOk, OnErr, take};
+ghost use Rattle.std.specs.Prelude.{IfErr, IsOk, OnOk, OnErr, false, take};
 ghost use Rattle.dispatch_core.specs.Run.{Run, Runs, IsLegalRun};
 ghost use Rattle.dispatch_core.specs.Values.{IsInput};
 ghost use Rattle.dispatch_core.specs.Refusals.{IsCost};
-ghost use Rattle.dispatch_core.specs.Mix.{mix_value};
 ghost use Rattle.dispatch_core.specs.Graph.{IsGraphOf};
 ghost use Rattle.dispatch_core.specs.Replays.{AreDone, RefusesStep, RefusesReplay, fault_at};
 
 use crate::dispatch::{Core, NewFault};
 use crate::event::{Event, FinishKind, StartRefusal};
 use crate::graph::Graph;
-use crate::kernel::{MixKernel, SegResult};
+use crate::kernel::{Kernel, KernelFault, MixKernel, SegResult};
 use open_segments::laws::serves_runs;
 use std::alloc::{AllocError, Global};
 use task_program::AllocFault;
@@ -45,13 +44,29 @@ enum StepFault {
     NoMemory,
 }
 
+/// A kernel that answers 0: no graph tells values.
+struct ZeroKernel;
+
+impl Kernel for ZeroKernel {
+    ghost value_of = { λ segment cost input. 0 };
+
+    ghost may_fault = { λ segment cost input. false };
+
+    fn run(&self, _segment: u32, _cost: u64, _input: u64) -> Result<u64, KernelFault>
+        ensures ok { IfOk result (λ value. value ≡ 0) }
+        ensures never { IsOk result }
+    {
+        Ok(0)
+    }
+}
+
 /// The program's graph, by a run of every segment in the order of numbers on worker 0. It fails
 /// only if memory runs out, and then the table comes back.
 pub fn in_order(alloc: Global, table: SegTable) -> Result<Graph, NewFault>
     ensures ok { IfOk result (IsGraphOf table) }
     ensures err { IfErr result (λ fault. fault.table ≡ table) }
 {
-    let mut core = Core::<MixKernel>::new(alloc, table)?;
+    let mut core = Core::<ZeroKernel>::new(alloc, table)?;
     for segment in 0..core.table().len() {
         if run_next(&mut core, segment).is_err() {
             return Err(NewFault {
@@ -66,7 +81,7 @@ pub fn in_order(alloc: Global, table: SegTable) -> Result<Graph, NewFault>
 }
 
 /// Runs the next segment from its start to its finish. It fails only if memory runs out.
-fn run_next(core: &mut Core<MixKernel>, segment: u32) -> Result<(), AllocFault>
+fn run_next(core: &mut Core<ZeroKernel>, segment: u32) -> Result<(), AllocFault>
     requires known { segment < length core.old.table.segments }
     requires next { AreDone core.old.history segment }
     ensures table { core.new.table ≡ core.old.table }
@@ -79,23 +94,25 @@ fn run_next(core: &mut Core<MixKernel>, segment: u32) -> Result<(), AllocFault>
         Err(_) => unreachable!(),
     }
     match core.task_of(0, segment) {
-        Some((cost, input)) => finish_computed(core, 0, segment, cost, input),
+        Some((cost, input)) => finish_computed(core, &ZeroKernel, 0, segment, cost, input),
         None => unreachable!(),
     }
 }
 
-/// Finishes a running segment with the mixing kernel's value. It fails only if memory runs out, and
-/// then nothing is changed.
-fn finish_computed(
-    core: &mut Core<MixKernel>,
+/// Finishes a running segment with the value of a kernel that cannot fault on it. It fails only if
+/// memory runs out, and then nothing is changed.
+fn finish_computed<K: Kernel>(
+    core: &mut Core<K>,
+    kernel: &K,
     worker: u32,
     segment: u32,
     cost: u64,
     input: u64,
 ) -> Result<(), AllocFault>
+    requires never { K.may_fault segment cost input ≡ false }
     requires runs { Runs core.old.history worker segment }
     requires cost { IsCost core.old.table segment cost }
-    requires input { IsInput core.old.table mix_value segment input }
+    requires input { IsInput core.old.table K.value_of segment input }
     ensures ok { OnOk result (core.new
         ≡ record {
           table = core.old.table;
@@ -103,7 +120,7 @@ fn finish_computed(
         }) }
     ensures same { OnErr result (core.new ≡ core.old) }
 {
-    let kind = match core.finish(worker, mixed_result(segment, cost, input)) {
+    let kind = match core.finish(worker, computed(kernel, segment, cost, input)) {
         Ok(_) => return Ok(()),
         Err(refusal) => refusal.kind,
     };
@@ -113,17 +130,18 @@ fn finish_computed(
     }
 }
 
-/// The mixing kernel's result.
-fn mixed_result(segment: u32, cost: u64, input: u64) -> SegResult<MixKernel>
+/// The result of a kernel that cannot fault on the segment.
+fn computed<K: Kernel>(kernel: &K, segment: u32, cost: u64, input: u64) -> SegResult<K>
+    requires never { K.may_fault segment cost input ≡ false }
     ensures { result
         ≡ record {
           segment = segment;
           cost = cost;
           input = input;
-          value = mix_value segment cost input;
+          value = K.value_of segment cost input;
         } }
 {
-    match SegResult::compute(&MixKernel, segment, cost, input) {
+    match SegResult::compute(kernel, segment, cost, input) {
         Ok(outcome) => outcome,
         Err(_) => unreachable!(),
     }
@@ -194,9 +212,11 @@ fn make_finish(core: &mut Core<MixKernel>, worker: u32, segment: u32) -> Result<
 {
     match core.task_of(worker, segment) {
         None => Err(StepFault::Refused(ReplayRefusal::NotRunning)),
-        Some((cost, input)) => match finish_computed(core, worker, segment, cost, input) {
-            Ok(()) => Ok(()),
-            Err(_) => Err(StepFault::NoMemory),
-        },
+        Some((cost, input)) => {
+            match finish_computed(core, &MixKernel, worker, segment, cost, input) {
+                Ok(()) => Ok(()),
+                Err(_) => Err(StepFault::NoMemory),
+            }
+        }
     }
 }
