@@ -7,7 +7,8 @@ use Rattle.std.proofs.lemmas.List.Sums.{fold-append}
 use Rattle.program_text.specs.declared.fault.ReadFault.{ReadFault}
 use Rattle.loop_text.specs.Loops.{Tree}
 use Rattle.task_program.specs.Expansion.{Piece, expansion}
-use Rattle.task_program.specs.SecondPass.{fault_of, take_pieces}
+use Rattle.task_program.specs.SecondPass.{take_pieces}
+use Rattle.task_program.specs.PieceFaults.{fault_of}
 use Rattle.task_program.specs.Expanded.{ExpansionState, after_piece}
 use Rattle.task_program.specs.SecondPass.{take_piece}
 use Rattle.task_program.specs.Expanded.{empty_expansion}

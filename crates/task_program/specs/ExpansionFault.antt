@@ -4,7 +4,7 @@ use Rattle.std.specs.Prelude.{◌≡◌, false, List, [], ◌∷◌, ◌++◌, S
 use Rattle.program_text.specs.declared.fault.ReadFault.{ReadFault}
 use Rattle.loop_text.specs.Loops.{Tree}
 use Rattle.task_program.specs.Expansion.{Piece, expansion}
-use Rattle.task_program.specs.SecondPass.{fault_of}
+use Rattle.task_program.specs.PieceFaults.{fault_of}
 use Rattle.task_program.specs.Expanded.{empty_expansion}
 use Rattle.task_program.specs.ExpandsTo.{after_pieces}
 
