@@ -1,4 +1,4 @@
-use Rattle.std.proofs.Common.{ℕ, ◌≡◌, List, Contains, subst, arith}
+use Rattle.std.proofs.Common.{ℕ, List, Contains, subst, arith}
 use Rattle.greedy_sim.proofs.outset.successor_counts.Goals as goal
 
 pub count_each-requires : goal.count_each-requires
