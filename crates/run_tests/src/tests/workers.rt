@@ -1,4 +1,5 @@
 //! Worked runs on threads, as the rules of tasks give them by hand, and lanes in one thread.
+mod calls;
 mod faults;
 mod overlap;
 
