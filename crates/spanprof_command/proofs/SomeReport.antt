@@ -20,7 +20,7 @@ use Rattle.task_program.specs.ReadInVersion.{program_of}
 use Rattle.task_program.specs.Trees.{HasTree}
 use Rattle.program_text.specs.declared.fault.ReadFault.{ReadFault}
 use Rattle.program_text.specs.declared.limits.TheConstants.{MOST_WORK}
-use Rattle.task_segments.proofs.SameSchedules.{same_span}
+use Rattle.task_segments.proofs.SameSchedules.{same_legal, same_span}
 use Rattle.task_segments.proofs.StartsAndTails.{IsSpan-earliest}
 use Rattle.task_segments.specs.Precedence.{MustPrecede}
 use Rattle.task_segments.specs.Schedule.{IsSpan, end_of}
@@ -28,6 +28,7 @@ use Rattle.task_segments.specs.StartsAndTails.{IsEarliest}
 use Rattle.task_segments.specs.Table.{Table, costs_of, table_of}
 use Rattle.depend_table.proofs.Chains.{edge_reaches}
 use Rattle.depend_table.specs.Kept.{IsKeptEdge}
+use Rattle.dispatch_core.proofs.Carried.{graph_ways, graph_within}
 use Rattle.dispatch_core.proofs.Ends.{graph_of_program}
 use Rattle.dispatch_core.specs.Facts.{IsSoundTable}
 use Rattle.dispatch_core.specs.Graph.{IsGraphOf}
@@ -35,6 +36,7 @@ use Rattle.dispatch_core.specs.Mix.{mix_value}
 use Rattle.dispatch_core.specs.RecordedGraph.{IsGraph, Precedes, RecordedGraph}
 use Rattle.dispatch_core.specs.Values.{IsValue}
 use Rattle.greedy_sim.proofs.Existence.{some_run}
+use Rattle.greedy_sim.proofs.SameGreedy.{same_run}
 use Rattle.greedy_sim.specs.Greedy.{IsCurve, IsGreedyEnd, IsGreedyRun}
 use Rattle.greedy_sim.specs.declared.greedy.TheConstants.{MOST_THREADS}
 use Rattle.span_analysis.proofs.Existence.{earliest_exists}
@@ -53,6 +55,7 @@ use Rattle.worker_run.specs.AllValues.{AreAllValues}
 use Rattle.worker_run.specs.Answer.{IsWorkerCount}
 use Rattle.dispatch_core.proofs.Decisions.{IsDecided, decided_by_equivalent, decide_both}
 use Rattle.dispatch_core.proofs.Decisions.{decide_most}
+use Rattle.spanprof_command.proofs.Bounds.{carried_run}
 use Rattle.spanprof_command.proofs.OneReport.{span_output}
 use Rattle.spanprof_command.proofs.SomeAnalysis.{IsAnalysed, some_analysed}
 use Rattle.dispatch_core.proofs.SomeGraph.{AreFirstValues, IsWhole, first_values, some_graph}
@@ -237,6 +240,34 @@ thread_count_or_not threads = elim (cases_lt threads 1) [
   ]
 ]
 
+-- the greedy run of a program's graph is that of the program
+of_graph : (table : Table) (graph : RecordedGraph) (p : ℕ) (starts : List ℕ)
+    (threads : List (Option ℕ))
+    → IsSoundTable table
+    → IsGraphOf table graph
+    → IsGreedyRun graph.costs (Precedes graph) p starts threads
+    → IsGreedyRun (costs_of table) (MustPrecede table) p starts threads
+of_graph table graph p starts threads sound of run =
+    let within = graph_within table graph sound of in
+    let ways = graph_ways table graph sound of in
+    carried_run table graph p starts threads of
+    (λ q xs ts is. (same_run graph.costs (MustPrecede table) (Precedes graph)
+    sound.goes_up.ascending within ways
+    (same_legal (MustPrecede table) (Precedes graph) sound.goes_up.ascending within ways
+    graph.costs) q xs ts).1 is)
+    run
+
+some_greedy_run : (table : Table) (p : ℕ)
+    → IsWhole table
+    → 0 < p
+    → (starts : List ℕ)
+    × (threads : List (Option ℕ))
+    × IsGreedyRun (costs_of table) (MustPrecede table) p starts threads
+some_greedy_run table p whole some =
+    let graph : (graph : RecordedGraph) × IsGraphOf table graph = some_graph table whole.sound in
+    let run = some_run graph.0 p (graph_of_program table graph.0 whole.sound graph.1) some in
+    (run.0, run.1, of_graph table graph.0 p run.0 run.1 whole.sound graph.1 run.2)
+
 -- and to a greedy run
 some_greedy : (count : ℕ) → SaysSome (GreedyRuns count)
 some_greedy count program whole =
@@ -244,23 +275,15 @@ some_greedy count program whole =
     elim (thread_count_or_not count) [
       | inl outside ↦ (thread_count, inl (record { outside = outside; says = refl }))
       | inr within ↦
-          let graph : (graph : RecordedGraph) × IsGraphOf table graph =
-          some_graph table whole.sound in
-          let is_graph : IsGraph graph.0 = graph_of_program table graph.0 whole.sound graph.1 in
           let some = within.some in
-          let run : (starts : List ℕ) × (threads : List (Option ℕ)) × IsGreedyRun graph.0.costs
-          (Precedes graph.0) count starts threads =
-          some_run graph.0 count is_graph (omega (arith, some)) in (
+          let run = some_greedy_run table count whole (omega (arith, some)) in (
             record {
-              text = numbered_table greedy_header (greedy_row graph.0.costs run.0 run.1) 0
-                  (length graph.0.costs);
+              text = numbered_table greedy_header (greedy_row (costs_of table) run.0 run.1) 0
+                  (length table.segments);
               status = Done;
             },
             inr (record {
               within = within;
-              graph = graph.0;
-              is_graph = is_graph;
-              is_graph_of = graph.1;
               starts = run.0;
               threads = run.1;
               is_run = run.2;
@@ -269,24 +292,21 @@ some_greedy count program whole =
           )
     ]
 
-some_end : (graph : RecordedGraph) (p : ℕ) → IsGraph graph → 0 < p
-    → (end : ℕ) × IsGreedyEnd graph.costs (Precedes graph) p end
-some_end graph p is some =
-    let run : (starts : List ℕ) × (threads : List (Option ℕ)) × IsGreedyRun graph.costs
-    (Precedes graph) p starts threads =
-    some_run graph p is some in
-    (end_of graph.costs run.0, (run.0, run.1, run.2, refl))
+some_end : (table : Table) (p : ℕ) → IsWhole table → 0 < p
+    → (end : ℕ) × IsGreedyEnd (costs_of table) (MustPrecede table) p end
+some_end table p whole some =
+    let run = some_greedy_run table p whole some in
+    (end_of (costs_of table) run.0, (run.0, run.1, run.2, refl))
 
--- every graph has a curve
-some_ends : (graph : RecordedGraph) (upto : ℕ) → IsGraph graph
-    → (ends : List ℕ) × IsCurve graph.costs (Precedes graph) upto ends
-some_ends graph zero is =
+-- where each number of threads has an end there is a curve
+some_ends : (costs : List ℕ) (R : ℕ → ℕ → Type 0) (upto : ℕ)
+    → ((p : ℕ) → 0 < p → (end : ℕ) × IsGreedyEnd costs R p end)
+    → (ends : List ℕ) × IsCurve costs R upto ends
+some_ends costs R zero some_end_on =
     ([], record { each = refl; at_each = λ k less. absurd (omega (arith, less)) })
-some_ends graph (suc n) is =
-    let before : (ends : List ℕ) × IsCurve graph.costs (Precedes graph) n ends =
-    some_ends graph n is in
-    let next : (end : ℕ) × IsGreedyEnd graph.costs (Precedes graph) (n + 1) end =
-    some_end graph (n + 1) is (omega arith) in
+some_ends costs R (suc n) some_end_on =
+    let before : (ends : List ℕ) × IsCurve costs R n ends = some_ends costs R n some_end_on in
+    let next : (end : ℕ) × IsGreedyEnd costs R (n + 1) end = some_end_on (n + 1) (omega arith) in
     let each = before.1.each in (
       before.0 ++ next.0 ∷ [],
       record {
@@ -295,17 +315,15 @@ some_ends graph (suc n) is =
           | inl below ↦
               let same : get_or (before.0 ++ next.0 ∷ []) k 0 ≡ get_or before.0 k 0 =
               get_or_append_left before.0 (next.0 ∷ []) 0 k (omega (arith, below, each)) in
-              subst (λ (e : ℕ). IsGreedyEnd graph.costs (Precedes graph) (k + 1) e) (sym same)
+              subst (λ (e : ℕ). IsGreedyEnd costs R (k + 1) e) (sym same)
               (before.1.at_each k below)
           | inr last ↦
               let is_last : n ≡ k = omega (arith, less, last) in
               let same : get_or (before.0 ++ next.0 ∷ []) n 0 ≡ next.0 =
               get_or_push before.0 next.0 0 n each in
               let P : ℕ → Type 0 =
-              λ j. IsGreedyEnd graph.costs (Precedes graph) (j + 1)
-              (get_or (before.0 ++ next.0 ∷ []) j 0) in
-              subst P is_last (subst (λ (e : ℕ). IsGreedyEnd graph.costs (Precedes graph) (n + 1) e)
-              (sym same) next.1)
+              λ j. IsGreedyEnd costs R (j + 1) (get_or (before.0 ++ next.0 ∷ []) j 0) in
+              subst P is_last (subst (λ (e : ℕ). IsGreedyEnd costs R (n + 1) e) (sym same) next.1)
         ];
       },
     )
@@ -318,11 +336,10 @@ some_curve upto program whole =
       | inl outside ↦ (thread_count, inl (record { outside = outside; says = refl }))
       | inr within ↦
           let analysed : IsAnalysed table = some_analysed table whole in
-          let are = analysed.are_analysed in
-          let graph : RecordedGraph = analysed.graph in
-          let ends : (ends : List ℕ) × IsCurve graph.costs (Precedes graph) upto ends =
-          some_ends graph upto are.is_graph in
-          let span : ℕ = analysed.found.span in (
+          let span : ℕ = analysed.found.span in
+          let ends : (ends : List ℕ) × IsCurve (costs_of table) (MustPrecede table) upto ends =
+          some_ends (costs_of table) (MustPrecede table) upto
+          (λ p some. some_end table p whole some) in (
             record {
               text = numbered_table curve_header
                   (curve_row (sum (costs_of table)) span ends.0) 1 upto;
@@ -330,13 +347,10 @@ some_curve upto program whole =
             },
             inr (record {
               within = within;
-              graph = graph;
-              is_graph = are.is_graph;
-              is_graph_of = are.is_graph_of;
               ends = ends.0;
               is_curve = ends.1;
               span = span;
-              is_span = are.are_findings.greatest_sum;
+              is_span = analysed.are_analysed.are_findings.greatest_sum;
               says = refl;
             }),
           )

@@ -7,16 +7,17 @@ use spanprof_command::start;
 use std::alloc::AllocGlobal;
 use std::io;
 use std::io::ErrorKind;
+use std::process::ExitCode;
 use std::sync::Wait;
 use std::test::Fail;
 use std::thread::Threads;
 
-/// The exit status and what is written, where these are the words.
+/// The exit status, what is written and how often the reader is asked, where these are the words.
 fn started<H: AllocGlobal + Threads + Wait + Sync>(
     rt: &H,
     words: io::Result<Vec<String>>,
     faults: Faults,
-) -> Result<(u8, Vec<u8>, usize), Fail> {
+) -> Result<(ExitCode, Vec<u8>, usize), Fail> {
     let mut reader = Counted::new(source(b"omptasks 1\nwork 3"));
     let mut writer = Counted::new(slow_sink(rt.alloc(), usize::MAX, faults));
     let code = start(rt, words, &mut reader, &mut writer);
@@ -33,7 +34,7 @@ fn word_starts<H: AllocGlobal + Threads + Wait + Sync>(
 ) -> Result<bool, Fail> {
     let words = words_of(rt.alloc(), &["spanprof", word])?;
     let (got, written, _) = started(rt, Ok(words), Faults::NONE)?;
-    Ok(got == code && written.as_slice() == text.as_bytes())
+    Ok(got == ExitCode::from(code) && written.as_slice() == text.as_bytes())
 }
 
 /// Whether words that are no text give this exit status and text, and nothing is read.
@@ -44,7 +45,8 @@ fn none_starts<H: AllocGlobal + Threads + Wait + Sync>(
     text: &str,
 ) -> Result<bool, Fail> {
     let (got, written, calls) = started(rt, Err(io::Error::from(kind)), Faults::NONE)?;
-    Ok(got == code && calls == 0 && written.as_slice() == text.as_bytes())
+    let is_written = written.as_slice() == text.as_bytes();
+    Ok(got == ExitCode::from(code) && calls == 0 && is_written)
 }
 
 /// Whether nothing is written where the first write fails.
@@ -53,7 +55,7 @@ fn is_silent<H: AllocGlobal + Threads + Wait + Sync>(
     words: io::Result<Vec<String>>,
 ) -> Result<bool, Fail> {
     let (code, written, _) = started(rt, words, Faults::fail_call(0, ErrorKind::Other))?;
-    Ok(code == 3 && written.is_empty())
+    Ok(code == ExitCode::from(3) && written.is_empty())
 }
 
 #[test]
