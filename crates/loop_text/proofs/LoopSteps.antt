@@ -5,7 +5,8 @@ use Rattle.program_text.specs.declared.fault.ReadKind.TheVariants.{BadByte, BadW
 use Rattle.program_text.specs.declared.fault.ReadFault.{ReadFault}
 use Rattle.program_text.specs.Answers.{is_memory, Fails}
 use Rattle.program_text.specs.Tokens.{Token}
-use Rattle.loop_text.specs.FirstPass.{State, form_fault, place_step, step}
+use Rattle.loop_text.specs.FirstPass.{State, place_step, step}
+use Rattle.loop_text.specs.LoopTokens.{form_fault}
 use Rattle.program_text.proofs.FaultRows.{row_no_memory, no_row}
 
 form_no_memory : (text : List ℕ) (kind : ReadKind)

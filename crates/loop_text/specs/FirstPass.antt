@@ -6,7 +6,7 @@ use Rattle.std.specs.Prelude.{Result, Ok, Err, codes}
 use Rattle.std.specs.List.{list_any}
 use Rattle.std.specs.Str.{bytes_eq}
 use Rattle.program_text.specs.declared.fault.ReadKind.{ReadKind}
-use Rattle.program_text.specs.declared.fault.ReadKind.TheVariants.{BadByte, BadWord, BadNumber}
+use Rattle.program_text.specs.declared.fault.ReadKind.TheVariants.{BadWord, BadNumber}
 use Rattle.program_text.specs.declared.fault.ReadKind.TheVariants.{Unclosed, Unopened, TooDeep}
 use Rattle.program_text.specs.declared.fault.ReadFault.{ReadFault}
 use Rattle.loop_text.specs.declared.loop_place.LoopPlace.{LoopPlace}
@@ -22,10 +22,10 @@ use Rattle.loop_text.specs.declared.loop_place.LoopPlace.TheVariants.{Subscript,
 use Rattle.loop_text.specs.declared.loop_place.LoopPlace.TheVariants.{IndexNumber, IndexSign}
 use Rattle.loop_text.specs.declared.loop_place.LoopPlace.TheVariants.{IndexCloses, DependMore}
 use Rattle.program_text.specs.declared.statement.DependKind.{DependKind}
-use Rattle.program_text.specs.declared.limits.TheConstants.{MOST_NESTING, MOST_WORD_BYTES}
+use Rattle.program_text.specs.declared.limits.TheConstants.{MOST_NESTING}
 use Rattle.program_text.specs.declared.limits.TheConstants.{LARGEST_COST, LARGEST_BOUND}
 use Rattle.program_text.specs.Tokens.{Token}
-use Rattle.program_text.specs.Words.{is_text, is_sign, is_run, begins_with_digit, is_word}
+use Rattle.program_text.specs.Words.{is_text, is_word}
 use Rattle.program_text.specs.Words.{is_number, value_of, is_type, is_statement_word, type_of}
 use Rattle.loop_text.specs.declared.loops.Index.{Index}
 use Rattle.loop_text.specs.declared.loops.LoopTask.{LoopTask}
@@ -41,6 +41,7 @@ use Rattle.loop_text.specs.OpenBlocks.{OpenBlocks, with_open_block, without_inne
 use Rattle.loop_text.specs.OpenBlocks.{variables_of, variable_number}
 use Rattle.loop_text.specs.Loops.{Tree}
 use Rattle.loop_text.specs.Parts.{no_clauses, step_of}
+use Rattle.loop_text.specs.LoopTokens.{is_plus_or_minus, form_fault}
 use Rattle.loop_text.specs.Loops.Tree.{NoStatement, ThenWork, ThenWait}
 
 -- ---- what was read
@@ -59,16 +60,6 @@ abbrev pub is_variable : List LoopBlock → List ℕ → Bool
 is_variable blocks text = list_any (bytes_eq text) (variables_of blocks)
 
 -- ---- which tokens the grammar allows
-
--- [ ] + - are signs too
-abbrev pub is_loop_sign : List ℕ → Bool
-is_loop_sign text =
-    is_sign text
-    || ((is_text text (codes "[") || is_text text (codes "]"))
-    || (is_text text (codes "+") || is_text text (codes "-")))
-
-abbrev pub is_plus_or_minus : List ℕ → Bool
-is_plus_or_minus text = is_text text (codes "+") || is_text text (codes "-")
 
 abbrev pub is_clause_word : LoopHead → List ℕ → Bool
 is_clause_word head text = is_text text (codes "depend")
@@ -126,13 +117,6 @@ nests_too_deep Clause blocks text = is_text text (codes "{") && nat_le MOST_NEST
 nests_too_deep _ blocks text = false
 
 -- ---- the table of faults, in its order: the first test that holds
-
-abbrev pub form_fault : List ℕ → Option ReadKind
-form_fault text =
-    if not (is_run text || is_loop_sign text) then Some BadByte
-    else (if begins_with_digit text && not (is_number text) then Some BadNumber
-    else (if is_word text && nat_lt MOST_WORD_BYTES (length text) then Some BadWord
-    else None))
 
 abbrev pub place_fault : State → List ℕ → Option ReadKind
 place_fault state text =

@@ -4,6 +4,7 @@ pub mod LoopsShrink
 pub mod TreeCode
 pub mod OpenBlocks
 pub mod Parts
+pub mod LoopTokens
 pub mod FirstPass
 pub mod LoopReaderSeen
 pub use Rattle.program_text.specs.Answers

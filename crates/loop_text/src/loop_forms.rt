@@ -1,7 +1,7 @@
 //! What is wrong with a token of version 2 by itself.
 ghost use Rattle.std.specs.Prelude.{◌≡◌};
-ghost use Rattle.loop_text.specs.FirstPass as first;
-ghost use Rattle.loop_text.specs.FirstPass.{is_loop_sign};
+ghost use Rattle.loop_text.specs.LoopTokens as tokens;
+ghost use Rattle.loop_text.specs.LoopTokens.{is_loop_sign};
 
 use program_text::fault::ReadKind;
 use program_text::limits::MOST_WORD_BYTES;
@@ -17,7 +17,7 @@ fn is_loop_sign(token: Token<'_>) -> bool
 
 /// What is wrong with a token of version 2 by itself.
 pub(crate) fn loop_form_fault(token: Token<'_>) -> Option<ReadKind>
-    ensures { result ≡ first.form_fault token.entry.text.now }
+    ensures { result ≡ tokens.form_fault token.entry.text.now }
 {
     if !(token.is_run() || is_loop_sign(token)) {
         Some(ReadKind::BadByte)

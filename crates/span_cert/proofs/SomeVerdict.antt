@@ -12,6 +12,7 @@ use Rattle.task_program.specs.Document.{program_part, rest_part}
 use Rattle.task_program.specs.PlainWords.{all_steps, step_by, words_of}
 use Rattle.task_program.specs.ProgramMarks.{ProgramMarks}
 use Rattle.task_program.specs.ReadInVersion.{program_of}
+use Rattle.task_program.proofs.Readings.{read_as}
 use Rattle.task_program.specs.Trees.{HasTree}
 use Rattle.program_text.specs.declared.fault.ReadFault.{ReadFault}
 use Rattle.task_segments.specs.Precedence.{IsSegment, MustPrecede}
@@ -334,7 +335,8 @@ checks_read : (document : List ℕ) (read : Result ProgramMarks ReadFault)
 checks_read document (Ok program) is =
     checks_rest document program (rest_part document) refl
     (found_tree_of (program_part document) program is)
-checks_read document (Err why) is = (Err (fault.BadProgram why), refl, is)
+checks_read document (Err why) is =
+    (Err (fault.BadProgram why), refl, read_as (program_part document) (Err why) is)
 
 pub some_verdict : (document : List ℕ) → HasVerdict document
 some_verdict document = checks_read document (program_of (program_part document)) refl

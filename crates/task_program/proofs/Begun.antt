@@ -16,7 +16,8 @@ use Rattle.program_text.specs.declared.statement.DependKind.{DependKind}
 use Rattle.program_text.specs.Marks.{Mark}
 use Rattle.program_text.specs.Tokens.{Token, texts}
 use Rattle.program_text.specs.Words.{is_text}
-use Rattle.task_program.specs.Faults.{State, form_fault, place_fault, is_header}
+use Rattle.task_program.specs.Faults.{State, place_fault, is_header}
+use Rattle.task_program.specs.TokenFaults.{form_fault}
 use Rattle.task_program.specs.TreeSoFar.{Block}
 use Rattle.task_program.specs.Faults.{closes_nothing, is_allowed, step, after_at}
 use Rattle.task_program.specs.TreeSoFar.{after_end_of}

@@ -19,15 +19,18 @@ use Rattle.task_program.specs.TokenCounts.{open_braces, limit_fault_after}
 use Rattle.program_text.specs.Words.{is_text}
 use Rattle.task_program.specs.Within.{IsWithin}
 use Rattle.task_program.specs.ProgramMarks.{ProgramMarks}
-use Rattle.task_program.specs.Faults.{State, form_fault, place_fault, is_header}
+use Rattle.task_program.specs.Faults.{State, place_fault, is_header}
+use Rattle.task_program.specs.TokenFaults.{form_fault}
 use Rattle.task_program.specs.TreeSoFar.{Block}
 use Rattle.task_program.specs.Faults.{closes_nothing, is_allowed, unless_fault, step, after_at}
 use Rattle.task_program.specs.Faults.{line_of_block, end_at, program_or_fault, go_on, read_tokens}
 use Rattle.task_program.specs.Faults.{start, one_pass}
-use Rattle.task_program.specs.ReadInVersion.{begins_version_two, program_of}
+use Rattle.task_program.specs.ReadInVersion.{program_of}
+use Rattle.task_program.specs.Versions.{begins_version_two}
 use Rattle.task_program.specs.ViablePrefix.{IsSentence, IsViable}
 use Rattle.task_program.specs.FirstFault.{IsMisplaced, IsWrong, IsRight, AreRight, EndsEarly}
-use Rattle.task_program.specs.FirstFault.{IsFirstFault, HasFault, IsToldApart, FaultIsFirst}
+use Rattle.task_program.specs.FirstFault.{IsFirstFault, HasFault}
+use Rattle.task_program.specs.FaultsAgree.{IsToldApart, FaultIsFirst}
 use Rattle.task_program.specs.FirstFault.IsMisplaced.{OfHeader, AfterWhole, Elsewhere}
 use Rattle.task_program.specs.FirstFault.IsWrong.{ByItself, Misplaced, PastLimit}
 use Rattle.task_program.specs.FirstFault.AreRight.{Nothing, More}

@@ -22,7 +22,8 @@ use Rattle.loop_text.specs.declared.loop_place.LoopPlace.TheVariants.{IndexClose
 use Rattle.program_text.specs.declared.statement.DependKind.{DependKind}
 use Rattle.program_text.specs.Words.{is_text, is_run, begins_with_digit, is_word, is_number}
 use Rattle.program_text.specs.Words.{type_word, is_statement_word}
-use Rattle.loop_text.specs.FirstPass.{is_plus_or_minus, ends_item}
+use Rattle.loop_text.specs.FirstPass.{ends_item}
+use Rattle.loop_text.specs.LoopTokens.{is_plus_or_minus}
 use Rattle.task_program.specs.LoopViablePrefix.{IndexWritten, ItemWritten, LoopClause, LoopPiece}
 use Rattle.task_program.specs.LoopViablePrefix.{index_texts, item_texts, item_and_comma}
 use Rattle.task_program.specs.LoopViablePrefix.{clause_texts, piece_texts, IsNumber, IsVariable}

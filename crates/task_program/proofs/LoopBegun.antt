@@ -27,7 +27,8 @@ use Rattle.program_text.specs.Words.{is_text, is_number}
 use Rattle.loop_text.specs.Loops.{Tree}
 use Rattle.loop_text.specs.OpenBlocks as blocks
 use Rattle.loop_text.specs.OpenBlocks.{variables_of, brace_of}
-use Rattle.loop_text.specs.FirstPass.{State, is_allowed, closes_nothing, form_fault, place_fault}
+use Rattle.loop_text.specs.FirstPass.{State, is_allowed, closes_nothing, place_fault}
+use Rattle.loop_text.specs.LoopTokens.{form_fault}
 use Rattle.loop_text.specs.FirstPass.{unless_fault, step, after_at, is_number_too_large}
 use Rattle.loop_text.specs.FirstPass.{nests_too_deep}
 use Rattle.task_program.specs.LoopViablePrefix.{IsLoopSentence, IsLoopViable}

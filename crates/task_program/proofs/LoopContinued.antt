@@ -23,7 +23,8 @@ use Rattle.loop_text.specs.declared.loop_place.LoopPlace.TheVariants.{IndexClose
 use Rattle.program_text.specs.declared.statement.DependKind.{DependKind}
 use Rattle.program_text.specs.declared.statement.DependKind.TheVariants.{DependIn}
 use Rattle.program_text.specs.Words.{is_text, is_word, is_number, type_word}
-use Rattle.loop_text.specs.FirstPass.{is_plus_or_minus, ends_item}
+use Rattle.loop_text.specs.FirstPass.{ends_item}
+use Rattle.loop_text.specs.LoopTokens.{is_plus_or_minus}
 use Rattle.task_program.specs.LoopViablePrefix.{ItemWritten, LoopClause, index_texts, item_texts}
 use Rattle.task_program.specs.LoopViablePrefix.{item_and_comma, clause_texts, IsNumber, IsWord}
 use Rattle.task_program.specs.LoopViablePrefix.{IsVariable, IsNewVariable, HasItemForm}

@@ -21,7 +21,8 @@ use Rattle.program_text.specs.Words.{is_text}
 use Rattle.loop_text.specs.Loops.{Tree}
 use Rattle.loop_text.specs.OpenBlocks.{variables_of, brace_of}
 use Rattle.loop_text.specs.FirstPass.{State, is_allowed, closes_nothing, is_number_too_large}
-use Rattle.loop_text.specs.FirstPass.{nests_too_deep, form_fault, place_fault, unless_fault, step}
+use Rattle.loop_text.specs.FirstPass.{nests_too_deep, place_fault, unless_fault, step}
+use Rattle.loop_text.specs.LoopTokens.{form_fault}
 use Rattle.loop_text.specs.FirstPass.{end_at, tree_or_fault, go_on, first_pass, after_header}
 use Rattle.task_program.specs.LoopViablePrefix.{IsLoopSentence, IsLoopViable}
 use Rattle.task_program.specs.FirstLoopFault.{IsLoopWrong, AreLoopRight, EndsInLoops}

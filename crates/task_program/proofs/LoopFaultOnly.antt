@@ -12,15 +12,17 @@ use Rattle.program_text.specs.declared.limits.TheConstants.{MOST_TEXT_BYTES}
 use Rattle.program_text.specs.Tokens.{Token, texts, tokens_of, line_at_end}
 use Rattle.program_text.specs.Words.{is_number}
 use Rattle.loop_text.specs.Loops.{Tree}
-use Rattle.loop_text.specs.FirstPass.{State, form_fault, step, first_pass, after_header}
-use Rattle.task_program.specs.ReadInVersion.{begins_version_two, then_second, two_passes}
+use Rattle.loop_text.specs.FirstPass.{State, step, first_pass, after_header}
+use Rattle.loop_text.specs.LoopTokens.{form_fault}
+use Rattle.task_program.specs.ReadInVersion.{then_second, two_passes}
+use Rattle.task_program.specs.Versions.{begins_version_two}
 use Rattle.task_program.specs.ReadInVersion.{program_of}
 use Rattle.task_program.specs.LoopGrammar.{IsSpelled}
 use Rattle.task_program.specs.LoopViablePrefix.{IsLoopSentence}
 use Rattle.task_program.specs.FirstLoopFault.{IsLoopMisplaced, IsPastLoopLimit, IsLoopWrong}
 use Rattle.task_program.specs.FirstLoopFault.{IsLoopRight, AreLoopRight, EndsInLoops}
 use Rattle.task_program.specs.FirstLoopFault.{IsFirstLoopFault, IsTreeOf, body_of, HasLoopFault}
-use Rattle.task_program.specs.FirstLoopFault.{IsToldInLoops, LoopFaultIsFirst}
+use Rattle.task_program.specs.FaultsAgree.{IsToldInLoops, LoopFaultIsFirst}
 use Rattle.task_program.specs.FirstLoopFault.IsLoopMisplaced.{AfterWhole, Elsewhere}
 use Rattle.task_program.specs.FirstLoopFault.IsPastLoopLimit.{LargeNumber, DeepBlock}
 use Rattle.task_program.specs.FirstLoopFault.IsLoopWrong.{ByItself, Misplaced, PastLimit}

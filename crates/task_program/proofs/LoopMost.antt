@@ -26,7 +26,8 @@ use Rattle.program_text.specs.Tokens.{Token, texts}
 use Rattle.program_text.specs.Words.{begins_with_digit, is_run, is_text, is_word, is_number}
 use Rattle.program_text.specs.Words.{is_type, value_of}
 use Rattle.loop_text.specs.FirstPass.{State, is_allowed, is_number_too_large, after_at}
-use Rattle.loop_text.specs.FirstPass.{is_plus_or_minus, ends_item}
+use Rattle.loop_text.specs.FirstPass.{ends_item}
+use Rattle.loop_text.specs.LoopTokens.{is_plus_or_minus}
 use Rattle.task_program.specs.FirstLoopFault.{ends_with, ends_with_variable, ends_with_bound}
 use Rattle.task_program.specs.FirstLoopFault.{most_by_last}
 use Rattle.task_program.proofs.FoundPlaces.{same_text}

@@ -1,7 +1,7 @@
 -- The fault of a text of version 1, apart from any reading: the first token at which something is
 -- wrong, and what it is.
-use Rattle.std.specs.Prelude.{◌≡◌, ℕ, ◌<◌, ◌≤◌, ◌↔◌, false, List, [], ◌∷◌, ◌++◌, length, drop}
-use Rattle.std.specs.Prelude.{sum_by, Option, Some, None, Ok, Err, codes}
+use Rattle.std.specs.Prelude.{◌≡◌, ℕ, ◌<◌, ◌≤◌, List, [], ◌∷◌, ◌++◌, length, drop}
+use Rattle.std.specs.Prelude.{sum_by, Option, Some, None, codes}
 use Rattle.program_text.specs.declared.fault.ReadKind.{ReadKind}
 use Rattle.program_text.specs.declared.fault.ReadKind.TheVariants.{TooLong, BadHeader, BadWord}
 use Rattle.program_text.specs.declared.fault.ReadKind.TheVariants.{Unclosed, Unopened}
@@ -9,9 +9,7 @@ use Rattle.program_text.specs.declared.fault.ReadFault.{ReadFault}
 use Rattle.program_text.specs.declared.limits.TheConstants.{MOST_TEXT_BYTES}
 use Rattle.program_text.specs.Tokens.{Token, texts, tokens_of, line_at_end}
 use Rattle.task_program.specs.TokenCounts.{open_braces, limit_fault_after}
-use Rattle.task_program.specs.Faults.{form_fault}
-use Rattle.task_program.specs.ProgramMarks.{ProgramMarks}
-use Rattle.task_program.specs.ReadInVersion.{begins_version_two, program_of}
+use Rattle.task_program.specs.TokenFaults.{form_fault}
 use Rattle.task_program.specs.ViablePrefix.{IsSentence, IsViable}
 
 -- what is wrong with the token by itself after these: a byte of no token, a run of digits and
@@ -102,19 +100,3 @@ pub data HasFault : List ℕ → ReadFault → Type 0 where
       → length text ≤ MOST_TEXT_BYTES
       → IsFirstFault (tokens_of text) (line_at_end 1 text) fault
       → HasFault text fault
-
--- a text without a fault
-pub record IsRightWhole (text : List ℕ) : Type 0 where
-  pub text_fits : length text ≤ MOST_TEXT_BYTES
-  pub sentence : IsSentence (texts (tokens_of text))
-  pub right : AreRight (tokens_of text)
-
--- What is read is a sentence within the limits, each token right, and each such text is read. What
--- is refused has this fault, and no other.
-pub record IsToldApart (text : List ℕ) : Type 0 where
-  pub read : ((program : ProgramMarks) × (program_of text ≡ Ok program)) ↔ IsRightWhole text
-  pub refused : (fault : ReadFault) → (program_of text ≡ Err fault) ↔ HasFault text fault
-
--- the header is not that of version 2
-abbrev pub FaultIsFirst : List ℕ → Type 0
-FaultIsFirst text = begins_version_two (tokens_of text) ≡ false → IsToldApart text

@@ -1,8 +1,8 @@
 -- The fault of a text of version 2, apart from any reading of its tokens: the first of them at
 -- which something is wrong, and what it is; or else the fault of its expansion.
-use Rattle.std.specs.Prelude.{◌≡◌, ℕ, ◌<◌, ◌≤◌, ◌↔◌, Bool, true, false, ◌&&◌, ◌||◌}
+use Rattle.std.specs.Prelude.{◌≡◌, ℕ, ◌<◌, ◌≤◌, Bool, true, false, ◌&&◌, ◌||◌}
 use Rattle.std.specs.Prelude.{if◌then◌else◌, List, [], ◌∷◌, ◌++◌, length, drop, reverse, Option}
-use Rattle.std.specs.Prelude.{Some, None, Ok, Err, codes}
+use Rattle.std.specs.Prelude.{Some, None, codes}
 use Rattle.program_text.specs.declared.fault.ReadKind.{ReadKind}
 use Rattle.program_text.specs.declared.fault.ReadKind.TheVariants.{TooLong, BadWord, BadNumber}
 use Rattle.program_text.specs.declared.fault.ReadKind.TheVariants.{Unclosed, Unopened, TooDeep}
@@ -13,12 +13,9 @@ use Rattle.program_text.specs.Tokens.{Token, texts, tokens_of, line_at_end}
 use Rattle.program_text.specs.Words.{is_text, is_word, is_number, value_of}
 use Rattle.task_program.specs.TokenCounts.{open_braces}
 use Rattle.loop_text.specs.Loops.{Tree}
-use Rattle.loop_text.specs.FirstPass.{form_fault}
+use Rattle.loop_text.specs.LoopTokens.{form_fault}
 use Rattle.task_program.specs.LoopGrammar.{Spelled}
-use Rattle.task_program.specs.ProgramMarks.{ProgramMarks}
-use Rattle.task_program.specs.ReadInVersion.{begins_version_two, program_of}
 use Rattle.task_program.specs.LoopViablePrefix.{IsLoopSentence, IsLoopViable}
-use Rattle.task_program.specs.ExpandsTo.{ExpandsTo}
 use Rattle.task_program.specs.ExpansionFault.{HasExpansionFault}
 
 -- ---- how large a number may be, by the tokens before it, of which the last comes first here
@@ -161,25 +158,3 @@ pub data HasLoopFault : List ℕ → ReadFault → Type 0 where
       → IsTreeOf (body_of text) tree
       → HasExpansionFault tree fault
       → HasLoopFault text fault
-
--- a text without a fault, the expansion of which is this program
-pub record IsRightLoopText (text : List ℕ) (program : ProgramMarks) : Type 0 where
-  pub text_fits : length text ≤ MOST_TEXT_BYTES
-  pub tree : Tree
-  pub whole : IsTreeOf (body_of text) tree
-  pub expanded : ExpandsTo tree program
-
--- What is read is a sentence within the limits, each token right, of which the expansion is the
--- program, and each such text is read. What is refused has this fault, and no other.
-pub record IsToldInLoops (text : List ℕ) : Type 0 where
-  pub read : (program : ProgramMarks)
-      → (program_of text ≡ Ok program) ↔ IsRightLoopText text program
-  pub refused : (fault : ReadFault) → (program_of text ≡ Err fault) ↔ HasLoopFault text fault
-  -- and a sentence of right tokens has a tree
-  pub has_tree : IsLoopSentence (texts (body_of text))
-      → AreLoopRight (body_of text)
-      → (tree : Tree) × IsTreeOf (body_of text) tree
-
--- the header is that of version 2
-abbrev pub LoopFaultIsFirst : List ℕ → Type 0
-LoopFaultIsFirst text = begins_version_two (tokens_of text) ≡ true → IsToldInLoops text

@@ -5,7 +5,7 @@ use Rattle.std.specs.Prelude.{codes}
 use Rattle.std.specs.List.{flat_map, list_any}
 use Rattle.std.specs.Str.{bytes_eq}
 use Rattle.program_text.specs.declared.statement.DependKind.{DependKind}
-use Rattle.loop_text.specs.FirstPass.{is_plus_or_minus}
+use Rattle.loop_text.specs.LoopTokens.{is_plus_or_minus}
 use Rattle.program_text.specs.Words.{is_word, is_number, type_word}
 
 -- ---- how a text is written

@@ -1,0 +1,25 @@
+-- What a text is read as: its tree, or its first fault. No machine is in it.
+use Rattle.std.specs.Prelude.{◌≡◌, ℕ, MatchBool, List, Result, Ok, Err}
+use Rattle.program_text.specs.declared.fault.ReadFault.{ReadFault}
+use Rattle.program_text.specs.Tokens.{tokens_of}
+use Rattle.task_program.specs.ProgramMarks.{ProgramMarks}
+use Rattle.task_program.specs.Versions.{begins_version_two}
+use Rattle.task_program.specs.Trees.{HasTree}
+use Rattle.task_program.specs.FirstFault.{HasFault}
+use Rattle.task_program.specs.FirstLoopFault.{HasLoopFault}
+
+-- the first fault of a text, in the version that its header tells
+abbrev pub HasFirstFault : List ℕ → ReadFault → Type 0
+HasFirstFault text fault =
+    MatchBool (begins_version_two (tokens_of text)) (HasLoopFault text fault) (HasFault text fault)
+
+-- its tree, or its first fault
+abbrev pub IsReading : List ℕ → Result ProgramMarks ReadFault → Type 0
+IsReading text (Ok program) = HasTree text program
+IsReading text (Err fault) = HasFirstFault text fault
+
+-- each text is read as one thing, and as no other
+pub record HasOneReading (text : List ℕ) : Type 0 where
+  pub reading : Result ProgramMarks ReadFault
+  pub is_reading : IsReading text reading
+  pub one : (other : Result ProgramMarks ReadFault) → IsReading text other → other ≡ reading
