@@ -225,7 +225,7 @@ start:  /* Crew::run_segments, then the kernel */
     atomic { !locked -> computes[me] = true; at = 0; lane = 0; passed = 0 };
 
 kernel:
-    /* crew.rt: let outcome = match compute(self.kernel, self.gate, job) { */
+    /* crew.rt: let outcome = match self.gated.compute(job) { */
     if
     :: d_step { computes[me] = false }
     :: d_step { faults > 0 -> faults--; computes[me] = false };
