@@ -1,0 +1,99 @@
+"""Compiles a program, runs it with the recorder, and has spanprof replay its run."""
+import glob
+import os
+import subprocess
+from dataclasses import dataclass
+
+SECONDS = 60  # for one run
+
+
+@dataclass
+class Tools:
+    """Where things are."""
+    recorder: str
+    spanprof: list
+    llvm: str = "16"
+
+    @property
+    def library(self):
+        return "/usr/lib/llvm-%s/lib" % self.llvm
+
+
+@dataclass
+class Run:
+    """What one run left: its exit status, the processor time that it printed, and its texts by name."""
+    status: object
+    nanoseconds: int
+    texts: dict
+    said: str
+
+
+class Refused(Exception):
+    """The compiler refused the program."""
+
+
+def compile_words(tools, compiler, source, program):
+    """So that each call keeps the line of its directive: without tail calls, and no two calls made one."""
+    common = ["-g", "-fopenmp", "-o", program, "-x", "c++" if compiler.endswith("++") else "c", source]
+    if not compiler.startswith("clang"):
+        return [compiler, "-O0"] + common
+    words = [compiler + "-" + tools.llvm, "-O1", "-fno-optimize-sibling-calls", "-fopenmp-version=51",
+             "-L" + tools.library, "-Wl,-rpath," + tools.library]
+    for option in ("simplifycfg-sink-common=false", "simplifycfg-hoist-common=false", "enable-tail-merge=0"):
+        words += ["-mllvm", "-" + option]
+    return words + common
+
+
+def build(tools, compiler, source, program):
+    done = subprocess.run(compile_words(tools, compiler, source, program), capture_output=True, text=True)
+    if done.returncode:
+        raise Refused(done.stderr.strip().split("\n")[0])
+
+
+def environment(tools, drawn, threads, folder, is_recorded):
+    out = dict(os.environ, OMP_NUM_THREADS=str(threads), OMP_MAX_ACTIVE_LEVELS="4", OMP_DYNAMIC="false",
+               OMP_WAIT_POLICY="passive", KMP_TASKLOOP_MIN_TASKS="100000")
+    if is_recorded:
+        out.update(OMP_TOOL_LIBRARIES=tools.recorder, SPANPROF_OUT=os.path.join(folder, "out"),
+                   SPANPROF_CLOCK=drawn.clock, SPANPROF_REGIONS="1000")
+    if drawn.compiler in ("gcc", "g++"):
+        out["LD_PRELOAD"] = tools.library + "/libomp.so.5"
+    return out
+
+
+def read_texts(folder):
+    texts = {}
+    for path in glob.glob(os.path.join(folder, "out*.tasks")):
+        with open(path, encoding="utf-8") as file:
+            texts[os.path.basename(path)[:-6]] = file.read()
+    return texts
+
+
+def run(tools, drawn, threads, program, folder, is_recorded=True):
+    """Runs the program once; earlier recordings of the folder are removed."""
+    for path in glob.glob(os.path.join(folder, "out*")):
+        os.remove(path)
+    try:
+        done = subprocess.run([program, str(threads)], capture_output=True, text=True, timeout=SECONDS,
+                              env=environment(tools, drawn, threads, folder, is_recorded))
+    except subprocess.TimeoutExpired:
+        return Run("no end after %d seconds" % SECONDS, 0, {}, "")
+    printed = done.stdout.strip()
+    return Run(done.returncode, int(printed) if printed.isdigit() else 0, read_texts(folder), done.stderr)
+
+
+def replay(tools, folder, name):
+    """What spanprof says of the recorded run: words where it is not whole or not legal, else nothing."""
+    path = os.path.join(folder, name + ".replay")
+    if not os.path.exists(path):
+        return "no replay document"
+    with open(path, "rb") as file:
+        done = subprocess.run(tools.spanprof + ["replay"], stdin=file, capture_output=True, text=True)
+    if done.returncode:
+        return done.stdout.strip()
+    with open(path, encoding="utf-8") as file:
+        span = subprocess.run(tools.spanprof + ["span"], input=file.read().split("\n---\n")[0] + "\n",
+                              capture_output=True, text=True)
+    segments = int(span.stdout.split()[1])
+    events, finished = [int(line.split()[1]) for line in done.stdout.split("\n")[:2]]
+    return "" if (events, finished) == (2 * segments, segments) else "%d of %d segments finished" % (finished, segments)

@@ -1,0 +1,89 @@
+"""Runs a drawn program and tells what is wrong with its recording."""
+import os
+from collections import Counter
+
+import toolchain
+from compare import difference
+from expect import regions, shape
+from recorded import read
+from structure import every_node, has_tasks, total
+from write_c import write_c
+
+
+def hide_lines(shape_of_region):
+    for phase in shape_of_region.phases:
+        for piece in phase:
+            for node in every_node(piece.body):
+                node.is_hidden = True
+
+
+def shapes_of(drawn, threads):
+    """The shape of each text that must be written, by the line of its region, with how often."""
+    out = {}
+    for region, times, outer in regions(drawn.statements, threads):
+        one = shape(region, threads)
+        if drawn.compiler in ("gcc", "g++"):
+            hide_lines(one)
+        if times and any(has_tasks(piece.body) for phase in one.phases for piece in phase):
+            out[region.line] = (one, times, outer)
+    return out
+
+
+def texts_difference(shapes, texts):
+    """What is wrong with the texts of a run; nothing where all is right."""
+    found = {name: read(text) for name, text in texts.items()}
+    counts = Counter(text.line for text in found.values())
+    for line, (_, times, _) in shapes.items():
+        if counts[line] != times:
+            return "%d texts of the region of line %d, which is executed %d times" % (counts[line], line, times)
+    for name, text in sorted(found.items()):
+        if text.line not in shapes:
+            return "%s is of no region with tasks" % name
+        told = difference(shapes[text.line][0], text)
+        if told:
+            return "%s: %s" % (name, told)
+    return ""
+
+
+def costs_difference(drawn, shapes, texts, nanoseconds):
+    """Regions that stand in no other one cost no more processor time than the whole program."""
+    if drawn.clock != "cpu":
+        return ""
+    found = [read(text) for text in texts.values()]
+    work = sum(total(body) for text in found if shapes[text.line][2] for bodies in text.phases for body in bodies)
+    return "work %d, and the program took %d" % (work, nanoseconds) if work > nanoseconds else ""
+
+
+def fails_without_recorder(tools, drawn, threads, program, folder, tries=10):
+    return any(toolchain.run(tools, drawn, threads, program, folder, False).status != 0 for _ in range(tries))
+
+
+def judge_run(tools, drawn, threads, program, folder):
+    """One run: ("right", ""), or what kind of fault and which."""
+    run = toolchain.run(tools, drawn, threads, program, folder)
+    if run.status != 0:
+        if fails_without_recorder(tools, drawn, threads, program, folder):
+            return "runtime", "the program fails without the recorder too"
+        return "wrong", "the program fails: %s: %s" % (run.status, run.said.strip().split("\n")[-1])
+    shapes = shapes_of(drawn, threads)
+    told = texts_difference(shapes, run.texts) or costs_difference(drawn, shapes, run.texts, run.nanoseconds)
+    if told:
+        return "wrong", told
+    for name in sorted(run.texts):
+        told = toolchain.replay(tools, folder, name)
+        if told:
+            return "refused", "%s.replay: %s" % (name, told)
+    return "right", ""
+
+
+def judge(tools, drawn, folder, runs=1):
+    """Compiles and runs a program on its numbers of threads: the first fault, and on how many threads."""
+    source, program = os.path.join(folder, "region.c"), os.path.join(folder, "region")
+    with open(source, "w", encoding="utf-8") as file:
+        file.write(write_c(drawn.statements))
+    toolchain.build(tools, drawn.compiler, source, program)
+    for threads in drawn.threads * runs:
+        verdict, told = judge_run(tools, drawn, threads, program, folder)
+        if verdict != "right":
+            return verdict, "%s on %d threads: %s" % (drawn.compiler, threads, told)
+    return "right", ""
