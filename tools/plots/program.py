@@ -1,27 +1,37 @@
 """A program text as segments, each with the place in the source that its comments tell, and what spanprof answers.
 
-The environment's SPANPROF is the program (crates/spanprof/out/spanprof); it may be several words.
+SPANPROF in the environment is the program, and may be several words. Without it the program is looked for on the PATH,
+and then in the repository.
 """
 import os
 import re
 import shlex
+import shutil
 import signal
 import subprocess
 import sys
 
 signal.signal(signal.SIGPIPE, signal.SIG_DFL)  # so that `| head` ends it quietly
 
-PROGRAM = shlex.split(os.environ.get("SPANPROF", "crates/spanprof/out/spanprof"))
+TOP = os.path.dirname(os.path.dirname(os.path.dirname(os.path.abspath(__file__))))
+IN_REPOSITORY = os.path.join(TOP, "crates", "spanprof", "out", "spanprof")
+
+
+def spanprof():
+    """The words that start the program."""
+    return shlex.split(os.environ.get("SPANPROF", "")) or [shutil.which("spanprof") or IN_REPOSITORY]
 
 
 def ask(words, text):
     """What spanprof prints for these words and this input."""
+    program = spanprof()
     try:
-        done = subprocess.run(PROGRAM + list(words), input=text, capture_output=True, text=True)
-    except FileNotFoundError:
-        sys.exit("%s is not there; set SPANPROF to the program" % PROGRAM[0])
+        done = subprocess.run(program + list(words), input=text, capture_output=True, text=True)
+    except OSError as error:
+        where = "SPANPROF" if os.environ.get("SPANPROF") else "spanprof is not on the PATH, and in the repository"
+        sys.exit("%s: %s: %s; README.md tells how it is built" % (where, program[0], error.strerror))
     if done.returncode:
-        sys.exit("%s: %s" % (words[0], done.stdout.strip()))
+        sys.exit("spanprof %s: %s" % (words[0], done.stdout.strip()))
     return done.stdout
 
 
@@ -39,7 +49,8 @@ class Segment:
     def place(self):
         """Where its code stands: the construct that it follows, or the task that it begins."""
         if self.after:
-            return "after %s at %s" % (self.after, self.after_place) if self.after_place else "after a %s" % self.after
+            after = "after " + self.after if self.after_place or " " in self.after else "after a " + self.after
+            return after + " at " + self.after_place if self.after_place else after
         if self.task == 0:
             return "the beginning"
         return "task at %s" % self.task_place if self.task_place else "a task"
@@ -99,7 +110,10 @@ def predecessors(text, count):
 
 def read(path):
     """The program text in a file; of a replay document or certificate the part before its mark."""
-    with open(path, encoding="utf-8", errors="replace", newline="") as file:
-        text = re.split(r"(?m)^---\r?$", file.read())[0]
+    try:
+        with open(path, encoding="utf-8", errors="replace", newline="") as file:
+            text = re.split(r"(?m)^---\r?$", file.read())[0]
+    except OSError as error:
+        sys.exit("%s: %s" % (path, error.strerror))
     ask(["span"], text)  # ends here where it is no program
     return text

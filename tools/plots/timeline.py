@@ -1,20 +1,18 @@
 #!/usr/bin/env python3
-"""A run on threads as a picture: a row for each thread, a bar for each segment, the critical path with a dark rim.
+"""The greedy run on some threads as a picture: a row for each thread, a bar for each segment, the critical path dark.
 
-    spanprof greedy --threads 4 < PROGRAM.tasks | timeline.py PROGRAM.tasks PICTURE.png    (or .svg)
-Colours tell the task construct that a segment belongs to. SPANPROF names the program (crates/spanprof/out/spanprof).
+    timeline.py --threads 4 PROGRAM.tasks PICTURE.png    (or .svg)
+Colours tell the task construct that a segment belongs to. SPANPROF may name the program.
 """
+import argparse
 import sys
 
-import matplotlib
-
-matplotlib.use("Agg")
-import matplotlib.pyplot as plot
-from matplotlib.patches import Patch
-
+from head import read_head, said
+from pictures import plot, save
 from program import ask, read, rows, segments
 
 MOST_COLOURS = 9
+THINNEST_WITH_RIM = 1 / 400  # of the run; a thinner bar would be its rim alone
 
 
 class Bar:
@@ -26,51 +24,77 @@ class Bar:
         self.name = code[number].task_place or ("a task" if code[number].task else "the root")
         self.is_critical = number in chain
 
+    @property
+    def length(self):
+        return self.end - self.start
 
-def read_bars(text, table):
+
+def read_bars(text, threads):
     code = segments(text)
     chain = {int(row["segment"]) for row in rows(ask(["slack"], text)) if row["chain"] == "1"}
-    return [Bar(row, code, chain) for row in rows(table) if row["thread"]]
+    table = rows(ask(["greedy", "--threads", str(threads)], text))
+    return [Bar(row, code, chain) for row in table if row["thread"]]
 
 
 def colours(bars):
     """A colour for each name, in the order of the costs; the last ones share one."""
     costs = {}
     for bar in bars:
-        costs[bar.name] = costs.get(bar.name, 0) + bar.end - bar.start
+        costs[bar.name] = costs.get(bar.name, 0) + bar.length
     names = sorted(costs, key=lambda name: -costs[name])
     return {name: "C%d" % i if i < MOST_COLOURS else "lightgrey" for i, name in enumerate(names)}
 
 
 def draw(axes, bars, colour, rim, width):
-    axes.barh([bar.thread for bar in bars], [bar.end - bar.start for bar in bars], left=[bar.start for bar in bars],
+    axes.barh([bar.thread for bar in bars], [bar.length for bar in bars], left=[bar.start for bar in bars],
               height=.78, color=[colour[bar.name] for bar in bars], edgecolor=rim, linewidth=width)
 
 
-def main():
-    if len(sys.argv) != 3:
-        sys.exit(__doc__)
-    bars = read_bars(read(sys.argv[1]), sys.stdin.read())
-    if not bars:
-        sys.exit("no segment of this run takes time")
-    colour = colours(bars)
-    threads, last = 1 + max(bar.thread for bar in bars), max(bar.end for bar in bars)
+def draw_all(axes, bars, colour, last):
+    """Bars that are thin have no rim, since rims alone would be seen; the path has a dark line below its bars."""
+    wide = [bar for bar in bars if bar.length >= last * THINNEST_WITH_RIM]
+    draw(axes, [bar for bar in bars if bar.length < last * THINNEST_WITH_RIM], colour, "none", 0)
+    draw(axes, wide, colour, "white", .2)
+    for bar in bars:
+        if bar.is_critical:
+            axes.plot([bar.start, bar.end], [bar.thread + .39] * 2, color="black", linewidth=2, solid_capstyle="butt")
+
+
+def title(bars, threads, last, text):
+    busy = sum(bar.length for bar in bars) / (threads * last)
+    words = ["%d thread%s, end %d, %.0f %% busy" % (threads, "s" * (threads > 1), last, 100 * busy)]
+    return "\n".join(words + said(text))
+
+
+def picture(text, threads, bars):
+    colour, last = colours(bars), max(bar.end for bar in bars)
     figure, axes = plot.subplots(figsize=(9, 1.2 + .38 * threads), dpi=110)
-    draw(axes, [bar for bar in bars if not bar.is_critical], colour, "white", .2)
-    draw(axes, [bar for bar in bars if bar.is_critical], colour, "black", 1)
-    busy = sum(bar.end - bar.start for bar in bars) / (threads * last)
-    axes.set_title("%d threads, end %d, %.0f %% busy" % (threads, last, 100 * busy), fontsize=10)
-    axes.set_yticks(range(threads))
+    draw_all(axes, bars, colour, last)
+    axes.set_title(title(bars, threads, last, text), fontsize=10)
+    axes.set_yticks(range(0, threads, 1 + threads // 20))
     axes.set_ylabel("thread")
-    axes.set_xlabel("time, in the unit of the costs")
-    axes.invert_yaxis()
+    axes.set_xlabel("time, in " + read_head(text).unit_of_costs)
+    axes.set_ylim(threads - .5, -.5)
     axes.set_xlim(0, last)
     axes.ticklabel_format(axis="x", style="plain", useOffset=False)
-    marks = [Patch(color=colour[name], label=name) for name in list(colour)[:MOST_COLOURS]]
-    marks.append(Patch(facecolor="white", edgecolor="black", label="critical path"))
+    marks = [plot.Rectangle((0, 0), 1, 1, color=colour[name], label=name) for name in list(colour)[:MOST_COLOURS]]
+    marks.append(plot.Line2D([], [], color="black", linewidth=2, label="critical path"))
     below = (.5, -.3 * 4 / (threads + 1.5) - .05)
     axes.legend(handles=marks, fontsize=8, loc="upper center", bbox_to_anchor=below, ncol=4, frameon=False)
-    figure.savefig(sys.argv[2], bbox_inches="tight")
+    return figure
+
+
+def main():
+    words = argparse.ArgumentParser(description=__doc__, formatter_class=argparse.RawDescriptionHelpFormatter)
+    words.add_argument("--threads", type=int, required=True, help="1 to 1024")
+    words.add_argument("program", metavar="PROGRAM.tasks")
+    words.add_argument("picture", metavar="PICTURE.png")
+    chosen = words.parse_args()
+    text = read(chosen.program)
+    bars = read_bars(text, chosen.threads)
+    if not bars:
+        sys.exit("no segment of this run takes time")
+    save(picture(text, chosen.threads, bars), chosen.picture, bbox_inches="tight")
 
 
 main()
