@@ -34,7 +34,7 @@ def commands(path):
 
 
 def can_run(command, folder):
-    if re.match(r"(make|export|clang|gcc|[A-Z_]+=)", command):
+    if re.match(r"(make|export|mkdir|for|clang|gcc|[A-Z_]+=)", command):
         return False
     words = re.split(r"[\s|]+", command.partition("-T")[0])
     texts = [word for word in words if word.endswith((".tasks", ".replay"))]
