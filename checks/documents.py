@@ -67,7 +67,7 @@ def main():
                 print("left out:", command)
                 continue
             done = subprocess.run(["bash", "-c", command], cwd=folder, env=environment, capture_output=True, text=True)
-            if "No module named 'matplotlib'" in done.stderr or "dot: command not found" in done.stderr:
+            if "has no matplotlib" in done.stderr or "Graphviz's dot is missing" in done.stderr:
                 print("left out:", command)
             elif done.stdout != expected or done.stderr:
                 wrong += 1
