@@ -34,7 +34,7 @@ def commands(path):
 
 
 def can_run(command, folder):
-    if re.match(r"(make|export|clang|gcc|[A-Z_]+=)", command):
+    if re.match(r"(make|export|mkdir|for|clang|gcc|[A-Z_]+=)", command):
         return False
     words = re.split(r"[\s|]+", command.partition("-T")[0])
     texts = [word for word in words if word.endswith((".tasks", ".replay"))]
@@ -67,7 +67,7 @@ def main():
                 print("left out:", command)
                 continue
             done = subprocess.run(["bash", "-c", command], cwd=folder, env=environment, capture_output=True, text=True)
-            if "No module named 'matplotlib'" in done.stderr or "dot: command not found" in done.stderr:
+            if "has no matplotlib" in done.stderr or "Graphviz's dot is missing" in done.stderr:
                 print("left out:", command)
             elif done.stdout != expected or done.stderr:
                 wrong += 1
