@@ -1,0 +1,102 @@
+"""A program text with what spanprof answers of it. Each command is run once, when its answer is first needed."""
+import os
+from dataclasses import dataclass
+from functools import cached_property
+
+import program
+from report.head import read_head
+
+THREADS_WITHOUT_RECORDING = 4
+LONGEST_CURVE = 64
+
+
+@dataclass
+class Row:
+    """A segment's row of `slack`."""
+    cost: int
+    task: int
+    start: int
+    slack: int
+    critical: bool
+
+
+def named_numbers(lines):
+    """`work 11` and the like."""
+    pairs = (line.split() for line in lines.split("\n") if line)
+    return {name: int(value) for name, value in pairs}
+
+
+class Answers:
+    def __init__(self, path, threads=None):
+        self.path = path
+        self.name = os.path.basename(path)
+        self.text = program.read(path)
+        self.head = read_head(self.text)
+        self.code = program.segments(self.text)
+        self.asked = []
+        self.wanted_threads = threads
+
+    def ask(self, *words):
+        shown = " ".join(words[:3]) + (" .." if len(words) > 3 else "")
+        self.asked.append("spanprof %s < %s" % (shown, self.name))
+        return program.ask(words, self.text)
+
+    @cached_property
+    def span_numbers(self):
+        return named_numbers(self.ask("span"))
+
+    @property
+    def work(self):
+        return self.span_numbers["work"]
+
+    @property
+    def span(self):
+        return self.span_numbers["span"]
+
+    @cached_property
+    def rows(self):
+        """Of each segment what `slack` tells."""
+        table = [Row(int(row["cost"]), int(row["task"]), int(row["start"]), int(row["slack"]), row["chain"] == "1")
+                 for row in program.rows(self.ask("slack"))]
+        assert [row.task for row in table] == [segment.task for segment in self.code], "the text was read otherwise"
+        return table
+
+    @cached_property
+    def path_segments(self):
+        return [s for s, row in enumerate(self.rows) if row.critical]
+
+    @cached_property
+    def tasks(self):
+        """How many tasks there are beside the root."""
+        return max(row.task for row in self.rows)
+
+    @property
+    def threads(self):
+        """Those asked for, or recorded; at most what `greedy` takes."""
+        return min(self.wanted_threads or self.head.threads or THREADS_WITHOUT_RECORDING, 1024)
+
+    @cached_property
+    def curve(self):
+        """Of each number of threads, from 1 on, the numbers of its row."""
+        enough = 2 * max(self.threads, self.work // max(self.span, 1))
+        upto = max(self.threads, min(LONGEST_CURVE, max(16, enough)))
+        return {int(row["threads"]): {key: int(value) for key, value in row.items()}
+                for row in program.rows(self.ask("curve", "--upto", str(upto)))}
+
+    @cached_property
+    def greedy(self):
+        """Of each segment its start and thread in the greedy run; the thread is None where it needs none."""
+        table = program.rows(self.ask("greedy", "--threads", str(self.threads)))
+        return [(int(row["start"]), int(row["thread"]) if row["thread"] else None) for row in table]
+
+    @cached_property
+    def predecessors(self):
+        self.asked.append("spanprof replay < %s and all segments in their order" % self.name)
+        return program.predecessors(self.text, len(self.code))
+
+    def what_if(self, changes):
+        """Work, span and the span before, where `changes` gives segments other costs."""
+        if not changes:
+            return {"work": self.work, "span": self.span, "was": self.span}
+        words = ["%d=%d" % change for change in sorted(changes.items())]
+        return named_numbers(self.ask("whatif", *words))

@@ -1,0 +1,85 @@
+"""What the comments before a text's first token tell of its recording."""
+import re
+from dataclasses import dataclass, field
+from typing import Dict, List, Optional
+
+
+@dataclass
+class Head:
+    program: str = ""
+    region: str = ""        # the place of the parallel region
+    date: str = ""
+    threads: Optional[int] = None
+    clock: str = ""         # wall or cpu
+    unit: str = ""          # of the costs; empty where they are declared and not measured
+    elapsed: Optional[int] = None
+    division: Dict[str, int] = field(default_factory=dict)  # the whole program's time, by where it passed
+    remarks: List[str] = field(default_factory=list)
+    locks: List[str] = field(default_factory=list)
+
+    @property
+    def is_measured(self):
+        return bool(self.unit)
+
+
+DIVISION = ("outside regions", "in parts without tasks", "in tasks")
+
+
+def comments(text):
+    """The comments that stand before the first token, without their marks."""
+    for line in text.split("\n"):
+        words = line.strip()
+        if words and not words.startswith("#"):
+            return
+        if words:
+            yield words[1:].strip()
+
+
+def read_recorded(head, words):
+    """`recorded: from sort, 2026-11-24 00:10:02, threads 4, clock cpu, unit us`."""
+    for part in words.split(", "):
+        name, _, value = part.strip().partition(" ")
+        if name == "from":
+            head.program = value
+        elif name == "threads" and value.isdigit():
+            head.threads = int(value)
+        elif name in ("clock", "unit", "region"):
+            setattr(head, name, value)
+        elif re.match(r"\d{4}-\d\d-\d\d", part):
+            head.date = part.strip()
+
+
+def read_sentence(head, words):
+    """The two sentences of older recordings."""
+    recorded = re.match(r"recorded from (\S+), the parallel region(?: at (\S+))?, on (\d+) thread", words)
+    if recorded:
+        head.program, head.region, head.threads = recorded[1], recorded[2] or "", int(recorded[3])
+    measured = re.match(r"measured costs in (.+) of (processor|wall) time", words)
+    if measured:
+        head.unit, head.clock = measured[1], "cpu" if measured[2] == "processor" else "wall"
+
+
+def read_line(head, words):
+    name, colon, value = words.partition(": ")
+    first = re.match(r"\d+", value)
+    if not colon:
+        read_sentence(head, words)
+    elif name == "recorded":
+        read_recorded(head, value)
+    elif name == "elapsed" and first:
+        head.elapsed = int(first[0])
+    elif name in DIVISION and first:
+        head.division[name] = int(first[0])
+    elif name == "region":
+        head.region = value
+    elif name == "remark":
+        head.remarks.append(value)
+    elif name.startswith("lock "):
+        head.locks.append("%s: %s" % (name[len("lock "):], value))
+
+
+def read_head(text):
+    head = Head()
+    for words in comments(text):
+        read_line(head, words)
+    return head

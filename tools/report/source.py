@@ -1,0 +1,48 @@
+"""Lines of the source that a place names, such as `sort.c:33`, where the file is found."""
+import os
+import re
+
+MOST_ENTRIES = 20000  # of the folders that are searched
+
+
+def files_below(folders):
+    """The paths of each file name, in these folders and those below them; hidden ones are passed over."""
+    found, entries = {}, 0
+    for folder in folders:
+        for where, below, names in os.walk(folder):
+            below[:] = sorted(name for name in below if not name.startswith("."))
+            for name in names:
+                found.setdefault(name, set()).add(os.path.realpath(os.path.join(where, name)))
+            entries += len(names) + len(below)
+            if entries > MOST_ENTRIES:
+                return found
+    return found
+
+
+class Sources:
+    """The lines of the files below some folders. A name that two files have is not guessed at."""
+
+    def __init__(self, folders):
+        self.folders = folders
+        self.files = None
+        self.lines = {}
+
+    def read(self, name):
+        if self.files is None:
+            self.files = files_below(self.folders)
+        paths = self.files.get(name, set())
+        if len(paths) != 1:
+            return []
+        with open(next(iter(paths)), encoding="utf-8", errors="replace") as file:
+            return file.read().split("\n")
+
+    def line(self, place):
+        """The line that a place names, or nothing."""
+        named = re.search(r"([^\s:/]+):(\d+)(?:,|$|\s)", place)
+        if not named:
+            return ""
+        name, number = named[1], int(named[2])
+        if name not in self.lines:
+            self.lines[name] = self.read(name)
+        lines = self.lines[name]
+        return lines[number - 1].strip() if 0 < number <= len(lines) else ""
