@@ -2,8 +2,18 @@
 from dataclasses import dataclass, field
 from typing import Dict, List, Tuple
 
-GAP, LAYER_GAP, SWEEPS = 22, 46, 12
-BEND_WIDTH = 12  # of a place where an edge passes a layer
+SWEEPS = 12
+
+
+@dataclass
+class Distances:
+    """Between the boxes of a layer, between layers, and how wide the place is where an edge passes a layer."""
+    gap: float = 22
+    layer_gap: float = 46
+    bend: float = 12
+
+
+FOR_LABELS = Distances(gap=60, layer_gap=72, bend=110)
 
 
 @dataclass
@@ -65,45 +75,46 @@ def order(rows, up, down):
             place.update((name, i) for i, name in enumerate(row))
 
 
-def spread(row, wanted, widths):
+def spread(row, wanted, widths, gap):
     """Positions near the wanted ones, in this order and without an overlap."""
     x, right = {}, None
     for name in row:
         left = wanted[name] - widths[name] / 2
-        left = left if right is None else max(left, right + GAP)
+        left = left if right is None else max(left, right + gap)
         x[name] = left + widths[name] / 2
         right = left + widths[name]
     shift = mean([wanted[name] - x[name] for name in row])
     return {name: value + shift for name, value in x.items()}
 
 
-def positions(rows, up, down, widths):
+def positions(rows, up, down, widths, gap):
     x = {}
     for row in rows:
-        x.update(spread(row, dict.fromkeys(row, 0), widths))
+        x.update(spread(row, dict.fromkeys(row, 0), widths, gap))
     for sweep in range(SWEEPS):
         joined, turn = (up, rows) if sweep % 2 == 0 else (down, rows[::-1])
         for row in turn:
             wanted = {name: mean([x[n] for n in joined[name]]) if name in joined else x[name] for name in row}
-            x.update(spread(row, wanted, widths))
+            x.update(spread(row, wanted, widths, gap))
     return x
 
 
-def lay_out(names, edges, sizes):
+def lay_out(names, edges, sizes, labelled=False):
     """`edges` are pairs that go forward in the list `names`; `sizes` are width and height of each box."""
+    distances = FOR_LABELS if labelled else Distances()
     layer = layers_of(names, edges)
     rows, routes = with_bends(names, edges, layer)
     up, down = neighbours(routes)
     order(rows, up, down)
-    widths = {name: sizes[name][0] if name in sizes else BEND_WIDTH for row in rows for name in row}
-    x = positions(rows, up, down, widths)
+    widths = {name: sizes[name][0] if name in sizes else distances.bend for row in rows for name in row}
+    x = positions(rows, up, down, widths, distances.gap)
     out, top = Layout(routes=routes), 0
     left = min((x[name] - widths[name] / 2 for name in x), default=0)
     for row in rows:
         tallest = max(sizes[name][1] for name in row if name in sizes)
         for name in row:
             out.x[name], out.y[name] = x[name] - left, top + tallest / 2
-        top += tallest + LAYER_GAP
+        top += tallest + distances.layer_gap
     out.width = max((out.x[name] + widths[name] / 2 for name in x), default=0)
-    out.height = top - LAYER_GAP
+    out.height = top - distances.layer_gap
     return out

@@ -1,6 +1,6 @@
 """Two programs side by side: their numbers, and where their work and span differ."""
-from report.figures import PROVED, RECORDED, badges, grouped, number, percent, share, times
-from report.markup import Markup, join, note, section, tag
+from report.figures import MEASURED, PROVED, RECORDED, number, percent, share, times
+from report.markup import join, note, section
 from report.tables import place_cell, table
 
 MOST_PLACES = 30
@@ -11,18 +11,17 @@ def change(before, after):
     if before == after:
         return "the same"
     more = percent(after - before, before)
-    return "%+.1f %%" % more if before else "new"
+    return ("%+.1f %%" % more).replace("-", "−") if before else "new"
 
 
 def lines(views):
     """Name, values, source and kind of each row."""
     first, second = (view.answers for view in views)
-    kind = views[0].cost_kind
     out = [("work", first.work, second.work, "span work", PROVED), ("span", first.span, second.span, "span span", PROVED),
            ("tasks", first.tasks, second.tasks, "tasks", RECORDED),
            ("segments", first.span_numbers["segments"], second.span_numbers["segments"], "span segments", RECORDED)]
     if first.head.elapsed and second.head.elapsed:
-        out.append(("elapsed", first.head.elapsed, second.head.elapsed, "elapsed", kind))
+        out.append(("elapsed", first.head.elapsed, second.head.elapsed, "elapsed", MEASURED))
     for threads in (2, 4, 8, 16, 32):
         if threads in first.curve and threads in second.curve:
             out.append(("greedy run on %d threads" % threads, first.curve[threads]["end"],
@@ -40,16 +39,40 @@ def numbers(views):
     return table(["", first.name, second.name, "second to first"], rows, numeric=range(1, 4))
 
 
-def place_numbers(views):
-    """Each place of either program: its cost and its part of the path in both."""
-    found = {}
-    for i, view in enumerate(views):
-        for place in view.places:
-            found.setdefault(place.name, [None, None])[i] = place
+def kind_and_line(view, place):
+    """What a place is, whatever its file and number: the construct, and the line of the source that stands there."""
+    line = view.sources.line(place.name)
+    return (place.name.rpartition(" at ")[0], line) if line else None
+
+
+def partners(views):
+    """Of the second program's places those that stand for one of the first: by name, or else by kind and line."""
+    names = {place.name for place in views[0].places}
+    left = {}
+    for place in views[0].places:
+        left.setdefault(kind_and_line(views[0], place), []).append(place.name)
+    out = {}
+    for place in views[1].places:
+        alike = left.get(kind_and_line(views[1], place), [])
+        is_alone = len(alike) == 1 and kind_and_line(views[1], place) is not None
+        out[place.name] = place.name if place.name in names or not is_alone else alike[0]
+    return out
+
+
+def side_by_side(views):
+    """Each place of either program, the greatest part of a span or of work first."""
+    pairs, partner = {place.name: [place, None] for place in views[0].places}, partners(views)
+    for place in views[1].places:
+        pair = pairs.setdefault(partner[place.name], [None, None])
+        if pair[1]:
+            pairs[place.name] = [None, place]
+        else:
+            pair[1] = place
+
     def weight(pair):
-        return -max(percent(place.critical_cost, view.answers.span) + percent(place.cost, view.answers.work)
-                    for view, place in zip(views, pair) if place)
-    return sorted(found.items(), key=lambda item: (weight(item[1]), item[0]))
+        return max(percent(place.critical_cost, view.answers.span) + percent(place.cost, view.answers.work)
+                   for view, place in zip(views, pair) if place)
+    return sorted(pairs.values(), key=weight, reverse=True)
 
 
 def place_cells(view, place, other):
@@ -60,12 +83,16 @@ def place_cells(view, place, other):
             share(place.critical_cost, view.answers.span, named + "path / span span", view.cost_kind)]
 
 
+def pair_name(views, pair):
+    """The place, or both where they have different names."""
+    names = list(dict.fromkeys(place.name for place in pair if place))
+    line = next(view.sources.line(place.name) for view, place in zip(views, pair) if place)
+    return place_cell(" / ".join(names), line)
+
+
 def by_place(views):
-    rows = []
-    for name, pair in place_numbers(views)[:MOST_PLACES]:
-        line = next((view.sources.line(name) for view, place in zip(views, pair) if place), "")
-        rows.append([place_cell(name, line), *place_cells(views[0], pair[0], ""),
-                     *place_cells(views[1], pair[1], "other ")])
+    rows = [[pair_name(views, pair), *place_cells(views[0], pair[0], ""), *place_cells(views[1], pair[1], "other ")]
+            for pair in side_by_side(views)[:MOST_PLACES]]
     first, second = (view.answers.name for view in views)
     heads = ["place", "cost: " + first, "of its span", "cost: " + second, "of its span"]
     return table(heads, rows, numeric=range(1, 5), is_sortable=True)

@@ -36,11 +36,10 @@ def step_of(most):
 def grid(axes):
     pieces = []
     step = step_of(axes.most_threads)
-    for threads in [1] + list(range(step, axes.most_threads + 1, step)):
-        if threads > 1 or step > 1 or axes.most_threads == 1 or threads == 1:
-            x = axes.x(threads)
-            pieces.append(tag("line", x1=x, x2=x, y1=axes.y(0), y2=TOP, class_="grid"))
-            pieces.append(tag("text", threads, x=x, y=axes.y(0) + 17, text_anchor="middle"))
+    for threads in sorted({1, *range(step, axes.most_threads + 1, step)}):
+        x = axes.x(threads)
+        pieces.append(tag("line", x1=x, x2=x, y1=axes.y(0), y2=TOP, class_="grid"))
+        pieces.append(tag("text", threads, x=x, y=axes.y(0) + 17, text_anchor="middle"))
     step = step_of(axes.most_times)
     for speed_up in range(0, int(axes.most_times) + 1, step):
         y = axes.y(speed_up)
@@ -107,7 +106,7 @@ def legend(views):
         items.append(tag("span", tag("i", class_="key area" + colour),
                          name + "from what every greedy run reaches to what no run passes"))
         if view.reached:
-            items.append(tag("span", tag("i", class_="key diamond" + colour), name + view.reached.words))
+            items.append(tag("span", tag("i", class_="key diamond" + colour + ("" if view.reached.is_elapsed else " hollow")), name + view.reached.words))
     items.append(tag("span", tag("i", class_="key dotted"), "as many times as threads"))
     return tag("p", *items, class_="legend")
 

@@ -5,11 +5,13 @@ from typing import List
 from report.figures import PROVED, RECORDED, badges, grouped, percent
 from report.graph import DEPENDS, MAKES, WAITS, critical_pairs, place_edges, task_edges
 from report.layout import lay_out
-from report.markup import details, join, note, section, tag
+from report.markup import join, note, section, tag
 from report.places import tasks
+from report.tables import table
 
 MOST_TASKS, MOST_EDGES = 60, 240
-MOST_PLACES = 24
+MOST_PLACES, MOST_PLACE_EDGES, MOST_LINES = 16, 30, 60
+WIDEST = 1700   # what is wider is not made to fit, but scrolls
 LETTER, LINE, PAD = 6.6, 16, 10
 
 
@@ -77,8 +79,8 @@ def backward_points(layout, sizes, a, b):
 
 
 def edge_words(drawn):
-    words = {MAKES: "makes %s", DEPENDS: "%s depend", WAITS: "%s waits"}
-    return ", ".join(words[kind] % grouped(count) for kind, count in sorted(drawn.counts.items()))
+    words = {MAKES: "%s made", DEPENDS: "%s depend", WAITS: "%s waits"}
+    return ", ".join(words[kind] % grouped(drawn.counts[kind]) for kind in words if kind in drawn.counts)
 
 
 def draw_edge(layout, sizes, pair, drawn, labelled):
@@ -103,31 +105,40 @@ def picture(boxes, edges, labelled):
     names = list(boxes)
     rank = {name: i for i, name in enumerate(names)}
     sizes = {name: size(box) for name, box in boxes.items()}
-    layout = lay_out(names, [pair for pair in edges if rank[pair[0]] < rank[pair[1]]], sizes)
+    layout = lay_out(names, [pair for pair in edges if rank[pair[0]] < rank[pair[1]]], sizes, labelled)
     pieces = [draw_edge(layout, sizes, pair, drawn, labelled) for pair, drawn in edges.items() if pair[0] != pair[1]]
     pieces += [draw_box(box, *sizes[name], layout.x[name], layout.y[name]) for name, box in boxes.items()]
     arrow = tag("defs", tag("marker", tag("path", d="M0 0L6 3L0 6z"), id="arrow", viewBox="0 0 6 6", refX=3, refY=3,
                             markerWidth=6, markerHeight=6, orient="auto"))
     margin = 34 if any(rank[a] > rank[b] for a, b in edges) else 4
-    box = "-4 -4 %.0f %.0f" % (layout.width + 8 + margin, layout.height + 8)
-    svg = tag("svg", arrow, *pieces, viewBox=box, width="%.0f" % (layout.width + 8 + margin),
-              height="%.0f" % (layout.height + 8), class_="graph", role="img", aria_label="What waits for what")
+    width, height = layout.width + 8 + margin, layout.height + 8
+    svg = tag("svg", arrow, *pieces, viewBox="-4 -4 %.0f %.0f" % (width, height), width="%.0f" % width,
+              height="%.0f" % height, class_="graph large" if width > WIDEST else "graph", role="img",
+              aria_label="What waits for what")
     return tag("div", svg, class_="wide")
 
 
-def gathered(edges, critical, fold_waits):
+def between_places(edges, critical):
     """One drawn edge for each pair. A wait for what the waiting one has made is told on the edge of the making."""
-    out, folded = {}, 0
+    out = {}
     for (kind, a, b), count in sorted(edges.items()):
         if kind == WAITS and (MAKES, b, a) in edges:
-            folded += count
-            if not fold_waits:
-                continue
             a, b = b, a
         drawn = out.setdefault((a, b), Drawn())
         drawn.counts[kind] = drawn.counts.get(kind, 0) + count
         drawn.is_critical |= (a, b) in critical
-    return out, folded
+    return out
+
+
+def between_tasks(edges, critical):
+    """Dependences, and the making of each task that depends on none; waits for tasks that one has made are left out."""
+    depending = {b for kind, _, b in edges if kind == DEPENDS}
+    out = {}
+    for (kind, a, b), count in sorted(edges.items()):
+        is_critical = (a, b) in critical
+        if kind == DEPENDS or kind == MAKES and (b not in depending or is_critical):
+            out[a, b] = Drawn({kind: count}, is_critical)
+    return out
 
 
 def task_boxes(view):
@@ -139,47 +150,54 @@ def task_boxes(view):
             for i, task in enumerate(all_tasks)}
 
 
-def place_boxes(view):
+def place_boxes(view, loops):
     work, out = view.answers.work, {}
     for place in sorted(view.task_places, key=lambda place: place.tasks[0]):
-        named = "task-place %d " % place.number
-        count = [drawn_number(len(place.tasks), named + "count"), " tasks" if len(place.tasks) > 1 else " task"]
-        out[place.number] = Box([[place.name], count,
-                                 ["%.1f %% of the work" % percent(place.cost, work)]],
-                                place.cost / work if work else 0, place.critical_cost > 0,
-                                "%s of the span" % ("%.1f %%" % percent(place.critical_cost, view.answers.span)))
+        count = drawn_number(len(place.tasks), "task-place %d count" % place.number)
+        lines = [[place.name], [count, " tasks" if len(place.tasks) > 1 else " task"],
+                 ["%.1f %% of the work" % percent(place.cost, work)]]
+        if place.number in loops:
+            lines.append(["among them: " + edge_words(loops[place.number])])
+        out[place.number] = Box(lines, place.cost / work if work else 0, place.critical_cost > 0,
+                                "%.1f %% of the span" % percent(place.critical_cost, view.answers.span))
     return out
 
 
 def by_task(view, edges, critical):
-    drawn, folded = gathered(edges, critical, fold_waits=False)
-    words = "A box for each task, with its cost. Dashed: a task after the one that makes it; solid: a dependence; red: " \
-            "the critical path."
-    if folded:
-        words += " %s waits of a task for those that it has made are left out." % grouped(folded)
-    return picture(task_boxes(view), drawn, labelled=False), words
+    words = "A box for each task, with its cost. Solid: a dependence. Dashed: the making of a task that depends on no " \
+            "other. Red: the critical path."
+    waits = sum(count for (kind, _, _), count in edges.items() if kind == WAITS)
+    if waits:
+        words += " The waits of tasks for those that they have made are not drawn."
+    return picture(task_boxes(view), between_tasks(edges, critical), labelled=False), words
+
+
+def edge_table(view, drawn):
+    names = [place.name for place in view.task_places]
+    order = sorted(drawn.items(), key=lambda item: -sum(item[1].counts.values()))[:MOST_LINES]
+    rows = [[names[a], names[b]] + [edge.counts.get(kind, "") for kind in (MAKES, DEPENDS, WAITS)]
+            for (a, b), edge in order]
+    return table(["tasks at", "and tasks at", "makes", "dependences", "waits"], rows, numeric=range(2, 5),
+                 is_sortable=True)
 
 
 def by_place(view, edges, critical):
     place_of = {task: place.number for place in view.task_places for task in place.tasks}
-    drawn, _ = gathered(place_edges(edges, place_of), {(place_of[a], place_of[b]) for a, b in critical},
-                        fold_waits=True)
-    loops = ["%s: %s" % (view.task_places[a].name, edge_words(edge)) for (a, b), edge in drawn.items() if a == b]
-    words = "A box for each place of tasks; red where the critical path goes."
-    if loops:
-        words += " Among themselves: " + "; ".join(loops) + "."
-    return picture(place_boxes(view), drawn, labelled=True), words
+    drawn = between_places(place_edges(edges, place_of), {(place_of[a], place_of[b]) for a, b in critical})
+    loops = {a: edge for (a, b), edge in drawn.items() if a == b}
+    if len(view.task_places) > MOST_PLACES or len(drawn) - len(loops) > MOST_PLACE_EDGES:
+        return edge_table(view, drawn), "Too many for a picture: which place's tasks make those of which, depend on " \
+                                        "them, or are waited for by their makers."
+    words = "A box for each place of tasks. Dashed: its tasks make those, and how often they wait for them. Solid: " \
+            "those depend on its tasks. Red: the critical path goes there."
+    return picture(place_boxes(view, loops), drawn, labelled=True), words
 
 
 def graph_part(view):
     answers = view.answers
     edges = task_edges(answers.code, answers.predecessors)
     critical = critical_pairs(answers.code, answers.path_segments)
-    if answers.tasks < MOST_TASKS and len(edges) <= MOST_EDGES:
-        drawing, words = by_task(view, edges, critical)
-    elif len(view.task_places) <= MOST_PLACES:
-        drawing, words = by_place(view, edges, critical)
-    else:
-        drawing, words = "", "The tasks stand at %d places, too many for a picture." % len(view.task_places)
+    is_small = answers.tasks < MOST_TASKS and len(edges) <= MOST_EDGES
+    drawing, words = (by_task if is_small else by_place)(view, edges, critical)
     return section("graph", "What waits for what", note(words, " ", badges(RECORDED), ", critical path ",
                                                         badges(PROVED)), drawing)

@@ -16,16 +16,17 @@ def tiles(view):
     out = [tile("Work", number(answers.work, "span work", PROVED, unit=unit), cost, "the time of one thread"),
            tile("Span", number(answers.span, "span span", PROVED, unit=unit), cost, "no run ends sooner"),
            tile("Parallelism", times(answers.work, answers.span, "span work / span span", PROVED), [PROVED],
-                "no number of threads gains more"),
+                "times faster at most, on any threads"),
            tile("Tasks", number(answers.tasks, "tasks", RECORDED), [RECORDED],
                 join([number(answers.span_numbers["segments"], "span segments", RECORDED), " segments"])),
-           tile("%d threads can give" % answers.threads,
+           tile("%d threads give at most" % answers.threads,
                 times(answers.work, row["least"], "span work / curve %d least" % answers.threads, PROVED),
-                [PROVED], join(["greedy: ", times(answers.work, row["end"], "span work / curve %d end"
-                                                  % answers.threads, PROVED)]))]
+                [PROVED], join(["times; a greedy run at least ", times(
+                    answers.work, row["bound"], "span work / curve %d bound" % answers.threads, PROVED)]))]
     if answers.head.elapsed:
-        out.append(tile("Reached", times(answers.work, answers.head.elapsed, "span work / elapsed", MEASURED),
-                        [MEASURED], join(["elapsed ", number(answers.head.elapsed, "elapsed", MEASURED, unit=unit)])))
+        out.append(tile("Reached on %s threads" % (answers.head.threads or "the"),
+                        times(answers.work, answers.head.elapsed, "span work / elapsed", MEASURED),
+                        [MEASURED], join(["times; elapsed ", number(answers.head.elapsed, "elapsed", MEASURED, unit=unit)])))
     return tag("div", *out, class_="tiles")
 
 
@@ -61,9 +62,9 @@ def where_the_span_is(view, halved):
     if not answers.span or not place.critical_cost:
         return ""
     after = halved(place)
-    return tag("p", tag("span", place.name, class_="place"), " is ",
+    return tag("p", "Most of the span: ", tag("span", place.name, class_="place"), ", ",
                share(place.critical_cost, answers.span, "place %d path / span span" % place.number, view.cost_kind),
-               " of the span. At half the cost it would leave a span of ",
+               " of it. At half that cost the span would be ",
                number(after["span"], "whatif %d 0.5 span" % place.number, PROVED, unit=view.unit), ", ",
                share(answers.span - after["span"], answers.span,
                      "span span - whatif %d 0.5 span / span span" % place.number, PROVED), " less.")

@@ -1,16 +1,16 @@
 """The timelines: the run as it was, above the greedy run on the same threads. The page's script draws them."""
-from report.figures import MEASURED, PROVED, RECORDED, badges, number, percent, share
-from report.markup import Markup, details, join, note, section, tag
+from report.figures import PROVED, RECORDED, badges, number, share
+from report.markup import details, join, note, section, tag
 from report.view import COLOURS
 
-KEYS = (("drag", "moves"), ("+ −", "zoom, as Ctrl and the wheel do"), ("← →", "move"), ("↑ ↓", "another thread"),
-        (", .", "the segment before, the next"), ("n", "the next one on the critical path"), ("0", "everything"))
+KEYS = (("+ −", "zoom"), ("← →", "move"), ("0", "show all"), (", .", "the segment before, and the next"),
+        ("↑ ↓", "another thread"), ("n", "the next segment on the critical path"))
 
 
 def recorded_title(view):
     run = view.run
     return join([tag("b", "The run as it was"), ", %d threads, " % run.count,
-                 number(run.end, "run end", view.cost_kind, unit=view.unit), " ",
+                 number(run.end, "run end", view.cost_kind, unit=view.unit), ", ",
                  share(view.answers.work, run.count * run.end, "span work / run time", view.cost_kind), " busy ",
                  badges(RECORDED, view.cost_kind)])
 
@@ -19,7 +19,7 @@ def greedy_title(view):
     answers = view.answers
     end = answers.curve[answers.threads]["end"]
     return join([tag("b", "The greedy run"), ", %d threads, " % answers.threads,
-                 number(end, "curve %d end" % answers.threads, PROVED, unit=view.unit), " ",
+                 number(end, "curve %d end" % answers.threads, PROVED, unit=view.unit), ", ",
                  share(answers.work, answers.threads * end, "span work / greedy time", PROVED), " busy ",
                  badges(PROVED)])
 
@@ -48,10 +48,9 @@ def controls():
     def button(act, words, label):
         return tag("button", words, type="button", data_act=act, aria_label=label)
 
-    keys = join([join([tag("kbd", key), " ", what]) for key, what in KEYS], ", ")
     return tag("div", button("in", "+", "zoom in"), button("out", "−", "zoom out"), button("all", "all", "show all"),
                button("left", "←", "to the left"), button("right", "→", "to the right"),
-               tag("span", keys, class_="keys"), class_="controls")
+               tag("span", "or drag, and Ctrl with the wheel", class_="keys"), class_="controls")
 
 
 def lanes_of(view, program):
@@ -70,7 +69,8 @@ def how_to_read(view):
              "thread, in the recorded order, and the segments that it waits for allow. A gap is a wait for another "
              "segment; the runtime's own time between segments is not shown, nor that a thread slept while something "
              "was ready."] if view.run else [view.without_run + " So there is only the greedy run to show."]
-    return details("How to read it", note(*words))
+    keys = join([join([tag("kbd", key), " ", what]) for key, what in KEYS], ", ")
+    return details("How to read it", note(*words), note("Keys, once a timeline has the focus: ", keys, "."))
 
 
 def timeline_part(view, program, title="Timeline"):

@@ -90,7 +90,7 @@ class Thin {
       const busy = Math.min(1, Object.values(this.parts).reduce((a, b) => a + b, 0));
       const high = Math.max(1, busy * this.height);
       this.paths.add("c" + colour, this.pixel, this.top + this.height - high, 1, high);
-      if (this.critical) this.paths.add("thin-rim", this.pixel, this.top + this.height - 2, 1, 2);
+      if (this.critical) this.paths.add("thin-rim", this.pixel, this.top + this.height - 2.5, 1, 2.5);
     }
     Object.assign(this, { pixel: next, parts: {}, critical: false });
   }
@@ -108,6 +108,14 @@ function firstToEndAfter(row, time) {
 function niceStep(length, most) {
   const raw = length / most, power = 10 ** Math.floor(Math.log10(raw));
   return Math.max(1, [1, 2, 5, 10].find((step) => step * power >= raw) * power);
+}
+
+// How the times of an axis are written: in the largest unit in which all of them are whole.
+function inUnit(step, unit) {
+  const units = ["ns", "µs", "ms", "s"];
+  let index = units.indexOf(unit), divisor = 1;
+  while (index >= 0 && index < 3 && step % (divisor * 1000) === 0) { divisor *= 1000; index++; }
+  return (time) => `${grouped(time / divisor)} ${index < 0 ? unit : units[index]}`.trim();
 }
 
 class Lanes {
@@ -143,16 +151,18 @@ class Lanes {
       if ((end - start) * this.scale < 1) { thin.add(left, right, colour, critical); continue; }
       const seam = right - left > 3 ? 0.6 : 0;
       paths.add("c" + colour, left, top, right - left - seam, height);
-      if (critical) paths.add("rim", left + 0.7, top + 0.7, Math.max(right - left - seam - 1.4, 0.1), height - 1.4);
+      if (critical && right - left >= 5) paths.add("rim", left + 0.7, top + 0.7, right - left - seam - 1.4, height - 1.4);
+      else if (critical) paths.add("thin-rim", left, top + height - 2.5, right - left, 2.5);
     }
     thin.flush(-1);
   }
   axis(bottom) {
-    const { from, to, length } = this.stretch, step = niceStep(length, Math.max(2, this.width / 130)), out = [];
+    const { from, to, length } = this.stretch, step = niceStep(length, Math.max(2, this.width / 110)), out = [];
+    const written = inUnit(step, this.program.unit);
     for (let time = Math.ceil(from / step) * step; time <= to; time += step) {
       const x = this.x(time).toFixed(1), anchor = x > this.width - 50 ? "end" : time === 0 ? "start" : "middle";
       out.push(`<line class="tick" x1="${x}" x2="${x}" y1="0" y2="${bottom}"/>`);
-      out.push(`<text x="${x}" y="${bottom + 15}" text-anchor="${anchor}">${grouped(time)} ${this.program.unit}</text>`);
+      out.push(`<text x="${x}" y="${bottom + 15}" text-anchor="${anchor}">${written(time)}</text>`);
     }
     return out.join("");
   }
