@@ -1,13 +1,17 @@
-"""What the comments before a text's first token tell of its recording."""
+"""What the comments at the head of a recorded text tell of its recording."""
 import re
 from dataclasses import dataclass, field
 from typing import Dict, List, Optional
+
+NANOSECONDS = {"ns": 1, "us": 1000, "ms": 1000000}
+DIVISION = ("outside regions", "in other regions", "in parts without tasks", "in tasks")
 
 
 @dataclass
 class Head:
     program: str = ""
     region: str = ""        # the place of the parallel region
+    number: str = ""        # its place in time among the regions with tasks: `2 of 5`
     date: str = ""
     threads: Optional[int] = None
     clock: str = ""         # wall or cpu
@@ -21,8 +25,17 @@ class Head:
     def is_measured(self):
         return bool(self.unit)
 
+    @property
+    def nanoseconds(self):
+        """What a cost of 1 is; None where the text names no unit."""
+        number = re.match(r"(\d+) ns$", self.unit)
+        return int(number[1]) if number else NANOSECONDS.get(self.unit)
 
-DIVISION = ("outside regions", "in parts without tasks", "in tasks")
+    @property
+    def unit_of_costs(self):
+        """For an axis or a table."""
+        clock = {"wall": " of wall time", "cpu": " of processor time"}.get(self.clock, "")
+        return self.unit + clock if self.unit else "units of the declared costs"
 
 
 def comments(text):
@@ -36,7 +49,7 @@ def comments(text):
 
 
 def read_recorded(head, words):
-    """`recorded: from sort, 2026-11-24 00:10:02, threads 4, clock cpu, unit us`."""
+    """`recorded: from sort, 2026-11-24T00:10:02Z, threads 4, clock cpu, unit us`."""
     for part in words.split(", "):
         name, _, value = part.strip().partition(" ")
         if name == "from":
@@ -71,7 +84,8 @@ def read_line(head, words):
     elif name in DIVISION and first:
         head.division[name] = int(first[0])
     elif name == "region":
-        head.region = value
+        place, _, head.number = value.rpartition(", ")
+        head.region = place.removeprefix("at ")
     elif name == "remark":
         head.remarks.append(value)
     elif name.startswith("lock "):
@@ -83,3 +97,9 @@ def read_head(text):
     for words in comments(text):
         read_line(head, words)
     return head
+
+
+def said(text):
+    """The remarks and locks of a text's head as lines, so that no table stands without them."""
+    head = read_head(text)
+    return ["remark: " + remark for remark in head.remarks] + ["lock " + lock for lock in head.locks]
