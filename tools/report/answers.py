@@ -4,7 +4,7 @@ from dataclasses import dataclass
 from functools import cached_property
 
 import program
-from report.head import read_head
+from head import read_head
 
 THREADS_WITHOUT_RECORDING = 4
 LONGEST_CURVE = 64

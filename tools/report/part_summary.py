@@ -82,20 +82,28 @@ def remarks(view):
     return tag("div", tag("h3", "What the recording remarks"), tag("ul", *items), class_="remarks", role="note")
 
 
-def division(view):
-    """How the whole program's time divides, where the head tells it."""
-    parts = view.answers.head.division
-    whole = sum(parts.values())
+def stack(view, title, parts):
+    """A bar that is divided as these named times are."""
+    whole = sum(value for _, value in parts)
     if not whole:
         return ""
     pieces = [tag("i", style="flex:%d" % max(value, whole // 500), class_="part%d" % i,
-                  title="%s: %s %s" % (name, grouped(value), view.unit))
-              for i, (name, value) in enumerate(parts.items())]
+                  title="%s: %s %s" % (name, grouped(value), view.unit)) for i, (name, value) in enumerate(parts)]
     words = [tag("span", tag("i", class_="key square part%d" % i), name, " ",
-                 number(value, "head " + name, MEASURED, unit=view.unit)) for i, (name, value) in
-             enumerate(parts.items())]
-    return tag("div", tag("h3", "Where the whole program's time passed ", badge(MEASURED)),
-               tag("div", *pieces, class_="stack"), tag("p", *words, class_="legend"))
+                 number(value, "head " + name, MEASURED, unit=view.unit)) for i, (name, value) in enumerate(parts)]
+    return tag("div", tag("h3", title, " ", badge(MEASURED)), tag("div", *pieces, class_="stack"),
+               tag("p", *words, class_="legend"))
+
+
+def division(view):
+    """How the whole program's time divides, and the region's costs, where the head tells it."""
+    head = view.answers.head
+    wall = [(name, head.division[name]) for name in ("outside regions", "in other regions") if name in head.division]
+    costs = [(name, head.division[name]) for name in ("in parts without tasks", "in tasks") if name in head.division]
+    if head.elapsed and wall:
+        wall.append(("elapsed", head.elapsed))
+    return join([stack(view, "The whole program's time, by the clock", wall),
+                 stack(view, "This region's costs, all threads together", costs)])
 
 
 def kinds_explained(view):

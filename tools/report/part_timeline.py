@@ -9,9 +9,10 @@ KEYS = (("+ −", "zoom"), ("← →", "move"), ("0", "show all"), (", .", "the 
 
 def recorded_title(view):
     run = view.run
+    busy = sum(end - start for start, end in zip(run.starts, run.ends))
     return join([tag("b", "The run as it was"), ", %d threads, " % run.count,
-                 number(run.end, "run end", view.cost_kind, unit=view.unit), ", ",
-                 share(view.answers.work, run.count * run.end, "span work / run time", view.cost_kind), " busy ",
+                 number(round(run.end), "run end", view.cost_kind, unit=view.unit), ", ",
+                 share(busy, run.count * run.end, "run busy / run time", view.cost_kind), " busy ",
                  badges(RECORDED, view.cost_kind)])
 
 
@@ -64,11 +65,16 @@ def lanes_of(view, program):
     return out
 
 
+TIMED = "The run as it was stands where the recorder's clock saw it. A gap is a thread that waited, slept, or was in the " \
+    "runtime."
+IN_ORDER = "Of the run as it was the recording has the order and the costs, and no times. So each segment stands as " \
+    "early as its thread, in the recorded order, and the segments that it waits for allow. A gap is a wait for " \
+    "another segment; the runtime's own time is not shown, nor that a thread slept while something was ready."
+
+
 def how_to_read(view):
-    words = ["Of a run a recording has the order and the costs, and no times. So each segment stands as early as its "
-             "thread, in the recorded order, and the segments that it waits for allow. A gap is a wait for another "
-             "segment; the runtime's own time between segments is not shown, nor that a thread slept while something "
-             "was ready."] if view.run else [view.without_run + " So there is only the greedy run to show."]
+    words = [(TIMED if view.run.is_timed else IN_ORDER) if view.run else
+             view.without_run + " So there is only the greedy run to show."]
     keys = join([join([tag("kbd", key), " ", what]) for key, what in KEYS], ", ")
     return details("How to read it", note(*words), note("Keys, once a timeline has the focus: ", keys, "."))
 
@@ -93,8 +99,10 @@ def base36(n):
     return digits
 
 
-def run_data(title, starts, threads, count):
-    return {"title": title, "starts": packed(starts), "lanes": packed(threads), "count": count}
+def run_data(starts, threads, count, lengths=None):
+    """`lengths` are left out where they are the costs."""
+    data = {"starts": packed(map(round, starts)), "lanes": packed(threads), "count": count}
+    return dict(data, lengths=packed(map(round, lengths))) if lengths else data
 
 
 def timeline_data(view):
@@ -103,14 +111,16 @@ def timeline_data(view):
     for place in view.places:
         place_of.update(dict.fromkeys(place.segments, place.number))
     for place in view.task_places:
-        task_place_of.update(dict.fromkeys(place.tasks, view.task_colour(place)))
+        task_place_of.update(dict.fromkeys(place.tasks, place.number))
     rows = answers.rows
-    runs = {"greedy": run_data("greedy", [start for start, _ in answers.greedy],
-                               [thread for _, thread in answers.greedy], answers.threads)}
+    runs = {"greedy": run_data([start for start, _ in answers.greedy], [thread for _, thread in answers.greedy],
+                               answers.threads)}
     if view.run:
-        runs["recorded"] = run_data("recorded", view.run.starts, view.run.workers, view.run.count)
+        lengths = [end - start for start, end in zip(view.run.starts, view.run.ends)] if view.run.is_timed else None
+        runs["recorded"] = run_data(view.run.starts, view.run.workers, view.run.count, lengths)
     return {"name": answers.name, "unit": view.unit, "places": [place.name for place in view.places],
             "cost": packed(row.cost for row in rows), "task": packed(row.task for row in rows),
             "place": packed(place_of[s] for s in range(len(rows))),
             "slack": packed(row.slack for row in rows), "critical": packed(answers.path_segments),
-            "colour": packed(task_place_of[task] for task in range(answers.tasks + 1)), "runs": runs}
+            "taskPlace": packed(task_place_of[task] for task in range(answers.tasks + 1)), "colours": COLOURS,
+            "runs": runs}

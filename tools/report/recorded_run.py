@@ -1,7 +1,7 @@
-"""The run as it was: which thread ran what in which order, from the replay document, with the measured costs.
+"""The run as it was: which thread ran what, and when.
 
-A replay document has an order and no times. So each segment is placed as early as its thread, in the recorded order,
-and what it waits for let it start.
+The recorder's table of times tells it by the clock. Without one the replay document tells the order alone: then each
+segment is placed as early as its thread, in the recorded order, and what it waits for let it start.
 """
 import os
 import re
@@ -13,10 +13,19 @@ import program
 
 @dataclass
 class RecordedRun:
-    starts: List[int]
+    starts: List[float]
+    ends: List[float]
     workers: List[Optional[int]]   # None for a segment that was not started
-    count: int                     # of the workers
-    end: int
+    is_timed: bool = False         # by the clock, and not only in order
+
+    @property
+    def count(self):
+        """How many workers there were."""
+        return 1 + max((worker for worker in self.workers if worker is not None), default=0)
+
+    @property
+    def end(self):
+        return max(self.ends, default=0)
 
 
 class NoRun(Exception):
@@ -56,9 +65,28 @@ def place_in_time(log, rows, predecessors):
         ready = max((starts[p] + rows[p].cost for p in predecessors[s]), default=0)
         starts[s], workers[s] = max(ready, free.get(worker, 0)), worker
         free[worker] = starts[s] + rows[s].cost
-    end = max(free.values(), default=0)
-    return RecordedRun(starts, workers, len(free), end)
+    ends = [start + row.cost if worker is not None else 0 for start, row, worker in zip(starts, rows, workers)]
+    return RecordedRun(starts, ends, workers)
+
+
+def read_times(path, answers):
+    """The recorder's table `segment,thread,start_ns,end_ns`, in the unit of the text."""
+    count, unit = len(answers.rows), answers.head.nanoseconds or 1
+    run = RecordedRun([0] * count, [0] * count, [None] * count, is_timed=True)
+    with open(path, encoding="utf-8") as file:
+        for row in program.rows(file.read()):
+            s = int(row["segment"])
+            if s >= count:
+                raise NoRun("%s is not of %s: it has a segment %d" % (os.path.basename(path), answers.name, s))
+            run.workers[s] = int(row["thread"])
+            run.starts[s], run.ends[s] = int(row["start_ns"]) / unit, int(row["end_ns"]) / unit
+    return run
 
 
 def recorded_run(path, answers):
-    return place_in_time(read_replay(path, answers), answers.rows, answers.predecessors)
+    """The run of a replay document, which spanprof has to accept; with its times where they stand beside it."""
+    log = read_replay(path, answers)
+    times = os.path.splitext(path)[0] + ".times"
+    if os.path.exists(times):
+        return read_times(times, answers)
+    return place_in_time(log, answers.rows, answers.predecessors)

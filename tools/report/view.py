@@ -63,7 +63,7 @@ class View:
         work, head = self.answers.work, self.answers.head
         if head.elapsed and head.threads:
             return Reached(head.threads, head.elapsed, work / head.elapsed, True)
-        if self.run and self.run.end:
+        if self.run and self.run.end and not self.run.is_timed:
             return Reached(head.threads or self.run.count, self.run.end, work / self.run.end, False)
         return None
 

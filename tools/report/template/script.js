@@ -9,10 +9,11 @@ const byId = (name) => document.getElementById(name);
 
 function rowsOf(program, run) {
   const starts = numbers(run.starts), lanes = numbers(run.lanes);
+  const lengths = run.lengths ? numbers(run.lengths) : program.cost;
   const rows = Array.from({ length: run.count }, () => []);
   starts.forEach((start, segment) => {
-    const cost = program.cost[segment];
-    if (lanes[segment] !== null && cost) rows[lanes[segment]].push({ segment, start, end: start + cost });
+    const length = lengths[segment];
+    if (lanes[segment] !== null && length) rows[lanes[segment]].push({ segment, start, end: start + length });
   });
   rows.forEach((row) => row.sort((a, b) => a.start - b.start));
   return rows;
@@ -20,7 +21,8 @@ function rowsOf(program, run) {
 
 function unpacked(packed) {
   const program = { name: packed.name, unit: packed.unit, places: packed.places, runs: {} };
-  for (const column of ["cost", "task", "place", "slack", "colour"]) program[column] = numbers(packed[column]);
+  for (const column of ["cost", "task", "place", "slack"]) program[column] = numbers(packed[column]);
+  program.colour = numbers(packed.taskPlace).map((place) => Math.min(place, packed.colours - 1));
   program.critical = new Set(numbers(packed.critical));
   for (const [name, run] of Object.entries(packed.runs)) program.runs[name] = rowsOf(program, run);
   return program;
