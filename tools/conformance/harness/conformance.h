@@ -1,0 +1,25 @@
+/* What a generated program calls, and what it defines. */
+#ifndef CONFORMANCE_H
+#define CONFORMANCE_H
+
+enum role { WAITED_FOR = 1, CREATES = 2 }; /* another task waits for the end of the segment; it creates a task */
+
+struct conformance_program {
+    unsigned segments;
+    const unsigned *cost;        /* of each segment */
+    const unsigned *preds_begin; /* where the predecessors of each segment begin; one more at the end */
+    const unsigned *preds;
+    const unsigned char *roles; /* of each segment: sums of `enum role` */
+    int regions;                /* 1 where the root itself opens its parallel regions */
+};
+
+extern const struct conformance_program program; /* generated */
+void program_root(int threads);                  /* generated: the body of the root */
+
+/* 0 and 1, which the compiler cannot know: conditions with them are decided when the program runs. */
+extern volatile int conformance_no, conformance_yes;
+
+void segment_start(unsigned segment); /* first in each segment's code */
+void segment_finish(void);            /* last in each segment's code */
+void segment_pass(unsigned segment);  /* a whole segment without code of its own */
+#endif

@@ -1,0 +1,10 @@
+/* The value of each segment, as spanprof's own kernel computes it: from its number and the values of its predecessors,
+ * x = 5x + 1 so many times as its cost says, up to 4096. In plain memory, so that a fence that a runtime forgets shows. */
+#ifndef VALUES_H
+#define VALUES_H
+#include "conformance.h"
+#include <stdint.h>
+
+void compute_value(const struct conformance_program *of, uint64_t *values, unsigned segment);
+uint64_t digest_of(const struct conformance_program *of, const uint64_t *values);
+#endif

@@ -1,0 +1,63 @@
+"""Runs many cases side by side."""
+import concurrent.futures
+import sys
+import time
+
+from tester.cases import Case
+from tester.directed import directed_programs, kinds_of
+from tester.forms import in_variant
+from tester.generate import random_program
+from tester.results import Results
+
+DIRECTED_UNIT, RANDOM_UNIT = 100_000, 1_000  # nanoseconds for a cost of 1
+
+
+def cases_of(name, body, variants, unit):
+    """A program's cases: one for each variant that differs."""
+    bodies = {in_variant(body, variant): variant for variant in reversed(variants)}
+    return [Case(name, written, variant, unit) for written, variant in reversed(bodies.items())]
+
+
+def directed_cases(kinds, variants):
+    """The cases of the directed part, and the names of programs that need a kind that the compiler lacks."""
+    programs = directed_programs()
+    cases = [case for name, body in programs if kinds_of(body) <= kinds
+             for case in cases_of(name, body, variants, DIRECTED_UNIT)]
+    return cases, [name for name, body in programs if not kinds_of(body) <= kinds]
+
+
+def random_cases(seeds, kinds, variants, without):
+    """Cases of random programs. Each is named for its shape and the seed that makes it."""
+    cases = []
+    for seed in seeds:
+        shape, body = random_program(seed, kinds, without)
+        cases += cases_of(f"{shape}-{seed}", body, variants, RANDOM_UNIT)
+    return cases
+
+
+class Progress:
+    """A line on standard error, where that is a terminal."""
+
+    def __init__(self, cases):
+        self.cases, self.done, self.failed = cases, 0, 0
+        self.shown = sys.stderr.isatty()
+
+    def add(self, tallies):
+        self.done += 1
+        self.failed += any(tally.failures for tally in tallies)
+        if self.shown:
+            end = "\n" if self.done == self.cases else ""
+            sys.stderr.write(f"\r{self.done} of {self.cases} cases, {self.failed} with failures{end}")
+            sys.stderr.flush()
+
+
+def run_cases(bench, cases, plan, jobs, results=None):
+    """The results of cases, each run as the plan says, added to earlier results if there are any."""
+    results, progress, begun = results or Results(), Progress(len(cases)), time.monotonic()
+    with concurrent.futures.ThreadPoolExecutor(jobs) as pool:
+        futures = {pool.submit(bench.try_case, case, plan.conditions(case)): case for case in cases}
+        for future in concurrent.futures.as_completed(futures):
+            results.add(futures[future], future.result())
+            progress.add(future.result())
+    results.seconds += time.monotonic() - begun
+    return results

@@ -1,0 +1,137 @@
+"""Cases: a program in one variant, built, run under several conditions, and judged."""
+import collections
+import itertools
+import zlib
+from dataclasses import dataclass, field
+
+from tester.coverage import Coverage
+from tester.emit_c import c_text
+from tester.explain import explain
+from tester.judge import Verdict
+from tester.launch import Conditions, launch
+from tester.program import text_of
+from tester.segments import Table
+from tester.toolchain import BuildFailed
+
+
+@dataclass(frozen=True)
+class Case:
+    """A program to be tested; `variant` says how its tasks are written: tied, untied or mixed."""
+    name: str
+    body: tuple
+    variant: str
+    unit: int  # what a cost of 1 lasts, in nanoseconds
+
+
+@dataclass
+class Failure:
+    """A run that was not accepted, with all that is needed to see it again."""
+    case: Case
+    conditions: Conditions
+    verdict: Verdict
+    rule: str
+    words: str
+    log: object
+
+    @property
+    def signature(self):
+        """Failures with one signature are taken for the same."""
+        return self.case.variant, self.verdict.kind, self.rule
+
+
+@dataclass
+class Tally:
+    """What came of the runs of a case under some conditions."""
+    conditions: Conditions
+    runs: int = 0
+    events: int = 0
+    failures: list = field(default_factory=list)
+    schedules: collections.Counter = field(default_factory=collections.Counter)  # runs by the schedule's name
+    coverage: collections.Counter = field(default_factory=collections.Counter)   # as Coverage.of_run
+
+
+@dataclass(frozen=True)
+class Plan:
+    """Under which conditions cases are run: on each number of threads, in one of the settings."""
+    threads: tuple
+    runs: int
+    seed: int
+    timeout: int
+    settings: tuple = ("free",)
+
+    def conditions(self, case):
+        """The conditions for a case; which setting goes with which number of threads differs from case to case."""
+        first = zlib.crc32(case.name.encode())
+        return [Conditions(threads, self.runs, self.seed, case.unit, self.timeout,
+                           self.settings[(first + number) % len(self.settings)])
+                for number, threads in enumerate(self.threads)]
+
+
+class Examined:
+    """A case with all that its runs are judged by."""
+
+    def __init__(self, case, judge):
+        self.case, self.judge, self.text = case, judge, text_of(case.body)
+        self.record = judge.record(self.text)
+        self.table = Table(case.body)
+        self.coverage = Coverage(self.table)
+        self.known = {}
+
+    def source(self):
+        return c_text(self.case.body, self.table, self.record.preds)
+
+    def verdict(self, log, threads):
+        """The verdict on a log, and what it tried. Equal logs get equal answers, so each is looked at once."""
+        key = (threads, log.end, log.detail, tuple(log.events))
+        if key not in self.known:
+            verdict = self.judge.verdict(self.text, self.record, log)
+            tried = self.coverage.of_run(log.events, threads) if verdict.accepted else collections.Counter()
+            self.known[key] = verdict, tried
+        return self.known[key]
+
+
+class Bench:
+    """Where cases are built, run and judged."""
+
+    def __init__(self, toolchain, judge, environment):
+        self.toolchain, self.judge, self.environment = toolchain, judge, environment
+        self.programs, self.numbers = {}, itertools.count()
+
+    def build(self, source):
+        """The program of a C file; the same file is built once."""
+        if source not in self.programs:
+            self.programs[source] = self.toolchain.build(source, f"p{next(self.numbers)}")
+        return self.programs[source]
+
+    def forget(self):
+        """Removes all programs that were built."""
+        for program in self.programs.values():
+            program.unlink()
+        self.programs.clear()
+
+    def examined(self, case):
+        return Examined(case, self.judge)
+
+    def try_case(self, case, all_conditions):
+        """A tally for each of the conditions."""
+        examined = self.examined(case)
+        try:
+            program = self.build(examined.source())
+        except BuildFailed as refused:
+            verdict = Verdict("not built", str(refused))
+            return [Tally(c, failures=[Failure(case, c, verdict, "not built", str(refused), None)])
+                    for c in all_conditions]
+        return [self.tally(examined, program, conditions) for conditions in all_conditions]
+
+    def tally(self, examined, program, conditions):
+        tally = Tally(conditions)
+        for log in launch(program, conditions, self.environment):
+            tally.runs += 1
+            tally.events += len(log.events)
+            tally.schedules[log.schedule] += 1
+            verdict, tried = examined.verdict(log, conditions.threads)
+            tally.coverage.update(tried)
+            if not verdict.accepted:
+                told = explain(examined.text, verdict, log)
+                tally.failures.append(Failure(examined.case, conditions, verdict, told.rule, told.words, log))
+        return tally

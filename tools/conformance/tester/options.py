@@ -1,0 +1,89 @@
+"""The words of the command line."""
+import argparse
+import os
+
+from tester.campaign import DIRECTED_UNIT
+from tester.forms import VARIANTS
+from tester.generate import CONSTRUCTS
+from tester.launch import SETTINGS
+
+MOST_THREADS = 64
+
+
+def thread_counts(words):
+    """Numbers of threads, in words with commas; spanprof counts 64 at most."""
+    counts = tuple(int(word) for word in words.split(","))
+    if not all(0 < count <= MOST_THREADS for count in counts):
+        raise argparse.ArgumentTypeError(f"numbers of threads are 1 to {MOST_THREADS}")
+    return counts
+
+
+def some_of(known):
+    """A type of options: words of these, with commas."""
+    def read(words):
+        chosen = words.split(",")
+        for word in chosen:
+            if word not in known:
+                raise argparse.ArgumentTypeError(f"{word} is none of {', '.join(known)}")
+        return chosen
+    return read
+
+
+def parse(calls, words=None):
+    """The options of the process. `calls` are the commands by name; the one that is chosen is `call`."""
+    parser = argparse.ArgumentParser(description="Tests a runtime for OpenMP tasks.")
+    commands = parser.add_subparsers(dest="command", required=True)
+    for name, call in calls.items():
+        of_name = commands.add_parser(name, help=call.__doc__)
+        of_name.set_defaults(call=call)
+        add_options(name, of_name)
+    return parser.parse_args(words)
+
+
+def add_options(name, parser):
+    add = parser.add_argument
+    add("--spanprof", default=os.environ.get("SPANPROF", "crates/spanprof/out/spanprof"), help="the program spanprof")
+    if name in ("shrink", "emit", "judge"):
+        add("file", help="a program text")
+    if name == "judge":
+        add("log", help="what a run of it wrote")
+    if name == "run":
+        add("--tasks", type=some_of(VARIANTS), default=list(VARIANTS), metavar="tied,untied,mixed",
+            help="how tasks are written (all three; mixed: every other task is untied)")
+    if name in ("shrink", "emit"):
+        add("--tasks", choices=VARIANTS, default="tied", help="how tasks are written (tied)")
+    if name in ("run", "mutants", "shrink"):
+        add_bench_options(name, parser)
+
+
+def add_bench_options(name, parser):
+    add = parser.add_argument
+    add("--cc", required=True, help="the compiler")
+    add("--cflags", default="", help="more flags for it")
+    add("--preload", default="", help="a library to load first, such as another runtime with the same entry points")
+    add("--threads", type=thread_counts, default=(2, 4) if name == "mutants" else (1, 2, 4, 16),
+        help="numbers of threads (1,2,4,16; for mutants 2,4)")
+    add("--runs", type=int, default=8, help="runs of each program on each number of threads (8)")
+    add("--settings", type=some_of(SETTINGS), default=["free"] if name == "mutants" else list(SETTINGS),
+        metavar=",".join(SETTINGS), help="how programs are started (each of these in turn; for mutants free)")
+    add("--seed", type=int, default=1, help="the first random program's number, and the delays' seed (1)")
+    add("--timeout", type=int, default=10, help="seconds until a run counts as hung (10)")
+    add("--jobs", type=int, default=max(1, (os.cpu_count() or 1) // 2), help="programs that run side by side")
+    add("--report", default="", help="a file for the report, .md or .json")
+    if name != "mutants":
+        add_failure_options(name, parser)
+
+
+def add_failure_options(name, parser):
+    add = parser.add_argument
+    add("--mutate", default="", help="break a rule of the runtime, to see that it is noticed")
+    add("--shrink", type=int, default=8, help="how many kinds of failures are shrunk (8)")
+    add("--shrink-runs", type=int, default=20, help="runs in which a smaller program has to fail once (20)")
+    add("--shrink-tries", type=int, default=300, help="smaller programs to try at most (300)")
+    if name == "shrink":
+        add("--unit", type=int, default=DIRECTED_UNIT, help="what a cost of 1 lasts, in nanoseconds")
+    if name == "run":
+        add("--programs", type=int, default=100, help="how many random programs (100)")
+        add("--no-directed", dest="directed", action="store_false", help="leave out the directed part")
+        add("--without", type=some_of(CONSTRUCTS), default=[], metavar="CONSTRUCT,..",
+            help=f"constructs that random programs do not have: {', '.join(CONSTRUCTS)}")

@@ -1,0 +1,63 @@
+"""Reports in Markdown and JSON."""
+import json
+
+from tester import tables
+
+COVERAGE_WORDS = """Of each rule, by number of threads: how often a segment began after a wait by it / how often nothing
+else held the segment back while somebody was free to start it / how often it then began right after the finish for
+which it waited, on another thread. Without the rule, runs of the second kind could have been refused; those of the
+third nearly were."""
+
+
+def reproducer(number, found, name):
+    """One shrunk failure, whose text is in a file of this name."""
+    failure = found.failure
+    conditions = failure.conditions
+    lines = [f"### {number}. {failure.verdict.kind}: {failure.rule} ({failure.case.variant} tasks)", "",
+             f"{failure.words}", "",
+             f"Found in `{found.origin}`, made smaller in {found.tried} tries. {found.failed} of {found.runs} runs on "
+             f"{conditions.threads} threads failed. {found.remark()}".rstrip(), "",
+             f"To see it again: `conformance.py shrink {name} --cc .. --tasks {failure.case.variant} "
+             f"--threads {conditions.threads} --settings {conditions.setting} --unit {failure.case.unit}`.", "",
+             "```", found.text.rstrip(), "```", ""]
+    if failure.log:
+        lines += [f"The log up to there (schedule: {failure.log.schedule}):", "", "```", *found.events(), "```", ""]
+    return lines + ["```c", found.source.rstrip(), "```", ""]
+
+
+def markdown(facts, results, found, stem):
+    """The whole report: facts are pairs of a name and what is so, `stem` begins the names of the texts' files."""
+    lines = ["# Conformance of an OpenMP task runtime", ""]
+    lines += tables.table(("", ""), facts) + [""]
+    lines += ["## By construct and number of threads", "", *tables.summary(results), ""]
+    lines += ["## How hard each rule was tried", "", *COVERAGE_WORDS.split("\n"), "", *tables.coverage(results), ""]
+    lines += ["## By setting and schedule", "", *tables.conditions(results), ""]
+    if results.failures:
+        lines += ["## Failures", "", *tables.kinds_of_failure(results), ""]
+    if found:
+        lines += ["## Smallest programs found", ""]
+        for number, one in enumerate(found, 1):
+            lines += reproducer(number, one, f"{stem}-{number}.tasks")
+    return "\n".join(lines)
+
+
+def as_json(facts, results, found, stem):
+    """The whole report for programs."""
+    rows = [{"construct": construct, "threads": threads, "programs": results.programs_of((construct, threads)),
+             **counts} for (construct, threads), counts in results.rows.items()]
+    tried = [{"rule": rule, "construct": construct, "measure": measure, "threads": threads, "count": count}
+             for (rule, construct, measure, threads), count in sorted(results.coverage.items())]
+    failures = [{"kind": f.verdict.kind, "rule": f.rule, "tasks": f.case.variant, "program": f.case.name,
+                 "threads": f.conditions.threads, "setting": f.conditions.setting, "detail": f.verdict.detail,
+                 "words": f.words} for f in results.failures]
+    smallest = [{"file": f"{stem}-{number}.tasks", **found_fields(one)} for number, one in enumerate(found, 1)]
+    return json.dumps({"facts": dict(facts), "rows": rows, "tried": tried, "failures": failures,
+                       "smallest": smallest}, indent=1)
+
+
+def found_fields(found):
+    failure = found.failure
+    return {"origin": found.origin, "kind": failure.verdict.kind, "rule": failure.rule, "tasks": failure.case.variant,
+            "threads": failure.conditions.threads, "setting": failure.conditions.setting, "words": failure.words,
+            "text": found.text, "c": found.source, "log": found.events(), "failed": found.failed, "runs": found.runs,
+            "ways": found.ways}
