@@ -1,0 +1,53 @@
+#include "callers.hpp"
+
+#include <dlfcn.h>
+#include <execinfo.h>
+#include <link.h>
+
+#include <cstdint>
+#include <cstring>
+
+namespace {
+struct Range {
+  uintptr_t first = 0, end = 0;
+  bool has(const void *code) const {
+    auto address = reinterpret_cast<uintptr_t>(code);
+    return first <= address && address < end;
+  }
+};
+
+Range runtime;
+
+// Takes over the executable segment that has the function, which is where the range begins.
+int find_segment(dl_phdr_info *module, size_t, void *range) {
+  Range &found = *static_cast<Range *>(range);
+  for (int i = 0; i < module->dlpi_phnum; i++) {
+    const ElfW(Phdr) &segment = module->dlpi_phdr[i];
+    Range here{module->dlpi_addr + segment.p_vaddr, module->dlpi_addr + segment.p_vaddr + segment.p_memsz};
+    if (segment.p_type != PT_LOAD || !here.has(reinterpret_cast<const void *>(found.first))) continue;
+    found = here;
+    return 1;
+  }
+  return 0;
+}
+}  // namespace
+
+void find_runtime(const void *function) {
+  Range range{reinterpret_cast<uintptr_t>(function), 0};
+  if (dl_iterate_phdr(find_segment, &range)) runtime = range;
+}
+
+bool in_runtime(const void *code) { return runtime.has(code); }
+
+// gcc's code calls functions of the runtime whose names begin with GOMP; they call others, and those pass on an address
+// inside the first. After a tail call of the program there is no such function, and the caller's place is lost.
+const void *caller_in_program(const void *code) {
+  Dl_info info;
+  if (!dladdr(const_cast<void *>(code), &info) || !info.dli_sname || strncmp(info.dli_sname, "GOMP_", 5)) return nullptr;
+  constexpr int most_frames = 12;
+  void *frames[most_frames];
+  int count = backtrace(frames, most_frames);
+  for (int i = 1; i < count; i++)
+    if (in_runtime(frames[i - 1]) && !in_runtime(frames[i])) return frames[i];
+  return nullptr;
+}

@@ -1,0 +1,6 @@
+// Which calls of the runtime come from the program itself.
+#pragma once
+
+void find_runtime(const void *function);      // the module of this function is the runtime
+bool in_runtime(const void *code);            // false for no place
+const void *caller_in_program(const void *code);  // of a place inside the runtime; null where it cannot be known
