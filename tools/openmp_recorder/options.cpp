@@ -6,8 +6,6 @@
 namespace {
 constexpr uint64_t largest = 1000000000000000;
 
-Options &chosen = *new Options;  // never destroyed, since it is read after the destructors of globals have run
-
 void wrong(const char *name, const char *value, const char *allowed) {
   fprintf(stderr, "spanprof recorder: %s=%s is not understood (%s); it is left out\n", name, value, allowed);
 }
@@ -21,7 +19,7 @@ void number(const char *name, uint64_t &into) {
   else into = n;
 }
 
-void unit() {
+void unit(Options &chosen) {
   const char *value = getenv("SPANPROF_UNIT");
   if (!value) return;
   std::string name = value;
@@ -41,10 +39,12 @@ void flag(const char *name, const char *no, const char *yes, bool &into) {
 }
 }  // namespace
 
-const Options &read_options() {
+Options read_options() {
+  Options chosen;
   if (const char *out = getenv("SPANPROF_OUT")) chosen.out = out;
-  unit();
+  unit(chosen);
   flag("SPANPROF_CLOCK", "wall", "cpu", chosen.processor_clock);
+  flag("SPANPROF_QUIET", "0", "1", chosen.quiet);
   flag("SPANPROF_LINES", "0", "1", chosen.lines);
   number("SPANPROF_RECORDS", chosen.records);
   number("SPANPROF_REGIONS", chosen.regions);
@@ -52,5 +52,3 @@ const Options &read_options() {
   number("SPANPROF_FOLD_COST", chosen.fold_cost);
   return chosen;
 }
-
-const Options &options() { return chosen; }

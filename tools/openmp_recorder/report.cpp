@@ -1,110 +1,140 @@
 #include "report.hpp"
 
+#include <errno.h>
+#include <time.h>
+
 #include <algorithm>
-#include <cstdio>
 
 #include "compose.hpp"
+#include "events.hpp"
+#include "files.hpp"
 #include "fold.hpp"
-#include "options.hpp"
-#include "records.hpp"
-#include "run.hpp"
-#include "source.hpp"
+#include "head.hpp"
+#include "say.hpp"
 #include "text.hpp"
 
 namespace {
-void say(const std::string &words) { fprintf(stderr, "spanprof recorder: %s\n", words.c_str()); }
+constexpr size_t most_workers = 64;
 
-std::string at(const void *code) {
-  if (code && options().lines) look_up({code});
-  std::string where = place(code);
-  return where.empty() ? "" : " at " + where;
+std::string date_now() {
+  time_t now = time(nullptr);
+  tm parts{};
+  gmtime_r(&now, &parts);
+  char text[32];
+  return {text, strftime(text, sizeof text, "%Y-%m-%dT%H:%M:%SZ", &parts)};
 }
 
-std::string times(const Seen &seen) {
-  std::string where = at(seen.code);
-  return std::to_string(seen.times) + (seen.times == 1 ? " time" : " times") +
-         (seen.times > 1 && !where.empty() ? ", first" : "") + where;
+class Reporter {
+ public:
+  Reporter(const Options &chosen, Recording what) : options(chosen), recording(std::move(what)) {}
+  void write(Region &region, const std::string &name);
+  void tell_outside(const Seen &outside);
+
+ private:
+  const Options &options;
+  Recording recording;
+  Places places;
+
+  Size fold_as_asked(Region &region);
+  Text finish(Region &region, bool exclusion_as_order);
+  void tell_remarks(const Region &region, const std::string &name);
+  std::string write_run(const Region &region, const std::string &name, const Text &text);
+  void write_bracket(Region &region, const std::string &name);
+};
+
+Size Reporter::fold_as_asked(Region &region) {
+  add_up(region);
+  remark_locks(region);
+  int64_t most = INT64_MAX / options.unit;
+  Size size = fold(region, options.fold_depth, std::min(static_cast<int64_t>(options.fold_cost), most) * options.unit);
+  for (auto &t : region.tasks)
+    if (t->parent && (!t->shown || t->fold == Fold::Whole)) region.remarks[Remark::Folded].add(t->code);
+  return size;
 }
 
-const char *meaning(Remark what) {
-  switch (what) {
-    case Remark::OneThread:
-      return "on one thread the runtime makes every task undeferred, and the text says if(0): record with two or more";
-    case Remark::MutexInOutSet:
-      return "mutexinoutset is written as inoutset: that such tasks exclude each other is left out";
-    case Remark::AllMemory: return "a dependence on all memory is left out";
-    case Remark::UnknownItem: return "a depend item of a type that is not known is written as inout";
-    case Remark::Detach: return "a task with detach is written as complete where its code ends";
-    case Remark::Cancel: return "cancellation is left out";
-    case Remark::Target: return "a target task is left out";
-    case Remark::NestedRegion:
-      return "a parallel region inside a task: its time counts in that task, its own tasks have a text of their own";
-    case Remark::SeveralParts:
-      return "several threads create tasks, or one before and after a barrier: each such part is a task in the text, "
-             "each barrier the end of a group";
-  }
-  return "";
+Text Reporter::finish(Region &region, bool exclusion_as_order) {
+  Text text = program_text(region, {options.unit, exclusion_as_order}, places);
+  int64_t total = region.root->total, lost = total - text.work * options.unit;
+  if (std::abs(lost) > total / 50) region.remarks[Remark::Rounding].add(nullptr);
+  text.words = head_of(region, recording, options, places) + text.words;
+  return text;
 }
 
-bool write_file(const std::string &name, const std::string &text) {
-  FILE *file = fopen(name.c_str(), "w");
-  bool written = file && fwrite(text.data(), 1, text.size(), file) == text.size();
-  if (file && fclose(file)) written = false;
-  if (!written) say(name + " cannot be written");
-  return written;
+void Reporter::tell_remarks(const Region &region, const std::string &name) {
+  for (auto &[what, seen] : region.remarks) say(name + ": " + remark_line(what, seen, places));
 }
 
-// Where there is no replay document, why.
-std::string write_replay(const Region &region, const std::string &name, const Text &text) {
+// Which files hold the run; where there is no replay document, why.
+std::string Reporter::write_run(const Region &region, const std::string &name, const Text &text) {
   Events events = event_lines(region);
-  if (events.workers > 64)
+  if (events.workers > most_workers)
     return "; no replay document, since it holds 64 workers and the run had " + std::to_string(events.workers);
   if (!events.whole) return "; no replay document, since tasks did not run to their ends";
+  if (!options.processor_clock) write_file(name + ".times", events.times);
   return write_file(name + ".replay", text.words + "---\n" + events.words) ? " and " + name + ".replay" : "";
 }
 
-void tell_rounding(const std::string &name, int64_t measured, int64_t written) {
-  int64_t lost = measured < written ? written - measured : measured - written;
-  if (lost > measured / 50)
-    say(name + ": rounding to whole units changed the work by " + std::to_string(lost * 100 / measured) +
-        " %; choose a finer SPANPROF_UNIT");
+// The same run with what excludes each other in the order of creation: its span is too high where that of the first is
+// too low.
+void Reporter::write_bracket(Region &region, const std::string &name) {
+  auto seen = region.remarks.extract(Remark::MutexInOutSet);
+  if (seen.empty()) return;
+  region.remarks[Remark::MutexAsInOut] = seen.mapped();
+  write_file(name + ".inout.tasks", finish(region, true).words);
 }
 
-void write_region(Region &region, const std::string &name) {
-  const Options &o = options();
-  remove((name + ".tasks").c_str());  // of an earlier run
-  remove((name + ".replay").c_str());
-  add_up(region);
-  for (auto &[what, seen] : region.remarks) say(name + ": " + meaning(what) + " (" + times(seen) + ")");
-  int64_t most = INT64_MAX / o.unit, below = std::min(static_cast<int64_t>(o.fold_cost), most) * o.unit;
-  Size size = fold(region, o.fold_depth, below);
-  std::string over = over_the_limits(size, o.unit);
-  if (!over.empty()) return say(name + " is not written: " + over + "; " + fold_that_fits(region, o.unit));
-  Text text = program_text(region);
+void Reporter::write(Region &region, const std::string &name) {
+  Size size = fold_as_asked(region);
+  if (options.lines) places.look_up(codes_of(region));
+  std::string over = over_the_limits(size, options.unit);
+  if (!over.empty()) return say(name + " is not written: " + over + "; " + fold_that_fits(region, options.unit));
+  Text text = finish(region, false);
   over = over_the_length(text.words);
   if (!over.empty()) return say(name + " is not written: " + over);
+  tell_remarks(region, name);
   if (!write_file(name + ".tasks", text.words)) return;
-  say(name + ".tasks" + write_replay(region, name, text) + ": " + std::to_string(size.tasks) + " tasks, " +
-      std::to_string(size.segments) + " segments, work " + std::to_string(text.work) + " " + o.unit_name);
-  tell_rounding(name, size.total, text.work * o.unit);
+  say(name + ".tasks" + write_run(region, name, text) + ": " + std::to_string(size.tasks) + " tasks, " +
+      std::to_string(size.segments) + " segments, work " + std::to_string(text.work) + " " + options.unit_name);
+  write_bracket(region, name);
+}
+
+void Reporter::tell_outside(const Seen &outside) {
+  if (options.lines) places.look_up({outside.code});
+  if (outside.times) say("task outside of a parallel region, not recorded, " + times_and_place(outside, places));
+}
+
+int64_t work_of(const Region &region) { return region.in_parts + region.in_tasks; }
+
+// The heaviest ones, in the order of time; the others are told with their work.
+void keep_the_heaviest(std::vector<Region *> &regions, const Options &options) {
+  if (regions.size() <= options.regions) return;
+  std::stable_sort(regions.begin(), regions.end(), [](auto *a, auto *b) { return work_of(*a) > work_of(*b); });
+  int64_t left_out = 0;
+  for (size_t i = options.regions; i < regions.size(); i++) left_out += work_of(*regions[i]);
+  say(std::to_string(regions.size() - options.regions) + " more regions with tasks, the lightest, are not written: work " +
+      std::to_string(left_out / options.unit) + " " + options.unit_name + "; SPANPROF_REGIONS says how many are");
+  regions.resize(options.regions);
+  std::sort(regions.begin(), regions.end(), [](auto *a, auto *b) { return a->place < b->place; });
 }
 }  // namespace
 
-void report() {
-  const Options &o = options();
-  if (records_ran_out())
-    return say("nothing is written: more than " + std::to_string(o.records) +
-               " records; make tasks larger, or set SPANPROF_RECORDS higher (" + std::to_string(sizeof(Record)) +
-               " bytes each)");
-  Run run = read_records();
-  uint64_t written = 0;
-  for (auto &[number, region] : run.regions) {
-    if (!compose(*region)) continue;
-    if (written++ < o.regions) write_region(*region, o.out + (written > 1 ? "." + std::to_string(written) : ""));
-  }
-  if (written > o.regions)
-    say(std::to_string(written - o.regions) +
-        " more regions with tasks are not written; SPANPROF_REGIONS says how many are");
-  if (run.outside.times) say("a task outside of a parallel region is not recorded (" + times(run.outside) + ")");
-  if (!written) say("no parallel region with tasks");
+void report(const Job &job, const Ending &ending) {
+  std::vector<const Log *> logs = all_logs();
+  Run run = read_run(logs, ending);
+  std::vector<Region *> with_tasks;
+  for (auto &[number, region] : run.regions)
+    if (compose(*region)) {
+      with_tasks.push_back(region.get());
+      region->place = with_tasks.size();
+    }
+  Recording recording{program_invocation_short_name, date_now(), with_tasks.size(),
+                      divide_time(logs, job.start, job.end)};
+  Reporter reporter(job.options, std::move(recording));
+  if (with_tasks.empty() && !job.may_be_empty)
+    say(ending.wall ? "no parallel region with tasks, and the program ended inside a region"
+                    : "no parallel region with tasks");
+  keep_the_heaviest(with_tasks, job.options);
+  for (size_t i = 0; i < with_tasks.size(); i++)
+    reporter.write(*with_tasks[i], job.out + (i ? "." + std::to_string(i + 1) : ""));
+  reporter.tell_outside(run.outside);
 }

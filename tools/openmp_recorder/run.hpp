@@ -6,6 +6,7 @@
 #include <vector>
 
 #include "records.hpp"
+#include "remarks.hpp"
 
 struct Task;
 struct Region;
@@ -28,7 +29,8 @@ enum class Fold : uint8_t {
 // A wait for dependences: of the undeferred task that follows, or a `taskwait` with `depend`.
 struct Wait {
   const void *code;
-  int64_t over;  // the clock when it was over, so far as is known
+  int64_t over;    // the clock of the thread when it was over, so far as is known
+  const Log *log;  // of that thread
   std::vector<DependItem> items;
 };
 
@@ -68,24 +70,8 @@ struct Event {
   unsigned worker;
   Task *task;
   unsigned segment;
+  int64_t at;  // the clock of the records
   bool taken_back = false;
-};
-
-enum class Remark : uint8_t {
-  OneThread,
-  MutexInOutSet,
-  AllMemory,
-  UnknownItem,
-  Detach,
-  Cancel,
-  Target,
-  NestedRegion,
-  SeveralParts
-};
-
-struct Seen {
-  unsigned times = 0;
-  const void *code = nullptr;
 };
 
 struct Part {
@@ -97,11 +83,15 @@ struct Part {
 struct Region {
   const void *code = nullptr;
   unsigned threads = 0;
+  uint64_t place = 0;    // in the order of time, from 1
+  RegionTime time{};
   std::vector<std::unique_ptr<Task>> tasks;  // in the order of creation
   std::vector<Part> parts;
   std::vector<Event> events;
-  std::map<Remark, Seen> remarks;
-  Task *root = nullptr;  // what is written
+  std::map<LockName, LockUse> locks;
+  Remarks remarks;
+  Task *root = nullptr;           // what is written
+  int64_t in_parts = 0, in_tasks = 0;  // the costs of parts without tasks, and of all else
 };
 
 struct Run {
@@ -109,4 +99,10 @@ struct Run {
   Seen outside;                                         // tasks created outside any region
 };
 
-Run read_records();
+// When recording ended before the runtime's own end; the clock of the records and the wall clock, 0 where it did not.
+struct Ending {
+  int64_t clock = 0, wall = 0;
+  bool full = false;  // there was no room for more records
+};
+
+Run read_run(const std::vector<const Log *> &logs, const Ending &ending);

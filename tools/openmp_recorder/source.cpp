@@ -8,11 +8,10 @@
 #include <cstdint>
 #include <cstdio>
 #include <cstring>
-#include <map>
+
+#include "callers.hpp"
 
 namespace {
-std::map<const void *, std::string> &places = *new std::map<const void *, std::string>;
-
 std::string program() {
   char path[4096];
   ssize_t length = readlink("/proc/self/exe", path, sizeof path);
@@ -53,8 +52,9 @@ std::string symbol(const void *code, const Dl_info &info) {
   snprintf(text, sizeof text, "+0x%zx", static_cast<size_t>(in_file(code, info)));
   return base_name(info.dli_fname) + text;
 }
+}  // namespace
 
-void ask(const std::string &module, const std::vector<const void *> &codes) {
+void Places::ask(const std::string &module, const std::vector<const void *> &codes) {
   std::string command = "env -u LD_PRELOAD addr2line -s -e " + quoted(module);
   for (const void *code : codes) {
     Dl_info info;
@@ -68,18 +68,17 @@ void ask(const std::string &module, const std::vector<const void *> &codes) {
   char line[4096];
   for (size_t i = 0; i < codes.size() && fgets(line, sizeof line, answers); i++) {
     std::string answer(line, strcspn(line, " \n"));
-    if (is_known(answer)) places[codes[i]] = answer;
+    if (is_known(answer)) known[codes[i]] = answer;
   }
   pclose(answers);
 }
-}  // namespace
 
-void look_up(const std::vector<const void *> &codes) {
+void Places::look_up(const std::vector<const void *> &codes) {
   std::map<std::string, std::vector<const void *>> by_module;
   for (const void *code : codes) {
     Dl_info info;
-    if (!code || places.count(code) || !dladdr(const_cast<void *>(code), &info) || !info.dli_fname) continue;
-    places[code] = symbol(code, info);
+    if (!code || in_runtime(code) || known.count(code) || !dladdr(const_cast<void *>(code), &info) || !info.dli_fname) continue;
+    known[code] = symbol(code, info);
     by_module[*info.dli_fname == '/' ? info.dli_fname : program()].push_back(code);
   }
   for (auto &[module, own] : by_module)
@@ -87,7 +86,7 @@ void look_up(const std::vector<const void *> &codes) {
       ask(module, {own.begin() + i, own.begin() + std::min(own.size(), i + 200)});
 }
 
-std::string place(const void *code) {
-  auto found = places.find(code);
-  return found == places.end() ? "" : found->second;
+std::string Places::at(const void *code) const {
+  auto found = known.find(code);
+  return found == known.end() ? "" : found->second;
 }

@@ -1,12 +1,8 @@
 #include "text.hpp"
 
-#include <errno.h>
 #include <omp-tools.h>
 
 #include <map>
-
-#include "options.hpp"
-#include "source.hpp"
 
 namespace {
 // Where the writer is in a task's own code.
@@ -20,12 +16,15 @@ struct Place {
 
 class Writer {
  public:
+  Writer(const Style &chosen, const Places &known) : style(chosen), places(known) {}
   Text text;
   void body(Task &t, unsigned indent);
 
  private:
+  const Style &style;
+  const Places &places;
   uint32_t opened = 0;
-  std::map<const void *, size_t> names;
+  std::map<uint64_t, size_t> names;
 
   void line(unsigned indent, const std::string &words, const std::string &comment = "");
   void flush(Place &p);
@@ -35,11 +34,11 @@ class Writer {
   std::string items(const Task &t);
 };
 
-const char *type_of(int type) {
+const char *type_of(uint64_t type, bool exclusion_as_order) {
   switch (type) {
     case ompt_dependence_type_in: return "in";
     case ompt_dependence_type_out: return "out";
-    case ompt_dependence_type_mutexinoutset:
+    case ompt_dependence_type_mutexinoutset: return exclusion_as_order ? "inout" : "inoutset";
     case ompt_dependence_type_inoutset: return "inoutset";
     default: return "inout";
   }
@@ -65,7 +64,7 @@ void Writer::line(unsigned indent, const std::string &words, const std::string &
 }
 
 void Writer::flush(Place &p) {
-  int64_t unit = options().unit, rounded = (p.cost + unit / 2) / unit;
+  int64_t rounded = (p.cost + style.unit / 2) / style.unit;
   std::string folded = std::to_string(p.folded) + (p.folded == 1 ? " task folded" : " tasks folded");
   if (rounded || p.folded) line(p.indent, "work " + std::to_string(rounded), p.folded ? folded : "");
   text.work += rounded;
@@ -76,8 +75,8 @@ void Writer::flush(Place &p) {
 std::string Writer::items(const Task &t) {
   std::string clauses, last;
   for (auto &item : t.items) {
-    std::string type = type_of(item.type);
-    std::string name = "a" + std::to_string(names.emplace(item.location, names.size()).first->second);
+    std::string type = type_of(item.type, style.exclusion_as_order);
+    std::string name = "a" + std::to_string(names.emplace(item.address, names.size()).first->second);
     if (type == last) clauses.insert(clauses.size() - 1, ", " + name);
     else clauses += " depend(" + type + ": " + name + ")";
     last = type;
@@ -95,7 +94,7 @@ void Writer::create(Place &p, Task &child) {
   }
   flush(p);
   line(p.indent, std::string("task") + (child.undeferred ? " if(0)" : "") + items(child) + " {",
-       child.part ? "one of the region's threads" : place(child.code));
+       child.part ? "one of the region's threads" : places.at(child.code));
   body(child, p.indent + 1);
   line(p.indent, "}");
   p.segment++;
@@ -108,10 +107,10 @@ void Writer::step(Place &p, const Step &step) {
   else flush(p);
   switch (step.kind) {
     case Kind::Wait:
-      line(p.indent, "taskwait", place(step.code));
+      line(p.indent, "taskwait", places.at(step.code));
       p.segment++;
       return open(p);
-    case Kind::GroupBegin: return line(p.indent++, "taskgroup {", place(step.code));
+    case Kind::GroupBegin: return line(p.indent++, "taskgroup {", places.at(step.code));
     case Kind::GroupEnd:
       line(--p.indent, "}");
       p.segment++;
@@ -137,23 +136,23 @@ void Writer::body(Task &t, unsigned indent) {
 }
 }  // namespace
 
-Text program_text(Region &region) {
-  const Options &o = options();
+Text program_text(Region &region, const Style &style, const Places &places) {
+  Writer writer(style, places);
+  writer.text.words = "omptasks 1\n";
+  writer.body(*region.root, 0);
+  return writer.text;
+}
+
+std::vector<const void *> codes_of(const Region &region) {
   std::vector<const void *> codes{region.code};
   for (auto &t : region.tasks) {
     if (!t->shown || t->fold == Fold::Whole) continue;
     codes.push_back(t->code);
     for (auto &step : t->steps) codes.push_back(step.code);
   }
-  if (o.lines) look_up(codes);
-  Writer writer;
-  std::string at = place(region.code);
-  writer.text.words = "# recorded from " + std::string(program_invocation_short_name) + ", the parallel region" +
-                      (at.empty() ? "" : " at " + at) + ", on " + std::to_string(region.threads) +
-                      (region.threads == 1 ? " thread\n" : " threads\n") + "# measured costs in " + o.unit_name +
-                      " of " + (o.processor_clock ? "processor time" : "wall time") + "\nomptasks 1\n";
-  writer.body(*region.root, 0);
-  return writer.text;
+  for (auto &[what, seen] : region.remarks) codes.push_back(seen.code);
+  for (auto &[name, use] : region.locks) codes.push_back(use.code);
+  return codes;
 }
 
 std::string over_the_length(const std::string &words) {
@@ -168,23 +167,4 @@ std::string over_the_length(const std::string &words) {
   if (words.size() > 4194304)
     return std::to_string(words.size()) + " bytes, and spanprof takes 4194304; set SPANPROF_LINES=0";
   return "";
-}
-
-Events event_lines(const Region &region) {
-  Events out;
-  std::map<unsigned, unsigned> workers;
-  size_t finished = 0, segments = 0;
-  for (auto &t : region.tasks)
-    for (uint32_t number : t->numbers) segments += number != none;
-  for (auto &event : region.events) {
-    if (event.taken_back || event.segment >= event.task->numbers.size() || event.task->numbers[event.segment] == none)
-      continue;
-    unsigned worker = workers.emplace(event.worker, workers.size()).first->second;
-    out.words += (event.start ? "start " : "finish ") + std::to_string(worker) + " " +
-                 std::to_string(event.task->numbers[event.segment]) + "\n";
-    finished += !event.start;
-  }
-  out.workers = workers.size();
-  out.whole = finished == segments;
-  return out;
 }

@@ -1,20 +1,21 @@
-// The program text of a region, and the replay document of its run.
+// The program text of a region.
 #pragma once
 #include <string>
+#include <vector>
 
 #include "run.hpp"
+#include "source.hpp"
+
+struct Style {
+  int64_t unit = 1;                 // nanoseconds
+  bool exclusion_as_order = false;  // `mutexinoutset` as `inout`, and not as `inoutset`
+};
 
 struct Text {
-  std::string words;
+  std::string words;  // without a head
   int64_t work = 0;  // in units
 };
 
-struct Events {
-  std::string words;
-  size_t workers = 0;
-  bool whole = false;  // every segment of the text began and ended
-};
-
-Text program_text(Region &region);  // numbers the segments too
-std::string over_the_length(const std::string &words);  // of a text; empty where it fits
-Events event_lines(const Region &region);
+std::vector<const void *> codes_of(const Region &region);  // whose places stand in its text
+Text program_text(Region &region, const Style &style, const Places &places);  // numbers the segments too
+std::string over_the_length(const std::string &words);                        // of a text; empty where it fits

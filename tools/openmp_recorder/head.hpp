@@ -1,0 +1,17 @@
+// The head of a text: what it was recorded from, how the time divides, locks, and what the recording lacks.
+#pragma once
+#include <string>
+
+#include "options.hpp"
+#include "program_time.hpp"
+#include "run.hpp"
+#include "source.hpp"
+
+struct Recording {
+  std::string program, date;
+  uint64_t regions = 0;  // with tasks
+  ProgramTime time;
+};
+
+std::string head_of(const Region &region, const Recording &recording, const Options &options, const Places &places);
+void remark_locks(Region &region);  // where they take a hundredth of the region's work

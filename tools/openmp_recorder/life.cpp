@@ -1,0 +1,112 @@
+#include "life.hpp"
+
+#include <pthread.h>
+#include <stdlib.h>
+#include <time.h>
+#include <unistd.h>
+
+#include <csignal>
+#include <new>
+
+#include "files.hpp"
+#include "options.hpp"
+#include "program_time.hpp"
+#include "records.hpp"
+#include "report.hpp"
+#include "say.hpp"
+
+namespace {
+struct Life {
+  Options options;
+  int64_t start = 0;
+  pid_t process = 0;
+  bool is_child = false;
+  std::atomic<bool> ended{false};
+};
+
+Life *life = nullptr;  // never destroyed: the runtime says goodbye after the destructors of globals have run
+
+// The process dies of the signal as it would have without the recorder, which may only say a word here.
+void on_fatal_signal(int signal) {
+  char words[] = "spanprof recorder: nothing is written, since the program ended by signal 00\n";
+  char *number = words + sizeof words - 4;
+  number[0] = static_cast<char>('0' + signal / 10);
+  number[1] = static_cast<char>('0' + signal % 10);
+  ssize_t written = write(2, words, sizeof words - 1);
+  static_cast<void>(written);
+  raise(signal);
+}
+
+void watch_signals() {
+  for (int signal : {SIGABRT, SIGSEGV, SIGBUS, SIGFPE, SIGILL, SIGTERM, SIGINT, SIGHUP, SIGQUIT}) {
+    struct sigaction old {}, ours {};
+    if (sigaction(signal, nullptr, &old) || (old.sa_flags & SA_SIGINFO) || old.sa_handler != SIG_DFL) continue;
+    ours.sa_handler = on_fatal_signal;
+    ours.sa_flags = SA_RESETHAND | SA_NODEFER;
+    sigaction(signal, &ours, nullptr);
+  }
+}
+
+void after_fork() {
+  forget_records();
+  life->is_child = true;
+  life->ended = false;
+  life->start = wall_time();
+  life->process = getpid();
+}
+
+bool inside_a_region(const std::vector<const Log *> &logs) {
+  for (const Log *log : logs)
+    for (const RegionTime &time : log->regions)
+      if (!time.end) return true;
+  return false;
+}
+
+// Stops the records. Where threads still run, those that are in the recorder get a moment to leave it.
+Ending stop() {
+  stop_records(Stop::End);
+  Ending ending;
+  ending.full = records_stopped() != Stop::End;
+  bool inside = inside_a_region(all_logs());
+  if (inside) {
+    timespec moment{0, 2000000};
+    nanosleep(&moment, nullptr);
+  }
+  if (inside || ending.full) ending.wall = stopped_at();
+  if (!record_clock().of_processor) ending.clock = ending.wall;
+  return ending;
+}
+
+void end_of_process() {
+  if (life && life->process == getpid()) end_recording();
+}
+
+// The runtime does not call the tool's end where the program ends inside a region.
+__attribute__((destructor)) void end_of_library() { end_of_process(); }
+}  // namespace
+
+void begin_recording() {
+  if (life) return;
+  life = new Life;
+  life->options = read_options();
+  life->start = program_start();
+  life->process = getpid();
+  start_records(life->options.records, life->options.processor_clock);
+  remove_old_files(life->options.out);
+  if (!life->options.quiet) say("recording to " + life->options.out + ".tasks");
+  watch_signals();
+  pthread_atfork(nullptr, nullptr, after_fork);
+  at_quick_exit(end_of_process);
+}
+
+void end_recording() {
+  if (life->ended.exchange(true)) return;
+  int64_t end = wall_time();
+  Ending ending = stop();
+  std::string out = life->options.out + (life->is_child ? "." + std::to_string(life->process) : "");
+  try {
+    report({life->options, out, life->start, end, life->is_child}, ending);
+  } catch (const std::bad_alloc &) {
+    say("out of memory, and what is not written yet is not written");
+  }
+}

@@ -1,0 +1,33 @@
+#include "locks.hpp"
+
+#include <iterator>
+
+void Locks::ask(int kind, LockName name, const void *code, int64_t now) { asked = {name, kind, code, 0, now}; }
+
+void LockUse::add(const LockUse &more) {
+  if (!times) kind = more.kind, code = more.code;
+  times += more.times;
+  inside += more.inside;
+  waiting += more.waiting;
+}
+
+// The thread's own clock stands still from when the lock was asked for.
+int64_t Locks::get(LockName name, int64_t now, int64_t stood_still) {
+  if (asked.name != name) asked = {name, 0, nullptr, 0, now};
+  int64_t since = asked.since;
+  held.push_back({name, asked.kind, asked.code, now - since, since - stood_still});
+  asked = {};
+  return since;
+}
+
+void Locks::leave(LockName name, uint32_t region, int64_t own_clock) {
+  for (auto lock = held.rbegin(); lock != held.rend(); ++lock) {
+    if (lock->name != name) continue;
+    LockUse &use = used[{region, name}];
+    if (!use.times++) use.kind = lock->kind, use.code = lock->code;
+    use.inside += own_clock - lock->since;
+    use.waiting += lock->waited;
+    held.erase(std::next(lock).base());
+    return;
+  }
+}

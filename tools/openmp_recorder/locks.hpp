@@ -1,0 +1,35 @@
+// How often a thread held each lock, for how long, and how long it waited.
+#pragma once
+#include <cstdint>
+#include <map>
+#include <utility>
+#include <vector>
+
+struct LockUse {
+  int kind = 0;                // as OMPT has it
+  const void *code = nullptr;  // where it was first asked for
+  uint64_t times = 0;
+  int64_t inside = 0, waiting = 0;
+  void add(const LockUse &more);
+};
+
+using LockName = uint64_t;
+
+class Locks {
+ public:
+  void ask(int kind, LockName name, const void *code, int64_t now);
+  int64_t get(LockName name, int64_t now, int64_t stood_still);  // when it was asked for
+  void leave(LockName name, uint32_t region, int64_t own_clock);
+  const std::map<std::pair<uint32_t, LockName>, LockUse> &uses() const { return used; }  // by region and name
+
+ private:
+  struct Held {
+    LockName name;
+    int kind;
+    const void *code;
+    int64_t waited, since;
+  };
+  Held asked{};  // a thread waits for one at a time
+  std::vector<Held> held;
+  std::map<std::pair<uint32_t, LockName>, LockUse> used;
+};
