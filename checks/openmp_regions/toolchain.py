@@ -64,6 +64,8 @@ def environment(tools, drawn, threads, folder, is_recorded):
 def read_texts(folder):
     texts = {}
     for path in glob.glob(os.path.join(folder, "out*.tasks")):
+        if path.endswith(".inout.tasks"):
+            continue  # the other bound of a region with mutexinoutset
         with open(path, encoding="utf-8") as file:
             texts[os.path.basename(path)[:-6]] = file.read()
     return texts
