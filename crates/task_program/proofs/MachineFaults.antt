@@ -1,23 +1,15 @@
--- What the machines of reading refuse is the first fault of a text, told without them.
-use Rattle.std.specs.Prelude.{◌≡◌, ℕ, ◌≤◌, ◌↔◌, true, false, List, length, Ok, Err}
+-- What the machines of reading read and refuse, told without them.
+use Rattle.std.specs.Prelude.{◌≡◌, ℕ, ◌↔◌, true, false, List, Ok, Err}
 use Rattle.program_text.specs.declared.fault.ReadFault.{ReadFault}
-use Rattle.program_text.specs.declared.limits.TheConstants.{MOST_TEXT_BYTES}
 use Rattle.program_text.specs.Tokens.{texts, tokens_of}
 use Rattle.task_program.specs.ProgramMarks.{ProgramMarks}
 use Rattle.task_program.specs.ReadInVersion.{program_of}
 use Rattle.task_program.specs.Versions.{begins_version_two}
-use Rattle.task_program.specs.ViablePrefix.{IsSentence}
 use Rattle.loop_text.specs.Loops.{Tree}
 use Rattle.task_program.specs.LoopViablePrefix.{IsLoopSentence}
-use Rattle.task_program.specs.ExpandsTo.{ExpandsTo}
-use Rattle.task_program.specs.FirstFault.{HasFault, AreRight}
+use Rattle.task_program.specs.FirstFault.{HasFault}
 use Rattle.task_program.specs.FirstLoopFault.{HasLoopFault, IsTreeOf, AreLoopRight, body_of}
-
--- a text without a fault
-pub record IsRightWhole (text : List ℕ) : Type 0 where
-  pub text_fits : length text ≤ MOST_TEXT_BYTES
-  pub sentence : IsSentence (texts (tokens_of text))
-  pub right : AreRight (tokens_of text)
+use Rattle.task_program.specs.RightTexts.{IsRightWhole, IsRightLoopText}
 
 -- What is read is a sentence within the limits, each token right, and each such text is read. What
 -- is refused has this fault, and no other.
@@ -28,13 +20,6 @@ pub record IsToldApart (text : List ℕ) : Type 0 where
 -- the header is not that of version 2
 abbrev pub FaultIsFirst : List ℕ → Type 0
 FaultIsFirst text = begins_version_two (tokens_of text) ≡ false → IsToldApart text
-
--- a text without a fault, the expansion of which is this program
-pub record IsRightLoopText (text : List ℕ) (program : ProgramMarks) : Type 0 where
-  pub text_fits : length text ≤ MOST_TEXT_BYTES
-  pub tree : Tree
-  pub whole : IsTreeOf (body_of text) tree
-  pub expanded : ExpandsTo tree program
 
 -- What is read is a sentence within the limits, each token right, of which the expansion is the
 -- program, and each such text is read. What is refused has this fault, and no other.
