@@ -12,3 +12,4 @@ pub mod Began
 pub mod InGroups
 pub mod Whole
 pub mod Program
+pub mod Taking
