@@ -1,16 +1,14 @@
 //! The meter: work and span of the marks taken so far.
 ghost use Rattle.std.specs.Prelude.{ℕ, ◌≡◌, ◌+◌, ◌<◌, ◌^◌, [], ◌∷◌, length, reverse, true, false};
-ghost use Rattle.std.specs.Prelude.{max, if◌then◌else◌, OnOk, OnErr, List, nat_eq, ◌≤◌, vec_capacity, sum};
+ghost use Rattle.std.specs.Prelude.{max, if◌then◌else◌, OnOk, OnErr, List, nat_eq, ◌≤◌, vec_capacity};
 ghost use Rattle.std.specs.HashMap.{get};
 ghost use Rattle.program_text.specs.declared.statement.DependKind.{DependKind};
-ghost use Rattle.task_program.specs.Limits.{work_of};
 ghost use Rattle.task_program.specs.Marks.{Mark};
 ghost use Rattle.task_program.specs.Marks.Mark.{Begins, Ends, Works, Waits, GroupBegins, GroupEnds};
-ghost use Rattle.task_program.specs.Nested.{IsNested};
-ghost use Rattle.task_segments.specs.Moments.{last_moment, segments_so_far, tasks_so_far};
 ghost use Rattle.online_span.specs.Measuring.{Measures, CanTake, raised, Resumes, AreCounted};
-ghost use Rattle.online_span.specs.Earliest.{IsSpanAt, IsSpanOf, costs_at};
 ghost use Rattle.online_span.specs.Names.{ends_at, ends_named, with_items, mentions, IsThere};
+
+mod numbers;
 
 use crate::ends::EndsByKind;
 use crate::names::{latest_conflicting, make_all_room, note_all};
@@ -210,44 +208,6 @@ impl Meter {
         self.running.resume(&child);
         raise_last(&mut self.groups, child.end);
         self.segments += 1;
-    }
-
-    /// The work so far: the costs of all segments together.
-    pub fn total_work(&self) -> u64
-        ensures marks { (moment : List Mark) → Measures self.now moment
-            → result ≡ work_of moment }
-        ensures costs { (moment : List Mark) → Measures self.now moment
-            → result ≡ sum (costs_at moment) }
-    {
-        self.work
-    }
-
-    /// The span so far: the greatest sum of costs along a chain of segments of which each awaits the
-    /// one before it. No legal schedule ends sooner. Where the marks are those of a whole program,
-    /// this is the span of its table.
-    pub fn span(&self) -> u64
-        ensures so_far { (moment : List Mark) → Measures self.now moment
-            → IsSpanAt moment result }
-        ensures whole { (body : List Mark) → IsNested body
-            → Measures self.now (last_moment body) → IsSpanOf body result }
-    {
-        self.span
-    }
-
-    /// How many segments have opened.
-    pub fn segments(&self) -> u64
-        ensures { (moment : List Mark) → Measures self.now moment
-            → result ≡ segments_so_far moment }
-    {
-        self.segments
-    }
-
-    /// How many tasks have begun beside the root.
-    pub fn tasks(&self) -> u64
-        ensures { (moment : List Mark) → Measures self.now moment
-            → result + 1 ≡ tasks_so_far moment }
-    {
-        self.tasks
     }
 }
 
