@@ -39,7 +39,7 @@ struct Task {
   Task *parent = nullptr;
   bool part = false;  // the code of an implicit task between two barriers
   const void *code = nullptr;
-  bool undeferred = false;
+  bool undeferred = false, untied = false;
   std::vector<DependItem> items;
   std::vector<Step> steps;
   unsigned segment = 0;  // the one that is open, counted within the task
@@ -47,7 +47,9 @@ struct Task {
 
   // while the records are read
   bool running = false, waiting = false, over = false;
-  int64_t since = 0;
+  const Log *on = nullptr;     // of the thread that runs it, or last did
+  int64_t since = 0;           // on that thread's clock
+  uint32_t interrupted = 0;    // the task that the thread left for it, by number
   size_t started = 0;          // the event with which the running segment began
   std::unique_ptr<Wait> wait;  // for dependences, and not settled
   const void *loop = nullptr;  // the taskloop that it is in
