@@ -27,11 +27,12 @@ enum class Fold : uint8_t {
 };
 
 // A wait for dependences: of the undeferred task that follows, or a `taskwait` with `depend`.
-struct Wait {
+struct DependWait {
   const void *code;
   int64_t over;    // the clock of the thread when it was over, so far as is known
   const Log *log;  // of that thread
   std::vector<DependItem> items;
+  bool is_over = false;
 };
 
 struct Task {
@@ -51,7 +52,7 @@ struct Task {
   int64_t since = 0;           // on that thread's clock
   uint32_t interrupted = 0;    // the task that the thread left for it, by number
   size_t started = 0;          // the event with which the running segment began
-  std::unique_ptr<Wait> wait;  // for dependences, and not settled
+  std::unique_ptr<DependWait> wait;  // for dependences, and not settled
   const void *loop = nullptr;  // the taskloop that it is in
 
   // while it is written
