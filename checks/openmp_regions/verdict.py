@@ -67,7 +67,7 @@ def program_fault(run, expected_works):
     return ""
 
 
-def judge_fault(fault, run, run_again, expected_works, tries=30):
+def judge_fault(fault, run, run_again, expected_works, tries=100):
     """A fault of LLVM's is one that comes without the recorder too. A text says which tasks did not end."""
     if not any(program_fault(run_again(), expected_works) for _ in range(tries)):
         return "wrong", fault

@@ -1,6 +1,7 @@
 // A recorded run, as tasks with their steps and as events of their segments, region by region.
 #pragma once
 #include <cstdint>
+#include <deque>
 #include <map>
 #include <memory>
 #include <vector>
@@ -13,17 +14,27 @@ struct Region;
 
 enum class Kind : uint8_t { Work, Create, Wait, GroupBegin, GroupEnd };
 
-struct Step {
+class Step {
+ public:
   Kind kind;
-  int64_t cost = 0;            // of Work, in nanoseconds
-  Task *child = nullptr;       // of Create
-  const void *code = nullptr;  // of Wait and the groups
+  static Step work(int64_t cost) { return {Kind::Work, static_cast<uint64_t>(cost)}; }
+  static Step create(Task *child) { return {Kind::Create, reinterpret_cast<uint64_t>(child)}; }
+  static Step at(Kind kind, const void *code) { return {kind, reinterpret_cast<uint64_t>(code)}; }
+  int64_t cost() const { return static_cast<int64_t>(value); }               // of Work, in nanoseconds
+  Task *child() const { return reinterpret_cast<Task *>(value); }            // of Create
+  const void *code() const { return reinterpret_cast<const void *>(value); }  // of Wait and the groups
+  void add_cost(int64_t more) { value += static_cast<uint64_t>(more); }
+
+ private:
+  uint64_t value;
+  Step(Kind what, uint64_t that) : kind(what), value(that) {}
 };
 
 enum class Fold : uint8_t {
   No,
-  Body,  // the task's body is one `work`
-  Whole  // the task is `work` of its parent
+  Body,   // the task's body is one `work`
+  Whole,  // the task is `work` of its parent
+  Joined  // the task is `work` of the next of its siblings
 };
 
 // A wait for dependences: of the undeferred task that follows, or a `taskwait` with `depend`.
@@ -62,18 +73,24 @@ struct Task {
   unsigned blocks = 0;        // open in its own code outside its own groups
   int64_t total = 0;          // with everything below it
   Fold fold = Fold::No;
+  int64_t joined = 0;         // the cost of siblings that are `work` of it
+  unsigned joined_tasks = 0;
+  int64_t end = 0, end_below = 0;  // of its code and of all below it, from its start on as many threads as can be used
   bool shown = true;
   std::vector<uint32_t> numbers;  // of its segments in the text; none where a segment is part of a later one
 };
 
 constexpr uint32_t none = UINT32_MAX;
 
+// Whether a task that its parent shows stands in the text.
+inline bool is_written(const Task &t) { return t.shown && t.fold != Fold::Whole && t.fold != Fold::Joined; }
+
 struct Event {
-  bool start;
-  unsigned worker;
   Task *task;
-  unsigned segment;
   int64_t at;  // the clock of the records
+  unsigned segment;
+  uint16_t worker;
+  bool start;
   bool taken_back = false;
 };
 
@@ -88,12 +105,13 @@ struct Region {
   unsigned threads = 0;
   uint64_t place = 0;    // in the order of time, from 1
   RegionTime time{};
-  std::vector<std::unique_ptr<Task>> tasks;  // in the order of creation
+  std::deque<Task> tasks;  // in the order of creation, each before those that it makes
   std::vector<Part> parts;
   std::vector<Event> events;
   std::map<LockName, LockUse> locks;
   Remarks remarks;
   Task *root = nullptr;           // what is written
+  int64_t span = 0;               // without folds, in nanoseconds
   int64_t in_parts = 0, in_tasks = 0;  // the costs of parts without tasks, and of all else
 };
 
