@@ -24,7 +24,7 @@ class Adviser {
   int64_t unit;
   Size whole;
 
-  bool fits(const Folds &folds) { return over_the_limits(fold(region, folds), unit).empty(); }
+  bool fits(const Folds &folds) { return over_the_limits(fold(region, folds, most_tasks), unit).empty(); }
   void offer(std::vector<Offer> &out, const Folds &folds, const std::string &setting);
   Folds by_depth();
   Folds by_chunk();
@@ -49,29 +49,31 @@ Folds Adviser::by_depth() {
 
 // A small one that fits: more tasks in a row than the limit allows need that many in each chunk at least.
 Folds Adviser::by_chunk() {
-  if (!fits({0, 0, whole.tasks})) return {};
   uint64_t chunk = std::max<uint64_t>(2, (whole.tasks + most_tasks - 1) / most_tasks);
-  while (!fits({0, 0, chunk})) chunk += 1 + chunk / 8;
-  return {0, 0, chunk};
+  for (; chunk < 2 * whole.tasks; chunk += 1 + chunk / 8)
+    if (fits({0, 0, chunk})) return {0, 0, chunk};
+  return {};
+}
+
+int64_t in_two_digits(int64_t number) {
+  int64_t digit = 1;
+  while (number / digit >= 100) digit *= 10;
+  return (number + digit - 1) / digit * digit;
 }
 
 // Costs are measured anew by each run, so the threshold leaves half of what the limit allows, and is rounded up.
 Folds Adviser::by_cost() {
-  int64_t everything = whole.total + unit;
-  if (!fits({0, everything, 0})) return {};
   std::vector<int64_t> costs;
   for (const Task &t : region.tasks)
     if (t.parent && !t.part) costs.push_back(t.total);
-  size_t stay = std::min<size_t>(most_tasks / 2, costs.size() - 1);
-  std::nth_element(costs.begin(), costs.begin() + stay, costs.end(), std::greater<>());
-  int64_t units = costs[stay] / unit + 1;
-  while (true) {
-    int64_t digit = 1;
-    while (units / digit >= 100) digit *= 10;
-    units = (units + digit - 1) / digit * digit;
-    if (fits({0, units * unit, 0})) return {0, units * unit, 0};
-    units += 1 + units / 4;
+  if (costs.size() <= most_tasks / 2) return {};
+  auto stay = costs.begin() + most_tasks / 2;
+  std::nth_element(costs.begin(), stay, costs.end(), std::greater<>());
+  for (int64_t units = *stay / unit + 1; units <= 2 * (whole.total / unit + 1); units += 1 + units / 4) {
+    Folds folds{0, in_two_digits(units) * unit, 0};
+    if (fits(folds)) return folds;
   }
+  return {};
 }
 
 std::vector<Offer> Adviser::offers() {

@@ -11,17 +11,18 @@ Fold fold_of(const Task &t, const Folds &folds) {
   return folds.depth && t.depth >= folds.depth && t.children ? Fold::Body : Fold::No;
 }
 
-// Adds the segments of a task that is shown with its steps, and looks for the largest `work`.
-void add_steps(const Task &t, const Folds &folds, Size &size) {
-  int64_t piece = t.joined;
+// The largest `work` of a task that is shown with its steps.
+int64_t largest_piece(const Task &t, const Folds &folds) {
+  if (!folds.below && folds.chunk < 2) return t.largest;
+  int64_t piece = t.joined, largest = piece;
   for (const Step &step : t.steps) {
-    size.segments += step.kind == Kind::Wait || step.kind == Kind::GroupEnd;
     if (step.kind == Kind::Work) piece += step.cost();
     else if (step.kind != Kind::Create) piece = 0;
     else if (step.child()->fold != Fold::Joined)
       piece = fold_of(*step.child(), folds) == Fold::Whole ? piece + step.child()->total : 0;
-    size.largest = std::max(size.largest, piece);
+    largest = std::max(largest, piece);
   }
+  return largest;
 }
 
 bool can_be_joined(const Task &t) {
@@ -45,51 +46,64 @@ void join_neighbours(const Task &t, uint64_t chunk) {
   }
 }
 
-void unfold(Region &region) {
+void separate(Region &region) {
+  if (!region.joined) return;
   for (Task &t : region.tasks) {
     t.fold = Fold::No;
     t.joined = 0;
     t.joined_tasks = 0;
   }
+  region.joined = false;
+}
+
+void count(const Task &t, const Folds &folds, Size &size) {
+  if (t.parent) {
+    size.tasks++;
+    size.segments += 2;
+    size.items = std::max<uint64_t>(size.items, t.items.size());
+  }
+  bool steps = t.fold == Fold::No;
+  size.blocks = std::max<uint64_t>(size.blocks, t.blocks + (steps ? t.inner_groups : 0));
+  size.segments += steps ? t.waits : 0;
+  size.largest = std::max(size.largest, steps ? largest_piece(t, folds) : t.total);
+}
+
+// The steps of a task, without those of the tasks that it makes.
+void add_up_steps(Task &t) {
+  unsigned groups = 0;
+  t.total = t.largest = 0;
+  for (const Step &step : t.steps) {
+    if (step.kind == Kind::Work) t.total += step.cost(), t.largest = std::max(t.largest, step.cost());
+    if (step.kind == Kind::GroupBegin) t.inner_groups = std::max(t.inner_groups, ++groups);
+    if (step.kind == Kind::GroupEnd) groups--;
+    t.waits += step.kind == Kind::Wait || step.kind == Kind::GroupEnd;
+    if (step.kind != Kind::Create) continue;
+    step.child()->depth = step.child()->part ? 0 : t.depth + 1;
+    step.child()->outer_groups = groups;
+  }
 }
 }  // namespace
 
 void add_up(Region &region) {
-  for (Task &t : region.tasks) {
-    unsigned groups = 0;
-    t.total = 0;
-    for (auto &step : t.steps) {
-      if (step.kind == Kind::Work) t.total += step.cost();
-      if (step.kind == Kind::GroupBegin) t.inner_groups = std::max(t.inner_groups, ++groups);
-      if (step.kind == Kind::GroupEnd) groups--;
-      if (step.kind != Kind::Create) continue;
-      step.child()->depth = step.child()->part ? 0 : t.depth + 1;
-      step.child()->outer_groups = groups;
-    }
-  }
+  for (Task &t : region.tasks) add_up_steps(t);
   for (auto t = region.tasks.rbegin(); t != region.tasks.rend(); ++t)
     if (t->parent) t->parent->total += t->total;
 }
 
-Size fold(Region &region, const Folds &folds) {
+Size fold(Region &region, const Folds &folds, uint64_t enough) {
   Size size;
-  unfold(region);
+  separate(region);
+  region.joined = folds.chunk > 1;
   for (Task &t : region.tasks) {
-    Task *parent = t.parent;
+    const Task *parent = t.parent;
     t.shown = parent ? parent->shown && parent->fold == Fold::No : &t == region.root;
     if (t.fold == Fold::Joined) continue;
-    if (t.shown) t.fold = fold_of(t, folds);
+    t.fold = t.shown ? fold_of(t, folds) : Fold::No;
     if (!is_written(t)) continue;
-    if (folds.chunk > 1 && t.fold == Fold::No && t.children > 1) join_neighbours(t, folds.chunk);
-    if (parent) {
-      size.tasks++;
-      size.segments += 2;
-      size.items = std::max<uint64_t>(size.items, t.items.size());
-      t.blocks = parent->blocks + t.outer_groups + 1;
-    }
-    size.blocks = std::max<uint64_t>(size.blocks, t.blocks + (t.fold == Fold::No ? t.inner_groups : 0));
-    if (t.fold == Fold::Body) size.largest = std::max(size.largest, t.total);
-    else add_steps(t, folds, size);
+    t.blocks = parent ? parent->blocks + t.outer_groups + 1 : 0;
+    if (region.joined && t.fold == Fold::No && t.children > 1) join_neighbours(t, folds.chunk);
+    count(t, folds, size);
+    if (size.tasks > enough) break;
   }
   size.total = region.root->total;
   return size;

@@ -71,7 +71,9 @@ struct Task {
   unsigned outer_groups = 0;  // of the parent, open where the task is created
   unsigned inner_groups = 0;  // the most that are open at once in its own code
   unsigned blocks = 0;        // open in its own code outside its own groups
-  int64_t total = 0;          // with everything below it
+  unsigned waits = 0;         // and ends of groups in its own code
+  int64_t largest = 0;        // `work` of its own code, and with everything below it:
+  int64_t total = 0;
   Fold fold = Fold::No;
   int64_t joined = 0;         // the cost of siblings that are `work` of it
   unsigned joined_tasks = 0;
@@ -112,6 +114,7 @@ struct Region {
   Remarks remarks;
   Task *root = nullptr;           // what is written
   int64_t span = 0;               // without folds, in nanoseconds
+  bool joined = false;            // tasks may be joined
   int64_t in_parts = 0, in_tasks = 0;  // the costs of parts without tasks, and of all else
 };
 

@@ -79,7 +79,7 @@ void Timeline::step(const Step &step) {
 }
 
 void Timeline::follow(Task &task) {
-  if (task.fold == Fold::Body) now = task.total;
+  if (task.fold == Fold::Body || !task.children) now = task.total;
   else
     for (const Step &one : task.steps) step(one);
   task.end = now + task.joined;
