@@ -42,7 +42,7 @@ def parse(calls, words=None):
 
 def add_options(name, parser):
     add = parser.add_argument
-    add("--spanprof", default=os.environ.get("SPANPROF", "crates/spanprof/out/spanprof"), help="the program spanprof")
+    add("--spanprof", default="", help="the program spanprof (SPANPROF, or as this repository builds it, or on the PATH)")
     if name in ("shrink", "emit", "judge"):
         add("file", help="a program text")
     if name == "judge":
@@ -64,8 +64,9 @@ def add_bench_options(name, parser):
     add("--threads", type=thread_counts, default=(2, 4) if name == "mutants" else (1, 2, 4, 16),
         help="numbers of threads (1,2,4,16; for mutants 2,4)")
     add("--runs", type=int, default=8, help="runs of each program on each number of threads (8)")
-    add("--settings", type=some_of(SETTINGS), default=["free"] if name == "mutants" else list(SETTINGS),
-        metavar=",".join(SETTINGS), help="how programs are started (each of these in turn; for mutants free)")
+    add("--settings", type=some_of(SETTINGS), default=["free"] if name == "mutants" else [],
+        metavar=",".join(SETTINGS), help="how programs are started (each of these in turn but those that are known to "
+        "break the runtime; for mutants free)")
     add("--seed", type=int, default=1, help="the first random program's number, and the delays' seed (1)")
     add("--timeout", type=int, default=10, help="seconds until a run counts as hung (10)")
     add("--jobs", type=int, default=max(1, (os.cpu_count() or 1) // 2), help="programs that run side by side")
@@ -83,7 +84,9 @@ def add_failure_options(name, parser):
     if name == "shrink":
         add("--unit", type=int, default=DIRECTED_UNIT, help="what a cost of 1 lasts, in nanoseconds")
     if name == "run":
-        add("--programs", type=int, default=100, help="how many random programs (100)")
+        add("--programs", type=int, default=100, help="how many random programs (100); with --hours: of a batch")
+        add("--hours", type=float, default=0, help="go on with batch after batch until so many hours are full")
+        add("--state", default="campaign.jsonl", help="the file from which a campaign of hours goes on (campaign.jsonl)")
         add("--no-directed", dest="directed", action="store_false", help="leave out the directed part")
         add("--without", type=some_of(CONSTRUCTS), default=[], metavar="CONSTRUCT,..",
             help=f"constructs that random programs do not have: {', '.join(CONSTRUCTS)}")

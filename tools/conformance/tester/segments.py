@@ -109,7 +109,7 @@ class Table:
                 return
             kinds = conflict(earlier.items, task.items)
             if kinds:
-                yield Need(earlier.segments[-1], "dependence", f"{kinds[0]}, then {kinds[1]}")
+                yield Need(earlier.segments[-1], "dependence", dependence_of(*kinds[:2], bool(task.undeferred)))
 
     def need(self, before, after):
         """Why one segment has to precede another: by one step of a rule, or None."""
@@ -120,6 +120,11 @@ class Table:
         task = self.task_of[segment]
         place = task.segments.index(segment) + 1
         return f"segment {segment} (part {place} of {len(task.segments)} of task {task.number}, `{task.head}`)"
+
+
+def dependence_of(kind, then, undeferred):
+    """What a dependence is called. An undeferred task waits in its parent's thread, in another part of a runtime."""
+    return f"{kind}, then {then}" + " (undeferred)" * undeferred
 
 
 def conflict(earlier, later):
