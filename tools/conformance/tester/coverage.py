@@ -33,9 +33,11 @@ def all_waits(kinds):
 
 
 def never(measure, counted, kinds):
-    """By which rules and constructs no segment was counted under this measure, on any number of threads."""
+    """By which rules and constructs no segment was counted under this measure, on any number of threads. That none goes
+    on close to its undeferred task says nothing: both mostly run on one thread."""
     found = {(rule, construct) for rule, construct, under, _ in counted if under == measure}
-    return [f"{rule}: {construct}" for rule, construct in all_waits(kinds) if (rule, construct) not in found]
+    return [f"{rule}: {construct}" for rule, construct in all_waits(kinds)
+            if (rule, construct) not in found and (measure, rule) != ("close", "undeferred")]
 
 
 class Coverage:
