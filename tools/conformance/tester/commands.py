@@ -166,7 +166,7 @@ def command_judge(options, _folder):
         if not verdict.accepted:
             wrong += 1
             print(f"run {log.number}: {verdict.kind}: {explain(text, verdict, log).words}")
-    print(f"{len(logs)} runs, {wrong} not accepted")
+    print(f"runs: {len(logs)}, not accepted: {wrong}")
     return 1 if wrong else 0
 
 

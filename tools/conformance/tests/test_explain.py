@@ -39,8 +39,8 @@ class Refusals(unittest.TestCase):
         self.assertIn("`in: x` of task 2 conflicts with `out: x` of its sibling task 1", words)
 
     def test_group(self):
-        self.assertIn("task 1, which was made inside it", self.rule(GROUP, 3, "start 1 5")[1])
-        self.assertIn("task 2, which is below a task that was made inside it", self.rule(GROUP, 2, "start 1 5")[1])
+        self.assertIn("task 1, which was created inside it", self.rule(GROUP, 3, "start 1 5")[1])
+        self.assertIn("task 2, which is below a task that was created inside it", self.rule(GROUP, 2, "start 1 5")[1])
 
     def test_several_steps(self):
         rule, words = self.rule(WORKED, 0, "start 0 3")
