@@ -5,9 +5,9 @@ import time
 
 from tester.cases import Case
 from tester.directed import directed_programs, kinds_of
-from tester.forms import in_variant
 from tester.generate import random_program
 from tester.results import Results
+from tester.variants import in_variant
 
 DIRECTED_UNIT, RANDOM_UNIT = 100_000, 1_000  # nanoseconds for a cost of 1
 

@@ -9,8 +9,8 @@ from tester.emit_c import c_text
 from tester.explain import explain
 from tester.judge import Verdict
 from tester.launch import Conditions, launch
-from tester.program import text_of
 from tester.segments import Table
+from tester.text import text_of
 from tester.toolchain import BuildFailed
 
 

@@ -1,63 +1,25 @@
 """The commands of the tester. Each takes the options and a folder for what it builds, and answers an exit status."""
 import contextlib
-import os
 import pathlib
 import sys
 
 from tester import tables
 from tester.campaign import cases_of, directed_cases, random_cases, run_cases
-from tester.cases import Bench, Case, Plan
+from tester.cases import Bench, Case
 from tester.directed import directed_programs, first_comment
 from tester.explain import explain
 from tester.facts import facts_of, tested
-from tester.forms import in_variant
 from tester.journal import Journal
-from tester.judge import Judge, Missing, find_spanprof
-from tester.known_faults import usual_settings
-from tester.launch import SETTINGS, read_logs
+from tester.judge import Missing
+from tester.launch import read_logs
 from tester.long_campaign import run_campaign
-from tester.mutants import build_mutants, family_of, mutants_of, mutated
-from tester.program import text_of
-from tester.reader import read_program
-from tester.report import Report, as_json, coverage_lines, markdown, reproducer
+from tester.mutants import build_mutants, mutants_of, mutated
+from tester.opening import entry_points, judge_of, mutate, open_bench, plan_of, program_in
+from tester.publish import publish
+from tester.report import Report
 from tester.reproduce import Reproducer
-from tester.toolchain import Toolchain
-
-
-def judge_of(options):
-    return Judge(find_spanprof(options.spanprof, os.environ))
-
-
-def open_bench(options, folder):
-    toolchain = Toolchain(options.cc, options.cflags.split(), folder)
-    environment = {**os.environ, "LD_PRELOAD": options.preload} if options.preload else dict(os.environ)
-    return Bench(toolchain, judge_of(options), environment)
-
-
-def entry_points(bench):
-    """Which entry points the compiler's programs call: those of its own runtime, whatever is loaded in its place."""
-    return family_of(bench.toolchain.runtime(dict(os.environ)))
-
-
-def plan_of(options, bench):
-    settings = options.settings or usual_settings(entry_points(bench), SETTINGS)
-    return Plan(options.threads, options.runs, options.seed, options.timeout, tuple(settings))
-
-
-def mutate(bench, name):
-    """Makes the bench's runtime a mutant."""
-    mutants = mutants_of(entry_points(bench))
-    if name not in mutants:
-        raise Missing(f"no mutant {name} of this runtime; there are {', '.join(mutants)}")
-    library = build_mutants(entry_points(bench), bench.toolchain.folder)
-    bench.environment = mutated(bench.environment, library, name)
-
-
-def program_in(path, judge):
-    """The program in a file, which spanprof has to accept."""
-    text = pathlib.Path(path).read_text()
-    judge.record(text)
-    return read_program(text)
+from tester.text import text_of
+from tester.variants import in_variant
 
 
 def command_run(options, folder):
@@ -95,23 +57,6 @@ def shrink_failures(options, bench, results):
             sys.stderr.write(f"shrinking {number} of {len(groups)}\n")
         found.append(Reproducer(bench, group.smallest, options.shrink_runs, options.shrink_tries).reproduce())
     return found
-
-
-def publish(name, report):
-    """Writes the report, if one is asked for, with a text and a C file for each small program; prints the tables."""
-    results = report.results
-    for lines in (tables.summary(results, ["all"]), coverage_lines(report), tables.kinds_of_failure(results)):
-        print("\n".join([*lines, ""]))
-    if not name:
-        for number, one in enumerate(report.found, 1):
-            print("\n".join(reproducer(number, one, "FILE")))
-        return
-    path = pathlib.Path(name)
-    whole = as_json if path.suffix == ".json" else markdown
-    path.write_text(whole(report, path.stem) + "\n")
-    for number, one in enumerate(report.found, 1):
-        path.with_name(f"{path.stem}-{number}.tasks").write_text(one.text)
-        path.with_name(f"{path.stem}-{number}.c").write_text(one.source)
 
 
 def command_mutants(options, folder):

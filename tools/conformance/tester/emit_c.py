@@ -1,9 +1,10 @@
 """Writes a program as C with OpenMP tasks. To test another language, write its like of this file and of harness/."""
 import pathlib
 
+from tester.forms import form_of, is_of_regions
 from tester.locations import Locations
-from tester.program import (Group, Loop, Task, Wait, Work, form_of, is_of_regions, item_runs, nodes, segment_count,
-                            text_of)
+from tester.program import Group, Loop, Task, Wait, Work, segment_count
+from tester.text import item_runs, text_of
 
 TEMPLATE = pathlib.Path(__file__).parent.parent / "harness" / "program.c.in"
 WAITED_FOR, CREATES = 1, 2  # what the harness delays: see delays.c
@@ -170,36 +171,11 @@ def c_text(body, table, preds):
     for row in preds:
         begins.append(begins[-1] + len(row))
     parts = {"TEXT": text_of(body).replace("*/", "* /"), "LOCATIONS": emitter.locations.declarations(),
-             "COSTS": listed(table.cost), "PREDS_BEGIN": listed(begins), "PREDS": listed(p for row in preds for p in row),
+             "COSTS": listed(table.cost), "PREDS_BEGIN": listed(begins),
+             "PREDS": listed(before for row in preds for before in row),
              "ROLES": listed(roles_of(table)), "SEGMENTS": len(table.cost), "REGIONS": int(emitter.regions),
              "BODY": "\n".join(emitter.lines)}
     filled = TEMPLATE.read_text()
     for name, part in parts.items():
         filled = filled.replace(f"@{name}@", str(part))
     return filled
-
-
-def constructs(body):
-    """The names of the constructs and clauses that a program has."""
-    found = {"created by several threads"} if is_of_regions(body) else set()
-    for node in nodes(body):
-        if isinstance(node, Task):
-            found |= task_constructs(node)
-        elif isinstance(node, (Group, Loop)):
-            form = form_of(node)
-            plain = "taskgroup" if form == "parallel" and not is_of_regions(body) else form
-            found.add("loop" if plain == "for" else plain)
-        elif isinstance(node, Wait):
-            found.add("taskwait")
-    return found
-
-
-def task_constructs(task):
-    found = {"untied" if "untied" in task.clauses else "tied", "task"}
-    found |= {clause.partition("(")[0] for clause in task.clauses}
-    found |= {f"depend({item.kind})" for item in task.items}
-    found |= {"if(0)"} if task.undeferred else set()
-    found |= {"if(0) with depend"} if task.undeferred and task.items else set()
-    found |= {"final"} if task.final else set()
-    places = [item.place for item in task.items]
-    return found | ({"repeated item"} if len(set(places)) < len(places) else set())

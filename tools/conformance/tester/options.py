@@ -3,9 +3,9 @@ import argparse
 import os
 
 from tester.campaign import DIRECTED_UNIT
-from tester.forms import VARIANTS
 from tester.generate import CONSTRUCTS
 from tester.launch import SETTINGS
+from tester.variants import VARIANTS
 
 MOST_THREADS = 64
 
@@ -42,7 +42,8 @@ def parse(calls, words=None):
 
 def add_options(name, parser):
     add = parser.add_argument
-    add("--spanprof", default="", help="the program spanprof (SPANPROF, or as this repository builds it, or on the PATH)")
+    add("--spanprof", default="",
+        help="the program spanprof (SPANPROF, or as this repository builds it, or on the PATH)")
     if name in ("shrink", "emit", "judge"):
         add("file", help="a program text")
     if name == "judge":
@@ -86,7 +87,8 @@ def add_failure_options(name, parser):
     if name == "run":
         add("--programs", type=int, default=100, help="how many random programs (100); with --hours: of a batch")
         add("--hours", type=float, default=0, help="go on with batch after batch until so many hours are full")
-        add("--state", default="campaign.jsonl", help="the file from which a campaign of hours goes on (campaign.jsonl)")
+        add("--state", default="campaign.jsonl",
+            help="the file from which a campaign of hours goes on (campaign.jsonl)")
         add("--no-directed", dest="directed", action="store_false", help="leave out the directed part")
         add("--without", type=some_of(CONSTRUCTS), default=[], metavar="CONSTRUCT,..",
             help=f"constructs that random programs do not have: {', '.join(CONSTRUCTS)}")

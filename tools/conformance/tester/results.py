@@ -3,7 +3,7 @@ import collections
 import itertools
 from dataclasses import dataclass, field
 
-from tester.emit_c import constructs
+from tester.constructs import constructs
 from tester.program import segment_count
 
 

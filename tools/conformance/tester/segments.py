@@ -5,7 +5,9 @@ has tried, so it follows the table of docs/MODEL.md pair by pair and not the kep
 """
 from dataclasses import dataclass, field
 
-from tester.program import Group, Loop, Wait, Work, form_of, head_of
+from tester.forms import form_of
+from tester.program import Group, Loop, Wait, Work
+from tester.text import head_of
 
 
 @dataclass

@@ -5,9 +5,9 @@ from dataclasses import asdict
 from tester.cases import Case, Failure
 from tester.judge import Verdict
 from tester.launch import Conditions, Log
-from tester.program import text_of
 from tester.reader import read_program
 from tester.results import Group, Results
+from tester.text import text_of
 
 
 def as_json(results):

@@ -10,6 +10,7 @@ from unittest import mock
 
 from tester import commands
 from tester.judge import Judge, Missing, Verdict
+from tester.publish import publish
 from tests.helpers import failure_of
 from tests.test_report import found_of, report_of
 
@@ -34,7 +35,7 @@ class Publishing(Quiet):
     def test_report_with_its_programs(self):
         for suffix in ("md", "json"):
             name = self.folder / f"report.{suffix}"
-            _, printed = self.call(commands.publish, str(name), report_of(found=[found_of(failure_of())]))
+            _, printed = self.call(publish, str(name), report_of(found=[found_of(failure_of())]))
             self.assertIn("| refused | taskwait | tied |", printed)
             self.assertEqual((self.folder / "report-1.tasks").read_text(), "omptasks 1\ntaskwait\n")
             self.assertEqual((self.folder / "report-1.c").read_text(), "int main(void);\n")
@@ -42,7 +43,7 @@ class Publishing(Quiet):
         self.assertIn("facts", json.loads((self.folder / "report.json").read_text()))
 
     def test_without_a_report_the_programs_are_printed(self):
-        _, printed = self.call(commands.publish, "", report_of(found=[found_of(failure_of())]))
+        _, printed = self.call(publish, "", report_of(found=[found_of(failure_of())]))
         self.assertIn("conformance.py shrink FILE", printed)
         self.assertEqual(list(self.folder.iterdir()), [])
 

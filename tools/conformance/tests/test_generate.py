@@ -1,10 +1,11 @@
 """Random programs."""
 import unittest
 
-from tester.emit_c import constructs
+from tester.constructs import constructs
 from tester.generate import CONSTRUCTS, MOST_SEGMENTS, random_program
-from tester.program import KINDS, Task, nodes, segment_count, text_of
+from tester.program import KINDS, Task, nodes, segment_count
 from tester.reader import read_program
+from tester.text import text_of
 
 SEEDS = range(300)
 
