@@ -25,6 +25,8 @@ def main():
         except (BuildFailed, Refused, Missing, OtherCampaign, Unreadable, OSError) as reason:
             print(f"conformance.py: {reason}", file=sys.stderr)
             return 2
+        except KeyboardInterrupt:
+            return 130
 
 
 if __name__ == "__main__":

@@ -20,6 +20,7 @@ class Made:
     items: tuple          # pairs of a kind and a location
     head: str
     final_inside: bool
+    tied: bool = True
     children: list = field(default_factory=list)
     segments: list = field(default_factory=list)
 
@@ -90,6 +91,7 @@ class Table:
         undeferred = "if(0)" if node.undeferred else "final" if parent.final_inside else ""
         child = self.begin(parent, parent.segments[-1], undeferred, items, head_of(node),
                            node.final or parent.final_inside)
+        child.tied = "untied" not in node.clauses
         self.walk(node.body, child, loops)
         self.open(parent, Cut("undeferred", undeferred, (child,) if undeferred else ()))
 

@@ -1,7 +1,7 @@
 """Tables in Markdown."""
 from tester.coverage import MEASURES, TRIED_RULES, all_waits, never
 
-COUNTS = ("programs", "runs", "events", "refused", "incomplete", "values", "hung", "crashed", "not built")
+COUNTS = ("programs", "runs", "events", "refused", "incomplete", "values", "moved", "hung", "crashed", "not built")
 
 
 def table(heads, rows):

@@ -73,6 +73,11 @@ class Cases(unittest.TestCase):
         self.assertIn("the taskwait of task 0 waits for its child task 1", failure.words)
         self.assertEqual(failure.log.number, 1)
 
+    def test_tied_task_on_another_thread(self):
+        _, tallies = self.tallies(LOG.replace("0 3", "1 3"))
+        self.assertEqual(tallies[0].failures[0].signature, ("tied", "moved", "moved"))
+        self.assertIn("event 6: thread 1 starts segment 3", tallies[0].failures[0].words)
+
     def test_refused_runs_count_for_no_coverage(self):
         _, tallies = self.tallies(EARLY)
         self.assertEqual(tallies[0].coverage, {})

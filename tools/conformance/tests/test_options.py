@@ -39,6 +39,10 @@ class Options(unittest.TestCase):
         self.assertEqual(options.tasks, ["mixed"])
         self.assertEqual(options.without, ["loop", "if(0)"])
 
+    def test_numbers(self):
+        options = parsed("run --cc gcc --programs 0 --seed 0 --jobs 1")
+        self.assertEqual((options.programs, options.seed, options.jobs), (0, 0, 1))
+
     def test_hours(self):
         options = parsed("run --cc gcc --hours 0.5 --state night.jsonl")
         self.assertEqual((options.hours, options.state), (0.5, "night.jsonl"))
@@ -46,6 +50,9 @@ class Options(unittest.TestCase):
     def test_what_is_refused(self):
         self.assertIn("1 to 64", self.refused("run --cc gcc --threads 2,65"))
         self.assertIn("1 to 64", self.refused("run --cc gcc --threads 0"))
+        self.assertIn("1 is the least", self.refused("run --cc gcc --runs 0"))
+        self.assertIn("1 is the least", self.refused("run --cc gcc --seed -1"))
+        self.assertIn("invalid", self.refused("run --cc gcc --timeout soon"))
         self.assertIn("slow is none of", self.refused("run --cc gcc --settings free,slow"))
         self.assertIn("required: --cc", self.refused("run"))
         self.assertIn("required: command", self.refused(""))
