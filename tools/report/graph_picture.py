@@ -143,25 +143,30 @@ def arrow():
                            markerHeight=6, orient="auto"))
 
 
-def drawn(figures, layout, sizes, edges, labelled):
-    """Lines below, then labels."""
-    lines, labels = [], []
-    for pair, joined in edges.items():
-        line, middle = draw_edge(figures, layout, sizes, pair, joined)
-        lines.append(line)
-        labels.append(Label(joined, *middle))
-    return lines + [draw_label(figures, label) for label in apart(labels) if labelled]
+def frame(layout, boxes_to_the_right, labels):
+    """Left edge, width and height of all that is drawn."""
+    left = min([0, *(label.x - label.half for label in labels)]) - 4
+    right = max([layout.width + boxes_to_the_right, *(label.x + label.half for label in labels)]) + 4
+    return left, right - left, layout.height + 8
+
+
+def draw_all(figures, boxes, edges, labelled):
+    """Lines below, then boxes, then labels; and the frame around them."""
+    names, rank = list(boxes), {name: i for i, name in enumerate(boxes)}
+    sizes = {name: size(box) for name, box in boxes.items()}
+    layout = lay_out(names, [pair for pair in edges if rank[pair[0]] < rank[pair[1]]], sizes, labelled)
+    lines = {pair: draw_edge(figures, layout, sizes, pair, joined) for pair, joined in edges.items()}
+    labels = apart([Label(edges[pair], *middle) for pair, (_, middle) in lines.items()]) if labelled else []
+    drawn = [draw_box(box, *sizes[name], layout.x[name], layout.y[name]) for name, box in boxes.items()]
+    margin = 34 if any(rank[a] > rank[b] for a, b in edges) else 0
+    pieces = [*(line for line, _ in lines.values()), *drawn, *(draw_label(figures, label) for label in labels)]
+    return pieces, frame(layout, margin, labels)
 
 
 def picture(figures, boxes, edges, labelled):
     """`boxes` by name in an order in which most edges go forward; `edges` are Joined by pairs of names."""
-    names, rank = list(boxes), {name: i for i, name in enumerate(boxes)}
-    sizes = {name: size(box) for name, box in boxes.items()}
-    layout = lay_out(names, [pair for pair in edges if rank[pair[0]] < rank[pair[1]]], sizes, labelled)
-    pieces = [draw_box(box, *sizes[name], layout.x[name], layout.y[name]) for name, box in boxes.items()]
-    margin = 34 if any(rank[a] > rank[b] for a, b in edges) else 4
-    width, height = layout.width + 8 + margin, layout.height + 8
-    svg = tag("svg", arrow(), *drawn(figures, layout, sizes, edges, labelled), *pieces,
-              viewBox="-4 -4 %.0f %.0f" % (width, height), width="%.0f" % width, height="%.0f" % height,
-              class_="graph large" if width > WIDEST else "graph", role="img", aria_label="What waits for what")
+    pieces, (left, width, height) = draw_all(figures, boxes, edges, labelled)
+    svg = tag("svg", arrow(), *pieces, viewBox="%.0f -4 %.0f %.0f" % (left, width, height), width="%.0f" % width,
+              height="%.0f" % height, class_="graph large" if width > WIDEST else "graph", role="img",
+              aria_label="What waits for what")
     return tag("div", svg, class_="wide")

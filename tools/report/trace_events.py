@@ -89,7 +89,7 @@ def ready_counts(view, run):
 
 
 def counters(view, run, scale):
-    for moment, count in ready_counts(view, run):
+    for moment, count in [(0, 0), *ready_counts(view, run)]:
         yield {"name": "ready", "ph": "C", "ts": moment * scale, "pid": run.process, "args": {"segments": count}}
 
 

@@ -3,7 +3,6 @@
     python3 -m report.tests.compare PAGE.html MINE.tasks [OTHER.tasks]    in tools/; ends with status 1 where one is wrong
 """
 import json
-import os
 import sys
 
 from report.tests.expected import Program, table, unpacked
@@ -61,8 +60,6 @@ def differences(page, paths, ask):
 
 
 def main(paths):
-    here = os.path.dirname(os.path.abspath(__file__))
-    sys.path.insert(0, os.path.join(here, "..", "..", "plots"))
     import program
     with open(paths[0], encoding="utf-8") as file:
         wrong, count = differences(file.read(), paths[1:], program.ask)
