@@ -80,7 +80,9 @@ class Browser:
     def page(self, width=1280, height=900):
         target = self.session.call("Target.createTarget", url="about:blank")["targetId"]
         session = self.session.call("Target.attachToTarget", targetId=target, flatten=True)["sessionId"]
-        return Page(Session(self.pipe, session), width, height)
+        page = Page(Session(self.pipe, session), width, height)
+        page.close = lambda: self.session.call("Target.closeTarget", targetId=target)
+        return page
 
     def close(self):
         try:

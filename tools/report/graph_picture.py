@@ -11,6 +11,7 @@ from report.markup import join, tag
 
 WIDEST = 1700   # what is wider is not made to fit, but scrolls
 LETTER, LINE, PAD = 6.9, 16, 10
+DARKEST = 45    # per cent of the colour, so that words on it can be read
 WORDS = {CREATES: "%s created", DEPENDS: "%s depend", WAITS: "%s waits"}
 
 
@@ -63,7 +64,7 @@ def lines_text(lines, x, y):
 
 def draw_box(box, width, height, x, y):
     rectangle = tag("rect", x="%.1f" % (x - width / 2), y="%.1f" % (y - height / 2), width="%.1f" % width,
-                    height=height, rx=6, style="--shade:%.0f%%" % (55 * box.shade))
+                    height=height, rx=6, style="--shade:%.0f%%" % (DARKEST * box.shade))
     return tag("g", box.title, rectangle, lines_text(box.lines, x, y),
                class_="box critical" if box.is_critical else "box")
 

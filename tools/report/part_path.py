@@ -23,7 +23,8 @@ def left_out(view, places):
     if not places:
         return ""
     show, named = view.figures, "places-from %d " % places[0].number
-    return note(show.number(len(places), named + "count", RECORDED), " more places with together ",
+    words = " more places with together " if len(places) > 1 else " more place with "
+    return note(show.number(len(places), named + "count", RECORDED), words,
                 show.number(sum(place.critical_cost for place in places), named + "path", view.cost_kind), " on the path.")
 
 
