@@ -53,10 +53,11 @@ def make_folders(root, path, made):
 
 
 def install(root, pairs):
-    for source, _ in pairs:
+    for source, path in pairs:
         if not os.path.isfile(source):
-            sys.exit("install: no file %s%s" % (os.path.relpath(source), "; README.md tells how spanprof is built"
-                                                if source.endswith("/spanprof") else ""))
+            shown = os.path.relpath(source, os.path.join(TOOLS, ".."))
+            sys.exit("install: %s: no such %s" % (shown, "program; README.md tells how spanprof is built"
+                                                  if path == "bin/spanprof" else "file"))
     uninstall(root)
     made = [] if os.path.isdir(root) else ["./"]
     os.makedirs(root, exist_ok=True)

@@ -6,8 +6,13 @@ _spanprof_among() { # CURRENT WORD ..: those of the words that begin like the cu
     mapfile -t COMPREPLY < <(compgen -W "$*" -- "$current")
 }
 
-_spanprof_files() { # CURRENT [PATTERN]: folders, and files of this name
-    mapfile -t COMPREPLY < <(compgen -f -X "!${2:-*}" -- "$1"; compgen -d -- "$1")
+_spanprof_files() { # CURRENT [END]: folders, and files whose names end so
+    mapfile -t COMPREPLY < <((compgen -f -X "!*${2-}" -- "$1"; compgen -d -- "$1") | sort -u)
+    compopt -o filenames 2> /dev/null
+}
+
+_spanprof_folders() { # CURRENT
+    mapfile -t COMPREPLY < <(compgen -d -- "$1")
     compopt -o filenames 2> /dev/null
 }
 
@@ -50,7 +55,7 @@ _spanprof_record() {
     case $before in
         --unit) _spanprof_among "$current" ns us ms ;;
         --clock) _spanprof_among "$current" wall cpu ;;
-        --html) _spanprof_files "$current" '*.html' ;;
+        --html) _spanprof_files "$current" .html ;;
         --out | --runtime) _spanprof_files "$current" ;;
         --threads | --runs | --fold-depth | --fold-cost) ;;
         *) case $current in
@@ -63,14 +68,14 @@ _spanprof_record() {
 _spanprof_report() {
     local current=${COMP_WORDS[COMP_CWORD]} before=${COMP_WORDS[COMP_CWORD - 1]}
     case $before in
-        -o | --output) _spanprof_files "$current" '*.html' ;;
-        --replay) _spanprof_files "$current" '*.replay' ;;
-        --trace | --speedscope) _spanprof_files "$current" '*.json' ;;
-        --source) _spanprof_files "$current" '' ;;
+        -o | --output) _spanprof_files "$current" .html ;;
+        --replay) _spanprof_files "$current" .replay ;;
+        --trace | --speedscope) _spanprof_files "$current" .json ;;
+        --source) _spanprof_folders "$current" ;;
         --threads | --factor) ;;
         *) case $current in
             -*) _spanprof_among "$current" "$(_spanprof_options "${COMP_WORDS[0]}")" ;;
-            *) _spanprof_files "$current" '*.tasks' ;;
+            *) _spanprof_files "$current" .tasks ;;
         esac ;;
     esac
 }

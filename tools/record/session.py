@@ -55,7 +55,7 @@ class Session:
         self.options = options
         self.path = find(options.command[0])
         self.out = os.path.abspath(options.out)
-        check_folder(self.out)
+        check_folder(options.out)
         check_spanprof()
         linked = linkage(self.path)
         self.is_script = linked.is_script

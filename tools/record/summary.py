@@ -1,4 +1,4 @@
-"""The summary of a recording in ten lines: numbers that spanprof printed, their quotients, and those of the text's head."""
+"""The summary of a recording in ten lines: what spanprof printed, quotients of that, and what the text's head tells."""
 from report.places import places
 
 THREADS = (2, 4, 8, 16)
@@ -24,6 +24,11 @@ def threads_of(head):
     return "%d thread%s" % (head.threads, "" if head.threads == 1 else "s") if head.threads else ""
 
 
+def costs(number, unit):
+    """With the unit; one that is a number of nanoseconds is a factor."""
+    return "%s %s%s" % (grouped(number), "x " if unit[:1].isdigit() else "", unit)
+
+
 def title(answers):
     head = answers.head
     parts = [answers.name, "region at %s" % head.region if head.region else "", threads_of(head),
@@ -41,8 +46,8 @@ def elapsed_line(answers):
     if not elapsed:
         return "not told"
     threads = " on %s" % threads_of(answers.head) if answers.head.threads else ""
-    return "%s %s%s: %.1f times as fast as one was reached (measured)" % (
-        grouped(elapsed), answers.head.unit, threads, answers.work / elapsed)
+    return "%s%s: %.2f times as fast as one was reached (measured)" % (
+        costs(elapsed, answers.head.unit), threads, answers.work / elapsed)
 
 
 def threads_line(answers):
@@ -73,8 +78,8 @@ def summary(answers, verdict="", news=(), others=()):
     unit = answers.head.unit
     return [title(answers)] \
         + named("tasks", [tasks_line(answers, verdict)]) \
-        + named("work", ["%s %s: the time of one thread (measured)" % (grouped(answers.work), unit)]) \
-        + named("span", ["%s %s: no run ends sooner (proved, of measured costs)" % (grouped(answers.span), unit)]) \
+        + named("work", ["%s: the time of one thread (measured)" % costs(answers.work, unit)]) \
+        + named("span", ["%s: no run ends sooner (proved, of measured costs)" % costs(answers.span, unit)]) \
         + named("parallelism", ["%s: work / span; no number of threads gives more (proved)"
                                 % tenths_up(answers.work, answers.span)]) \
         + named("elapsed", [elapsed_line(answers)]) \
@@ -86,7 +91,6 @@ def summary(answers, verdict="", news=(), others=()):
 
 def other_region(answers):
     head = answers.head
-    return "%s%s: work %s %s, span %s %s" % (
-        answers.name, ", region at %s" % head.region if head.region else "", grouped(answers.work), head.unit,
-        grouped(answers.span), head.unit)
+    return "%s%s: work %s, span %s" % (answers.name, ", region at %s" % head.region if head.region else "",
+                                       costs(answers.work, head.unit), costs(answers.span, head.unit))
 

@@ -75,10 +75,12 @@ class Prefix(unittest.TestCase):
         self.assertEqual(install.uninstall(self.root), 0)
 
     def test_a_file_that_is_missing(self):
-        self.pairs.append((os.path.join(self.kept.name, "out", "spanprof"), "bin/spanprof"))
-        with self.assertRaisesRegex(SystemExit, "no file .*README.md tells"):
-            self.install()
-        self.assertFalse(os.path.exists(self.root))
+        missing = os.path.join(self.kept.name, "none")
+        for path, words in (("bin/spanprof", "none: no such program; README.md tells"), ("lib/x.so", "none: no such file")):
+            self.pairs[1] = (missing, path)
+            with self.assertRaisesRegex(SystemExit, words):
+                self.install()
+            self.assertFalse(os.path.exists(self.root))
 
 
 if __name__ == "__main__":

@@ -13,7 +13,7 @@ tasks         1, in 3 segments (recorded); its run was legal (proved)
 work          100 us: the time of one thread (measured)
 span          70 us: no run ends sooner (proved, of measured costs)
 parallelism   1.5: work / span; no number of threads gives more (proved)
-elapsed       40 us on 4 threads: 2.5 times as fast as one was reached (measured)
+elapsed       40 us on 4 threads: 2.50 times as fast as one was reached (measured)
 threads       2: 1.1 to 1.5, 4: 1.2 to 1.5, 8: 1.3 to 1.5, 16: 1.4 to 1.5 times as fast as one (proved)
 span by place 71.4 % of the span, 50.0 % of the work: after a taskwait
               28.6 % of the span, 20.0 % of the work: the beginning
@@ -38,6 +38,10 @@ class Lines(unittest.TestCase):
             row.cost = 0
         answers.curve = {p: {"least": 0, "bound": 0} for p in (2, 4, 8, 16)}
         self.assertIn("parallelism   1.0", "\n".join(summary(answers)))
+
+    def test_a_unit_that_is_a_number(self):
+        lines = summary(Answers(head=Head(unit="250 ns")))
+        self.assertIn("work          100 x 250 ns: the time of one thread (measured)", lines)
 
     def test_other_regions(self):
         other = "sort.tasks, region at sort.c:48: work 100 us, span 70 us"
