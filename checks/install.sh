@@ -18,7 +18,7 @@ installed() { env -i HOME="$folder" PATH="$prefix/bin:/usr/bin:/bin" OMP_NUM_THR
 list() { (cd "$1" && find . | sort); }
 
 # A word where the program is not built, and where the prefix is none.
-make -s -C tools SPANPROF="$folder/none" install PREFIX="$prefix" 2> "$folder/told" && fail "what is missing is installed"
+make -s -C tools SPANPROF="$folder/none" install PREFIX="$prefix" 2> "$folder/told" && fail "no program is installed"
 grep -q 'none: no such program; README.md tells how spanprof is built' "$folder/told" || fail "no word of the program"
 make_in_tools install PREFIX=usr 2> "$folder/told" && fail "a prefix that is no whole path is taken"
 grep -q "PREFIX is a whole path" "$folder/told" || fail "no word of the prefix"
@@ -37,8 +37,8 @@ grep -q '^threads .*(proved)' told || { fail "no summary"; cat told; }
 grep -q '</html>' record.html || fail "no page of the recording"
 installed spanprof-report mine.tasks -o mine.html --trace mine.json || fail "spanprof-report fails"
 grep -q '</html>' mine.html || fail "no page"
-installed spanprof-conformance run --cc gcc --tasks tied --threads 2 --runs 1 --settings free --programs 2 --no-directed \
-    > tested || { fail "spanprof-conformance fails"; cat tested; }
+installed spanprof-conformance run --cc gcc --tasks tied --threads 2 --runs 1 --settings free --programs 2 \
+    --no-directed > tested || { fail "spanprof-conformance fails"; cat tested; }
 [ "$(installed spanprof-conformance list | wc -l)" -gt 100 ] || fail "the directed programs"
 for name in spanprof spanprof-record spanprof-report spanprof-conformance; do
     [ "$(man -M "$prefix/share/man" -w $name)" = "$prefix/share/man/man1/$name.1" ] || fail "man $name"
@@ -54,7 +54,8 @@ cd "$top"
 make_in_tools install PREFIX="$prefix"
 touch "$prefix/bin/other"
 make_in_tools uninstall PREFIX="$prefix"
-[ "$(list "$folder/usr" | tr '\n' ' ')" = ". ./local ./local/bin ./local/bin/other " ] || fail "uninstall leaves $(list "$prefix")"
+left=$(list "$folder/usr" | tr '\n' ' ')
+[ "$left" = ". ./local ./local/bin ./local/bin/other " ] || fail "uninstall leaves $left"
 rm "$prefix/bin/other"
 make_in_tools install PREFIX=/usr DESTDIR="$folder/stage"
 [ -x "$folder/stage/usr/bin/spanprof" ] || fail "nothing stands below DESTDIR"

@@ -1,6 +1,7 @@
 #!/usr/bin/env bash
-# Tries tools/spanprof-record: its unit tests, then real programs of clang-16 and gcc: what they print, how they end, the
-# files, the summary, and each error. Build spanprof first. Another program than crates/spanprof/out/spanprof may be named.
+# Tries tools/spanprof-record: its unit tests, then real programs of clang-16 and gcc: what they print, how they end,
+# the files, the summary, and each error. Build spanprof first. Another program than crates/spanprof/out/spanprof may
+# be named.
 set -euo pipefail
 cd "$(dirname "$0")/.."
 spanprof=$(realpath "${1:-crates/spanprof/out/spanprof}")
@@ -82,7 +83,7 @@ wait $recorder || status=$?
 expect_word "SIGTERM" 'the program ended by SIGTERM'
 echo "a signal"
 
-expect "a fold" 0 spanprof-record --out folded --fold-depth 1 --clock cpu --unit 100 -- ./llvm
+expect "a fold" 0 spanprof-record --out folded --fold depth=1 --clock cpu --unit 100 -- ./llvm
 expect_word "a fold" 'folded task'
 expect_word "a fold" 'costs in 100 ns of processor time'
 expect "a page" 0 spanprof-record --html page.html -- ./llvm
@@ -113,14 +114,15 @@ expect_error 127 './none: no such program' spanprof-record -- ./none
 expect_error 127 'llvm: no such program on the PATH; llvm of this folder is ./llvm' spanprof-record -- llvm
 expect_error 126 './in: not executable' spanprof-record -- ./in
 expect_error 126 '/tmp: a folder, and no program' spanprof-record -- /tmp
-expect_error 125 "./plain has no OpenMP in it: it is linked neither with gcc's runtime (libgomp) nor with LLVM's runtime \
-(libomp); was it compiled with -fopenmp? (--runtime FILE runs it on that library all the same)" spanprof-record -- ./plain
-expect_error 125 './static is linked statically, and no recorder can be loaded into it; link it without -static' \
-    spanprof-record -- ./static
-expect_error 125 "./inside has gcc's runtime (libgomp) inside; link it with the shared library, or compile it with clang" \
-    spanprof-record -- ./inside
-expect_error 125 'nothing is recorded: its OpenMP runtime did not load the recorder; it begins only where a program meets '\
-'a construct of OpenMP' spanprof-record -- ./llvm never
+words="./plain has no OpenMP in it: it is linked neither with gcc's runtime (libgomp) nor with LLVM's runtime "
+words+='(libomp); was it compiled with -fopenmp? (--runtime FILE runs it on that library all the same)'
+expect_error 125 "$words" spanprof-record -- ./plain
+words='./static is linked statically, and no recorder can be loaded into it; link it without -static'
+expect_error 125 "$words" spanprof-record -- ./static
+words="./inside has gcc's runtime (libgomp) inside; link it with the shared library, or compile it with clang"
+expect_error 125 "$words" spanprof-record -- ./inside
+words='nothing is recorded: its OpenMP runtime did not load the recorder; it begins only where a program meets a '
+expect_error 125 "${words}construct of OpenMP" spanprof-record -- ./llvm never
 expect "no tasks" 125 spanprof-record -- ./llvm none
 expect_word "no tasks" 'spanprof-record: nothing is recorded: no parallel region with tasks'
 expect_error 125 '--out no/x: there is no folder no' spanprof-record --out no/x -- ./llvm

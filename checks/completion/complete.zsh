@@ -1,10 +1,10 @@
-# complete.zsh FOLDER LINE: the line as zsh has it after the tab key. FOLDER has _spanprof. A zsh of its own, in a
-# terminal of its own, gets the line and the key; each command is a function there that prints its words.
+# complete.zsh FOLDER LINE: the line as zsh has it after the tab key. FOLDER has _spanprof. A zsh in a terminal of its
+# own gets the line and the key; each command is a function there that prints its words.
 zmodload zsh/zpty
 folder=$1 line=$2 answer=
 zpty shell "zsh -f -i"
 for words in "PROMPT= RPROMPT= PS2=; unsetopt zle_bracketed_paste prompt_cr; stty -echo; fpath=($folder \$fpath)" \
-    "autoload -Uz compinit; compinit -u -d $folder/zcompdump; bindkey '^I' complete-word; zstyle ':completion:*' menu no" \
+    "autoload -Uz compinit; compinit -u -d $folder/zcompdump; bindkey '^I' complete-word" \
     'for name in spanprof spanprof-record spanprof-report spanprof-conformance; do
         functions[$name]="print -r -- \"<$name \$*>\""; done; print ready'; do
     zpty -w shell $words

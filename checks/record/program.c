@@ -1,5 +1,5 @@
 // A program to record: tasks in one region, or in two with `two`; its standard input goes to its output, a line to its
-// standard error. It then ends as the first word says: with a status, or by `abort`, or only when it is killed (`wait`).
+// standard error. Then it ends as the first word says: with a status, by `abort`, or only when it is killed (`wait`).
 #include <stdio.h>
 #include <stdlib.h>
 #include <string.h>

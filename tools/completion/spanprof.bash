@@ -57,7 +57,8 @@ _spanprof_record() {
         --clock) _spanprof_among "$current" wall cpu ;;
         --html) _spanprof_files "$current" .html ;;
         --out | --runtime) _spanprof_files "$current" ;;
-        --threads | --runs | --fold-depth | --fold-cost) ;;
+        --fold) _spanprof_among "$current" depth= cost= chunk=; compopt -o nospace 2> /dev/null ;;
+        --threads | --runs) ;;
         *) case $current in
             -*) _spanprof_among "$current" -- "$(_spanprof_options "${COMP_WORDS[0]}")" ;;
             *) _spanprof_files "$current" ;;

@@ -8,7 +8,7 @@ from record.fault import Fault
 
 PREFIX = "spanprof recorder: "
 BEGUN = "recording to "
-OPTIONS = {"SPANPROF_FOLD_DEPTH=": "--fold-depth ", "SPANPROF_FOLD_COST=": "--fold-cost "}
+FOLD = re.compile(r"SPANPROF_FOLD_([A-Z]+)=")
 WRITTEN = re.compile(r"\.tasks( and .*\.replay)?: \d+ tasks, \d+ segments, work \d+ ")
 
 
@@ -58,6 +58,11 @@ def is_shown(line, out, texts, remarks):
     return line.startswith(BEGUN) or line.startswith(out) and line[len(out):].partition(": ")[2] in remarks
 
 
+def as_option(line):
+    """A fold as spanprof-record takes it."""
+    return FOLD.sub(lambda found: "--fold %s=" % found[1].lower(), line)
+
+
 @dataclass
 class Messages:
     """What the recorder said; `loaded` is whether the runtime has loaded it at all."""
@@ -66,11 +71,8 @@ class Messages:
 
     def news(self, out, texts=(), remarks=()):
         """What the summary would not show, without the path of the files, and with options in place of variables."""
-        told = dict(OPTIONS, **{os.path.dirname(out) + os.sep: ""})
-        news = [line for line in self.lines if not is_shown(line, out, texts, remarks)]
-        for words, better in told.items():
-            news = [line.replace(words, better) for line in news]
-        return news
+        return [as_option(line).replace(os.path.dirname(out) + os.sep, "")
+                for line in self.lines if not is_shown(line, out, texts, remarks)]
 
 
 def messages(path):

@@ -11,6 +11,7 @@ AFTER = """Everything after -- is the program and its words. The exit status is 
 recorded, 126 where the program cannot be run, 127 where there is none. The recorder's own variables (SPANPROF_REGIONS,
 SPANPROF_RECORDS, SPANPROF_LINES) and those of OpenMP hold too."""
 MOST_RUNS = 99
+FOLDS = ("depth", "cost", "chunk")
 
 
 class Parser(argparse.ArgumentParser):
@@ -36,6 +37,13 @@ def count(least, most):
     return read
 
 
+def fold(word):
+    name, _, number = word.partition("=")
+    if name not in FOLDS or not re.fullmatch(r"[1-9][0-9]{0,14}", number):
+        raise argparse.ArgumentTypeError("a fold is %s, with a whole number" % ", ".join(name + "=N" for name in FOLDS))
+    return name, int(number)
+
+
 def parser():
     out = Parser(prog="spanprof-record", description=DESCRIPTION, epilog=AFTER, allow_abbrev=False,
                  usage="spanprof-record [options] [--] PROGRAM [WORD ..]")
@@ -46,9 +54,9 @@ def parser():
     add("--threads", type=count(1, 1024), metavar="P", help="OMP_NUM_THREADS of the run; spanprof judges 64 at most")
     add("--runs", type=count(1, MOST_RUNS), default=1, metavar="N",
         help="run it N times, and take the median of each segment's costs")
-    add("--fold-depth", type=count(1, 64), metavar="D", help="write tasks at depth D with all below them as one cost")
-    add("--fold-cost", type=count(1, 10**15), metavar="C",
-        help="write tasks that cost less than C as work of their parent")
+    add("--fold", type=fold, action="append", default=[], metavar="depth=D|cost=C|chunk=N",
+        help="write tasks at depth D with all below them as one cost; tasks cheaper than C as work of their parent; N "
+        "neighbours as one task")
     add("--runtime", metavar="FILE", help="LLVM's runtime, to run the program on whatever it is linked with")
     add("--html", metavar="PAGE", help="write the page of spanprof-report too")
     add("--open", action="store_true", help="show that page in the browser; without --html it is NAME.html")

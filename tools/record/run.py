@@ -17,8 +17,8 @@ def environment(base, options, library, preload, out, messages):
     if preload:
         others = base.get("LD_PRELOAD")
         new["LD_PRELOAD"] = preload + (os.pathsep + others if others else "")
-    asked = {"SPANPROF_UNIT": options.unit, "SPANPROF_CLOCK": options.clock, "OMP_NUM_THREADS": options.threads,
-             "SPANPROF_FOLD_DEPTH": options.fold_depth, "SPANPROF_FOLD_COST": options.fold_cost}
+    asked = {"SPANPROF_UNIT": options.unit, "SPANPROF_CLOCK": options.clock, "OMP_NUM_THREADS": options.threads}
+    asked.update(("SPANPROF_FOLD_" + name.upper(), number) for name, number in options.fold)
     new.update((name, str(value)) for name, value in asked.items() if value is not None)
     return new
 

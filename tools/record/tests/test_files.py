@@ -62,7 +62,7 @@ spanprof recorder: {0}.3 is not written: 21890 tasks, and spanprof takes 4096; r
         self.assertTrue(said.loaded)
         self.assertEqual(said.news(self.out, [self.out + ".tasks"], {"mutexinoutset, 1 time: span too low"}), [
             "mine.2.tasks: 3 tasks, 7 segments, work 10 ns",
-            "mine.3 is not written: 21890 tasks, and spanprof takes 4096; record with --fold-depth 7"])
+            "mine.3 is not written: 21890 tasks, and spanprof takes 4096; record with --fold depth=7"])
 
     def test_none(self):
         self.assertFalse(files.messages(os.path.join(self.kept.name, "words")).loaded)

@@ -13,7 +13,7 @@ from record.target import find
 
 
 def options(**given):
-    known = dict(unit=None, clock=None, threads=None, fold_depth=None, fold_cost=None)
+    known = dict(unit=None, clock=None, threads=None, fold=())
     return argparse.Namespace(**dict(known, **given))
 
 
@@ -24,10 +24,10 @@ class Environment(unittest.TestCase):
                                "OMP_TOOL_LIBRARIES": "/r.so", "SPANPROF_OUT": "/out", "SPANPROF_MESSAGES": "/words"})
 
     def test_what_is_asked_for(self):
-        asked = options(unit="us", clock="cpu", threads=8, fold_depth=2, fold_cost=5)
+        asked = options(unit="us", clock="cpu", threads=8, fold=[("depth", 2), ("chunk", 5)])
         new = environment({}, asked, "/r.so", "", "o", "m")
         self.assertEqual([new[name] for name in ("SPANPROF_UNIT", "SPANPROF_CLOCK", "OMP_NUM_THREADS",
-                                                 "SPANPROF_FOLD_DEPTH", "SPANPROF_FOLD_COST")],
+                                                 "SPANPROF_FOLD_DEPTH", "SPANPROF_FOLD_CHUNK")],
                          ["us", "cpu", "8", "2", "5"])
 
     def test_other_tools_and_libraries_come_after(self):
@@ -124,9 +124,9 @@ class Words(unittest.TestCase):
         self.assertEqual(parse(["--open", "--html", "p.html", "--", "./mine"]).html, "p.html")
 
     def test_wrong_words(self):
-        for words in ([], ["--"], ["--unit", "s", "--", "x"], ["--unit", "0", "--", "x"], ["--threads", "0", "--", "x"],
-                      ["--runs", "-1", "--", "x"], ["--clock", "sun", "--", "x"], ["--out", "a/", "--", "x"],
-                      ["--thre", "2", "--", "x"]):
+        wrong = ("--unit s", "--unit 0", "--threads 0", "--runs -1", "--fold depth", "--clock sun", "--out a/",
+                 "--thre 2")
+        for words in [[], ["--"]] + [options.split() + ["--", "x"] for options in wrong]:
             with mock.patch("sys.stderr"), self.assertRaises(SystemExit) as end:
                 parse(words)
             self.assertEqual(end.exception.code, 125, words)
