@@ -105,6 +105,8 @@ echo "options"
 expect "five runs" 0 spanprof-record --runs 5 --out five -- ./llvm
 [ "$(wc -l < out)" = 25 ] || fail "not every run reads standard input"
 expect_recording five
+expect_word "five runs" 'remarks       each cost is the median of 5 recordings'
+[ "$(grep -c '^ *remarks\|^              five' err)" = 1 ] || fail "five runs: the single runs stand in the summary"
 [ -e five.runs/run5.tasks ] || fail "the fifth run is not kept"
 expect "a run that fails" 3 spanprof-record --runs 2 --out failing -- ./llvm 3
 expect_word "a run that fails" 'run 1 of 2 is the last, and there is no median: the program ended with status 3'

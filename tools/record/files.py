@@ -51,10 +51,15 @@ def remove_old(out):
             os.remove(path)
 
 
+def is_text(line, texts):
+    """Whether a line says that one of these texts was written."""
+    return bool(WRITTEN.search(line)) and line.startswith(tuple(texts))
+
+
 def is_shown(line, out, texts, remarks):
     """Whether a line of the recorder says what the summary shows: a text that was written, or a remark of its head."""
     if WRITTEN.search(line):
-        return line.startswith(tuple(texts))
+        return is_text(line, texts)
     return line.startswith(BEGUN) or line.startswith(out) and line[len(out):].partition(": ")[2] in remarks
 
 
@@ -68,6 +73,10 @@ class Messages:
     """What the recorder said; `loaded` is whether the runtime has loaded it at all."""
     loaded: bool
     lines: list
+
+    def without(self, texts):
+        """All but that these were written."""
+        return Messages(self.loaded, [line for line in self.lines if not is_text(line, texts)])
 
     def news(self, out, texts=(), remarks=()):
         """What the summary would not show, without the path of the files, and with options in place of variables."""

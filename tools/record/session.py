@@ -94,7 +94,7 @@ class Session:
                 return status, [], said
         tell("taking medians")
         self.notes += combine_all(MEDIAN, self.out, names)
-        return 0, recordings(self.out), said
+        return 0, recordings(self.out), said.without([recording.text for recording in recordings(names[-1])])
 
     def record(self):
         return self.record_often() if self.options.runs > 1 else self.record_once()

@@ -64,6 +64,10 @@ spanprof recorder: {0}.3 is not written: 21890 tasks, and spanprof takes 4096; r
             "mine.2.tasks: 3 tasks, 7 segments, work 10 ns",
             "mine.3 is not written: 21890 tasks, and spanprof takes 4096; record with --fold depth=7"])
 
+    def test_a_text_that_is_one_of_several_runs(self):
+        said = files.messages(self.write("words", self.LINES.format(self.out)))
+        self.assertEqual(len(said.without([self.out + ".tasks"]).lines), 4)
+
     def test_none(self):
         self.assertFalse(files.messages(os.path.join(self.kept.name, "words")).loaded)
 
