@@ -83,6 +83,8 @@ std::vector<Offer> Adviser::offers() {
   if (Folds folds = by_cost(); folds.below)
     offer(out, folds, "SPANPROF_FOLD_COST=" + std::to_string(folds.below / unit));
   std::stable_sort(out.begin(), out.end(), [](auto &a, auto &b) { return a.span < b.span; });
+  // What leaves less than half of the best one's parallelism is no advice.
+  while (out.size() > 1 && out.back().span / 2 > out.front().span) out.pop_back();
   return out;
 }
 }  // namespace
