@@ -29,7 +29,9 @@ def reproducer(number, found, name):
              f"Found in `{found.origin}`, made smaller in {found.tried} tries. {found.failed} of {found.runs} runs on "
              f"{conditions.threads} threads failed. {found.remark()}".rstrip(), "",
              f"To see it again: `conformance.py shrink {name} --cc .. --tasks {failure.case.variant} "
-             f"--threads {conditions.threads} --settings {conditions.setting} --unit {failure.case.unit}`.", "",
+             f"--threads {conditions.threads} --settings {conditions.setting} --unit {failure.case.unit}`; or by hand, "
+             f"in tools/conformance: `cc -fopenmp -Iharness {name.removesuffix('.tasks')}.c harness/*.c`, then "
+             f"`./a.out {' '.join(conditions.words())}`.", "",
              "```", found.text.rstrip(), "```", ""]
     if failure.log:
         lines += [f"The log up to there (schedule: {failure.log.schedule}):", "", "```", *found.events(), "```", ""]

@@ -60,7 +60,8 @@ class Reports(unittest.TestCase):
         text = markdown(report_of(found=[found_of(failure_of(SMALL))]), "report")
         for part in ("| compiler | cc |", "## How hard each rule was tried", "Never close:",
                      "| free | plain | 12 | 0 |", "| free | late | 4 | 2 |", "conformance.py shrink report-1.tasks",
-                     "3 of 20 runs on 2 threads failed.", "(schedule: late)"):
+                     "3 of 20 runs on 2 threads failed.", "(schedule: late)",
+                     "`cc -fopenmp -Iharness report-1.c harness/*.c`, then `./a.out 2 3 1 1000 5`"):
             self.assertIn(part, text)
 
     def test_no_failures_no_chapters_of_them(self):
