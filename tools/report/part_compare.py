@@ -17,7 +17,8 @@ def change(views, before, after, source, kind):
 def lines(views):
     """Name, values, source and kind of each row."""
     first, second = (view.answers for view in views)
-    out = [("work", first.work, second.work, "span work", PROVED), ("span", first.span, second.span, "span span", PROVED),
+    out = [("work", first.work, second.work, "span work", PROVED),
+           ("span", first.span, second.span, "span span", PROVED),
            ("tasks", first.tasks, second.tasks, "tasks", RECORDED),
            ("segments", first.span_numbers["segments"], second.span_numbers["segments"], "span segments", RECORDED)]
     if first.head.elapsed and second.head.elapsed:
@@ -103,6 +104,6 @@ def compare_part(views):
     if views[0].answers.head.unit != views[1].answers.head.unit:
         words = note("The two texts have costs in different units: ", views[0].unit or "none named", " and ",
                      views[1].unit or "none named", ".")
+    kinds = dict.fromkeys(view.cost_kind for view in views)
     return section("compared", "Side by side", words, numbers(views),
-                   note("Costs by place ", badges(*dict.fromkeys(view.cost_kind for view in views)), ", largest first."),
-                   by_place(views))
+                   note("Costs by place ", badges(*kinds), ", largest first."), by_place(views))

@@ -9,17 +9,17 @@ from report.tables import table
 MOST_TASKS, MOST_EDGES = 60, 240
 MOST_PLACES, MOST_PLACE_EDGES, MOST_LINES = 16, 30, 60
 
-BY_TASK = "A box for each task, with its cost. Solid: a dependence. Dashed: the creation of a task that depends on no " \
-    "other. Red: the critical path."
+BY_TASK = "A box for each task, with its cost. Solid: a dependence. Dashed: the creation of a task that depends on " \
+    "no other. Red: the critical path."
 WAITS_LEFT_OUT = " The waits of tasks for those that they have created are not drawn."
 BY_PLACE = "A box for each place of tasks. Dashed: its tasks create those, and how often they wait for them. Solid: " \
     "those depend on its tasks. Red: the critical path goes there."
-NO_PICTURE = "Too many for a picture: which place's tasks create those of which, depend on them, or are waited for by " \
-    "their creators."
+NO_PICTURE = "Too many for a picture: which place's tasks create those of which, depend on them, or are waited for " \
+    "by their creators."
 
 
 def between_tasks(edges, critical):
-    """Dependences, and the creation of each task that depends on none; waits for tasks that one created are left out."""
+    """Dependences, and the creation of each task that depends on none; waits for created tasks are left out."""
     depending = {b for kind, _, b in edges if kind == DEPENDS}
     out = {}
     for (kind, a, b), count in sorted(edges.items()):
@@ -60,8 +60,8 @@ def place_box(view, place, loop):
     """`loop` joins the place with itself."""
     answers, show, named = view.answers, view.figures, "task-place %d " % place.number
     share, of_span = percent(place.cost, answers.work), percent(place.critical_cost, answers.span)
-    lines = [[tag("tspan", place.name, class_="given")], [show.told("tspan", grouped(len(place.tasks)), [named + "count"]),
-                            " tasks" if len(place.tasks) > 1 else " task"],
+    count = show.told("tspan", grouped(len(place.tasks)), [named + "count"])
+    lines = [[tag("tspan", place.name, class_="given")], [count, " tasks" if len(place.tasks) > 1 else " task"],
              [show.told("tspan", "%.1f %% of the work" % share, ["percent " + named + "cost / span work"])]]
     if loop:
         lines.append([show.told("tspan", "among them: " + loop.words, loop.listed)])

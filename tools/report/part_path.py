@@ -24,8 +24,9 @@ def left_out(view, places):
         return ""
     show, named = view.figures, "places-from %d " % places[0].number
     words = " more places with together " if len(places) > 1 else " more place with "
+    cost = sum(place.critical_cost for place in places)
     return note(show.number(len(places), named + "count", RECORDED), words,
-                show.number(sum(place.critical_cost for place in places), named + "path", view.cost_kind), " on the path.")
+                show.number(cost, named + "path", view.cost_kind), " on the path.")
 
 
 def by_place(view):
