@@ -2,12 +2,12 @@
 from report.figures import PROVED, RECORDED, badges, grouped, percent
 from report.graph import CREATES, DEPENDS, WAITS, critical_pairs, place_edges, task_edges
 from report.graph_picture import Box, Joined, picture
-from report.markup import note, section, tag
+from report.markup import join, note, section, tag
 from report.places import tasks
 from report.tables import table
 
 MOST_TASKS, MOST_EDGES = 60, 240
-MOST_PLACES, MOST_PLACE_EDGES, MOST_LINES = 16, 30, 60
+MOST_PLACES, MOST_PLACE_EDGES, MOST_LINES = 16, 30, 40
 
 BY_TASK = "A box for each task, with its cost. Solid: a dependence. Dashed: the creation of a task that depends on " \
     "no other. Red: the critical path."
@@ -79,8 +79,10 @@ def edge_table(view, joined):
         rows.append([tag("span", names[a], class_="place"), tag("span", names[b], class_="place")] + [
             show.number(edge.counts[kind], found[kind], RECORDED) if kind in found else ""
             for kind in (CREATES, DEPENDS, WAITS)])
-    return table(["tasks at", "and tasks at", "creates", "dependences", "waits"], rows, numeric=range(2, 5),
+    made = table(["tasks at", "and tasks at", "creates", "dependences", "waits"], rows, numeric=range(2, 5),
                  is_sortable=True)
+    more = tag("span", len(joined) - len(rows), class_="given")
+    return join([made, note(more, " more pairs of places are left out.") if len(joined) > len(rows) else ""])
 
 
 def by_place(view, edges, critical):

@@ -70,7 +70,7 @@ class View:
         if head.elapsed and head.threads:
             return Reached(head.threads, head.elapsed, work / head.elapsed, True, "elapsed")
         if self.run and self.run.end and not self.run.is_timed:
-            return Reached(head.threads or self.run.count, self.run.end, work / self.run.end, False, "run end")
+            return Reached(self.run.count, self.run.end, work / self.run.end, False, "run end")
         return None
 
     def colour_of(self, task_place):
