@@ -1,5 +1,5 @@
 """Two programs side by side: their numbers, and where their work and span differ."""
-from report.figures import MEASURED, PROVED, RECORDED, badge, badges, percent
+from report.figures import MEASURED, PROVED, badge, badges, percent
 from report.markup import note, section, tag
 from report.tables import place_cell, table
 
@@ -16,11 +16,11 @@ def change(views, before, after, source, kind):
 
 def lines(views):
     """Name, values, source and kind of each row."""
-    first, second = (view.answers for view in views)
+    (first, second), shape = (view.answers for view in views), views[0].shape_kind
     out = [("work", first.work, second.work, "span work", PROVED),
            ("span", first.span, second.span, "span span", PROVED),
-           ("tasks", first.tasks, second.tasks, "tasks", RECORDED),
-           ("segments", first.span_numbers["segments"], second.span_numbers["segments"], "span segments", RECORDED)]
+           ("tasks", first.tasks, second.tasks, "tasks", shape),
+           ("segments", first.span_numbers["segments"], second.span_numbers["segments"], "span segments", shape)]
     if first.head.elapsed and second.head.elapsed:
         out.append(("elapsed", first.head.elapsed, second.head.elapsed, "elapsed", MEASURED))
     for threads in (2, 4, 8, 16, 32):

@@ -1,5 +1,5 @@
 """The graph: a box for each task of a small program, for each place of tasks in a large one."""
-from report.figures import PROVED, RECORDED, badges, grouped, percent
+from report.figures import PROVED, badges, grouped, percent
 from report.graph import CREATES, DEPENDS, WAITS, critical_pairs, place_edges, task_edges
 from report.graph_picture import Box, Joined, picture
 from report.markup import join, note, section, tag
@@ -77,7 +77,7 @@ def edge_table(view, joined):
     for (a, b), edge in order:
         found = dict(zip(edge.kinds, edge.listed))
         rows.append([tag("span", names[a], class_="place"), tag("span", names[b], class_="place")] + [
-            show.number(edge.counts[kind], found[kind], RECORDED) if kind in found else ""
+            show.number(edge.counts[kind], found[kind], view.shape_kind) if kind in found else ""
             for kind in (CREATES, DEPENDS, WAITS)])
     made = table(["tasks at", "and tasks at", "creates", "dependences", "waits"], rows, numeric=range(2, 5),
                  is_sortable=True)
@@ -104,4 +104,4 @@ def graph_part(view):
     is_small = answers.tasks < MOST_TASKS and len(edges) <= MOST_EDGES
     drawing, words = (by_task if is_small else by_place)(view, edges, critical)
     return section("graph", "What waits for what",
-                   note(words, " ", badges(RECORDED), ", critical path ", badges(PROVED)), drawing)
+                   note(words, " ", badges(view.shape_kind), ", critical path ", badges(PROVED)), drawing)
