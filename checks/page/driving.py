@@ -1,4 +1,4 @@
-"""Zoom, movement, tooltips, tables, factors and colours of a page, tried by keys and mouse. Each trial yields faults."""
+"""Zoom, movement, tooltips, tables, factors and colours of a page, by keys and mouse. Each trial yields faults."""
 import subprocess
 
 CTRL = 2    # the bit of the key in an event of the mouse

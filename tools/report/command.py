@@ -72,8 +72,8 @@ def print_factors(view, factors):
     remarks = said(view.answers.text)
     changed = sum(1 for place, _ in factors for s in place.segments if view.answers.rows[s].cost)
     after = all_at_once(view, factors)
-    lines = [*remarks, "%d segment%s changed" % (changed, "" if changed == 1 else "s"), *("%s %d" % (name, after[name]) for name in ANSWER)]
-    print("\n".join(lines))
+    count = "%d segment%s changed" % (changed, "" if changed == 1 else "s")
+    print("\n".join([*remarks, count, *("%s %d" % (name, after[name]) for name in ANSWER)]))
 
 
 def views_of(chosen, tell):

@@ -9,8 +9,8 @@ from report.markup import join, tag
 MEASURED, RECORDED, PROVED, DECLARED = "measured", "recorded", "proved", "declared"
 MEANINGS = {
     MEASURED: "a cost or a time by the recorder's clock, or a sum or quotient of such",
-    DECLARED: "a cost as the text declares it, or a sum of such costs",
-    RECORDED: "the shape of the program, and the order of the run: tasks, segments, what waits for what",
+    DECLARED: "what the text says and nobody recorded: its costs, its tasks and what waits for what, or a sum of such",
+    RECORDED: "as the program ran: its tasks and segments, what waits for what, and the order of the run",
     PROVED: "follows from costs and shape, told by a program that is proved to answer right",
 }
 

@@ -63,7 +63,7 @@ def data(views):
     return Markup(words.replace("<", "\\u003c"))
 
 
-SCRIPTS = ("data.js", "drawing.js", "lanes.js", "controls.js", "tables.js", "factors.js")
+SCRIPTS = ("data.js", "drawing.js", "lanes.js", "controls.js", "tables.js", "graph.js", "factors.js")
 
 
 def filled(text, pieces):

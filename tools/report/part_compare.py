@@ -1,5 +1,5 @@
 """Two programs side by side: their numbers, and where their work and span differ."""
-from report.figures import MEASURED, PROVED, RECORDED, badge, badges, percent
+from report.figures import MEASURED, PROVED, badge, badges, percent
 from report.markup import note, section, tag
 from report.tables import place_cell, table
 
@@ -16,10 +16,11 @@ def change(views, before, after, source, kind):
 
 def lines(views):
     """Name, values, source and kind of each row."""
-    first, second = (view.answers for view in views)
-    out = [("work", first.work, second.work, "span work", PROVED), ("span", first.span, second.span, "span span", PROVED),
-           ("tasks", first.tasks, second.tasks, "tasks", RECORDED),
-           ("segments", first.span_numbers["segments"], second.span_numbers["segments"], "span segments", RECORDED)]
+    (first, second), shape = (view.answers for view in views), views[0].shape_kind
+    out = [("work", first.work, second.work, "span work", PROVED),
+           ("span", first.span, second.span, "span span", PROVED),
+           ("tasks", first.tasks, second.tasks, "tasks", shape),
+           ("segments", first.span_numbers["segments"], second.span_numbers["segments"], "span segments", shape)]
     if first.head.elapsed and second.head.elapsed:
         out.append(("elapsed", first.head.elapsed, second.head.elapsed, "elapsed", MEASURED))
     for threads in (2, 4, 8, 16, 32):
@@ -103,6 +104,6 @@ def compare_part(views):
     if views[0].answers.head.unit != views[1].answers.head.unit:
         words = note("The two texts have costs in different units: ", views[0].unit or "none named", " and ",
                      views[1].unit or "none named", ".")
+    kinds = dict.fromkeys(view.cost_kind for view in views)
     return section("compared", "Side by side", words, numbers(views),
-                   note("Costs by place ", badges(*dict.fromkeys(view.cost_kind for view in views)), ", largest first."),
-                   by_place(views))
+                   note("Costs by place ", badges(*kinds), ", largest first."), by_place(views))

@@ -4,6 +4,7 @@ from report.markup import details, join, note, section, tag
 from report.tables import table
 
 WIDTH, HEIGHT = 720, 380
+COLUMNS = (("end", "the greedy run ends at"), ("least", "no run before"), ("bound", "no greedy run after"))
 LEFT, RIGHT, TOP, BOTTOM = 60, 16, 16, 56
 
 
@@ -56,7 +57,7 @@ def told(view, threads):
     """What the curve says at a point, in one line."""
     row, work = view.answers.curve[threads], view.answers.work
     words, sources = "%d threads" % threads, ["curve %d threads" % threads]
-    for name, column in (("the greedy run ends at", "end"), ("no run before", "least"), ("no greedy run after", "bound")):
+    for column, name in COLUMNS:
         words += "; %s %s, %.2f times" % (name, grouped(row[column]), work / row[column] if row[column] else 1)
         source = "curve %d %s" % (threads, column)
         sources += [source, "span work / " + source]

@@ -1,25 +1,25 @@
 """The graph: a box for each task of a small program, for each place of tasks in a large one."""
-from report.figures import PROVED, RECORDED, badges, grouped, percent
+from report.figures import PROVED, badges, grouped, percent
 from report.graph import CREATES, DEPENDS, WAITS, critical_pairs, place_edges, task_edges
 from report.graph_picture import Box, Joined, picture
-from report.markup import note, section, tag
+from report.markup import join, note, section, tag
 from report.places import tasks
 from report.tables import table
 
 MOST_TASKS, MOST_EDGES = 60, 240
-MOST_PLACES, MOST_PLACE_EDGES, MOST_LINES = 16, 30, 60
+MOST_PLACES, MOST_PLACE_EDGES, MOST_LINES = 16, 30, 40
 
-BY_TASK = "A box for each task, with its cost. Solid: a dependence. Dashed: the creation of a task that depends on no " \
-    "other. Red: the critical path."
+BY_TASK = "A box for each task, with its cost. Solid: a dependence. Dashed: the creation of a task that depends on " \
+    "no other. Red: the critical path."
 WAITS_LEFT_OUT = " The waits of tasks for those that they have created are not drawn."
 BY_PLACE = "A box for each place of tasks. Dashed: its tasks create those, and how often they wait for them. Solid: " \
     "those depend on its tasks. Red: the critical path goes there."
-NO_PICTURE = "Too many for a picture: which place's tasks create those of which, depend on them, or are waited for by " \
-    "their creators."
+NO_PICTURE = "Too many for a picture: which place's tasks create those of which, depend on them, or are waited for " \
+    "by their creators."
 
 
 def between_tasks(edges, critical):
-    """Dependences, and the creation of each task that depends on none; waits for tasks that one created are left out."""
+    """Dependences, and the creation of each task that depends on none; waits for created tasks are left out."""
     depending = {b for kind, _, b in edges if kind == DEPENDS}
     out = {}
     for (kind, a, b), count in sorted(edges.items()):
@@ -60,8 +60,8 @@ def place_box(view, place, loop):
     """`loop` joins the place with itself."""
     answers, show, named = view.answers, view.figures, "task-place %d " % place.number
     share, of_span = percent(place.cost, answers.work), percent(place.critical_cost, answers.span)
-    lines = [[tag("tspan", place.name, class_="given")], [show.told("tspan", grouped(len(place.tasks)), [named + "count"]),
-                            " tasks" if len(place.tasks) > 1 else " task"],
+    count = show.told("tspan", grouped(len(place.tasks)), [named + "count"])
+    lines = [[tag("tspan", place.name, class_="given")], [count, " tasks" if len(place.tasks) > 1 else " task"],
              [show.told("tspan", "%.1f %% of the work" % share, ["percent " + named + "cost / span work"])]]
     if loop:
         lines.append([show.told("tspan", "among them: " + loop.words, loop.listed)])
@@ -77,10 +77,12 @@ def edge_table(view, joined):
     for (a, b), edge in order:
         found = dict(zip(edge.kinds, edge.listed))
         rows.append([tag("span", names[a], class_="place"), tag("span", names[b], class_="place")] + [
-            show.number(edge.counts[kind], found[kind], RECORDED) if kind in found else ""
+            show.number(edge.counts[kind], found[kind], view.shape_kind) if kind in found else ""
             for kind in (CREATES, DEPENDS, WAITS)])
-    return table(["tasks at", "and tasks at", "creates", "dependences", "waits"], rows, numeric=range(2, 5),
+    made = table(["tasks at", "and tasks at", "creates", "dependences", "waits"], rows, numeric=range(2, 5),
                  is_sortable=True)
+    more = tag("span", len(joined) - len(rows), class_="given")
+    return join([made, note(more, " more pairs of places are left out.") if len(joined) > len(rows) else ""])
 
 
 def by_place(view, edges, critical):
@@ -102,4 +104,4 @@ def graph_part(view):
     is_small = answers.tasks < MOST_TASKS and len(edges) <= MOST_EDGES
     drawing, words = (by_task if is_small else by_place)(view, edges, critical)
     return section("graph", "What waits for what",
-                   note(words, " ", badges(RECORDED), ", critical path ", badges(PROVED)), drawing)
+                   note(words, " ", badges(view.shape_kind), ", critical path ", badges(PROVED)), drawing)

@@ -1,5 +1,5 @@
 """The critical path: by place in the source, and segment by segment."""
-from report.figures import PROVED, RECORDED, badges, percent
+from report.figures import PROVED, badges, percent
 from report.markup import details, join, note, section, tag
 from report.tables import bar, place_cell, table
 
@@ -15,7 +15,7 @@ def place_row(view, place):
             join([show.share(place.critical_cost, answers.span, named + "path / span span", kind), bar(part)]),
             show.share(place.cost, answers.work, named + "cost / span work", kind),
             show.number(place.critical_segments, named + "path-segments", PROVED),
-            show.number(len(place.segments), named + "segments", RECORDED)]
+            show.number(len(place.segments), named + "segments", view.shape_kind)]
 
 
 def left_out(view, places):
@@ -24,8 +24,9 @@ def left_out(view, places):
         return ""
     show, named = view.figures, "places-from %d " % places[0].number
     words = " more places with together " if len(places) > 1 else " more place with "
-    return note(show.number(len(places), named + "count", RECORDED), words,
-                show.number(sum(place.critical_cost for place in places), named + "path", view.cost_kind), " on the path.")
+    cost = sum(place.critical_cost for place in places)
+    return note(show.number(len(places), named + "count", view.shape_kind), words,
+                show.number(cost, named + "path", view.cost_kind), " on the path.")
 
 
 def by_place(view):
@@ -77,7 +78,7 @@ def first_words(view):
     answers, show = view.answers, view.figures
     return tag("p", "A longest chain of segments that wait for one another: ",
                show.number(len(answers.path_segments), "path segments", PROVED), " of ",
-               show.number(answers.span_numbers["segments"], "span segments", RECORDED), " segments, ",
+               show.number(answers.span_numbers["segments"], "span segments", view.shape_kind), " segments, ",
                show.number(answers.span, "span span", PROVED, unit=view.unit),
                ". To make the program faster on many threads, shorten this chain.")
 

@@ -21,14 +21,15 @@ def moved(view, *names):
 def first_tiles(view):
     answers, show, unit = view.answers, view.figures, view.unit
     cost = [view.cost_kind, PROVED]
-    segments = show.number(answers.span_numbers["segments"], "span segments", RECORDED)
+    segments = show.number(answers.span_numbers["segments"], "span segments", view.shape_kind)
     return [tile("Work", show.number(answers.work, "span work", PROVED, unit=unit), cost, "the time on one thread",
                  moved(view, "work")),
             tile("Span", show.number(answers.span, "span span", PROVED, unit=unit), cost, "no run ends sooner",
                  moved(view, "span")),
             tile("Parallelism", show.times(answers.work, answers.span, "span work / span span", PROVED), [PROVED],
                  "times faster at most, on any threads", moved(view, "work", "span")),
-            tile("Tasks", show.number(answers.tasks, "tasks", RECORDED), [RECORDED], join([segments, " segments"]))]
+            tile("Tasks", show.number(answers.tasks, "tasks", view.shape_kind), [view.shape_kind],
+                 join([segments, " segments"]))]
 
 
 def threads_tile(view):
@@ -70,8 +71,9 @@ def on_the_threads(view):
              show.number(row["least"], named + "least", PROVED, unit=view.unit),
              ", and every run that leaves no thread idle while a segment is ready is over by ",
              show.number(row["bound"], named + "bound", PROVED, unit=view.unit), "."]
-    if answers.head.elapsed:
-        words += [" The recorded run took ", show.number(answers.head.elapsed, "elapsed", MEASURED, unit=view.unit), "."]
+    elapsed = answers.head.elapsed
+    if elapsed:
+        words += [" The recorded run took ", show.number(elapsed, "elapsed", MEASURED, unit=view.unit), "."]
     return tag("p", *words)
 
 
@@ -84,7 +86,8 @@ def where_the_span_is(view, halved):
     path = "place %d path / span span" % place.number
     return tag("p", "Most of the span: ", tag("span", place.name, class_="place"), ", ",
                show.share(place.critical_cost, answers.span, path, view.cost_kind),
-               " of it. At half that cost the span would be ", show.number(after, what_if, PROVED, unit=view.unit), ", ",
+               " of it. At half that cost the span would be ",
+               show.number(after, what_if, PROVED, unit=view.unit), ", ",
                show.share(answers.span - after, answers.span, "span span - %s / span span" % what_if, PROVED), " less.")
 
 
@@ -128,11 +131,12 @@ def division(view):
 
 def kinds_explained(view):
     """The legend of the words that stand beside the numbers."""
-    kinds = dict.fromkeys([view.cost_kind, MEASURED if view.answers.head.elapsed else view.cost_kind, RECORDED, PROVED])
+    kinds = dict.fromkeys([MEASURED] * bool(view.answers.head.elapsed) + [view.cost_kind, view.shape_kind] +
+                          [RECORDED] * bool(view.run) + [PROVED])
     items = [piece for kind in kinds for piece in (tag("dt", badge(kind)), tag("dd", MEANINGS[kind]))]
     return tag("div", tag("h3", "What the words beside the numbers mean"), tag("dl", *items, class_="kinds-explained"),
-               note("The tooltip of a number says which answer of spanprof it is, or of which it is a sum, a difference "
-                    "or a quotient."))
+               note("The tooltip of a number says which answer of spanprof it is, or of which it is a sum, a "
+                    "difference or a quotient."))
 
 
 def summary_part(view, halved):

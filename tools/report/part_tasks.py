@@ -1,5 +1,5 @@
 """The tasks by the construct that creates them."""
-from report.figures import PROVED, RECORDED, badges
+from report.figures import PROVED, badges
 from report.markup import note, section, tag
 from report.tables import place_cell, table
 
@@ -28,7 +28,7 @@ def creation(view, place, named):
 def row(view, place):
     answers, show, kind, named = view.answers, view.figures, view.cost_kind, "task-place %d " % place.number
     return [place_cell(place.name, view.sources.snippet(place.name), view.colour_of(place)),
-            show.number(len(place.tasks), named + "count", RECORDED), *costs(view, place, named),
+            show.number(len(place.tasks), named + "count", view.shape_kind), *costs(view, place, named),
             show.share(place.cost, answers.work, named + "cost / span work", kind),
             show.share(place.critical_cost, answers.span, named + "path / span span", kind),
             show.number(place.critical_tasks, named + "critical", PROVED),
@@ -40,7 +40,7 @@ def tasks_part(view):
              "on the critical path", "least slack", "creating them", "to their cost"]
     rows = [row(view, place) for place in view.task_places[:MOST_PLACES]]
     more = tag("span", len(view.task_places) - len(rows), class_="given")
-    return section("tasks", "Tasks", note("Count ", badges(RECORDED), ", costs ", badges(view.cost_kind), ", slack ",
+    return section("tasks", "Tasks", note("Count ", badges(view.shape_kind), ", costs ", badges(view.cost_kind), ", slack ",
                                           badges(PROVED), HOW_TO_READ),
                    table(heads, rows, numeric=range(1, 11), is_sortable=True),
                    note(more, " more places of tasks are left out.") if len(view.task_places) > len(rows) else "")

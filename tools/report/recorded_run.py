@@ -18,11 +18,12 @@ class RecordedRun:
     workers: List[Optional[int]]   # None for a segment that was not started
     is_timed: bool = False         # by the clock, and not only in order
     unit: int = 1                  # of a timed run, in nanoseconds
+    threads: int = 1               # that were recorded; some of them may have run nothing
 
     @property
     def count(self):
         """How many workers there were."""
-        return 1 + max((worker for worker in self.workers if worker is not None), default=0)
+        return max(self.threads, 1 + max((worker for worker in self.workers if worker is not None), default=0))
 
     @property
     def end(self):
@@ -93,9 +94,9 @@ def recorded_run(path, answers):
     """The run of a replay document, which spanprof has to accept; with its times where they stand beside it."""
     log = read_replay(path, answers)
     times = os.path.splitext(path)[0] + ".times"
-    if not os.path.exists(times):
-        return place_in_time(log, answers.rows, answers.predecessors)
-    run = read_times(times, answers)
-    if [(worker, s) for kind, worker, s in log if kind == "start" and run.workers[s] != worker]:
+    is_timed = os.path.exists(times)
+    run = read_times(times, answers) if is_timed else place_in_time(log, answers.rows, answers.predecessors)
+    run.threads = answers.head.threads or 1
+    if is_timed and [(worker, s) for kind, worker, s in log if kind == "start" and run.workers[s] != worker]:
         raise NoRun("%s is of another run than %s" % (os.path.basename(times), os.path.basename(path)))
     return run

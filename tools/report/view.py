@@ -5,7 +5,7 @@ from functools import cached_property
 from typing import Optional
 
 from report.answers import Answers
-from report.figures import DECLARED, MEASURED, Figures, unit_name
+from report.figures import DECLARED, MEASURED, RECORDED, Figures, unit_name
 from report.places import places, task_places
 from report.recorded_run import NoRun, RecordedRun, recorded_run
 from report.source import Sources
@@ -64,13 +64,19 @@ class View:
     def cost_kind(self):
         return MEASURED if self.answers.head.is_measured else DECLARED
 
+    @property
+    def shape_kind(self):
+        """Of tasks, segments and what waits for what."""
+        head = self.answers.head
+        return RECORDED if head.program or head.threads or head.unit else DECLARED
+
     @cached_property
     def reached(self):
         work, head = self.answers.work, self.answers.head
         if head.elapsed and head.threads:
             return Reached(head.threads, head.elapsed, work / head.elapsed, True, "elapsed")
         if self.run and self.run.end and not self.run.is_timed:
-            return Reached(head.threads or self.run.count, self.run.end, work / self.run.end, False, "run end")
+            return Reached(self.run.count, self.run.end, work / self.run.end, False, "run end")
         return None
 
     def colour_of(self, task_place):

@@ -61,7 +61,8 @@ class Complaints(unittest.TestCase):
         return FakePage([{"method": method, "params": parameters}]).complaints()
 
     def test_errors_and_fetches(self):
-        self.assertEqual(self.told("Runtime.exceptionThrown", exceptionDetails={"exception": {"description": "x"}}), ["x"])
+        thrown = {"exception": {"description": "x"}}
+        self.assertEqual(self.told("Runtime.exceptionThrown", exceptionDetails=thrown), ["x"])
         self.assertEqual(self.told("Log.entryAdded", entry={"level": "error", "text": "no file"}), ["log: no file"])
         self.assertEqual(self.told("Network.requestWillBeSent", type="Image", request={"url": "u"}), ["fetched: u"])
         self.assertTrue(self.told("Runtime.consoleAPICalled", type="error", args=[]))

@@ -51,7 +51,10 @@ function listen(lanes) {
     lanes.stretch.zoom(0.4, lanes.time(inside(event)[0]));
     drawSoon();
   });
-  element.addEventListener("pointerdown", (event) => { held = { x: event.clientX, from: lanes.stretch.from }; });
+  element.addEventListener("pointerdown", (event) => {
+    held = { x: event.clientX, from: lanes.stretch.from };
+    element.setPointerCapture(event.pointerId);     // so that a drag may leave the timeline
+  });
   addEventListener("pointerup", () => { held = null; });
   element.addEventListener("pointermove", (event) => {
     if (held) {

@@ -33,7 +33,8 @@ class Lanes {
       if ((end - start) * this.scale < 1) { thin.add(left, right, colour, critical); continue; }
       const seam = right - left > 3 ? 0.6 : 0;
       paths.add("c" + colour, left, top, right - left - seam, height);
-      if (critical && right - left >= 5) paths.add("rim", left + 0.7, top + 0.7, right - left - seam - 1.4, height - 1.4);
+      const isWide = right - left >= 5;
+      if (critical && isWide) paths.add("rim", left + 0.7, top + 0.7, right - left - seam - 1.4, height - 1.4);
       else if (critical) paths.add("thin-rim", left, top + height - 2.5, right - left, 2.5);
     }
     thin.flush(-1);

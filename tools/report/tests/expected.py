@@ -167,10 +167,10 @@ class Program:
         return out
 
     def run(self, what):
-        if what == "threads" and re.search(r"threads (\d+)", self.text):
-            return int(re.search(r"threads (\d+)", self.text)[1])
         bars = self.by_clock() if os.path.exists(self.base + ".times") else self.in_order()
-        workers, end = 1 + max(int(worker) for _, _, worker in bars), max(end for _, end, _ in bars)
+        recorded = re.search(r"(?:threads|on) (\d+)", self.text.partition("omptasks")[0])
+        workers = max(int(recorded[1]) if recorded else 1, 1 + max(int(worker) for _, _, worker in bars))
+        end = max(end for _, end, _ in bars)
         return {"end": round(end), "busy": sum(end - start for start, end, _ in bars), "time": end * workers,
                 "threads": workers}[what]
 

@@ -40,8 +40,9 @@ class Pictures(unittest.TestCase):
         self.assertRegex(made, '<text data-from="edges creates 0 1" [^>]*>1 created</text>')
 
     def test_no_label_is_cut_off(self):
-        left, width = map(float, re.search(r'viewBox="(\S+) \S+ (\S+)', self.draw({(0, 1): joined(10 ** 9)})).groups())
-        (x, wide), = re.findall(r'class="label"><rect x="(\S+)" [^>]* width="(\S+)"', self.draw({(0, 1): joined(10 ** 9)}))
+        made = self.draw({(0, 1): joined(10 ** 9)})
+        left, width = map(float, re.search(r'viewBox="(\S+) \S+ (\S+)', made).groups())
+        (x, wide), = re.findall(r'class="label"><rect x="(\S+)" [^>]* width="(\S+)"', made)
         self.assertTrue(left <= float(x) and float(x) + float(wide) <= left + width)
 
     def test_labels_can_be_left_out(self):

@@ -30,8 +30,9 @@ class OfOneProgram(unittest.TestCase):
 
     def test_summary(self):
         words = seen(summary_part(self.view, self.trials.halved))
-        for part in ("Work 41 µs", "Span 31 µs", "Tasks 5", "13 segments", "Reached on 2 threads", "outside regions 10 µs",
-                     "lock critical at mesh.c:9: 3 times", "recorded from mesh, the parallel region at mesh.c:6"):
+        for part in ("Work 41 µs", "Span 31 µs", "Tasks 5", "13 segments", "Reached on 2 threads",
+                     "outside regions 10 µs", "lock critical at mesh.c:9: 3 times",
+                     "recorded from mesh, the parallel region at mesh.c:6"):
             self.assertIn(part, words)
 
     def test_a_remark_stands_where_it_moves_a_number(self):
@@ -39,7 +40,8 @@ class OfOneProgram(unittest.TestCase):
         self.assertEqual(moved(self.view, "work"), "")
 
     def test_no_guess_at_why_a_run_is_slow(self):
-        self.assertNotRegex(seen(summary_part(self.view, self.trials.halved)), "left threads idle|its own part is large")
+        words = seen(summary_part(self.view, self.trials.halved))
+        self.assertNotRegex(words, "left threads idle|its own part is large")
 
     def test_curve(self):
         part = curve_part([self.view])
@@ -92,7 +94,8 @@ class OfTwo(unittest.TestCase):
         self.assertIn("elapsed 40 30 −25.0 % measured", words)
 
     def test_no_difference_of_nothing(self):
-        self.assertEqual([change(self.views, a, b, "tasks", "recorded") for a, b in ((0, 3), (4, 4))], ["new", "the same"])
+        changes = [change(self.views, a, b, "tasks", "recorded") for a, b in ((0, 3), (4, 4))]
+        self.assertEqual(changes, ["new", "the same"])
 
     def test_places_without_a_partner_stand_alone(self):
         self.assertEqual(partners(self.views)["the beginning"], "the beginning")

@@ -64,3 +64,10 @@ class ByClock(unittest.TestCase):
     def test_a_table_of_another_run(self):
         with self.assertRaisesRegex(NoRun, "split.times is of another run than split.replay"):
             self.run_with("segment,thread,start_ns,end_ns\n0,1,0,5\n")
+
+
+class Threads(unittest.TestCase):
+    def test_one_that_ran_nothing_counts_too(self):
+        run = worked.view("mesh").run
+        run.threads = 4
+        self.assertEqual(run.count, 4)

@@ -39,7 +39,8 @@ class Form(unittest.TestCase):
         span, by_place = self.file["profiles"][0], {}
         for stack, weight in zip(span["samples"], span["weights"]):
             by_place[names[stack[-1]]] = by_place.get(names[stack[-1]], 0) + weight
-        self.assertEqual(by_place, {place.name: place.critical_cost for place in self.view.places if place.critical_cost})
+        costs = {place.name: place.critical_cost for place in self.view.places}
+        self.assertEqual(by_place, {name: cost for name, cost in costs.items() if cost})
 
     def test_declared_costs_have_no_unit(self):
         self.assertEqual(json.loads(speedscope_text(worked.view("plain")))["profiles"][0]["unit"], "none")

@@ -6,7 +6,8 @@ from report.trace_events import Run, ready_counts, trace_text
 from report.tests import worked
 
 REQUIRED = {"M": {"name", "ph", "pid", "args"}, "X": {"name", "cat", "ph", "ts", "dur", "pid", "tid"},
-            "s": {"name", "cat", "ph", "ts", "pid", "tid", "id"}, "f": {"name", "cat", "ph", "ts", "pid", "tid", "id", "bp"},
+            "s": {"name", "cat", "ph", "ts", "pid", "tid", "id"},
+            "f": {"name", "cat", "ph", "ts", "pid", "tid", "id", "bp"},
             "C": {"name", "ph", "ts", "pid", "args"}}
 
 

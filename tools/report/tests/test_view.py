@@ -1,6 +1,6 @@
 import unittest
 
-from report.figures import DECLARED, MEASURED
+from report.figures import DECLARED, MEASURED, RECORDED
 from report.tests import worked
 from report.view import COLOURS, View
 
@@ -21,6 +21,9 @@ class Kinds(unittest.TestCase):
     def test_costs_are_measured_where_the_head_says_so(self):
         self.assertEqual((worked.view("mesh").cost_kind, worked.view("mesh").unit), (MEASURED, "µs"))
         self.assertEqual((worked.view("plain").cost_kind, worked.view("plain").unit), (DECLARED, ""))
+
+    def test_the_shape_is_recorded_where_the_head_says_so(self):
+        self.assertEqual((worked.view("mesh").shape_kind, worked.view("plain").shape_kind), (RECORDED, DECLARED))
 
     def test_places_of_segments_and_tasks(self):
         view = worked.view("mesh")

@@ -12,8 +12,9 @@ class Factors(unittest.TestCase):
         self.assertEqual(read_factors(["task at a.c:3=0.5", "begin=2"], PLACES), [(PLACES[0], 0.5), (PLACES[2], 2.0)])
 
     def test_refusals(self):
-        for word, told in (("a.c:3=1", "more than one place"), ("b.c=1", "no place of this name"), ("begin=x", "not a number"),
-                           ("begin=-1", "from 0 to 1,000,000"), ("begin=nan", "from 0 to"), ("begin", "no place")):
+        for word, told in (("a.c:3=1", "more than one place"), ("b.c=1", "no place of this name"),
+                           ("begin=x", "not a number"), ("begin=-1", "from 0 to 1,000,000"),
+                           ("begin=nan", "from 0 to"), ("begin", "no place")):
             with self.assertRaisesRegex(UnknownPlace, told):
                 read_factors([word], PLACES)
 
