@@ -1,6 +1,7 @@
 """Two programs side by side: their numbers, and where their work and span differ."""
 from report.figures import MEASURED, PROVED, badge, badges, percent
 from report.markup import note, section, tag
+from report.part_summary import recorded_words, remarks
 from report.tables import place_cell, table
 
 MOST_PLACES = 30
@@ -105,5 +106,7 @@ def compare_part(views):
         words = note("The two texts have costs in different units: ", views[0].unit or "none named", " and ",
                      views[1].unit or "none named", ".")
     kinds = dict.fromkeys(view.cost_kind for view in views)
-    return section("compared", "Side by side", words, numbers(views),
+    other = [tag("p", views[1].name, ": ", recorded_words(views[1]), class_="recording given"),
+             remarks(views[1], "remarks-other")]
+    return section("compared", "Side by side", *other, words, numbers(views),
                    note("Costs by place ", badges(*kinds), ", largest first."), by_place(views))
