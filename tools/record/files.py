@@ -8,6 +8,7 @@ from record.fault import Fault
 
 PREFIX = "spanprof recorder: "
 BEGUN = "recording to "
+USUAL_REGIONS = 10
 FOLD = re.compile(r"SPANPROF_FOLD_([A-Z]+)=")
 WRITTEN = re.compile(r"\.tasks( and .*\.replay)?: \d+ tasks, \d+ segments, work \d+ ")
 
@@ -29,13 +30,17 @@ def check_folder(out):
         raise Fault("%s: files cannot be written in this folder; --out names another" % os.path.abspath(folder))
 
 
+def most_regions(variables):
+    """How many the recorder writes; its files of later numbers are those of child processes."""
+    asked = variables.get("SPANPROF_REGIONS", "")
+    return int(asked) if re.fullmatch(r"[0-9]{1,4}", asked) else USUAL_REGIONS
+
+
 def recordings(out):
-    """Those of all regions, in the order of time: NAME.tasks, NAME.2.tasks, and so on."""
-    found, path = [], out + ".tasks"
-    while os.path.exists(path):
-        found.append(recording(path))
-        path = "%s.%d.tasks" % (out, len(found) + 1)
-    return found
+    """Those of all regions that were written, in the order of time: NAME.tasks, NAME.2.tasks, and so on."""
+    numbers = range(2, most_regions(os.environ) + 1)
+    texts = [out + ".tasks"] + ["%s.%d.tasks" % (out, number) for number in numbers]
+    return [recording(text) for text in texts if os.path.exists(text)]
 
 
 def recording(text):

@@ -36,6 +36,13 @@ class Recordings(InAFolder):
         self.assertEqual([bool(one.replay) for one in found], [True, False])
         self.assertEqual([bool(one.times) for one in found], [False, True])
 
+    def test_a_first_region_that_is_not_written(self):
+        self.write("mine.3.tasks")
+        self.assertEqual([os.path.basename(one.text) for one in files.recordings(self.out)], ["mine.3.tasks"])
+
+    def test_how_many_there_may_be(self):
+        self.assertEqual([files.most_regions({"SPANPROF_REGIONS": word}) for word in ("", "x", "3")], [10, 10, 3])
+
     def test_old_files_go_and_others_stay(self):
         for name in ("mine.tasks", "mine.3.replay", "mine.12.inout.tasks", "mine.c", "mine.html", "mine.x.tasks",
                      "mine"):
