@@ -19,6 +19,7 @@ class Recording:
     text: str
     replay: str = ""
     times: str = ""
+    number: int = 1  # in the files' names
 
 
 def check_folder(out):
@@ -38,15 +39,17 @@ def most_regions(variables):
 
 def recordings(out):
     """Those of all regions that were written, in the order of time: NAME.tasks, NAME.2.tasks, and so on."""
-    numbers = range(2, most_regions(os.environ) + 1)
-    texts = [out + ".tasks"] + ["%s.%d.tasks" % (out, number) for number in numbers]
-    return [recording(text) for text in texts if os.path.exists(text)]
+    found = [recording(stem_of(out, number), number) for number in range(1, most_regions(os.environ) + 1)]
+    return [one for one in found if os.path.exists(one.text)]
 
 
-def recording(text):
-    stem = text[:-len(".tasks")]
+def stem_of(out, number):
+    return out if number == 1 else "%s.%d" % (out, number)
+
+
+def recording(stem, number=1):
     beside = [stem + end if os.path.exists(stem + end) else "" for end in (".replay", ".times")]
-    return Recording(text, *beside)
+    return Recording(stem + ".tasks", *beside, number)
 
 
 def remove_old(out):
