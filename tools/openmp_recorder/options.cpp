@@ -51,5 +51,6 @@ Options read_options() {
   number("SPANPROF_REGIONS", chosen.regions);
   number("SPANPROF_FOLD_DEPTH", chosen.fold_depth);
   number("SPANPROF_FOLD_COST", chosen.fold_cost);
+  number("SPANPROF_FOLD_CHUNK", chosen.fold_chunk);
   return chosen;
 }

@@ -5,9 +5,9 @@ import time
 
 from tester.cases import Case
 from tester.directed import directed_programs, kinds_of
-from tester.forms import in_variant
 from tester.generate import random_program
 from tester.results import Results
+from tester.variants import in_variant
 
 DIRECTED_UNIT, RANDOM_UNIT = 100_000, 1_000  # nanoseconds for a cost of 1
 
@@ -51,13 +51,16 @@ class Progress:
             sys.stderr.flush()
 
 
-def run_cases(bench, cases, plan, jobs, results=None):
-    """The results of cases, each run as the plan says, added to earlier results if there are any."""
-    results, progress, begun = results or Results(), Progress(len(cases)), time.monotonic()
-    with concurrent.futures.ThreadPoolExecutor(jobs) as pool:
+def run_cases(bench, cases, plan, jobs):
+    """The results of cases, each run as the plan says."""
+    results, progress, begun = Results(), Progress(len(cases)), time.monotonic()
+    pool = concurrent.futures.ThreadPoolExecutor(jobs)
+    try:
         futures = {pool.submit(bench.try_case, case, plan.conditions(case)): case for case in cases}
         for future in concurrent.futures.as_completed(futures):
             results.add(futures[future], future.result())
             progress.add(future.result())
-    results.seconds += time.monotonic() - begun
+    finally:
+        pool.shutdown(cancel_futures=True)
+    results.seconds = time.monotonic() - begun
     return results

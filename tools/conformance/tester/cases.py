@@ -9,8 +9,9 @@ from tester.emit_c import c_text
 from tester.explain import explain
 from tester.judge import Verdict
 from tester.launch import Conditions, launch
-from tester.program import text_of
 from tester.segments import Table
+from tester.text import text_of
+from tester.tied import moved
 from tester.toolchain import BuildFailed
 
 
@@ -80,11 +81,17 @@ class Examined:
     def source(self):
         return c_text(self.case.body, self.table, self.record.preds)
 
+    def judged(self, log):
+        """The verdict of spanprof, and on what it accepts whether tied tasks stayed on their threads."""
+        verdict = self.judge.verdict(self.text, self.record, log)
+        words = moved(self.table, log.events) if verdict.accepted else None
+        return Verdict("moved", words) if words else verdict
+
     def verdict(self, log, threads):
         """The verdict on a log, and what it tried. Equal logs get equal answers, so each is looked at once."""
         key = (threads, log.end, log.detail, tuple(log.events))
         if key not in self.known:
-            verdict = self.judge.verdict(self.text, self.record, log)
+            verdict = self.judged(log)
             tried = self.coverage.of_run(log.events, threads) if verdict.accepted else collections.Counter()
             self.known[key] = verdict, tried
         return self.known[key]

@@ -8,12 +8,36 @@ a rule, the log tells
   group or an undeferred task that is the thread that waits; for a dependence, a thread that runs no segment. A runtime
   without the rule could have started it then, and would have been refused;
 - `close`: that it was held, and began right after the last finish for which it waited, with at most one event between,
-  on another thread than that finish.
+  on another thread than that finish. The two events in the other order would have been refused.
+
+The order of a task's own code and the creation of tasks are not counted: no runtime can start what it was not yet told
+of.
 """
 import collections
+import itertools
+
+from tester.segments import conflict, dependence_of
 
 TRIED_RULES = ("dependence", "undeferred", "taskwait", "taskgroup")
+MEASURES = ("waits", "held", "close")
 CLOSE = 2  # events from the finish to the start
+
+
+def all_waits(kinds):
+    """The rules and constructs by which a segment can wait, in programs with these kinds of items."""
+    for undeferred, (kind, then) in itertools.product((False, True), itertools.product(sorted(kinds), repeat=2)):
+        if conflict(((kind, "x"),), ((then, "x"),)):
+            yield "dependence", dependence_of(kind, then, undeferred)
+    yield from (("undeferred", "if(0)"), ("undeferred", "final"), ("taskwait", "taskwait"))
+    yield from (("taskgroup", form) for form in ("taskgroup", "taskloop", "parallel"))
+
+
+def never(measure, counted, kinds):
+    """By which rules and constructs no segment was counted under this measure, on any number of threads. That none goes
+    on close to its undeferred task says nothing: both mostly run on one thread."""
+    found = {(rule, construct) for rule, construct, under, _ in counted if under == measure}
+    return [f"{rule}: {construct}" for rule, construct in all_waits(kinds)
+            if (rule, construct) not in found and (measure, rule) != ("close", "undeferred")]
 
 
 class Coverage:

@@ -9,8 +9,8 @@ RULES = {
     "creation": "a task begins after it was created (task construct)",
     "undeferred": "a task goes on only when its undeferred child is complete (`if` and `final` clauses)",
     "dependence": "a task waits for earlier siblings with conflicting items (`depend` clause)",
-    "taskwait": "a taskwait waits for all children made so far (taskwait construct)",
-    "taskgroup": "the end of a group waits for all tasks made inside and those below them (taskgroup construct)",
+    "taskwait": "a taskwait waits for all children created so far (taskwait construct)",
+    "taskgroup": "the end of a group waits for all tasks created inside and for those below them (taskgroup construct)",
 }
 KINDS = {
     "AlreadyStarted": ("twice", "a segment runs once"),
@@ -63,7 +63,7 @@ def reason_of(table, need, after):
     if need.rule == "taskwait":
         return f"the taskwait of task {then.number} waits for its child task {first.number}"
     if need.rule == "taskgroup":
-        where = "was made inside it" if first.parent is then else "is below a task that was made inside it"
+        where = "was created inside it" if first.parent is then else "is below a task that was created inside it"
         return f"the end of the {need.construct} waits for task {first.number}, which {where}"
     if need.rule == "undeferred":
         return f"task {first.number} is undeferred ({need.construct}), so task {then.number} goes on only after it"

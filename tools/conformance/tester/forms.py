@@ -1,27 +1,32 @@
-"""A program's tasks written as tied or as untied ones."""
-import itertools
-from dataclasses import replace
+"""How groups and loops are written in C: as the constructs that they ask for, where their bodies allow that."""
+from tester.program import Group, Loop, Task, Work
 
-from tester.program import Task, with_body
-
-# Which tasks are untied, counted from 0 in the order of the text.
-VARIANTS = {
-    "tied": lambda number: False,
-    "untied": lambda number: True,
-    "mixed": lambda number: number % 2 == 0,
-}
+GROUP_FORMS = ("taskgroup", "taskyield", "taskloop", "parallel")
+LOOP_FORMS = ("for", "taskloop")
 
 
-def in_variant(body, variant):
-    """The program with its tasks written as this variant has them."""
-    return rewritten(body, VARIANTS[variant], itertools.count())
+def is_plain(node):
+    """Whether a statement is a task without `if(0)` and without depend items, as the tasks of a taskloop are."""
+    return isinstance(node, Task) and not node.undeferred and not node.items
 
 
-def rewritten(body, is_untied, numbers):
-    made = []
-    for node in body:
-        if isinstance(node, Task):
-            rest = tuple(clause for clause in node.clauses if clause != "untied")
-            node = replace(node, clauses=("untied",) * is_untied(next(numbers)) + rest)
-        made.append(with_body(node, rewritten(node.body, is_untied, numbers)) if hasattr(node, "body") else node)
-    return tuple(made)
+def is_task_loop(node):
+    """Whether a statement is a loop of plain tasks and nothing else."""
+    return isinstance(node, Loop) and node.turns > 0 and len(node.body) == 1 and is_plain(node.body[0])
+
+
+def form_of(node):
+    """The construct that a group or loop is written as: the one that it asks for, where its body allows that."""
+    if isinstance(node, Loop):
+        return node.form if is_task_loop(node) else "for"
+    allowed = {"taskgroup": True,
+               "taskyield": not node.body,
+               "taskloop": len(node.body) == 1 and is_task_loop(node.body[0]),
+               "parallel": bool(node.body) and all(is_plain(task) and not task.final for task in node.body)}
+    return node.form if allowed[node.form] else "taskgroup"
+
+
+def is_of_regions(body):
+    """Whether a root's body is work and parallel regions alone, so that it runs outside of any region."""
+    groups = [node for node in body if not isinstance(node, Work)]
+    return bool(groups) and all(isinstance(node, Group) and form_of(node) == "parallel" for node in groups)

@@ -1,7 +1,10 @@
 """Asks spanprof about a program and about logs of its runs."""
+import pathlib
 import shutil
 import subprocess
 from dataclasses import dataclass
+
+BUILT = pathlib.Path(__file__).resolve().parents[3] / "crates" / "spanprof" / "out" / "spanprof"
 
 
 @dataclass(frozen=True)
@@ -35,11 +38,22 @@ class Record:
         return len(self.preds)
 
 
+def find_spanprof(named, environment):
+    """Where the program is: where it is named, else where the environment's SPANPROF says, else where this repository
+    builds it, else on the PATH."""
+    told = named or environment.get("SPANPROF")
+    places = [told] if told else [str(BUILT), "spanprof"]
+    found = [at for at in map(shutil.which, places) if at]
+    if not found:
+        raise Missing(f"no program {' nor '.join(places)}; --spanprof says where it is")
+    return found[0]
+
+
 class Judge:
+    """Asks the program at a path."""
+
     def __init__(self, spanprof):
-        self.spanprof = shutil.which(spanprof)
-        if not self.spanprof:
-            raise Missing(f"no program {spanprof}; --spanprof says where it is")
+        self.spanprof = spanprof
 
     def ask(self, words, text):
         """The exit status and the output of a command of spanprof."""

@@ -22,6 +22,7 @@ MEANINGS = {
     "group-returns": "the end of a group does not wait",
     "group-children-only": "the end of a group waits for children and not for grandchildren",
     "inner-group-returns": "the end of a group inside another one does not wait",
+    "taskloop-returns": "the end of a taskloop does not wait",
     "run-twice": "every 41st deferred task runs twice",
     "lost-task": "every 41st deferred task never runs",
     "hang": "the 9th taskwait never returns",
@@ -30,7 +31,7 @@ MEANINGS = {
 # Mutants that the source for a runtime does not have: its entry points do not show what they would have to change.
 LACKING = {
     "gomp": {"inoutset-as-in", "inoutset-ignored"},
-    "kmp": {"undeferred-deferred", "run-twice"},
+    "kmp": {"undeferred-deferred", "taskloop-returns", "run-twice"},
 }
 
 

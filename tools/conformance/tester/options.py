@@ -3,11 +3,24 @@ import argparse
 import os
 
 from tester.campaign import DIRECTED_UNIT
-from tester.forms import VARIANTS
 from tester.generate import CONSTRUCTS
 from tester.launch import SETTINGS
+from tester.variants import VARIANTS
 
 MOST_THREADS = 64
+
+
+def positive(word):
+    """A whole number from 1."""
+    number = int(word)
+    if number < 1:
+        raise argparse.ArgumentTypeError("1 is the least")
+    return number
+
+
+def natural(word):
+    """A whole number from 0."""
+    return 0 if int(word) == 0 else positive(word)
 
 
 def thread_counts(words):
@@ -42,7 +55,8 @@ def parse(calls, words=None):
 
 def add_options(name, parser):
     add = parser.add_argument
-    add("--spanprof", default=os.environ.get("SPANPROF", "crates/spanprof/out/spanprof"), help="the program spanprof")
+    add("--spanprof", default="",
+        help="the program spanprof (SPANPROF, or as this repository builds it, or on the PATH)")
     if name in ("shrink", "emit", "judge"):
         add("file", help="a program text")
     if name == "judge":
@@ -63,12 +77,13 @@ def add_bench_options(name, parser):
     add("--preload", default="", help="a library to load first, such as another runtime with the same entry points")
     add("--threads", type=thread_counts, default=(2, 4) if name == "mutants" else (1, 2, 4, 16),
         help="numbers of threads (1,2,4,16; for mutants 2,4)")
-    add("--runs", type=int, default=8, help="runs of each program on each number of threads (8)")
-    add("--settings", type=some_of(SETTINGS), default=["free"] if name == "mutants" else list(SETTINGS),
-        metavar=",".join(SETTINGS), help="how programs are started (each of these in turn; for mutants free)")
-    add("--seed", type=int, default=1, help="the first random program's number, and the delays' seed (1)")
-    add("--timeout", type=int, default=10, help="seconds until a run counts as hung (10)")
-    add("--jobs", type=int, default=max(1, (os.cpu_count() or 1) // 2), help="programs that run side by side")
+    add("--runs", type=positive, default=8, help="runs of each program on each number of threads (8)")
+    add("--settings", type=some_of(SETTINGS), default=["free"] if name == "mutants" else [],
+        metavar=",".join(SETTINGS), help="how programs are started (each of these in turn but those that are known to "
+        "break the runtime; for mutants free)")
+    add("--seed", type=natural, default=1, help="the first random program's number, and the delays' seed (1)")
+    add("--timeout", type=positive, default=10, help="seconds until a run counts as hung (10)")
+    add("--jobs", type=positive, default=max(1, (os.cpu_count() or 1) // 2), help="programs that run side by side")
     add("--report", default="", help="a file for the report, .md or .json")
     if name != "mutants":
         add_failure_options(name, parser)
@@ -77,13 +92,16 @@ def add_bench_options(name, parser):
 def add_failure_options(name, parser):
     add = parser.add_argument
     add("--mutate", default="", help="break a rule of the runtime, to see that it is noticed")
-    add("--shrink", type=int, default=8, help="how many kinds of failures are shrunk (8)")
-    add("--shrink-runs", type=int, default=20, help="runs in which a smaller program has to fail once (20)")
-    add("--shrink-tries", type=int, default=300, help="smaller programs to try at most (300)")
+    add("--shrink", type=natural, default=8, help="how many kinds of failures are shrunk (8)")
+    add("--shrink-runs", type=positive, default=20, help="runs in which a smaller program has to fail once (20)")
+    add("--shrink-tries", type=natural, default=300, help="smaller programs to try at most (300)")
     if name == "shrink":
-        add("--unit", type=int, default=DIRECTED_UNIT, help="what a cost of 1 lasts, in nanoseconds")
+        add("--unit", type=natural, default=DIRECTED_UNIT, help="what a cost of 1 lasts, in nanoseconds")
     if name == "run":
-        add("--programs", type=int, default=100, help="how many random programs (100)")
+        add("--programs", type=natural, default=100, help="how many random programs (100); with --hours: of a batch")
+        add("--hours", type=float, default=0, help="go on with batch after batch until so many hours are full")
+        add("--state", default="campaign.jsonl",
+            help="the file from which a campaign of hours goes on (campaign.jsonl)")
         add("--no-directed", dest="directed", action="store_false", help="leave out the directed part")
         add("--without", type=some_of(CONSTRUCTS), default=[], metavar="CONSTRUCT,..",
             help=f"constructs that random programs do not have: {', '.join(CONSTRUCTS)}")

@@ -1,7 +1,8 @@
 """Reads a program's text into a tree. spanprof alone says what is a program; this reads only what it has accepted."""
 import re
 
-from tester.program import GROUP_FORMS, KINDS, LOOP_FORMS, Group, Index, Item, Loop, Task, Wait, Work
+from tester.forms import GROUP_FORMS, LOOP_FORMS
+from tester.program import KINDS, Group, Index, Item, Loop, Task, Wait, Work
 
 TOKEN = re.compile(r"\{[ \t]*#:[^\n]*|#[^\n]*|\w+|\S")  # a `{` and how its statement is written in C are one token
 CLAUSE = re.compile(r"untied|mergeable|priority\([0-9]+\)")

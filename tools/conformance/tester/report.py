@@ -1,12 +1,23 @@
 """Reports in Markdown and JSON."""
 import json
+from dataclasses import dataclass
 
 from tester import tables
 
 COVERAGE_WORDS = """Of each rule, by number of threads: how often a segment began after a wait by it / how often nothing
 else held the segment back while somebody was free to start it / how often it then began right after the finish for
 which it waited, on another thread. Without the rule, runs of the second kind could have been refused; those of the
-third nearly were."""
+third nearly were. An undeferred task mostly runs on the thread that waits for it; then the third number stays 0."""
+
+
+@dataclass
+class Report:
+    """What a report tells: pairs of a name and what is so, the kinds of items that the compiler knows, what came of the
+    runs, and the small programs that fail."""
+    facts: list
+    kinds: set
+    results: object
+    found: list
 
 
 def reproducer(number, found, name):
@@ -18,40 +29,49 @@ def reproducer(number, found, name):
              f"Found in `{found.origin}`, made smaller in {found.tried} tries. {found.failed} of {found.runs} runs on "
              f"{conditions.threads} threads failed. {found.remark()}".rstrip(), "",
              f"To see it again: `conformance.py shrink {name} --cc .. --tasks {failure.case.variant} "
-             f"--threads {conditions.threads} --settings {conditions.setting} --unit {failure.case.unit}`.", "",
+             f"--threads {conditions.threads} --settings {conditions.setting} --unit {failure.case.unit}`; or by hand, "
+             f"in tools/conformance: `cc -fopenmp -Iharness {name.removesuffix('.tasks')}.c harness/*.c`, then "
+             f"`./a.out {' '.join(conditions.words())}`.", "",
              "```", found.text.rstrip(), "```", ""]
     if failure.log:
         lines += [f"The log up to there (schedule: {failure.log.schedule}):", "", "```", *found.events(), "```", ""]
     return lines + ["```c", found.source.rstrip(), "```", ""]
 
 
-def markdown(facts, results, found, stem):
-    """The whole report: facts are pairs of a name and what is so, `stem` begins the names of the texts' files."""
+def coverage_lines(report):
+    """How hard each rule was tried."""
+    return [*tables.coverage(report.results, report.kinds), "", *tables.untried(report.results, report.kinds)]
+
+
+def markdown(report, stem):
+    """The whole report; `stem` begins the names of the texts' files."""
+    results = report.results
     lines = ["# Conformance of an OpenMP task runtime", ""]
-    lines += tables.table(("", ""), facts) + [""]
+    lines += tables.table(("", ""), report.facts) + [""]
     lines += ["## By construct and number of threads", "", *tables.summary(results), ""]
-    lines += ["## How hard each rule was tried", "", *COVERAGE_WORDS.split("\n"), "", *tables.coverage(results), ""]
+    lines += ["## How hard each rule was tried", "", *COVERAGE_WORDS.split("\n"), "", *coverage_lines(report), ""]
     lines += ["## By setting and schedule", "", *tables.conditions(results), ""]
-    if results.failures:
+    if results.groups:
         lines += ["## Failures", "", *tables.kinds_of_failure(results), ""]
-    if found:
+    if report.found:
         lines += ["## Smallest programs found", ""]
-        for number, one in enumerate(found, 1):
+        for number, one in enumerate(report.found, 1):
             lines += reproducer(number, one, f"{stem}-{number}.tasks")
     return "\n".join(lines)
 
 
-def as_json(facts, results, found, stem):
+def as_json(report, stem):
     """The whole report for programs."""
-    rows = [{"construct": construct, "threads": threads, "programs": results.programs_of((construct, threads)),
-             **counts} for (construct, threads), counts in results.rows.items()]
+    results = report.results
+    rows = [{"construct": construct, "threads": threads, **counts}
+            for (construct, threads), counts in sorted(results.rows.items())]
     tried = [{"rule": rule, "construct": construct, "measure": measure, "threads": threads, "count": count}
              for (rule, construct, measure, threads), count in sorted(results.coverage.items())]
-    failures = [{"kind": f.verdict.kind, "rule": f.rule, "tasks": f.case.variant, "program": f.case.name,
-                 "threads": f.conditions.threads, "setting": f.conditions.setting, "detail": f.verdict.detail,
-                 "words": f.words} for f in results.failures]
-    smallest = [{"file": f"{stem}-{number}.tasks", **found_fields(one)} for number, one in enumerate(found, 1)]
-    return json.dumps({"facts": dict(facts), "rows": rows, "tried": tried, "failures": failures,
+    failures = [{"kind": kind, "rule": rule, "tasks": variant, "runs": group.runs, "threads": sorted(group.threads),
+                 "programs": sorted(group.programs), "words": group.smallest.words}
+                for (variant, kind, rule), group in results.most_frequent()]
+    smallest = [{"file": f"{stem}-{number}.tasks", **found_fields(one)} for number, one in enumerate(report.found, 1)]
+    return json.dumps({"facts": dict(report.facts), "rows": rows, "tried": tried, "failures": failures,
                        "smallest": smallest}, indent=1)
 
 

@@ -5,7 +5,9 @@ has tried, so it follows the table of docs/MODEL.md pair by pair and not the kep
 """
 from dataclasses import dataclass, field
 
-from tester.program import Group, Loop, Wait, Work, form_of, head_of
+from tester.forms import form_of
+from tester.program import Group, Loop, Wait, Work
+from tester.text import head_of
 
 
 @dataclass
@@ -18,6 +20,7 @@ class Made:
     items: tuple          # pairs of a kind and a location
     head: str
     final_inside: bool
+    tied: bool = True
     children: list = field(default_factory=list)
     segments: list = field(default_factory=list)
 
@@ -88,6 +91,7 @@ class Table:
         undeferred = "if(0)" if node.undeferred else "final" if parent.final_inside else ""
         child = self.begin(parent, parent.segments[-1], undeferred, items, head_of(node),
                            node.final or parent.final_inside)
+        child.tied = "untied" not in node.clauses
         self.walk(node.body, child, loops)
         self.open(parent, Cut("undeferred", undeferred, (child,) if undeferred else ()))
 
@@ -109,7 +113,7 @@ class Table:
                 return
             kinds = conflict(earlier.items, task.items)
             if kinds:
-                yield Need(earlier.segments[-1], "dependence", f"{kinds[0]}, then {kinds[1]}")
+                yield Need(earlier.segments[-1], "dependence", dependence_of(*kinds[:2], bool(task.undeferred)))
 
     def need(self, before, after):
         """Why one segment has to precede another: by one step of a rule, or None."""
@@ -120,6 +124,11 @@ class Table:
         task = self.task_of[segment]
         place = task.segments.index(segment) + 1
         return f"segment {segment} (part {place} of {len(task.segments)} of task {task.number}, `{task.head}`)"
+
+
+def dependence_of(kind, then, undeferred):
+    """What a dependence is called. An undeferred task waits in its parent's thread, in another part of a runtime."""
+    return f"{kind}, then {then}" + " (undeferred)" * undeferred
 
 
 def conflict(earlier, later):

@@ -1,10 +1,7 @@
 """Tables in Markdown."""
-import collections
+from tester.coverage import MEASURES, TRIED_RULES, all_waits, never
 
-from tester.coverage import TRIED_RULES
-
-COUNTS = ("programs", "runs", "events", "refused", "incomplete", "values", "hung", "crashed", "not built")
-MEASURES = ("waits", "held", "close")
+COUNTS = ("programs", "runs", "events", "refused", "incomplete", "values", "moved", "hung", "crashed", "not built")
 
 
 def table(heads, rows):
@@ -28,8 +25,7 @@ def summary(results, constructs=None):
     for key in sorted(results.rows, key=lambda key: (key[0] != "all", key)):
         if constructs and key[0] not in constructs:
             continue
-        counts = {**results.rows[key], "programs": results.programs_of(key)}
-        rows.append((*key, *(counts.get(count, 0) for count in COUNTS)))
+        rows.append((*key, *(results.rows[key][count] for count in COUNTS)))
     return table(("construct", "threads", *COUNTS), rows)
 
 
@@ -40,25 +36,32 @@ def conditions(results):
     return table(("setting", "schedule", "runs", "failures"), rows)
 
 
-def coverage(results):
-    """What was tried of each rule, by construct and number of threads."""
+def coverage(results, kinds):
+    """What was tried of each rule, by construct and number of threads; `kinds` of items are those of the compiler."""
     threads = sorted({key[3] for key in results.coverage})
-    counts, keys = collections.Counter(results.coverage), sorted({key[:2] for key in results.coverage})
+    keys = {key[:2] for key in results.coverage} | {*all_waits(kinds)}
     rows = []
     for rule, construct in sorted(keys, key=lambda key: (TRIED_RULES.index(key[0]), key[1])):
-        cells = [" / ".join(str(counts[rule, construct, measure, number]) for measure in MEASURES)
+        cells = [" / ".join(str(results.coverage[rule, construct, measure, number]) for measure in MEASURES)
                  for number in threads]
         rows.append((rule, construct, *cells))
     return table(("rule", "construct", *(f"{number} threads" for number in threads)), rows)
 
 
+def untried(results, kinds):
+    """One line for each of the two measures that tell of a rule being tried: what nothing was counted for."""
+    words = {"held": "Never held back by this rule alone", "close": "Never close"}
+    for measure, begin in words.items():
+        missing = never(measure, results.coverage, kinds)
+        yield f"{begin}: {'; '.join(missing) or 'none of these'}."
+
+
 def kinds_of_failure(results):
     """Failures that are taken for the same, the most frequent first."""
     rows = []
-    for (variant, kind, rule), group in results.by_signature().items():
-        names = sorted({failure.case.name for failure in group})
-        threads = ", ".join(map(str, sorted({failure.conditions.threads for failure in group})))
-        rows.append((kind, rule, variant, len(group), threads, first_few(names)))
+    for (variant, kind, rule), group in results.most_frequent():
+        threads = ", ".join(map(str, sorted(group.threads)))
+        rows.append((kind, rule, variant, group.runs, threads, first_few(sorted(group.programs))))
     return table(("kind", "rule", "tasks", "runs", "threads", "programs"), rows) if rows else []
 
 
@@ -67,8 +70,7 @@ MUTANT_HEADS = ("mutant", "what it breaks", "caught by", "seen as", "programs th
 
 def mutant_line(name, meaning, results):
     """The row of one mutant."""
-    programs = sorted({failure.case.name for failure in results.failures})
-    seen = "; ".join(sorted({failure.rule for failure in results.failures}))
+    programs, seen = results.failed_programs(), "; ".join(sorted({rule for _, _, rule in results.groups}))
     return line_of((f"`{name}`", meaning, len(programs), seen, first_few(programs), f"{results.seconds:.0f}"))
 
 

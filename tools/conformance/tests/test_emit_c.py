@@ -2,7 +2,8 @@
 import re
 import unittest
 
-from tester.emit_c import CREATES, WAITED_FOR, Emitter, c_text, constructs, roles_of
+from tester.constructs import constructs
+from tester.emit_c import CREATES, WAITED_FOR, Emitter, c_text, roles_of
 from tester.reader import read_program
 from tester.segments import Table
 

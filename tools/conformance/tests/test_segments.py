@@ -21,7 +21,8 @@ class Segments(unittest.TestCase):
             [Need(2, "order", "order"), Need(1, "taskwait", "taskwait")]])
 
     def test_as_many_segments_as_are_counted(self):
-        for text in ("", "taskwait", "for i 1 3 { task { taskwait } taskgroup { } }", "task { task { } } taskgroup { }"):
+        texts = ("", "taskwait", "for i 1 3 { task { taskwait } taskgroup { } }", "task { task { } } taskgroup { }")
+        for text in texts:
             self.assertEqual(len(table_of(text).cost), 1 + segment_count(read_program("omptasks 2 " + text)))
 
     def test_undeferred_task(self):

@@ -2,9 +2,11 @@
 import unittest
 
 from tester.directed import directed_programs, first_comment, kinds_of
-from tester.forms import in_variant
-from tester.program import Group, Index, Item, Loop, Task, Wait, Work, form_of, nodes, segment_count, text_of
+from tester.forms import form_of
+from tester.program import Group, Index, Item, Loop, Task, Wait, Work, nodes, segment_count
 from tester.reader import Unreadable, read_program
+from tester.text import text_of
+from tester.variants import in_variant
 
 TEXT = """omptasks 2
 work 5
