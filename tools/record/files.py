@@ -8,6 +8,7 @@ from record.fault import Fault
 
 PREFIX = "spanprof recorder: "
 BEGUN = "recording to "
+USUAL_REGIONS = 10
 FOLD = re.compile(r"SPANPROF_FOLD_([A-Z]+)=")
 WRITTEN = re.compile(r"\.tasks( and .*\.replay)?: \d+ tasks, \d+ segments, work \d+ ")
 
@@ -18,6 +19,7 @@ class Recording:
     text: str
     replay: str = ""
     times: str = ""
+    number: int = 1  # in the files' names
 
 
 def check_folder(out):
@@ -29,19 +31,25 @@ def check_folder(out):
         raise Fault("%s: files cannot be written in this folder; --out names another" % os.path.abspath(folder))
 
 
+def most_regions(variables):
+    """How many the recorder writes; its files of later numbers are those of child processes."""
+    asked = variables.get("SPANPROF_REGIONS", "")
+    return int(asked) if re.fullmatch(r"[0-9]{1,4}", asked) else USUAL_REGIONS
+
+
 def recordings(out):
-    """Those of all regions, in the order of time: NAME.tasks, NAME.2.tasks, and so on."""
-    found, path = [], out + ".tasks"
-    while os.path.exists(path):
-        found.append(recording(path))
-        path = "%s.%d.tasks" % (out, len(found) + 1)
-    return found
+    """Those of all regions that were written, in the order of time: NAME.tasks, NAME.2.tasks, and so on."""
+    found = [recording(stem_of(out, number), number) for number in range(1, most_regions(os.environ) + 1)]
+    return [one for one in found if os.path.exists(one.text)]
 
 
-def recording(text):
-    stem = text[:-len(".tasks")]
+def stem_of(out, number):
+    return out if number == 1 else "%s.%d" % (out, number)
+
+
+def recording(stem, number=1):
     beside = [stem + end if os.path.exists(stem + end) else "" for end in (".replay", ".times")]
-    return Recording(text, *beside)
+    return Recording(stem + ".tasks", *beside, number)
 
 
 def remove_old(out):

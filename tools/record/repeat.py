@@ -7,7 +7,7 @@ import sys
 
 import program
 from record.fault import Fault
-from record.files import recordings
+from record.files import recordings, stem_of
 
 
 def names(out, runs):
@@ -45,7 +45,7 @@ def take(recording, out):
 
 
 def replay_of(text, events_of, path):
-    """The events of one run, after the text with the costs of all: legal or not, they are so for both."""
+    """The events of one run, after the text with the costs of all: whether they are legal does not hang on costs."""
     with open(events_of, encoding="utf-8", errors="replace", newline="") as file:
         events = re.split(r"(?m)^---\r?\n", file.read(), maxsplit=1)[1]
     with open(text, encoding="utf-8", errors="replace", newline="") as file:
@@ -61,21 +61,21 @@ def combine(tool, out, same_region):
                           capture_output=True, text=True, errors="replace", check=False)
     if done.returncode:
         take(middle_run, out)
-        return ["the runs have no median, and this is the one with the median work: %s"
-                % (done.stderr or done.stdout).strip().replace("\n", "; ")]
+        why = (done.stderr or done.stdout).strip().replace("\n", "; ").replace(os.path.dirname(out) + os.sep, "")
+        return ["the runs have no median, and this is the one with the median work: " + why]
     if middle_run.replay:
         replay_of(out + ".tasks", middle_run.replay, out + ".replay")
     return []
 
 
 def combine_all(tool, out, run_names):
-    """The same for each region. Where the runs have not all as many regions, those are taken that all have."""
-    by_run = [recordings(name) for name in run_names]
-    counts = sorted({len(found) for found in by_run})
+    """The same for each region that all runs have written."""
+    by_run = [{one.number: one for one in recordings(name)} for name in run_names]
+    every = set().union(*by_run)
+    common = sorted(number for number in every if all(number in found for found in by_run))
     remarks = []
-    for number in range(counts[0]):
-        stem = out + (".%d" % (number + 1) if number else "")
-        remarks += combine(tool, stem, [found[number] for found in by_run])
-    if len(counts) > 1:
-        remarks.append("the runs wrote %d to %d regions, and what not all wrote is left out" % (counts[0], counts[-1]))
+    for number in common:
+        remarks += combine(tool, stem_of(out, number), [found[number] for found in by_run])
+    if len(common) < len(every):
+        remarks.append("regions that not all runs wrote, left out: %d" % (len(every) - len(common)))
     return remarks

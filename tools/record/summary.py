@@ -10,14 +10,14 @@ def grouped(number):
     return "{:,}".format(number)
 
 
-def tenths_down(above, below):
+def rounded_down(above, below):
     """A quotient that is never told greater than it is."""
-    return "%.1f" % (10 * above // below / 10) if below else "1.0"
+    return "%.2f" % (100 * above // below / 100) if below else "1.00"
 
 
-def tenths_up(above, below):
+def rounded_up(above, below):
     """A quotient that is never told less than it is."""
-    return "%.1f" % (-(-10 * above // below) / 10) if below else "1.0"
+    return "%.2f" % (-(-100 * above // below) / 100) if below else "1.00"
 
 
 def threads_of(head):
@@ -53,8 +53,8 @@ def elapsed_line(answers):
 def threads_line(answers):
     """What so many threads can give: by `bound` at least, as long as none idles beside a ready segment, by `least` at
     most."""
-    parts = ["%d: %s to %s" % (threads, tenths_down(answers.work, answers.curve[threads]["bound"]),
-                               tenths_up(answers.work, answers.curve[threads]["least"])) for threads in THREADS]
+    parts = ["%d: %s to %s" % (threads, rounded_down(answers.work, answers.curve[threads]["bound"]),
+                               rounded_up(answers.work, answers.curve[threads]["least"])) for threads in THREADS]
     return ", ".join(parts) + " times as fast as one (proved)"
 
 
@@ -81,7 +81,7 @@ def summary(answers, verdict="", news=(), others=()):
         + named("work", ["%s: the time of one thread (measured)" % costs(answers.work, unit)]) \
         + named("span", ["%s: no run ends sooner (proved, of measured costs)" % costs(answers.span, unit)]) \
         + named("parallelism", ["%s: work / span; no number of threads gives more (proved)"
-                                % tenths_up(answers.work, answers.span)]) \
+                                % rounded_up(answers.work, answers.span)]) \
         + named("elapsed", [elapsed_line(answers)]) \
         + named("threads", [threads_line(answers)]) \
         + named("span by place", place_lines(answers)) \

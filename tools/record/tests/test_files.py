@@ -36,6 +36,13 @@ class Recordings(InAFolder):
         self.assertEqual([bool(one.replay) for one in found], [True, False])
         self.assertEqual([bool(one.times) for one in found], [False, True])
 
+    def test_a_first_region_that_is_not_written(self):
+        self.write("mine.3.tasks")
+        self.assertEqual([os.path.basename(one.text) for one in files.recordings(self.out)], ["mine.3.tasks"])
+
+    def test_how_many_there_may_be(self):
+        self.assertEqual([files.most_regions({"SPANPROF_REGIONS": word}) for word in ("", "x", "3")], [10, 10, 3])
+
     def test_old_files_go_and_others_stay(self):
         for name in ("mine.tasks", "mine.3.replay", "mine.12.inout.tasks", "mine.c", "mine.html", "mine.x.tasks",
                      "mine"):
@@ -118,7 +125,7 @@ class Repeated(InAFolder):
 
     def three(self):
         texts = [self.write("run%d.tasks" % i, "# %d\n" % i) for i in (1, 2, 3)]
-        return [files.recording(text) for text in texts]
+        return [files.recording(text[:-len(".tasks")]) for text in texts]
 
     def test_runs_of_different_shapes_leave_the_one_in_the_middle(self):
         tool = self.write("tool.py", "import sys; sys.exit('they differ')\n")
@@ -128,6 +135,15 @@ class Repeated(InAFolder):
         self.assertIn("they differ", remarks[0])
         with open(self.out + ".tasks", encoding="utf-8") as file:
             self.assertEqual(file.read(), "# 3\n")
+
+    def test_regions_that_all_runs_wrote(self):
+        for name in ("run1.tasks", "run1.2.tasks", "run2.2.tasks"):
+            self.write(name)
+        names = [os.path.join(self.kept.name, name) for name in ("run1", "run2")]
+        with mock.patch("record.repeat.combine", return_value=["combined"]) as combine:
+            remarks = repeat.combine_all("tool", self.out, names)
+        self.assertEqual(combine.call_args.args[1], self.out + ".2")
+        self.assertEqual(remarks, ["combined", "regions that not all runs wrote, left out: 1"])
 
     def test_the_tool_gets_all_runs(self):
         tool = self.write("tool.py", "import sys; open(sys.argv[1], 'w').write(str(len(sys.argv) - 2))\n")

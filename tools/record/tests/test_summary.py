@@ -3,7 +3,7 @@ import unittest
 from unittest import mock
 
 from record.files import Recording
-from record.summary import other_region, summary, tenths_down, tenths_up
+from record.summary import other_region, summary, rounded_down, rounded_up
 from record.tests.made_up import Answers, Head
 from record.verdict import verdict
 
@@ -12,9 +12,9 @@ sort.tasks, region at sort.c:48, 4 threads, costs in us of wall time
 tasks         1, in 3 segments (recorded); its run was legal (proved)
 work          100 us: the time of one thread (measured)
 span          70 us: no run ends sooner (proved, of measured costs)
-parallelism   1.5: work / span; no number of threads gives more (proved)
+parallelism   1.43: work / span; no number of threads gives more (proved)
 elapsed       40 us on 4 threads: 2.50 times as fast as one was reached (measured)
-threads       2: 1.1 to 1.5, 4: 1.2 to 1.5, 8: 1.3 to 1.5, 16: 1.4 to 1.5 times as fast as one (proved)
+threads       2: 1.17 to 1.43, 4: 1.29 to 1.43, 8: 1.36 to 1.43, 16: 1.40 to 1.43 times as fast as one (proved)
 span by place 71.4 % of the span, 50.0 % of the work: after a taskwait
               28.6 % of the span, 20.0 % of the work: the beginning
 remarks       none"""
@@ -37,7 +37,7 @@ class Lines(unittest.TestCase):
         for row in answers.rows:
             row.cost = 0
         answers.curve = {p: {"least": 0, "bound": 0} for p in (2, 4, 8, 16)}
-        self.assertIn("parallelism   1.0", "\n".join(summary(answers)))
+        self.assertIn("parallelism   1.00", "\n".join(summary(answers)))
 
     def test_a_unit_that_is_a_number(self):
         lines = summary(Answers(head=Head(unit="250 ns")))
@@ -49,9 +49,9 @@ class Lines(unittest.TestCase):
         self.assertEqual(summary(Answers(), others=[other])[-1], "other regions " + other)
 
     def test_no_bound_is_told_better_than_it_is(self):
-        self.assertEqual((tenths_down(199, 100), tenths_up(199, 100)), ("1.9", "2.0"))
-        self.assertEqual((tenths_down(200, 100), tenths_up(200, 100)), ("2.0", "2.0"))
-        self.assertEqual((tenths_down(0, 0), tenths_up(0, 0)), ("1.0", "1.0"))
+        self.assertEqual((rounded_down(1999, 1000), rounded_up(1999, 1000)), ("1.99", "2.00"))
+        self.assertEqual((rounded_down(200, 100), rounded_up(200, 100)), ("2.00", "2.00"))
+        self.assertEqual((rounded_down(0, 0), rounded_up(0, 0)), ("1.00", "1.00"))
 
 
 class Verdicts(unittest.TestCase):
