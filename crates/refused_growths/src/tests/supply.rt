@@ -25,6 +25,9 @@ pub(super) struct Supply {
     left: Option<(Left, usize)>,
     calls: usize,
     was_refused: bool,
+    /// Where it is false nothing is held, though all else is done: a stack that has grown as far as
+    /// it will need not grow where no address is left.
+    is_scarce: bool,
 }
 
 /// What `checks/refused_growths.py gate` is told.
@@ -64,6 +67,7 @@ impl Supply {
             left: None,
             calls: 0,
             was_refused: false,
+            is_scarce: false,
         }
     }
 
@@ -72,6 +76,7 @@ impl Supply {
         let mut supply = Supply {
             blocks: Vec::with_capacity(alloc, MOST_BLOCKS)?,
             pieces: Vec::with_capacity(alloc, MOST_PIECES)?,
+            is_scarce: true,
             ..Supply::ample(alloc)
         };
         let ample = Vec::<u8>::with_capacity(alloc, AMPLE)?;
@@ -159,7 +164,7 @@ impl Supply {
         }
         self.hold_everything();
         self.pieces.truncate(0);
-        for size in short.long {
+        for size in short.long_blocks() {
             self.cut_apart(*size, 1);
         }
         for number in 0..LONGEST {
@@ -230,8 +235,8 @@ impl Supply {
     /// Holds a block of this size; false where it is refused.
     fn hold(&mut self, size: usize) -> bool {
         match Vec::with_capacity(self.alloc, size) {
-            Ok(block) => self.blocks.push(block).is_ok(),
-            Err(_) => false,
+            Ok(block) if self.is_scarce => self.blocks.push(block).is_ok(),
+            _ => false,
         }
     }
 }

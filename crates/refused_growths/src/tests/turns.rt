@@ -33,21 +33,35 @@ pub(super) fn refuse_each<H: AllocGlobal + Threads + Wait + Abort + Sync>(
     calls: Calls,
 ) -> Result<(), Fail> {
     let mut ample = Supply::ample(rt.alloc());
-    make(rt, calls, &mut ample)?;
-    assert!(rt;
-        !ample.was_refused(),
-        "a growth is refused with ample memory"
-    );
+    let refusals = refuse_from_each(rt, calls, &mut ample)?;
+    assert!(rt; refusals == 0, "a growth is refused with ample memory");
     start_a_thread(rt)?;
     let mut supply = Supply::scarce(rt.alloc())?;
-    let mut refusals = 0usize;
-    for call in 0..ample.calls() {
-        refusals = refusals.saturating_add(refuse_rows(rt, calls, &mut supply, call)?);
-        refusals = refusals.saturating_add(refuse_sizes(rt, calls, &mut supply, call)?);
-    }
+    let refusals = refuse_from_each(rt, calls, &mut supply)?;
     supply.restore();
     assert!(rt; refusals > 0, "no growth is refused");
     Ok(())
+}
+
+/// No test makes more calls, one after another.
+const MOST_CALLS: usize = 16;
+
+/// In how many turns a growth was refused.
+fn refuse_from_each<H: AllocGlobal + Threads + Wait + Abort + Sync>(
+    rt: &H,
+    calls: Calls,
+    supply: &mut Supply,
+) -> Result<usize, Fail> {
+    let mut refusals = 0usize;
+    for call in 0..MOST_CALLS {
+        refusals = refusals.saturating_add(refuse_rows(rt, calls, supply, call)?);
+        let made = supply.calls();
+        refusals = refusals.saturating_add(refuse_sizes(rt, calls, supply, call)?);
+        if call + 1 >= made {
+            break;
+        }
+    }
+    Ok(refusals)
 }
 
 /// Before the first thread the C library does not look for freed blocks of a size when a block is
@@ -79,16 +93,12 @@ fn refuse_rows<H: AllocGlobal + Threads + Wait + Abort + Sync>(
     Err("refused at every turn".into())
 }
 
-/// The blocks of more than the small sizes that the first part of a command asks for, and what reads
-/// its words: one grows where it lies, and four do not.
-const FOR_WORDS: &[usize] = &[10_752, 2_432, 2_432, 2_432, 2_432];
-
-/// The longer blocks that are asked for from a call on.
-fn long_blocks(calls: Calls, call: usize) -> &'static [usize] {
+/// Whether words are read from a call on.
+fn reads_words(calls: Calls, call: usize) -> bool {
     match calls {
-        Calls::Words => FOR_WORDS,
-        Calls::Of(_) if call == 0 => FOR_WORDS,
-        _ => &[],
+        Calls::Words => true,
+        Calls::Of(_) => call == 0,
+        _ => false,
     }
 }
 
@@ -106,7 +116,7 @@ fn refuse_sizes<H: AllocGlobal + Threads + Wait + Abort + Sync>(
                 number,
                 blocks: 0,
                 spare,
-                long: long_blocks(calls, call),
+                has_long: reads_words(calls, call),
             };
             let turns = refuse_size(rt, calls, supply, call, short)?;
             refusals = refusals.saturating_add(turns);
