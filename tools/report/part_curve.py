@@ -82,7 +82,7 @@ def reached_mark(axes, view, colour):
         return ""
     x, y = axes.x(reached.threads), axes.y(reached.speed_up)
     words = "%d threads: %.2f times, %s" % (reached.threads, reached.speed_up, reached.words)
-    title = view.figures.told("title", words, ["run threads", "span work / " + reached.source])
+    title = view.figures.told("title", words, ["threads", "span work / " + reached.source])
     hollow = "" if reached.is_elapsed else " hollow"
     return tag("path", title, d="M%g %gl7 7l-7 7l-7 -7z" % (x, y - 7), class_="reached " + colour + hollow)
 
