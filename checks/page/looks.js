@@ -17,6 +17,10 @@
     if (!lanes.querySelector("path")) faults.push("a timeline without bars");
   }
 
+  for (const line of document.querySelectorAll(".edge.creates:not(.depends)")) {
+    if (getComputedStyle(line).strokeDasharray === "none") faults.push(`not dashed: ${short(line)}`);
+  }
+
   // ---- colours ----
   const canvas = document.createElement("canvas").getContext("2d", { willReadFrequently: true });
   const rgba = (colour) => {

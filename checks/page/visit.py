@@ -8,7 +8,7 @@ import os
 import re
 import sys
 
-from devtools import Browser, find_browser
+from devtools import Browser, Refused, find_browser
 from driving import drive
 
 HERE = os.path.dirname(os.path.abspath(__file__))
@@ -57,6 +57,13 @@ def try_driving(browser, path, text, program):
     return faults
 
 
+def faults_of(browser, program, folder, name):
+    try:
+        return try_page(browser, program, folder, name)
+    except (Refused, OSError) as reason:
+        return [str(reason)]
+
+
 def try_page(browser, program, folder, name):
     path, text = (os.path.join(folder, name + end) for end in (".html", ".tasks"))
     size = os.path.getsize(path)
@@ -76,7 +83,7 @@ def main(words):
     wrong = 0
     with Browser(find_browser()) as browser:
         for name in names:
-            faults = try_page(browser, program, folder, name)
+            faults = faults_of(browser, program, folder, name)
             wrong += len(faults)
             print("%s: %s" % (name, "%d wrong" % len(faults) if faults else "right"), flush=True)
             for fault in faults[:20]:

@@ -1,6 +1,7 @@
 #include "advice.hpp"
 
 #include <algorithm>
+#include <cmath>
 #include <cstdio>
 
 #include "fold.hpp"
@@ -61,15 +62,24 @@ int64_t in_two_digits(int64_t number) {
   return (number + digit - 1) / digit * digit;
 }
 
-// Costs are measured anew by each run, so the threshold leaves half of what the limit allows, and is rounded up.
+// Costs are measured anew by each run, so the threshold lies in the widest gap of them that leaves an eighth to three
+// quarters of the tasks that the limit allows.
+int64_t cost_in_a_gap(std::vector<int64_t> &costs) {
+  constexpr size_t fewest = most_tasks / 8, most = most_tasks * 3 / 4;
+  std::partial_sort(costs.begin(), costs.begin() + most + 1, costs.end(), std::greater<>());
+  auto gap = [&](size_t stay) { return static_cast<double>(costs[stay - 1] + 1) / static_cast<double>(costs[stay] + 1); };
+  size_t best = most_tasks / 2;
+  for (size_t stay = fewest; stay <= most; stay++)
+    if (gap(stay) > 1.5 && gap(stay) > gap(best)) best = stay;
+  return static_cast<int64_t>(static_cast<double>(costs[best] + 1) * std::sqrt(gap(best)));
+}
+
 Folds Adviser::by_cost() {
   std::vector<int64_t> costs;
   for (const Task &t : region.tasks)
     if (t.parent && !t.part) costs.push_back(t.total);
-  if (costs.size() <= most_tasks / 2) return {};
-  auto stay = costs.begin() + most_tasks / 2;
-  std::nth_element(costs.begin(), stay, costs.end(), std::greater<>());
-  for (int64_t units = *stay / unit + 1; units <= 2 * (whole.total / unit + 1); units += 1 + units / 4) {
+  if (costs.size() <= most_tasks) return {};
+  for (int64_t units = cost_in_a_gap(costs) / unit + 1; units <= 2 * (whole.total / unit + 1); units += 1 + units / 4) {
     Folds folds{0, in_two_digits(units) * unit, 0};
     if (fits(folds)) return folds;
   }

@@ -50,10 +50,12 @@ def parts(views, factors):
     """Of each part the name, the words that lead to it, and the part."""
     view, trials = views[0], Trials(views[0])
     compared = [("compared", "Side by side", compare_part(views))] if len(views) > 1 else []
-    return [("summary", "Summary", summary_part(view, trials.halved)), *compared,
-            ("speed-up", "Speed-up", curve_part(views)), *timelines(views), ("path", "Critical path", path_part(view)),
-            ("what-if", "What if", what_if_part(view, trials, factors)), ("tasks", "Tasks", tasks_part(view)),
-            ("graph", "Graph", graph_part(view)), ("sources", "Sources", asked_part(views))]
+    of = " of " + view.name if len(views) > 1 else ""
+    return [("summary", "Summary", summary_part(view, trials.halved, of)), *compared,
+            ("speed-up", "Speed-up", curve_part(views)), *timelines(views),
+            ("path", "Critical path", path_part(view, of)),
+            ("what-if", "What if", what_if_part(view, trials, factors, of)), ("tasks", "Tasks", tasks_part(view, of)),
+            ("graph", "Graph", graph_part(view, of)), ("sources", "Sources", asked_part(views))]
 
 
 def data(views):

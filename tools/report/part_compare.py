@@ -1,6 +1,7 @@
 """Two programs side by side: their numbers, and where their work and span differ."""
 from report.figures import MEASURED, PROVED, badge, badges, percent
-from report.markup import note, section, tag
+from report.markup import breakable, join, note, section, tag
+from report.part_summary import recorded_words, remarks
 from report.tables import place_cell, table
 
 MOST_PLACES = 30
@@ -37,7 +38,7 @@ def numbers(views):
     source = "span work / span span"
     rows.insert(2, ["parallelism", show.times(first.work, first.span, source, PROVED),
                     other.times(second.work, second.span, source, PROVED), "", badge(PROVED)])
-    return table(["", first.name, second.name, "second to first", ""], rows, numeric=range(1, 4))
+    return table(["", breakable(first.name), breakable(second.name), "second to first", ""], rows, numeric=range(1, 4))
 
 
 def kind_and_lines(view, place):
@@ -95,7 +96,8 @@ def by_place(views):
     rows = [[pair_name(views, pair), *place_cells(views[0], pair[0]), *place_cells(views[1], pair[1])]
             for pair in side_by_side(views)[:MOST_PLACES]]
     first, second = (view.answers.name for view in views)
-    heads = ["place", "cost: " + first, "of its span", "cost: " + second, "of its span"]
+    heads = ["place", join(["cost: ", breakable(first)]), "of its span", join(["cost: ", breakable(second)]),
+             "of its span"]
     return table(heads, rows, numeric=range(1, 5), is_sortable=True)
 
 
@@ -105,5 +107,7 @@ def compare_part(views):
         words = note("The two texts have costs in different units: ", views[0].unit or "none named", " and ",
                      views[1].unit or "none named", ".")
     kinds = dict.fromkeys(view.cost_kind for view in views)
-    return section("compared", "Side by side", words, numbers(views),
+    other = [tag("p", views[1].name, ": ", recorded_words(views[1]), class_="recording given"),
+             remarks(views[1], "remarks-other")]
+    return section("compared", "Side by side", *other, words, numbers(views),
                    note("Costs by place ", badges(*kinds), ", largest first."), by_place(views))

@@ -97,11 +97,12 @@ def by_place(view, edges, critical):
     return picture(view.figures, boxes, others, labelled=True), BY_PLACE
 
 
-def graph_part(view):
+def graph_part(view, of=""):
+    """`of` names the program where the page has two."""
     answers = view.answers
     edges = task_edges(answers.code, answers.predecessors)
     critical = critical_pairs(answers.code, answers.path_segments)
     is_small = answers.tasks < MOST_TASKS and len(edges) <= MOST_EDGES
     drawing, words = (by_task if is_small else by_place)(view, edges, critical)
-    return section("graph", "What waits for what",
+    return section("graph", "What waits for what" + of.replace(" of ", " in "),
                    note(words, " ", badges(view.shape_kind), ", critical path ", badges(PROVED)), drawing)

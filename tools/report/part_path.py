@@ -83,10 +83,11 @@ def first_words(view):
                ". To make the program faster on many threads, shorten this chain.")
 
 
-def path_part(view):
+def path_part(view, of=""):
+    """`of` names the program where the page has two."""
     answers = view.answers
     costly = sum(1 for s in answers.path_segments if answers.rows[s].cost)
-    return section("path", "Critical path", first_words(view),
+    return section("path", "Critical path" + of, first_words(view),
                    note("Costs ", badges(view.cost_kind), ", that this is a longest chain ", badges(PROVED), "."),
                    by_place(view),
                    details(join(["Segment by segment (", view.figures.number(costly, "path costly", PROVED),

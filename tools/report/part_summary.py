@@ -52,7 +52,7 @@ def reached_tile(view):
                 join(["times; elapsed ", elapsed]))
 
 
-def recording(view):
+def recorded_words(view):
     """One line that says what the text is a recording of."""
     head = view.answers.head
     clock = {"cpu": "processor time", "wall": "wall time"}.get(head.clock, head.clock)
@@ -61,7 +61,7 @@ def recording(view):
     parts = ["recorded from %s" % head.program if head.program else "",
              "the parallel region at %s" % head.region if head.region else "", head.date,
              "%d threads" % head.threads if head.threads else "", unit]
-    return tag("p", ", ".join(filter(None, parts)), class_="recording given")
+    return ", ".join(filter(None, parts))
 
 
 def on_the_threads(view):
@@ -91,7 +91,7 @@ def where_the_span_is(view, halved):
                show.share(answers.span - after, answers.span, "span span - %s / span span" % what_if, PROVED), " less.")
 
 
-def remarks(view):
+def remarks(view, name="remarks"):
     """What the recording lacks, as the text's own head tells it."""
     head = view.answers.head
     items = [tag("li", words) for words in head.remarks]
@@ -100,7 +100,7 @@ def remarks(view):
         items.append(tag("li", view.without_run))
     if not items:
         return ""
-    return tag("div", tag("h3", "What the recording remarks"), tag("ul", *items), class_="remarks given", id="remarks",
+    return tag("div", tag("h3", "What the recording remarks"), tag("ul", *items), class_="remarks given", id=name,
                role="note")
 
 
@@ -139,7 +139,9 @@ def kinds_explained(view):
                     "difference or a quotient."))
 
 
-def summary_part(view, halved):
+def summary_part(view, halved, of=""):
+    """`of` names the program where the page has two."""
     tiles = tag("div", *first_tiles(view), threads_tile(view), reached_tile(view), class_="tiles")
-    return section("summary", "Summary", recording(view), tiles, on_the_threads(view),
+    recorded = tag("p", recorded_words(view), class_="recording given")
+    return section("summary", "Summary" + of, recorded, tiles, on_the_threads(view),
                    where_the_span_is(view, halved), remarks(view), division(view), kinds_explained(view))

@@ -35,12 +35,13 @@ def row(view, place):
             show.number(place.slack, named + "slack", PROVED), *creation(view, place, named)]
 
 
-def tasks_part(view):
+def tasks_part(view, of=""):
+    """`of` names the program where the page has two."""
     heads = ["tasks", "count", "least cost", "median", "greatest", "of the work", "of the span",
              "on the critical path", "least slack", "creating them", "to their cost"]
     rows = [row(view, place) for place in view.task_places[:MOST_PLACES]]
     more = tag("span", len(view.task_places) - len(rows), class_="given")
-    return section("tasks", "Tasks", note("Count ", badges(view.shape_kind), ", costs ", badges(view.cost_kind), ", slack ",
-                                          badges(PROVED), HOW_TO_READ),
+    kinds = ["Count ", badges(view.shape_kind), ", costs ", badges(view.cost_kind), ", slack ", badges(PROVED)]
+    return section("tasks", "Tasks" + of, note(*kinds, HOW_TO_READ),
                    table(heads, rows, numeric=range(1, 11), is_sortable=True),
                    note(more, " more places of tasks are left out.") if len(view.task_places) > len(rows) else "")

@@ -54,13 +54,14 @@ def lines_to_run(view):
                line_to_run("changes-line", view.name), class_="to-run")
 
 
-def what_if_part(view, trials, factors):
+def what_if_part(view, trials, factors, of=""):
+    """`of` names the program where the page has two."""
     with_cost = [place for place in view.places if place.cost]
     heads = ["all segments at a place", "of the span", "span at half the cost", "less", "span at no cost", "less",
              "factor"]
     rows = [row(view, trials, place) for place in with_cost[:MOST_PLACES]]
     more = tag("span", len(with_cost) - len(rows), class_="given")
-    return section("what-if", "What if", note(
+    return section("what-if", "What if" + of, note(
         "The span if every segment at a place cost half as much, or nothing: an answer of ",
         tag("code", "spanprof whatif"), " each, exact for the program as the text has it ", badges(PROVED),
         ". Odd costs are rounded to the nearest whole number, halves to even ones."),

@@ -59,4 +59,4 @@ def snippet(lines, number):
     if not first.lower().startswith(DIRECTIVES):
         return [first] if first else []
     following = (line.strip() for line in lines[here:here + MOST_BLANK])
-    return [first, *[line for line in following if line not in ("", "{")][:1]]
+    return [first, *[line for line in following if line not in ("", "{", "}")][:1]]

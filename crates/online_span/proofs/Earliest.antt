@@ -25,7 +25,7 @@ use Rattle.online_span.specs.Awaiting.{Ended, IsLastOf, AwaitsNow, Awaits, ended
 use Rattle.online_span.specs.Awaiting.{greatest_of, end_of, latest, start_now, any_items}
 use Rattle.online_span.specs.Awaiting.{is_undeferred}
 use Rattle.online_span.specs.Measuring.{IsGreatestEnd}
-use Rattle.online_span.specs.Earliest.{costs_at, IsSpanAt}
+use Rattle.online_span.specs.Spans.{costs_at, IsSpanAt}
 use Rattle.task_segments.specs.declared.table.Segment.{Segment}
 use Rattle.task_segments.specs.Table.{table_at, no_segment}
 use Rattle.task_segments.proofs.Facts.{segment-at, segments-at}

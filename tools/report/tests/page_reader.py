@@ -3,7 +3,7 @@ import re
 from dataclasses import dataclass, field
 from html.parser import HTMLParser
 
-EMPTY = {"br", "hr", "input", "meta", "line", "rect", "circle", "path", "polyline", "polygon"}
+EMPTY = {"br", "hr", "input", "meta", "wbr", "line", "rect", "circle", "path", "polyline", "polygon"}
 NUMBER = r"[+−]?\d[\d,]*(?:\.\d+)?"
 # what is no number of spanprof: names, words of the text's head, ticks of an axis, keys, commands
 WITHOUT_SOURCE = {"place", "given", "axis"}

@@ -1,6 +1,6 @@
 import unittest
 
-from report.markup import Markup, details, join, note, section, tag
+from report.markup import Markup, breakable, details, join, note, section, tag
 from report.tables import bar, place_cell, table
 
 
@@ -18,6 +18,9 @@ class Elements(unittest.TestCase):
 
     def test_join(self):
         self.assertEqual(join(["<", Markup("<b>")], ", "), "&lt;, <b>")
+
+    def test_names_break_at_their_signs(self):
+        self.assertEqual(breakable("a_b.c:3"), "a_<wbr/>b.c:3")
 
     def test_parts(self):
         self.assertEqual(section("path", "Path", note("n")),

@@ -4,7 +4,7 @@ ghost use Rattle.task_program.specs.Limits.{work_of};
 ghost use Rattle.task_program.specs.Marks.{Mark};
 ghost use Rattle.task_program.specs.Nested.{IsNested};
 ghost use Rattle.task_segments.specs.Moments.{last_moment, segments_so_far, tasks_so_far};
-ghost use Rattle.online_span.specs.Earliest.{IsSpanAt, IsSpanOf, costs_at};
+ghost use Rattle.online_span.specs.Spans.{IsSpanAt, IsSpanOf, costs_at};
 ghost use Rattle.online_span.specs.Measuring.{Measures};
 
 use crate::meter::Meter;

@@ -5,7 +5,7 @@ use Rattle.std.proofs.lemmas.Option.{slice_get-map, slice_get-get_or, slice_get_
 use Rattle.worker_run.specs.declared.record.RunFault.{RunFault}
 use Rattle.worker_run.specs.Ends.{Tells}
 use Rattle.worker_run.proofs.Places.{up_to_next}
-use Rattle.worker_run.proofs.run.first_fault.Goals as goal
+use Rattle.worker_run.proofs.worked.first_fault.Goals as goal
 
 pub loop-end-preserved : goal.loop-end-preserved
 loop-end-preserved g c worker its told less at tells =

@@ -3,7 +3,7 @@ use Rattle.std.proofs.lemmas.Bool.{eqb-true, eq-eqb}
 use Rattle.task_segments.specs.Table.{Table, segment}
 use Rattle.dispatch_core.specs.Values.{IsInput}
 use Rattle.dispatch_core.proofs.Uniqueness.{one_input}
-use Rattle.worker_run.proofs.run.is_job_of.Goals as goal
+use Rattle.worker_run.proofs.worked.is_job_of.Goals as goal
 
 pub returns-then-input-job : goal.returns-then-input-job
 returns-then-input-job g c =
