@@ -11,7 +11,7 @@ command -v clang++-16 > /dev/null || skip "clang-16 is missing (package clang-16
 [ -e $library/libomp.so.5 ] || skip "LLVM's OpenMP runtime is missing (package libomp-16-dev)"
 [ -x "$spanprof" ] || { echo "no program $spanprof"; exit 1; }
 
-make -s -C tools test
+(cd tools && python3 -B -m unittest discover -s record/tests -t .)
 export SPANPROF=$spanprof PATH=$PWD/tools:$PATH OMP_NUM_THREADS=2
 top=$PWD
 folder=$(mktemp -d)

@@ -66,7 +66,8 @@ def main():
     if not os.access(program, os.X_OK):
         sys.exit("no program " + program)
     if not shutil.which("clang-16"):
-        sys.exit(print("skipped: clang-16 is missing (package clang-16)"))
+        print("skipped: clang-16 is missing (package clang-16)")
+        return
     folder = fresh_clone(program)
     pairs, wrong = list(commands(os.path.join(folder, DOCUMENT))), 0
     ends = run_all(pairs, folder)

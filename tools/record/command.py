@@ -1,5 +1,6 @@
 """spanprof-record: a program's run as a program text, and what it could gain from more threads."""
 import os
+import signal
 import subprocess
 import sys
 import webbrowser
@@ -50,17 +51,21 @@ def report(session, found, said):
         write_page(session.options, recording)
 
 
-def main(words):
-    options = parse(words)
+def record_and_report(options):
+    """The exit status, or less than 0 the signal. What goes wrong here counts only where the program ended with 0."""
     status = 0
     try:
         session = Session(options)
         status, found, said = session.record()
         if found:
             report(session, found, said)
-        else:
-            status = status or OWN_FAULT
+        return status if found else status or OWN_FAULT
     except Fault as fault:
         say(str(fault))
-        status = status or fault.status
-    end_as(status)
+        return status or fault.status
+    except KeyboardInterrupt:
+        return status or -signal.SIGINT
+
+
+def main(words):
+    end_as(record_and_report(parse(words)))

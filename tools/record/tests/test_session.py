@@ -105,6 +105,25 @@ class Summaries(unittest.TestCase):
         self.assertEqual(told.getvalue().count("folded task"), 1)
 
 
+class Statuses(unittest.TestCase):
+    def status(self, recorded, reported=None):
+        with mock.patch("record.command.Session") as made, contextlib.redirect_stderr(io.StringIO()), \
+                mock.patch("record.command.report", side_effect=reported):
+            made.return_value.record.side_effect = [recorded]
+            return command.record_and_report(None)
+
+    def test_the_program_decides(self):
+        self.assertEqual(self.status((0, ["a"], None)), 0)
+        self.assertEqual(self.status((3, ["a"], None), Fault("no page is written")), 3)
+        self.assertEqual(self.status((-6, [], None)), -6)
+
+    def test_what_goes_wrong_here(self):
+        self.assertEqual(self.status((0, [], None)), 125)
+        self.assertEqual(self.status((0, ["a"], None), Fault("no page is written")), 125)
+        self.assertEqual(self.status(Fault("no such program", 127)), 127)
+        self.assertEqual(self.status(KeyboardInterrupt), -2)
+
+
 class Pages(unittest.TestCase):
     def page(self, **options):
         chosen = argparse.Namespace(**dict(dict(html="p.html", open=False), **options))
