@@ -10,7 +10,7 @@
 #include <stdio.h>
 #include <stdlib.h>
 
-enum { MOST = 20000, TURN_BEGINS = 0, TAKING = 1, TAKEN = 2, REFUSED = 3 };
+enum { MOST = 20000, TURN_BEGINS = 0, TAKING = 1, TAKEN = 2, TURN_ENDS = 3 };
 
 static struct growth {
     char kind, was_first;
@@ -20,7 +20,7 @@ static int counts, number, met;
 
 /* Whether this request only tells something. */
 static int is_told(size_t size) {
-    if (size > LONG_MAX || LONG_MAX - size > REFUSED) return 0;
+    if (size > LONG_MAX || LONG_MAX - size > TURN_ENDS) return 0;
     if (LONG_MAX - size == TURN_BEGINS) number = 0;
     counts = LONG_MAX - size == TURN_BEGINS || LONG_MAX - size == TAKEN;
     return 1;

@@ -36,7 +36,7 @@ enum Event {
     TurnBegins,
     Taking,
     Taken,
-    Refused,
+    TurnEnds,
 }
 
 /// The lists have room for all that they get, so that they take no memory later.
@@ -125,14 +125,14 @@ impl Supply {
 
     /// A growth was refused: from now on there is ample memory.
     pub(super) fn refused(&mut self) {
-        self.tell(Event::Refused);
         self.was_refused = true;
         self.left = None;
         self.restore();
     }
 
-    /// Gives back what was taken.
+    /// Gives back what was taken, at the end of a turn.
     pub(super) fn restore(&mut self) {
+        self.tell(Event::TurnEnds);
         self.pieces.truncate(0);
         self.blocks.truncate(self.kept);
     }

@@ -23,7 +23,7 @@ const SMALL_TURNS: usize = 2048;
 
 const TURNS: usize = SMALL_TURNS + 14;
 
-/// The least and the most blocks that are left for requests of the next size.
+/// How many blocks are left for requests of the next size.
 const SPARE: [usize; 2] = [1, 4];
 
 /// Makes the calls with ample memory, and then with little memory from each of them on, in each
@@ -34,6 +34,7 @@ pub(super) fn refuse_each<H: AllocGlobal + Threads + Wait + Abort + Sync>(
 ) -> Result<(), Fail> {
     let mut ample = Supply::ample(rt.alloc());
     let refusals = refuse_from_each(rt, calls, &mut ample)?;
+    ample.restore();
     assert!(rt; refusals == 0, "a growth is refused with ample memory");
     start_a_thread(rt)?;
     let mut supply = Supply::scarce(rt.alloc())?;
@@ -120,12 +121,17 @@ fn refuse_sizes<H: AllocGlobal + Threads + Wait + Abort + Sync>(
             };
             let turns = refuse_size(rt, calls, supply, call, short)?;
             refusals = refusals.saturating_add(turns);
-            if turns == 0 {
+            if turns == 0 || turns == most_blocks(number) {
                 break;
             }
         }
     }
     Ok(refusals)
+}
+
+/// How many blocks of a size are tried at most: more are asked for of the two smallest ones.
+fn most_blocks(number: usize) -> usize {
+    if number < 2 { 48 } else { 12 }
 }
 
 /// One block more of the size that is short at each turn, until no growth is refused.
@@ -136,7 +142,7 @@ fn refuse_size<H: AllocGlobal + Threads + Wait + Abort + Sync>(
     call: usize,
     short: Short,
 ) -> Result<usize, Fail> {
-    let most = if short.number < 2 { 48 } else { 12 };
+    let most = most_blocks(short.number);
     for blocks in 0..most {
         supply.begin_turn(Left::Blocks(Short { blocks, ..short }), call);
         make(rt, calls, supply)?;
