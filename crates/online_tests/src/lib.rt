@@ -1,0 +1,6 @@
+//! Tests of work and span in one pass. They are a crate of their own, since a crate with tests is
+//! proved twice.
+#![tactic(auto)]
+
+#[cfg(test)]
+mod tests;
