@@ -15,7 +15,7 @@ use Rattle.depend_table.specs.Lists.{Lists}
 use Rattle.depend_table.specs.Kept.{IsKeptEdge, children_below}
 use Rattle.open_segments.specs.Entry.{entry}
 use Rattle.open_segments.specs.Facts.{IsSoundTable}
-use Rattle.open_segments.specs.Counters.{HasValue, AreSiblings}
+use Rattle.open_segments.specs.Counters.{HasValue}
 use Rattle.open_segments.specs.NumberLists.{items_of}
 use Rattle.open_segments.specs.KeptLists.{AreEntered, AreFirstLists}
 use Rattle.open_segments.proofs.AtFirst.{entry-replicate}

@@ -1,6 +1,6 @@
 use Rattle.std.proofs.Common.{ℕ, ◌+◌, ◌≡◌, List, Some, sym, subst}
 use Rattle.std.specs.Prelude.{slice_get}
-use Rattle.task_segments.specs.Table.{Table, task}
+use Rattle.task_segments.specs.Table.{Table}
 use Rattle.depend_table.specs.Siblings.{Sibling}
 use Rattle.depend_table.specs.Kept.{IsKeptEdge, children_below}
 use Rattle.depend_table.specs.Lists.{Lists}
