@@ -18,7 +18,11 @@ make -s -C tools/openmp_recorder LLVM="$llvm"
 export OMP_TOOL_LIBRARIES=$PWD/tools/openmp_recorder/librecorder.so
 export OMP_NUM_THREADS SPANPROF_OUT=$folder/out
 wrong=0
-fail() { echo "  $1"; wrong=$((wrong + 1)); }
+fail() { # WHAT: tells it, with the last that the recorder said
+    echo "  $1"
+    [ ! -e "$folder/told" ] || tail -2 "$folder/told" | sed 's/^/    /'
+    wrong=$((wrong + 1))
+}
 
 compile() { # SOURCE: to a program of the folder
     "clang-$llvm" -O2 -g -fopenmp -fopenmp-version=51 "$1" -o "$folder/$(basename "$1" .c)" -lm \
@@ -33,7 +37,7 @@ number() { # WORD: the number after it in what `span` prints
 }
 expect_whole() { # WHAT: the run has each segment's start and finish, and is legal
     local told expected
-    told=$("$program" replay < "$folder/out.replay" | head -2 | tr '\n' ' ')
+    told=$("$program" replay < "$folder/out.replay" | sed -n '1,2p' | tr '\n' ' ')
     expected="events $((2 * $(number segments))) finished $(number segments) "
     [ "$told" = "$expected" ] || fail "$1: $told, and not $expected"
 }
@@ -92,10 +96,17 @@ echo "a span by hand"
 OMP_NUM_THREADS=2
 SPANPROF_FOLD_DEPTH=6 record fibonacci 27 12
 expect_whole "fold by depth"
-SPANPROF_FOLD_COST=100000 record fibonacci 27 12
+SPANPROF_FOLD_CHUNK=3 record taskloop 20000 8
+expect_whole "fold by chunks"
+SPANPROF_CLOCK=cpu SPANPROF_FOLD_COST=100000 record fibonacci 27 12
 expect_whole "fold by cost"
 record fibonacci 27 10
 grep -q 'is not written: .* tasks, and spanprof takes 4096' "$folder/told" || fail "no word of a limit"
+advised=$(grep -o 'SPANPROF_FOLD_[A-Z]*=[0-9]*' "$folder/told" | head -1)
+export "${advised:?}"
+record fibonacci 27 10
+expect_whole "the fold that was advised"
+unset "${advised%%=*}"
 echo "folds and a limit"
 
 echo "$wrong wrong"
