@@ -34,7 +34,7 @@ def commands(path):
 
 
 def can_run(command, folder):
-    if re.match(r"(make|export|mkdir|for|clang|gcc|[A-Z_]+=)", command):
+    if re.match(r"(make|export|mkdir|for|clang|gcc|spanprof-record|[A-Z_]+=)", command):
         return False
     words = re.split(r"[\s|]+", command.partition("-T")[0])
     texts = [word for word in words if word.endswith((".tasks", ".replay"))]
@@ -58,7 +58,7 @@ def main():
     if not os.access(program, os.X_OK):
         sys.exit("no program " + program)
     folder = make_folder(program)
-    path = os.path.join(folder, "bin") + os.pathsep + os.environ["PATH"]
+    path = os.pathsep.join([os.path.join(folder, "bin"), os.path.join(TOP, "tools"), os.environ["PATH"]])
     environment = dict(os.environ, SPANPROF=program, PATH=path)
     wrong = 0
     for document in documents():
@@ -79,4 +79,5 @@ def main():
     sys.exit(wrong > 0)
 
 
-main()
+if __name__ == "__main__":
+    main()

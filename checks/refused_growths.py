@@ -3,15 +3,19 @@
 
     checks/refused_growths.py commands [PROGRAM]    the ten commands of crates/spanprof/out/spanprof, or of this program
     checks/refused_growths.py tests                 the tests of crates/refused_growths, as `rt test` there built them
+    checks/refused_growths.py gate                  counts what the same tests refuse by themselves, as they do in the gate
 
 A command is run with that one growth refused, and with all from it on refused. It writes what it writes with ample
 memory and ends with that status, or writes `error: out of memory` and ends with status 3. A test is run with the one
 growth refused, and passes. Anything else is a wrong answer, as are a crash, a run of more than 60 seconds, and a test
-or a command that meets no growth. The start of a thread is a growth too. The exit status is 1 where any answer was
-wrong, where a program is missing, or where nothing was run. It needs a C compiler, for refuse.c.
+or a command that meets no growth. The start of a thread is a growth too. With `gate` nothing is refused from outside: of
+each test in which little memory is left it is told how many growths were the first that was refused, and which were not.
+A growth of a block that is already long enough, which the C library never refuses, is told apart. The exit status is 1 where any answer was
+wrong, where a program is missing, or where nothing was run. It needs a C compiler, for refuse.c and refused_first.c.
 """
 
 import os
+import re
 import subprocess
 import sys
 import tempfile
@@ -27,14 +31,19 @@ WRONG_CLAIM = "end 9 start 0 0 start 1 5 start 2 5 start 3 7 chain 0 1 3"
 LOOPS = "omptasks 2\nfor i 1 3 { task depend(in: x[i-1]) depend(out: x[i]) { work 2 } }\n"
 
 
+def built(folder, name):
+    """The library of a C file of this folder."""
+    library = str(Path(folder, f"{name}.so"))
+    words = ["cc", "-shared", "-fPIC", "-O1", "-Wall", "-Wextra", "-o", library, str(TOP / f"checks/{name}.c"), "-ldl"]
+    subprocess.run(words, check=True)
+    return library
+
+
 class Refuser:
     """The library, and runs under it."""
 
     def __init__(self, folder):
-        self.library = str(Path(folder, "refuse.so"))
-        source = str(TOP / "checks/refuse.c")
-        words = ["cc", "-shared", "-fPIC", "-O1", "-Wall", "-Wextra", "-o", self.library, source, "-ldl"]
-        subprocess.run(words, check=True)
+        self.library = built(folder, "refuse")
         self.runs = self.refusals = self.wrong = 0
 
     def run(self, words, text, number, later):
@@ -118,27 +127,68 @@ def commands(refuser, program):
         command(refuser, program, words.split(), larger)
 
 
+def named(program, module):
+    """The tests of a module."""
+    listed = subprocess.run([program, "--list"], capture_output=True, check=True).stdout.decode()
+    return [line.removesuffix(": test") for line in listed.splitlines() if line.startswith(f"tests::{module}::")]
+
+
 def tests(refuser, program):
     """The tests in which one growth may be refused."""
-    listed = subprocess.run([program, "--list"], capture_output=True, check=True).stdout.decode()
-    names = [line.removesuffix(": test") for line in listed.splitlines() if line.startswith("tests::one_growth::")]
-    for name in names:
+    for name in named(program, "one_growth"):
         refuser.refuse_each(name, [program, name], b"", lambda status, written: status == 0, (False,))
 
 
+COUNTED = re.compile(r"^first: (\d+) of (\d+); not:(.*)$", re.M)
+
+
+def room_enough(size):
+    """Whether the smallest block of the C library, of 24 bytes, holds this many."""
+    return size <= 24
+
+
+def count(library, program, name):
+    """How many growths of a test were refused first, how many it met, and the others; None where the test failed."""
+    ran = subprocess.run([program, name], capture_output=True, env={**os.environ, "LD_PRELOAD": library}, check=False)
+    counted = COUNTED.search(ran.stderr.decode())
+    if ran.returncode or not counted:
+        return None
+    return int(counted[1]), int(counted[2]), counted[3].split()
+
+
+def gate(library, program):
+    """Counts what the tests refuse by themselves; false where one failed, or refused nothing."""
+    is_right = True
+    for name in named(program, "little_memory"):
+        counted = count(library, program, name)
+        if counted is None or counted[0] == 0:
+            is_right = False
+            print(f"WRONG: {name}: it failed, or refused nothing", flush=True)
+            continue
+        first, met, others = counted
+        sizes = [re.search(r"\((.)(\d+)\)", other) for other in others]
+        needless = [size[1] == "r" and room_enough(int(size[2])) for size in sizes]
+        left = [other for other, is_needless in zip(others, needless) if not is_needless]
+        print(f"{name}: {first} of {met} growths, {sum(needless)} cannot be, not: {' '.join(left) or 'none'}", flush=True)
+    return is_right
+
+
 def main():
-    kind, *named = sys.argv[1:] or ["commands"]
+    kind, *given = sys.argv[1:] or ["commands"]
     kinds = {
         "commands": (commands, "crates/spanprof/out/spanprof", "`rt run` in crates/spanprof"),
         "tests": (tests, "crates/refused_growths/out/refused_growths_tests", "`rt test` in crates/refused_growths"),
+        "gate": (gate, "crates/refused_growths/out/refused_growths_tests", "`rt test` in crates/refused_growths"),
     }
     if kind not in kinds:
         raise SystemExit(__doc__)
     refuse, program, how = kinds[kind]
-    program = Path(named[0] if named else TOP / program).resolve()
+    program = Path(given[0] if given else TOP / program).resolve()
     if not os.access(program, os.X_OK):
         raise SystemExit(f"FAILED: there is no program {program}: {how} makes it")
     with tempfile.TemporaryDirectory() as folder:
+        if kind == "gate":
+            raise SystemExit(not gate(built(folder, "refused_first"), str(program)))
         refuser = Refuser(folder)
         refuse(refuser, str(program))
         print(f"{refuser.runs} runs, {refuser.refusals} with a refused growth, {refuser.wrong} wrong")

@@ -1,6 +1,6 @@
 """The structure that a recording of a program must have, told from the program alone (OpenMP API 5.2, tasking)."""
 from program import (All, Barrier, For, Master, Region, Repeat, Sections, Single, Task, Taskgroup, Taskloop, Taskwait,
-                     Work)
+                     Work, bodies)
 from structure import Node, Piece, Shape
 
 
@@ -81,6 +81,22 @@ def times_executed(statement, threads):
     if isinstance(statement, (Repeat, For)):
         return statement.times if isinstance(statement, Repeat) else statement.turns
     return statement.tasks if isinstance(statement, Taskloop) else 1
+
+
+def works(statements, asked, threads=1):
+    """How often `work` is called when these are executed; an empty block calls it once."""
+    count = 0
+    for statement in statements:
+        if isinstance(statement, Work):
+            count += 1
+        elif isinstance(statement, Region):
+            inside = threads_of(statement, asked)
+            count += works(statement.body, asked, inside) if statement.body else inside
+        elif isinstance(statement, (Taskloop, Repeat, For, All)):
+            count += times_executed(statement, threads) * works(statement.body, asked, threads)
+        else:
+            count += sum(works(body, asked, threads) if body else 1 for body in bodies(statement))
+    return count
 
 
 def regions(statements, asked, threads=1, times=1, outer=True):

@@ -52,4 +52,4 @@ def read(text):
     region = int(where.group(1)) if where else 0
     for node in every_node(root):
         node.line = 0 if node.line == region else node.line
-    return Recorded(region, phases(root))
+    return Recorded(region, phases(root), re.findall(r"^# remark: (.*)$", head, re.M))

@@ -41,6 +41,11 @@ class Recorded:
     """What the text of a region has: for each phase the bodies of its threads."""
     line: int
     phases: list
+    remarks: list = field(default_factory=list)
+
+    def says(self, words):
+        """Whether its head remarks this."""
+        return any(remark.startswith(words) for remark in self.remarks)
 
 
 def nodes(body):

@@ -21,9 +21,10 @@ class Tools:
 
 @dataclass
 class Run:
-    """What one run left: its exit status, the processor time that it printed, and its texts by name."""
+    """What one run left: its exit status, the processor time and the works done that it printed, its texts by name."""
     status: object
     nanoseconds: int
+    works: int
     texts: dict
     said: str
 
@@ -79,9 +80,9 @@ def run(tools, drawn, threads, program, folder, is_recorded=True):
         done = subprocess.run([program, str(threads)], capture_output=True, text=True, timeout=SECONDS,
                               env=environment(tools, drawn, threads, folder, is_recorded))
     except subprocess.TimeoutExpired:
-        return Run("no end after %d seconds" % SECONDS, 0, {}, "")
-    printed = done.stdout.strip()
-    return Run(done.returncode, int(printed) if printed.isdigit() else 0, read_texts(folder), done.stderr)
+        return Run("no end after %d seconds" % SECONDS, 0, 0, {}, "")
+    printed = [int(word) for word in done.stdout.split()] if done.returncode == 0 else [0, 0]
+    return Run(done.returncode, printed[0], printed[1], read_texts(folder), done.stderr)
 
 
 def replay(tools, folder, name):

@@ -1,13 +1,17 @@
 """Runs a drawn program and tells what is wrong with its recording."""
+import functools
 import os
 from collections import Counter
 
 import toolchain
 from compare import difference
-from expect import regions, shape
+from expect import regions, shape, works
 from recorded import read
 from structure import every_node, has_tasks, total
 from write_c import write_c
+
+
+NOT_ENDED = "task that did not end"  # what the recorder says of it
 
 
 def hide_lines(shape_of_region):
@@ -54,17 +58,32 @@ def costs_difference(drawn, shapes, texts, nanoseconds):
     return "work %d, and the program took %d" % (work, nanoseconds) if work > nanoseconds else ""
 
 
-def fails_without_recorder(tools, drawn, threads, program, folder, tries=10):
-    return any(toolchain.run(tools, drawn, threads, program, folder, False).status != 0 for _ in range(tries))
+def program_fault(run, expected_works):
+    """What is wrong with what the program did, whatever was recorded of it."""
+    if run.status != 0:
+        return "the program fails: %s: %s" % (run.status, run.said.strip().split("\n")[-1])
+    if run.works != expected_works:
+        return "%d of the program's %d works are done at its end" % (run.works, expected_works)
+    return ""
+
+
+def judge_fault(fault, run, run_again, expected_works, tries=100):
+    """A fault of LLVM's is one that comes without the recorder too. A text says which tasks did not end."""
+    if not any(program_fault(run_again(), expected_works) for _ in range(tries)):
+        return "wrong", fault
+    if run.status == 0 and not any(read(text).says(NOT_ENDED) for text in run.texts.values()):
+        return "wrong", fault + ", and no text says so"
+    return "runtime", fault + ", without the recorder too"
 
 
 def judge_run(tools, drawn, threads, program, folder):
     """One run: ("right", ""), or what kind of fault and which."""
     run = toolchain.run(tools, drawn, threads, program, folder)
-    if run.status != 0:
-        if fails_without_recorder(tools, drawn, threads, program, folder):
-            return "runtime", "the program fails without the recorder too"
-        return "wrong", "the program fails: %s: %s" % (run.status, run.said.strip().split("\n")[-1])
+    expected_works = works(drawn.statements, threads)
+    fault = program_fault(run, expected_works)
+    if fault:
+        run_again = functools.partial(toolchain.run, tools, drawn, threads, program, folder, False)
+        return judge_fault(fault, run, run_again, expected_works)
     shapes = shapes_of(drawn, threads)
     told = texts_difference(shapes, run.texts) or costs_difference(drawn, shapes, run.texts, run.nanoseconds)
     if told:

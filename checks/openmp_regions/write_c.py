@@ -12,6 +12,7 @@ HEAD = """\
 static char location[%d];
 static int sum;
 static volatile int mark;
+static int works_done;
 
 static long long nanoseconds(clockid_t clock) {
     struct timespec t;
@@ -22,6 +23,7 @@ static long long nanoseconds(clockid_t clock) {
 static void __attribute__((noinline)) work(int microseconds) {
     long long end = nanoseconds(CLOCK_THREAD_CPUTIME_ID) + microseconds * 1000LL;
     while (nanoseconds(CLOCK_THREAD_CPUTIME_ID) < end) {}
+    __atomic_fetch_add(&works_done, 1, __ATOMIC_RELAXED);
 }
 
 int main(int argc, char **argv) {
@@ -30,7 +32,7 @@ int main(int argc, char **argv) {
 """ % LOCATIONS
 
 TAIL = """\
-    printf("%lld\\n", nanoseconds(CLOCK_PROCESS_CPUTIME_ID));
+    printf("%lld %d\\n", nanoseconds(CLOCK_PROCESS_CPUTIME_ID), works_done);
     return 0;
 }
 """

@@ -1,6 +1,6 @@
 /*
- * How the workers of a run wait for tokens: crates/worker_run/src/signal.rt, with what crew.rt, station.rt and
- * dispatcher.rt do around it, one atomic access to shared memory a step. checks/waiting.sh has spin explore every
+ * How the workers of a run wait for tokens: crates/worker_run/src/signal.rt, with what crew.rt, station.rt,
+ * look.rt and dispatcher.rt do around it, one atomic access to shared memory a step. checks/waiting.sh has spin explore every
  * interleaving.
  *
  * A comment `FILE: CODE` before a step names the line of crates/worker_run/src/FILE that the step stands for.
@@ -12,7 +12,7 @@
  * counted and not told apart. A kernel may fault, a finish may be refused, and so may the start of a thread.
  *
  * With one of these names defined the model is wrong, and spin must find it out:
- *   FLAG_FIRST       a worker reads the flag before the count of news
+ *   FLAG_FIRST       a worker reads the flag before the count of news (no code does that: Signal::turn asks for the count)
  *   COUNT_LAST       a worker reads the count of news after it has looked at the lanes
  *   SILENT_END       the end sets the flag and wakes, and adds no news
  *   ASLEEP_FIRST     who has put tokens asks whether anyone sleeps before it adds the news
@@ -141,9 +141,10 @@ again:  /* Crew::work */
     if :: over -> goto leave :: else fi;
     seen = news;
 #else
-    /* crew.rt: let seen = signal.news(); */
+    /* crew.rt: let Some(turn) = signal.turn(signal.news()) else { */
+    /* signal.rt: count: self.news.load(Ordering::SeqCst), */
     seen = news;
-    /* crew.rt: if signal.is_over() { */
+    /* signal.rt: if self.is_over() { */
     if :: over -> goto leave :: else fi;
 #endif
 
@@ -161,12 +162,12 @@ again:  /* Crew::work */
 
 steal:  /* Station::steal: a patient worker may pass over a lane. LaneThief::try_steal reads the front, then the back, and then
          * moves the front if it is as read. */
-    /* station.rt: for turn in 0..count { */
+    /* look.rt: for source in sources.iter_mut() { */
     lane = (me + 1) % WORKERS;
     do
     :: lane == me -> break
     :: else ->
-        /* station.rt: if thief.goes_on(signal) && patient { */
+        /* station.rt: if self.goes_on(signal) && patient { */
         if
         :: passed < PATIENCE ->
 #ifdef PASSED_AS_EMPTY
@@ -174,7 +175,7 @@ steal:  /* Station::steal: a patient worker may pass over a lane. LaneThief::try
 #else
             unsure = true
 #endif
-        /* station.rt: match thief.steal() { */
+        /* station.rt: match self.end.try_steal() { */
         :: at = front[lane];
             if
             :: back[lane] <= at
@@ -191,19 +192,19 @@ steal:  /* Station::steal: a patient worker may pass over a lane. LaneThief::try
     :: d_step { unsure && passed < PATIENCE -> passed++; at = 0 }
     :: d_step { !(unsure && passed < PATIENCE) -> passed = 0; at = 0 }
     fi;
-    /* crew.rt: Found::Unsure => signal.pause(station.passed), */
+    /* crew.rt: Next::Again => signal.pause(station.passed), */
     if :: unsure -> goto again :: else fi;
 
 #ifdef COUNT_LAST
     seen = news;
 #endif
-    /* crew.rt: Found::Nothing => signal.wait(self.rt, seen), */
-    /* signal.rt: if self.news() != seen { */
+    /* crew.rt: Next::Wait(turn) => signal.wait(self.rt, turn), */
+    /* signal.rt: if self.news() != turn.seen { */
     /* Many looks without news are as one. */
     if :: news != seen -> goto again :: else fi;
     /* signal.rt: self.asleep.fetch_add(1, Ordering::SeqCst); */
     asleep++;
-    /* signal.rt: self.news.park(rt, (seen % (1 << 32)) as u32); */
+    /* signal.rt: self.news.park(rt, (turn.seen.count % (1 << 32)) as u32); */
     /* AtomicU64::park compares and falls asleep in one step. */
     atomic {
         if

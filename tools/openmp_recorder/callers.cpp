@@ -30,6 +30,14 @@ int find_segment(dl_phdr_info *module, size_t, void *range) {
   }
   return 0;
 }
+
+// Whether it lies in a function of the runtime that passes on an address inside itself, and not its caller's: the calls
+// of gcc's code, and a taskloop.
+bool is_in_called_function(const void *code) {
+  Dl_info info;
+  if (!dladdr(const_cast<void *>(code), &info) || !info.dli_sname) return false;
+  return !strncmp(info.dli_sname, "GOMP_", 5) || !strncmp(info.dli_sname, "__kmpc_taskloop", 15);
+}
 }  // namespace
 
 void find_runtime(const void *function) {
@@ -39,11 +47,7 @@ void find_runtime(const void *function) {
 
 bool in_runtime(const void *code) { return runtime.has(code); }
 
-// gcc's code calls functions of the runtime whose names begin with GOMP; they call others, and those pass on an address
-// inside the first. After a tail call of the program there is no such function, and the caller's place is lost.
-const void *caller_in_program(const void *code) {
-  Dl_info info;
-  if (!dladdr(const_cast<void *>(code), &info) || !info.dli_sname || strncmp(info.dli_sname, "GOMP_", 5)) return nullptr;
+const void *nearest_in_program() {
   constexpr int most_frames = 12;
   void *frames[most_frames];
   int count = backtrace(frames, most_frames);
@@ -51,3 +55,7 @@ const void *caller_in_program(const void *code) {
     if (in_runtime(frames[i - 1]) && !in_runtime(frames[i])) return frames[i];
   return nullptr;
 }
+
+// The caller of such a call, from the stack. After a tail call of the program the told place is in no such function, and
+// the caller is lost; a taskloop has too many arguments for one.
+const void *caller_in_program(const void *code) { return is_in_called_function(code) ? nearest_in_program() : nullptr; }

@@ -3,15 +3,15 @@
 #include <map>
 
 namespace {
-bool is_written(const Event &event) {
+bool has_number(const Event &event) {
   const std::vector<uint32_t> &numbers = event.task->numbers;
   return !event.taken_back && event.segment < numbers.size() && numbers[event.segment] != none;
 }
 
 size_t segments_of(const Region &region) {
   size_t count = 0;
-  for (auto &t : region.tasks)
-    for (uint32_t number : t->numbers) count += number != none;
+  for (const Task &t : region.tasks)
+    for (uint32_t number : t.numbers) count += number != none;
   return count;
 }
 }  // namespace
@@ -23,7 +23,7 @@ Events event_lines(const Region &region) {
   std::map<uint32_t, int64_t> started;
   size_t finished = 0;
   for (auto &event : region.events) {
-    if (!is_written(event)) continue;
+    if (!has_number(event)) continue;
     std::string worker = std::to_string(workers.emplace(event.worker, workers.size()).first->second);
     uint32_t number = event.task->numbers[event.segment];
     int64_t at = event.at - region.time.begin;

@@ -1,6 +1,7 @@
 #include "files.hpp"
 
 #include <dirent.h>
+#include <sys/stat.h>
 
 #include <cstdio>
 #include <vector>
@@ -18,6 +19,11 @@ void take_number(std::string &rest) {
   size_t dot = rest.rfind('.');
   if (dot == std::string::npos || dot + 1 == rest.size()) return;
   if (rest.find_first_not_of("0123456789", dot + 1) == std::string::npos) rest.resize(dot);
+}
+
+bool is_older(const std::string &file, int64_t began) {
+  struct stat about {};
+  return !stat(file.c_str(), &about) && int64_t{about.st_mtim.tv_sec} * 1000000000 + about.st_mtim.tv_nsec < began;
 }
 }  // namespace
 
@@ -38,7 +44,8 @@ bool is_of_run(const std::string &file, const std::string &name) {
   return rest == name;
 }
 
-void remove_old_files(const std::string &name) {
+// Files of this run stay: another process of it may have written them already.
+void remove_old_files(const std::string &name, int64_t began) {
   size_t slash = name.rfind('/');
   std::string folder = slash == std::string::npos ? "" : name.substr(0, slash + 1);
   std::string base = name.substr(folder.size());
@@ -48,5 +55,6 @@ void remove_old_files(const std::string &name) {
   while (const dirent *entry = readdir(listing))
     if (is_of_run(entry->d_name, base)) old.push_back(folder + entry->d_name);
   closedir(listing);
-  for (const std::string &file : old) remove(file.c_str());
+  for (const std::string &file : old)
+    if (is_older(file, began)) remove(file.c_str());
 }

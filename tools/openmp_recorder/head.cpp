@@ -51,6 +51,8 @@ void Head::times(const Region &region, const Recording &recording) {
   line("in other regions: " + units(std::max<int64_t>(others, 0)));
   line("in parts without tasks: " + units(region.in_parts));
   line("in tasks: " + units(region.in_tasks));
+  if (region.remarks.count(Remark::Folded))
+    line("span without folds: " + units(region.span) + ", as the recorder adds it up");
 }
 
 void Head::lock(const std::string &name, const LockUse &use) {

@@ -18,6 +18,7 @@
 namespace {
 struct Life {
   Options options;
+  std::string out;  // the files' first name
   int64_t start = 0;
   pid_t process = 0;
   bool is_child = false;
@@ -37,6 +38,12 @@ void on_fatal_signal(int signal) {
   raise(signal);
 }
 
+int64_t time_of_day() {
+  timespec t;
+  clock_gettime(CLOCK_REALTIME, &t);
+  return int64_t{t.tv_sec} * 1000000000 + t.tv_nsec;
+}
+
 void watch_signals() {
   for (int signal : {SIGABRT, SIGSEGV, SIGBUS, SIGFPE, SIGILL, SIGTERM, SIGINT, SIGHUP, SIGQUIT}) {
     struct sigaction old {}, ours {};
@@ -47,12 +54,29 @@ void watch_signals() {
   }
 }
 
+std::string program_of(const std::string &process) {
+  char path[4096];
+  ssize_t length = readlink(("/proc/" + process + "/exe").c_str(), path, sizeof path);
+  return length > 0 ? std::string(path, length) : "";
+}
+
+// Whether another process of this program started this one, before it came to OpenMP.
+bool is_child_of_this_program() {
+  std::string own = program_of("self");
+  return !own.empty() && own == program_of(std::to_string(getppid()));
+}
+
+void name_files() {
+  life->process = getpid();
+  life->out = life->options.out + (life->is_child ? "." + std::to_string(life->process) : "");
+}
+
 void after_fork() {
   forget_records();
   life->is_child = true;
   life->ended = false;
   life->start = wall_time();
-  life->process = getpid();
+  name_files();
 }
 
 bool inside_a_region(const std::vector<const Log *> &logs) {
@@ -90,10 +114,11 @@ void begin_recording() {
   life = new Life;
   life->options = read_options();
   life->start = program_start();
-  life->process = getpid();
+  life->is_child = is_child_of_this_program();
+  name_files();
   start_records(life->options.records, life->options.processor_clock);
-  remove_old_files(life->options.out);
-  if (!life->options.quiet) say("recording to " + life->options.out + ".tasks");
+  remove_old_files(life->out, time_of_day() - (wall_time() - life->start));
+  if (!life->options.quiet) say("recording to " + life->out + ".tasks");
   watch_signals();
   pthread_atfork(nullptr, nullptr, after_fork);
   at_quick_exit(end_of_process);
@@ -103,9 +128,8 @@ void end_recording() {
   if (life->ended.exchange(true)) return;
   int64_t end = wall_time();
   Ending ending = stop();
-  std::string out = life->options.out + (life->is_child ? "." + std::to_string(life->process) : "");
   try {
-    report({life->options, out, life->start, end, life->is_child}, ending);
+    report({life->options, life->out, life->start, end, life->is_child}, ending);
   } catch (const std::bad_alloc &) {
     say("out of memory, and what is not written yet is not written");
   }

@@ -1,13 +1,14 @@
 #include "options.hpp"
 
-#include <cstdio>
 #include <cstdlib>
+
+#include "say.hpp"
 
 namespace {
 constexpr uint64_t largest = 1000000000000000;
 
 void wrong(const char *name, const char *value, const char *allowed) {
-  fprintf(stderr, "spanprof recorder: %s=%s is not understood (%s); it is left out\n", name, value, allowed);
+  say(std::string(name) + "=" + value + " is not understood (" + allowed + "); it is left out");
 }
 
 void number(const char *name, uint64_t &into) {
@@ -50,5 +51,6 @@ Options read_options() {
   number("SPANPROF_REGIONS", chosen.regions);
   number("SPANPROF_FOLD_DEPTH", chosen.fold_depth);
   number("SPANPROF_FOLD_COST", chosen.fold_cost);
+  number("SPANPROF_FOLD_CHUNK", chosen.fold_chunk);
   return chosen;
 }

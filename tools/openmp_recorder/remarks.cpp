@@ -22,6 +22,8 @@ Words words(Remark remark) {
     case Remark::LeftInside: return {"the program ended inside the region", "work and span too low"};
     case Remark::RecordsFull: return {"the records were full inside the region", "work and span too low"};
     case Remark::Unfinished: return {"task that did not end", "work and span too low"};
+    case Remark::ToldLate: return {"untied task whose end was told late", "work and span too high"};
+    case Remark::ToldElsewhere: return {"untied task whose end another thread told", "work and span too low"};
     case Remark::PartsLeftOut: return {"parts without tasks, left out", "work and span too low"};
     case Remark::Folded: return {"folded task", "span too high (an upper bound)"};
     case Remark::HeldLock: return {"time inside locks, which exclude each other", "span too low"};

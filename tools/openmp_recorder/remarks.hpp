@@ -17,6 +17,8 @@ enum class Remark : uint8_t {
   LeftInside,
   RecordsFull,
   Unfinished,
+  ToldLate,
+  ToldElsewhere,
   PartsLeftOut,
   Folded,
   HeldLock,

@@ -5,12 +5,14 @@
 
 #include <algorithm>
 
+#include "advice.hpp"
 #include "compose.hpp"
 #include "events.hpp"
 #include "files.hpp"
 #include "fold.hpp"
 #include "head.hpp"
 #include "say.hpp"
+#include "span.hpp"
 #include "text.hpp"
 
 namespace {
@@ -46,9 +48,11 @@ Size Reporter::fold_as_asked(Region &region) {
   add_up(region);
   remark_locks(region);
   int64_t most = INT64_MAX / options.unit;
-  Size size = fold(region, options.fold_depth, std::min(static_cast<int64_t>(options.fold_cost), most) * options.unit);
-  for (auto &t : region.tasks)
-    if (t->parent && (!t->shown || t->fold == Fold::Whole)) region.remarks[Remark::Folded].add(t->code);
+  int64_t below = std::min(static_cast<int64_t>(options.fold_cost), most) * options.unit;
+  region.span = span_of(region);
+  Size size = fold(region, {options.fold_depth, below, options.fold_chunk});
+  for (const Task &t : region.tasks)
+    if (t.parent && !is_written(t)) region.remarks[Remark::Folded].add(t.code);
   return size;
 }
 
@@ -85,9 +89,9 @@ void Reporter::write_bracket(Region &region, const std::string &name) {
 
 void Reporter::write(Region &region, const std::string &name) {
   Size size = fold_as_asked(region);
-  if (options.lines) places.look_up(codes_of(region));
   std::string over = over_the_limits(size, options.unit);
-  if (!over.empty()) return say(name + " is not written: " + over + "; " + fold_that_fits(region, options.unit));
+  if (!over.empty()) return say(name + " is not written: " + over + "; " + advice_for(region, options.unit));
+  if (options.lines) places.look_up(codes_of(region));
   Text text = finish(region, false);
   over = over_the_length(text.words);
   if (!over.empty()) return say(name + " is not written: " + over);
@@ -120,7 +124,7 @@ void keep_the_heaviest(std::vector<Region *> &regions, const Options &options) {
 
 void report(const Job &job, const Ending &ending) {
   std::vector<const Log *> logs = all_logs();
-  Run run = read_run(logs, ending);
+  Run &run = *new Run(read_run(logs, ending));  // given back by the end of the process
   std::vector<Region *> with_tasks;
   for (auto &[number, region] : run.regions)
     if (compose(*region)) {

@@ -1,6 +1,7 @@
 // A recorded run, as tasks with their steps and as events of their segments, region by region.
 #pragma once
 #include <cstdint>
+#include <deque>
 #include <map>
 #include <memory>
 #include <vector>
@@ -13,25 +14,36 @@ struct Region;
 
 enum class Kind : uint8_t { Work, Create, Wait, GroupBegin, GroupEnd };
 
-struct Step {
+class Step {
+ public:
   Kind kind;
-  int64_t cost = 0;            // of Work, in nanoseconds
-  Task *child = nullptr;       // of Create
-  const void *code = nullptr;  // of Wait and the groups
+  static Step work(int64_t cost) { return {Kind::Work, static_cast<uint64_t>(cost)}; }
+  static Step create(Task *child) { return {Kind::Create, reinterpret_cast<uint64_t>(child)}; }
+  static Step at(Kind kind, const void *code) { return {kind, reinterpret_cast<uint64_t>(code)}; }
+  int64_t cost() const { return static_cast<int64_t>(value); }               // of Work, in nanoseconds
+  Task *child() const { return reinterpret_cast<Task *>(value); }            // of Create
+  const void *code() const { return reinterpret_cast<const void *>(value); }  // of Wait and the groups
+  void add_cost(int64_t more) { value += static_cast<uint64_t>(more); }
+
+ private:
+  uint64_t value;
+  Step(Kind what, uint64_t that) : kind(what), value(that) {}
 };
 
 enum class Fold : uint8_t {
   No,
-  Body,  // the task's body is one `work`
-  Whole  // the task is `work` of its parent
+  Body,   // the task's body is one `work`
+  Whole,  // the task is `work` of its parent
+  Joined  // the task is `work` of the next of its siblings
 };
 
 // A wait for dependences: of the undeferred task that follows, or a `taskwait` with `depend`.
-struct Wait {
+struct DependWait {
   const void *code;
   int64_t over;    // the clock of the thread when it was over, so far as is known
   const Log *log;  // of that thread
   std::vector<DependItem> items;
+  bool is_over = false;
 };
 
 struct Task {
@@ -39,7 +51,7 @@ struct Task {
   Task *parent = nullptr;
   bool part = false;  // the code of an implicit task between two barriers
   const void *code = nullptr;
-  bool undeferred = false;
+  bool undeferred = false, untied = false;
   std::vector<DependItem> items;
   std::vector<Step> steps;
   unsigned segment = 0;  // the one that is open, counted within the task
@@ -47,9 +59,11 @@ struct Task {
 
   // while the records are read
   bool running = false, waiting = false, over = false;
-  int64_t since = 0;
+  const Log *on = nullptr;     // of the thread that runs it, or last did
+  int64_t since = 0;           // on that thread's clock
+  uint32_t interrupted = 0;    // the task that the thread left for it, by number
   size_t started = 0;          // the event with which the running segment began
-  std::unique_ptr<Wait> wait;  // for dependences, and not settled
+  std::unique_ptr<DependWait> wait;  // for dependences, and not settled
   const void *loop = nullptr;  // the taskloop that it is in
 
   // while it is written
@@ -57,20 +71,28 @@ struct Task {
   unsigned outer_groups = 0;  // of the parent, open where the task is created
   unsigned inner_groups = 0;  // the most that are open at once in its own code
   unsigned blocks = 0;        // open in its own code outside its own groups
-  int64_t total = 0;          // with everything below it
+  unsigned waits = 0;         // and ends of groups in its own code
+  int64_t largest = 0;        // `work` of its own code, and with everything below it:
+  int64_t total = 0;
   Fold fold = Fold::No;
+  int64_t joined = 0;         // the cost of siblings that are `work` of it
+  unsigned joined_tasks = 0;
+  int64_t end = 0, end_below = 0;  // of its code and of all below it, from its start on as many threads as can be used
   bool shown = true;
   std::vector<uint32_t> numbers;  // of its segments in the text; none where a segment is part of a later one
 };
 
 constexpr uint32_t none = UINT32_MAX;
 
+// Whether a task that its parent shows stands in the text.
+inline bool is_written(const Task &t) { return t.shown && t.fold != Fold::Whole && t.fold != Fold::Joined; }
+
 struct Event {
-  bool start;
-  unsigned worker;
   Task *task;
-  unsigned segment;
   int64_t at;  // the clock of the records
+  unsigned segment;
+  uint16_t worker;
+  bool start;
   bool taken_back = false;
 };
 
@@ -85,12 +107,14 @@ struct Region {
   unsigned threads = 0;
   uint64_t place = 0;    // in the order of time, from 1
   RegionTime time{};
-  std::vector<std::unique_ptr<Task>> tasks;  // in the order of creation
+  std::deque<Task> tasks;  // in the order of creation, each before those that it makes
   std::vector<Part> parts;
   std::vector<Event> events;
   std::map<LockName, LockUse> locks;
   Remarks remarks;
   Task *root = nullptr;           // what is written
+  int64_t span = 0;               // without folds, in nanoseconds
+  bool joined = false;            // tasks may be joined
   int64_t in_parts = 0, in_tasks = 0;  // the costs of parts without tasks, and of all else
 };
 

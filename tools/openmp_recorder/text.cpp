@@ -11,7 +11,8 @@ struct Place {
   unsigned indent;
   unsigned segment = 0;  // the open one, counted within the task
   int64_t cost = 0;      // of the open segment, not written yet
-  unsigned folded = 0;   // tasks whose cost is in it
+  unsigned folded = 0;   // tasks below whose cost is in it
+  unsigned joined = 0;   // siblings whose cost is in it
 };
 
 class Writer {
@@ -51,7 +52,7 @@ unsigned tasks_below(const Task &t) {
     const Task *next = left.back();
     left.pop_back();
     for (auto &step : next->steps)
-      if (step.kind == Kind::Create) count++, left.push_back(step.child);
+      if (step.kind == Kind::Create) count++, left.push_back(step.child());
   }
   return count;
 }
@@ -66,10 +67,12 @@ void Writer::line(unsigned indent, const std::string &words, const std::string &
 void Writer::flush(Place &p) {
   int64_t rounded = (p.cost + style.unit / 2) / style.unit;
   std::string folded = std::to_string(p.folded) + (p.folded == 1 ? " task folded" : " tasks folded");
-  if (rounded || p.folded) line(p.indent, "work " + std::to_string(rounded), p.folded ? folded : "");
+  if (p.joined) folded = std::to_string(1 + p.joined) + " tasks joined";
+  bool says = p.folded || p.joined;
+  if (rounded || says) line(p.indent, "work " + std::to_string(rounded), says ? folded : "");
   text.work += rounded;
   p.cost = 0;
-  p.folded = 0;
+  p.folded = p.joined = 0;
 }
 
 std::string Writer::items(const Task &t) {
@@ -85,9 +88,11 @@ std::string Writer::items(const Task &t) {
 }
 
 void Writer::create(Place &p, Task &child) {
-  if (child.fold == Fold::Whole) {  // the segment goes on, under the number that it has
-    p.cost += child.total;
-    p.folded += 1 + tasks_below(child);
+  if (!is_written(child)) {  // the segment goes on, under the number that it has
+    if (child.fold == Fold::Whole) {
+      p.cost += child.total;
+      p.folded += 1 + tasks_below(child);
+    }
     p.task.numbers[p.segment + 1] = p.task.numbers[p.segment];
     p.task.numbers[p.segment++] = none;
     return;
@@ -102,15 +107,15 @@ void Writer::create(Place &p, Task &child) {
 }
 
 void Writer::step(Place &p, const Step &step) {
-  if (step.kind == Kind::Work) p.cost += step.cost;
-  else if (step.kind == Kind::Create) create(p, *step.child);
+  if (step.kind == Kind::Work) p.cost += step.cost();
+  else if (step.kind == Kind::Create) create(p, *step.child());
   else flush(p);
   switch (step.kind) {
     case Kind::Wait:
-      line(p.indent, "taskwait", places.at(step.code));
+      line(p.indent, "taskwait", places.at(step.code()));
       p.segment++;
       return open(p);
-    case Kind::GroupBegin: return line(p.indent++, "taskgroup {", places.at(step.code));
+    case Kind::GroupBegin: return line(p.indent++, "taskgroup {", places.at(step.code()));
     case Kind::GroupEnd:
       line(--p.indent, "}");
       p.segment++;
@@ -130,6 +135,8 @@ void Writer::body(Task &t, unsigned indent) {
     open(p);
   } else {
     open(p);
+    p.cost = t.joined;
+    p.joined = t.joined_tasks;
     for (auto &one : t.steps) step(p, one);
   }
   flush(p);
@@ -145,10 +152,11 @@ Text program_text(Region &region, const Style &style, const Places &places) {
 
 std::vector<const void *> codes_of(const Region &region) {
   std::vector<const void *> codes{region.code};
-  for (auto &t : region.tasks) {
-    if (!t->shown || t->fold == Fold::Whole) continue;
-    codes.push_back(t->code);
-    for (auto &step : t->steps) codes.push_back(step.code);
+  for (const Task &t : region.tasks) {
+    if (!is_written(t)) continue;
+    codes.push_back(t.code);
+    for (const Step &step : t.steps)
+      if (step.kind != Kind::Work && step.kind != Kind::Create) codes.push_back(step.code());
   }
   for (auto &[what, seen] : region.remarks) codes.push_back(seen.code);
   for (auto &[name, use] : region.locks) codes.push_back(use.code);

@@ -5,11 +5,16 @@
     graph.py [--tasks] PROGRAM.tasks                the text for Graphviz
 SPANPROF may name the program. A few hundred boxes are the most that can be read.
 """
+import os
 import subprocess
 import sys
 
-from head import read_head, said
-from program import ask, predecessors, read, rows, segments
+sys.path.append(os.path.join(os.path.dirname(os.path.abspath(__file__)), ".."))
+
+from head import said  # noqa: E402
+from report.answers import Answers  # noqa: E402
+from report.graph import CREATES, critical_pairs, task_edges  # noqa: E402
+from report.places import tasks  # noqa: E402
 
 
 def quoted(words):
@@ -28,47 +33,48 @@ def edge_lines(edges, created, steps):
         yield "  %d -> %d%s;" % (a, b, red if (a, b) in steps else dashed if (a, b) in created else "")
 
 
-def task_lines(code, path, edges):
-    def between_tasks(pairs):
-        return {(code[a].task, code[b].task) for a, b in pairs if code[a].task != code[b].task}
-
-    costs, places = {}, {}
-    for segment in code:
-        costs[segment.task] = costs.get(segment.task, 0) + segment.cost
-        places[segment.task] = segment.task_place or "root"
-    red = {code[s].task for s in path if code[s].cost}
-    most = max(costs.values())
-    for t in sorted(costs):
-        yield "  " + box(t, "%d  %s\\n%d" % (t, quoted(places[t]), costs[t]), costs[t], most, t in red)
-    # the segment before a task's first is the one that creates it
-    created = between_tasks((s - 1, s) for s in range(1, len(code)) if not code[s].after)
-    yield from edge_lines(between_tasks(edges), created, between_tasks(zip(path, path[1:])))
+def task_lines(answers):
+    every = tasks(answers)
+    most = max(task.cost for task in every)
+    for number, task in enumerate(every):
+        words = "%d  %s\\n%d" % (number, quoted(task.place), task.cost)
+        yield "  " + box(number, words, task.cost, most, task.is_critical)
+    edges = task_edges(answers.code, answers.predecessors)
+    created = {(a, b) for kind, a, b in edges if kind == CREATES}
+    yield from edge_lines({(a, b) for _, a, b in edges}, created, critical_pairs(answers.code, answers.path_segments))
 
 
-def segment_lines(code, path, edges):
-    red = set(path)
-    most = max(segment.cost for segment in code)
-    for t in range(1 + max(segment.task for segment in code)):
-        own = [s for s, segment in enumerate(code) if segment.task == t]
-        label = "task %d  %s" % (t, code[own[0]].task_place) if t else "root"
-        yield "  subgraph cluster_%d { color=grey; fontsize=9; label=\"%s\";" % (t, quoted(label.strip()))
-        for s in own:
-            yield "    " + box(s, "%d: %d" % (s, code[s].cost), code[s].cost, most, s in red)
-        yield "  }"
-    created = {(s - 1, s) for s in range(1, len(code)) if not code[s].after}
+def cluster(answers, number, own, most):
+    """A task with its segments."""
+    label = "task %d  %s" % (number, answers.code[own[0]].task_place) if number else "the root"
+    yield "  subgraph cluster_%d { color=grey; fontsize=9; label=\"%s\";" % (number, quoted(label.strip()))
+    for s in own:
+        row = answers.rows[s]
+        yield "    " + box(s, "%d: %d" % (s, row.cost), row.cost, most, row.critical)
+    yield "  }"
+
+
+def segment_lines(answers):
+    most, own = max(row.cost for row in answers.rows), {}
+    for s, row in enumerate(answers.rows):
+        own.setdefault(row.task, []).append(s)
+    for number in sorted(own):
+        yield from cluster(answers, number, own[number], most)
+    edges = {(p, s) for s, before in enumerate(answers.predecessors) for p in before}
+    created = {(s - 1, s) for s, segment in enumerate(answers.code) if s and not segment.after}
+    path = answers.path_segments
     yield from edge_lines(edges, created, set(zip(path, path[1:])))
 
 
-def graph(text, of_tasks):
+def graph(path, of_tasks):
     """The whole graph; its label tells the unit of the numbers, the colour's meaning and the remarks."""
-    code = segments(text)
-    path = [int(row["segment"]) for row in rows(ask(["slack"], text)) if row["chain"] == "1"]
-    edges = {(p, s) for s, before in enumerate(predecessors(text, len(code))) for p in before}
-    label = ["costs in %s; red: the critical path; dashed: creation" % read_head(text).unit_of_costs] + said(text)
-    lines = (task_lines if of_tasks else segment_lines)(code, path, edges)
+    answers = Answers(path)
+    words = "costs in %s; red: the critical path; dashed: creation" % answers.head.unit_of_costs
+    label = "\n".join([words] + said(answers.text))
     return "\n".join([
-        "digraph program {", "  edge [arrowsize=0.6]; fontsize=10; label=\"%s\";" % quoted("\n".join(label)),
-        "  node [shape=box, style=filled, fontsize=10, height=0.25, margin=\"0.06,0.03\"];", *lines, "}", ""])
+        "digraph program {", "  edge [arrowsize=0.6]; fontsize=10; label=\"%s\";" % quoted(label),
+        "  node [shape=box, style=filled, fontsize=10, height=0.25, margin=\"0.06,0.03\"];",
+        *(task_lines if of_tasks else segment_lines)(answers), "}", ""])
 
 
 def draw(words, picture):
@@ -85,11 +91,12 @@ def main():
     names = [word for word in sys.argv[1:] if word != "--tasks"]
     if not 1 <= len(names) <= 2 or names[0].startswith("-"):
         sys.exit(__doc__)
-    words = graph(read(names[0]), "--tasks" in sys.argv)
+    words = graph(names[0], "--tasks" in sys.argv)
     if len(names) == 2:
         draw(words, names[1])
     else:
         print(words, end="")
 
 
-main()
+if __name__ == "__main__":
+    main()

@@ -10,6 +10,7 @@ import shutil
 import signal
 import subprocess
 import sys
+from dataclasses import dataclass
 
 signal.signal(signal.SIGPIPE, signal.SIG_DFL)  # so that `| head` ends it quietly
 
@@ -28,7 +29,7 @@ def ask(words, text):
     try:
         done = subprocess.run(program + list(words), input=text, capture_output=True, text=True)
     except OSError as error:
-        where = "SPANPROF" if os.environ.get("SPANPROF") else "spanprof is not on the PATH, and in the repository"
+        where = "SPANPROF" if os.environ.get("SPANPROF") else "spanprof is neither on the PATH nor built here"
         sys.exit("%s: %s: %s; README.md tells how it is built" % (where, program[0], error.strerror))
     if done.returncode:
         sys.exit("spanprof %s: %s" % (words[0], done.stdout.strip()))
@@ -42,9 +43,13 @@ def rows(table):
     return [dict(zip(heads, line.split(","))) for line in lines[1:] if line]
 
 
+@dataclass
 class Segment:
-    def __init__(self, task, task_place, after, after_place):
-        self.cost, self.task, self.task_place, self.after, self.after_place = 0, task, task_place, after, after_place
+    task: int
+    task_place: str
+    after: str          # the construct that it follows; empty for a task's first
+    after_place: str
+    cost: int = 0
 
     def place(self):
         """Where its code stands: the construct that it follows, or the task that it begins."""
@@ -64,41 +69,61 @@ def words_of(text):
             yield word, comment.strip()
 
 
+class Cutter:
+    """Cuts a program's words into segments. A comment belongs to the construct that stands on its line."""
+
+    def __init__(self):
+        self.out = [Segment(0, "", "", "")]
+        self.running = [(0, "", 0)]     # task, its place, its open segment
+        self.blocks = []                # of each open block: what it is, and its place
+        self.tasks = 0
+
+    def work(self, cost):
+        self.out[self.running[-1][2]].cost += cost
+
+    def begin_task(self, place):
+        self.tasks += 1
+        self.blocks.append(("task", place))
+        self.running.append((self.tasks, place, len(self.out)))
+        self.out.append(Segment(self.tasks, place, "", ""))
+
+    def begin_group(self, place):
+        self.blocks.append(("taskgroup", place))
+
+    def go_on(self, after, place):
+        """The running task's next segment."""
+        task, task_place, _ = self.running[-1]
+        self.running[-1] = (task, task_place, len(self.out))
+        self.out.append(Segment(task, task_place, after, place))
+
+    def end_block(self):
+        kind, place = self.blocks.pop()
+        if kind == "task":
+            self.running.pop()
+        self.go_on("creating a task" if kind == "task" else kind, place)
+
+
 def segments(text):
-    """The segments in the order of their numbers. A comment belongs to the construct that stands on its line."""
+    """The segments in the order of their numbers."""
     words = list(words_of(text))
     if len(words) > 1 and words[1][0].lstrip("0") == "2":  # loops; the canonical text has none
         words = list(words_of(ask(["show"], text)))
-    out = [Segment(0, "", "", "")]
-    running = [(0, "", 0)]  # task, its place, its open segment
-    blocks = []             # of each open block: what it is, and its place
-    tasks, i = 0, 2  # the header is two tokens
+    cutter, i = Cutter(), 2     # the header is two words
     while i < len(words):
         word, comment = words[i]
-        task, place, current = running[-1]
         if word == "work":
             i += 1
-            out[current].cost += int(words[i][0])
-        elif word == "task":
+            cutter.work(int(words[i][0]))
+        elif word in ("task", "taskgroup"):
             while words[i][0] != "{":
                 i += 1
-            tasks += 1
-            comment = words[i][1]
-            blocks.append(("task", comment))
-            running.append((tasks, comment, len(out)))
-            out.append(Segment(tasks, comment, "", ""))
-        elif word == "taskgroup":
-            i += 1
-            blocks.append(("taskgroup", comment))
+            (cutter.begin_task if word == "task" else cutter.begin_group)(words[i][1])
+        elif word == "taskwait":
+            cutter.go_on(word, comment)
         else:
-            kind, where = ("taskwait", comment) if word == "taskwait" else blocks.pop()
-            if kind == "task":
-                running.pop()
-                task, place, current = running[-1]
-            out.append(Segment(task, place, "creating a task" if kind == "task" else kind, where))
-            running[-1] = (task, place, len(out) - 1)
+            cutter.end_block()
         i += 1
-    return out
+    return cutter.out
 
 
 def predecessors(text, count):

@@ -27,8 +27,8 @@ def named_numbers(lines):
 
 
 class Answers:
-    def __init__(self, path, threads=None):
-        self.path = path
+    def __init__(self, path, threads=None, tell=None):
+        self.path, self.tell = path, tell or (lambda words: None)
         self.name = os.path.basename(path)
         self.text = program.read(path)
         self.head = read_head(self.text)
@@ -37,8 +37,9 @@ class Answers:
         self.wanted_threads = threads
 
     def ask(self, *words):
-        shown = " ".join(words[:3]) + (" .." if len(words) > 3 else "")
-        self.asked.append("spanprof %s < %s" % (shown, self.name))
+        shown = "spanprof %s%s < %s" % (" ".join(words[:3]), " .." if len(words) > 3 else "", self.name)
+        self.tell(shown)
+        self.asked.append(shown)
         return program.ask(words, self.text)
 
     @cached_property
@@ -91,7 +92,9 @@ class Answers:
 
     @cached_property
     def predecessors(self):
-        self.asked.append("spanprof replay < %s and all segments in their order" % self.name)
+        shown = "spanprof replay < %s and all segments in their order" % self.name
+        self.tell(shown)
+        self.asked.append(shown)
         return program.predecessors(self.text, len(self.code))
 
     def what_if(self, changes):

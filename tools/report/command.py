@@ -3,6 +3,7 @@ import argparse
 import os
 import sys
 
+from head import said
 from report.page import page
 from report.speedscope import speedscope_text
 from report.trace_events import trace_text
@@ -10,6 +11,8 @@ from report.view import View
 from report.what_if import UnknownPlace, all_at_once, read_factors
 
 DESCRIPTION = "Writes one page (HTML that needs no other file and no network) on a program text of spanprof."
+ANSWER = ("work", "span", "was")
+LONGEST_WORDS = 100
 
 
 def arguments(words):
@@ -47,33 +50,58 @@ def write(path, text):
         sys.exit("spanprof-report: %s: %s" % (path, wrong.strerror))
 
 
-def tell(words):
-    """Progress, where somebody looks on."""
-    if sys.stderr.isatty():
-        print("spanprof-report: " + words, file=sys.stderr)
+class Progress:
+    """One line that says what is being done, where somebody looks on."""
+
+    def __init__(self, stream):
+        self.stream, self.count = stream, 0
+
+    def __call__(self, words):
+        self.count += 1
+        if self.stream.isatty():
+            shown = "spanprof-report: %d: %s" % (self.count, words)
+            print("\r\033[K" + shown[:LONGEST_WORDS], end="", file=self.stream, flush=True)
+
+    def end(self, words):
+        if self.stream.isatty():
+            print("\r\033[Kspanprof-report: " + words, file=self.stream)
 
 
 def print_factors(view, factors):
+    """Remarks first, then how many segments change, and spanprof's answer."""
+    remarks = said(view.answers.text)
+    changed = sum(1 for place, _ in factors for s in place.segments if view.answers.rows[s].cost)
     after = all_at_once(view, factors)
-    print("work %(work)d\nspan %(span)d\nwas %(was)d" % after)
+    count = "%d segment%s changed" % (changed, "" if changed == 1 else "s")
+    print("\n".join([*remarks, count, *("%s %d" % (name, after[name]) for name in ANSWER)]))
+
+
+def views_of(chosen, tell):
+    views = [View(chosen.program, chosen.replay, chosen.threads, chosen.source, tell=tell)]
+    if chosen.other:
+        views.append(View(chosen.other, None, chosen.threads, chosen.source, "other ", tell))
+    return views
+
+
+def write_all(chosen, views, factors):
+    """What was asked for; what was written is told."""
+    written = [(chosen.output, lambda: page(views, factors)), (chosen.trace, lambda: trace_text(views[0])),
+               (chosen.speedscope, lambda: speedscope_text(views[0]))]
+    for path, make in written:
+        if path:
+            write(path, make())
+    return [path for path, _ in written if path]
 
 
 def main(words):
-    chosen = arguments(words)
+    chosen, progress = arguments(words), Progress(sys.stderr)
     check_files([chosen.program, chosen.replay, chosen.other])
-    views = [View(chosen.program, chosen.replay, chosen.threads, chosen.source)]
-    if chosen.other:
-        views.append(View(chosen.other, None, chosen.threads, chosen.source))
+    views = views_of(chosen, progress)
     try:
         factors = read_factors(chosen.factor, views[0].places)
     except UnknownPlace as unknown:
         sys.exit("spanprof-report: --factor %s" % unknown)
     if factors and not chosen.output:
         print_factors(views[0], factors)
-    if chosen.output:
-        tell("making %s" % chosen.output)
-        write(chosen.output, page(views, factors))
-    if chosen.trace:
-        write(chosen.trace, trace_text(views[0]))
-    if chosen.speedscope:
-        write(chosen.speedscope, speedscope_text(views[0]))
+    written = write_all(chosen, views, factors)
+    progress.end("%d commands of spanprof; written: %s" % (progress.count, ", ".join(written) or "nothing"))

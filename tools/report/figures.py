@@ -1,46 +1,57 @@
 """Numbers of the page. Each tells where it comes from: it carries the answer of spanprof that it is, or the sum.
 
 A source is written in a few words that the tests read again: `span work`, `curve 4 end`, `place 3 cost`,
-`whatif 3 0.5 span`. `A - B` is a difference, `A / B` a quotient, `percent A / B` the same in per cent, and `other`
-before a source means the second program of the page.
+`whatif 3 0.5 span`. `A - B` is a difference, `A / B` a quotient, `percent A / B` the same in per cent. `other` before
+all of it means the second program of the page, and `change A` how that differs from the first in per cent.
 """
 from report.markup import join, tag
 
 MEASURED, RECORDED, PROVED, DECLARED = "measured", "recorded", "proved", "declared"
 MEANINGS = {
-    MEASURED: "a cost from the recorder's clock, or a sum of such costs",
-    DECLARED: "a cost as the text declares it, or a sum of such costs",
-    RECORDED: "the shape of the program: its tasks, and what waits for what",
+    MEASURED: "a cost or a time by the recorder's clock, or a sum or quotient of such",
+    DECLARED: "what the text says and nobody recorded: its costs, its tasks and what waits for what, or a sum of such",
+    RECORDED: "as the program ran: its tasks and segments, what waits for what, and the order of the run",
     PROVED: "follows from costs and shape, told by a program that is proved to answer right",
 }
 
 
 def grouped(value, digits=0):
     """With a comma before each three digits."""
-    return "{:,.{}f}".format(value, digits)
-
-
-def number(value, source, kind, digits=0, unit=""):
-    """A number as HTML. Its title says whether it was measured, recorded or proved, and by which answer."""
-    words = grouped(value, digits) + (" " + unit if unit else "")
-    exact = value if isinstance(value, int) else "%.6g" % value
-    return tag("data", words, value=exact, title="%s (%s)" % (kind, source), data_from=source, class_=kind)
+    return "{:,.{}f}".format(value, digits).replace("-", "−")
 
 
 def percent(part, whole):
     return 100 * part / whole if whole else 0.0
 
 
-def share(part, whole, source, kind):
-    """A part of a whole in per cent; the source is that of the quotient."""
-    value = percent(part, whole)
-    return tag("data", "%.1f %%" % value, value="%.6g" % value, title="%s (%s)" % (kind, source),
-               data_from="percent " + source, class_=kind)
+class Figures:
+    """The numbers of one program of the page; `prefix` stands before the sources of the second."""
 
+    def __init__(self, prefix=""):
+        self.prefix = prefix
 
-def times(above, below, source, kind, digits=1):
-    """A quotient such as a speed-up; 1 where nothing costs anything."""
-    return number(above / below if below else 1.0, source, kind, digits)
+    def data(self, words, value, source, kind):
+        exact = value if isinstance(value, int) else "%.6g" % value
+        return tag("data", words, value=exact, title="%s (%s)" % (kind, self.prefix + source),
+                   data_from=self.prefix + source, class_=kind)
+
+    def number(self, value, source, kind, digits=0, unit=""):
+        """A number as HTML. Its title says whether it was measured, recorded or proved, and by which answer."""
+        return self.data(grouped(value, digits) + (" " + unit if unit else ""), value, source, kind)
+
+    def share(self, part, whole, source, kind):
+        """A part of a whole in per cent; the source is that of the quotient."""
+        value = percent(part, whole)
+        return self.data("%.1f %%" % value, value, "percent " + source, kind)
+
+    def times(self, above, below, source, kind, digits=1):
+        """A quotient such as a speed-up; 1 where nothing costs anything."""
+        return self.number(above / below if below else 1.0, source, kind, digits)
+
+    def told(self, name, words, sources, **attributes):
+        """An element, as of a picture, whose words have one number for each of the sources, in this order."""
+        listed = "; ".join(self.prefix + source for source in sources)
+        return tag(name, words, data_from=listed or None, **attributes)
 
 
 def badge(kind):
@@ -53,4 +64,7 @@ def badges(*kinds):
 
 
 def unit_name(unit):
+    """As it stands after a number: `250 ns` is a unit of its own, of which there are so many."""
+    if unit[:1].isdigit():
+        return "× " + unit
     return {"us": "µs"}.get(unit, unit)

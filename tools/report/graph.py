@@ -1,14 +1,14 @@
-"""Which task makes which, depends on which and waits for which, from spanprof's kept edges; also by their places."""
+"""Which task creates which, depends on which and waits for which, from spanprof's kept edges; also by their places."""
 from collections import Counter
 
-MAKES, DEPENDS, WAITS = "makes", "depends", "waits"
+CREATES, DEPENDS, WAITS = "creates", "depends", "waits"
 
 
 def kind_of(code, p, s):
     """What joins two segments of different tasks, the earlier one first."""
     if code[s].after:
         return WAITS
-    return MAKES if p == s - 1 else DEPENDS
+    return CREATES if p == s - 1 else DEPENDS
 
 
 def task_edges(code, predecessors):

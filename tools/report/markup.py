@@ -1,7 +1,8 @@
 """Pieces of HTML and SVG: elements, and words that are escaped unless they are pieces themselves."""
+import re
 from html import escape
 
-EMPTY = {"br", "hr", "input", "meta", "line", "rect", "circle", "path", "polyline", "polygon"}
+EMPTY = {"br", "hr", "input", "meta", "wbr", "line", "rect", "circle", "path", "polyline", "polygon"}
 
 
 class Markup(str):
@@ -14,6 +15,11 @@ def markup(piece):
 
 def join(pieces, between=""):
     return Markup(between.join(markup(piece) for piece in pieces))
+
+
+def breakable(name):
+    """A file's name, or a place, that may be broken into lines at its signs."""
+    return join(re.split(r"(?<=[_/])(?=.)", name), Markup("<wbr/>"))
 
 
 def tag(name, *pieces, **attributes):

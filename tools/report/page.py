@@ -9,8 +9,9 @@ from report.part_graph import graph_part
 from report.part_path import path_part
 from report.part_summary import summary_part
 from report.part_tasks import tasks_part
-from report.part_timeline import timeline_data, timeline_part
+from report.part_timeline import timeline_part
 from report.part_what_if import what_if_part
+from report.timeline_data import timeline_data
 from report.what_if import Trials
 
 HERE = os.path.dirname(os.path.abspath(__file__))
@@ -30,27 +31,31 @@ def asked_part(views):
         shown.append("spanprof whatif SEGMENT=COST .., %d times" % changed)
     return section("sources", "Where the numbers come from",
                    tag("p", "Every number is what one of these commands printed, or a sum, difference or quotient of "
-                            "such numbers; its tooltip says of which. The commands are proved; this page, its "
-                            "pictures and the recorder are plain programs."),
+                            "such numbers, or it stands in the head of the text or in the table of times; its tooltip "
+                            "says of which. The commands are proved; this page, its pictures and the recorder are "
+                            "plain programs."),
                    tag("ul", *[tag("li", tag("code", line)) for line in shown]))
 
 
-def parts(views, factors):
-    view, others = views[0], views[1:]
-    trials = Trials(view)
-    out = [("summary", "Summary", summary_part(view, trials.halved))]
-    if others:
-        out.append(("compared", "Side by side", compare_part(views)))
-    out.append(("speed-up", "Speed-up", curve_part(views)))
-    name = view.answers.name
-    out.append(("timeline", "Timeline", timeline_part(view, 0, "Timeline" + (" of " + name if others else ""))))
-    for other in others:
-        title = "Timeline of " + other.answers.name
-        out.append(("timeline-other", "The other's timeline", timeline_part(other, 1, title)))
-    out += [("path", "Critical path", path_part(view)), ("what-if", "What if", what_if_part(view, trials, factors)),
-            ("tasks", "Tasks", tasks_part(view)), ("graph", "Graph", graph_part(view)),
-            ("sources", "Sources", asked_part(views))]
+def timelines(views):
+    out = []
+    for number, view in enumerate(views):
+        name, label = ("timeline-other", "The other's timeline") if number else ("timeline", "Timeline")
+        title = "Timeline of " + view.name if len(views) > 1 else "Timeline"
+        out.append((name, label, timeline_part(view, number, name, title)))
     return out
+
+
+def parts(views, factors):
+    """Of each part the name, the words that lead to it, and the part."""
+    view, trials = views[0], Trials(views[0])
+    compared = [("compared", "Side by side", compare_part(views))] if len(views) > 1 else []
+    of = " of " + view.name if len(views) > 1 else ""
+    return [("summary", "Summary", summary_part(view, trials.halved, of)), *compared,
+            ("speed-up", "Speed-up", curve_part(views)), *timelines(views),
+            ("path", "Critical path", path_part(view, of)),
+            ("what-if", "What if", what_if_part(view, trials, factors, of)), ("tasks", "Tasks", tasks_part(view, of)),
+            ("graph", "Graph", graph_part(view, of)), ("sources", "Sources", asked_part(views))]
 
 
 def data(views):
@@ -60,18 +65,24 @@ def data(views):
     return Markup(words.replace("<", "\\u003c"))
 
 
-def page(views, factors=()):
-    """The whole page as text."""
-    names = [view.answers.name for view in views]
-    made = parts(views, list(factors))
-    pieces = {"title": markup(" and ".join(names)),
-              "parts": join([tag("a", label, href="#" + name) for name, label, _ in made]),
-              "main": join([part for _, _, part in made], "\n"), "data": data(views),
-              "style": kept("style.css"), "script": kept("script.js")}
-    text = kept("page.html")
+SCRIPTS = ("data.js", "drawing.js", "lanes.js", "controls.js", "tables.js", "graph.js", "factors.js")
+
+
+def filled(text, pieces):
+    """The template with a piece in the place of each `{{ name }}`."""
     before, *rest = text.split("{{")
     out = [before]
     for piece in rest:
         name, after = piece.split("}}", 1)
         out += [pieces[name.strip()], after]
     return "".join(out)
+
+
+def page(views, factors=()):
+    """The whole page as text."""
+    made = parts(views, list(factors))
+    return filled(kept("page.html"), {
+        "title": markup(" and ".join(view.name for view in views)),
+        "parts": join([tag("a", label, href="#" + name) for name, label, _ in made]),
+        "main": join([part for _, _, part in made], "\n"), "data": data(views), "style": kept("style.css"),
+        "script": "\n".join(map(kept, SCRIPTS))})

@@ -1,10 +1,11 @@
 """The speed-up on more and more threads, between `least` and `bound`, with the point that the run reached."""
-from report.figures import PROVED, badges, grouped, number, times
+from report.figures import PROVED, badges, grouped
 from report.markup import details, join, note, section, tag
 from report.tables import table
 
 WIDTH, HEIGHT = 720, 380
-LEFT, RIGHT, TOP, BOTTOM = 48, 14, 14, 44
+COLUMNS = (("end", "the greedy run ends at"), ("least", "no run before"), ("bound", "no greedy run after"))
+LEFT, RIGHT, TOP, BOTTOM = 60, 16, 16, 56
 
 
 class Axes:
@@ -39,35 +40,38 @@ def grid(axes):
     for threads in sorted({1, *range(step, axes.most_threads + 1, step)}):
         x = axes.x(threads)
         pieces.append(tag("line", x1=x, x2=x, y1=axes.y(0), y2=TOP, class_="grid"))
-        pieces.append(tag("text", threads, x=x, y=axes.y(0) + 17, text_anchor="middle"))
+        pieces.append(tag("text", threads, class_="axis", x=x, y=axes.y(0) + 22, text_anchor="middle"))
     step = step_of(axes.most_times)
     for speed_up in range(0, int(axes.most_times) + 1, step):
         y = axes.y(speed_up)
         pieces.append(tag("line", x1=LEFT, x2=WIDTH - RIGHT, y1=y, y2=y, class_="grid"))
-        pieces.append(tag("text", speed_up, x=LEFT - 7, y=y + 4, text_anchor="end"))
+        pieces.append(tag("text", speed_up, class_="axis", x=LEFT - 7, y=y + 4, text_anchor="end"))
     middle = (TOP + axes.y(0)) / 2
     pieces.append(tag("text", "threads", x=(LEFT + WIDTH - RIGHT) / 2, y=HEIGHT - 6, text_anchor="middle"))
-    pieces.append(tag("text", "times faster than one thread", x=12, y=middle, text_anchor="middle",
-                      transform="rotate(-90 12 %g)" % middle))
+    pieces.append(tag("text", "times faster than one thread", x=16, y=middle, text_anchor="middle",
+                      transform="rotate(-90 16 %g)" % middle))
     return join(pieces)
 
 
-def told(answers, threads):
+def told(view, threads):
     """What the curve says at a point, in one line."""
-    row, work = answers.curve[threads], answers.work
-    return "%d threads: the greedy run ends at %s, %.2f times; no run before %s, %.2f; no greedy run after %s, %.2f" % (
-        threads, grouped(row["end"]), work / max(row["end"], 1), grouped(row["least"]), work / max(row["least"], 1),
-        grouped(row["bound"]), work / max(row["bound"], 1))
+    row, work = view.answers.curve[threads], view.answers.work
+    words, sources = "%d threads" % threads, ["curve %d threads" % threads]
+    for column, name in COLUMNS:
+        words += "; %s %s, %.2f times" % (name, grouped(row[column]), work / row[column] if row[column] else 1)
+        source = "curve %d %s" % (threads, column)
+        sources += [source, "span work / " + source]
+    return view.figures.told("title", words, sources)
 
 
-def curve_lines(axes, answers, colour):
-    fastest, slowest = speed_ups(answers, "least"), speed_ups(answers, "bound")
-    greedy = speed_ups(answers, "end")
+def curve_lines(axes, view, colour):
+    fastest, slowest = speed_ups(view.answers, "least"), speed_ups(view.answers, "bound")
+    greedy = speed_ups(view.answers, "end")
     pieces = [tag("polygon", points=axes.points(fastest + slowest[::-1]), class_="band " + colour),
               tag("polyline", points=axes.points(greedy), class_="curve " + colour)]
     for threads, speed_up in greedy:
-        pieces.append(tag("circle", tag("title", told(answers, threads)), cx=axes.x(threads), cy=axes.y(speed_up),
-                          r=3, class_="dot " + colour))
+        pieces.append(tag("circle", told(view, threads), cx=axes.x(threads), cy=axes.y(speed_up), r=3,
+                          class_="dot " + colour))
     return join(pieces)
 
 
@@ -77,38 +81,48 @@ def reached_mark(axes, view, colour):
     if not reached or reached.threads > axes.most_threads:
         return ""
     x, y = axes.x(reached.threads), axes.y(reached.speed_up)
-    mark = "M%g %gl7 7l-7 7l-7 -7z" % (x, y - 7)
     words = "%d threads: %.2f times, %s" % (reached.threads, reached.speed_up, reached.words)
+    title = view.figures.told("title", words, ["threads", "span work / " + reached.source])
     hollow = "" if reached.is_elapsed else " hollow"
-    return tag("path", tag("title", words), d=mark, class_="reached " + colour + hollow)
+    return tag("path", title, d="M%g %gl7 7l-7 7l-7 -7z" % (x, y - 7), class_="reached " + colour + hollow)
+
+
+def most_shown(views):
+    """The greatest speed-up of the picture."""
+    bounds = [speed_up for view in views for _, speed_up in speed_ups(view.answers, "least")]
+    return max(bounds + [view.reached.speed_up for view in views if view.reached])
 
 
 def picture(views):
     most_threads = max(max(view.answers.curve) for view in views)
-    most_times = max(speed_up for view in views for _, speed_up in speed_ups(view.answers, "least"))
-    axes = Axes(most_threads, max(most_times * 1.06, 1.5))
+    axes = Axes(most_threads, max(most_shown(views) * 1.06, 1.5))
     ideal = [(1, 1), (min(most_threads, axes.most_times), min(most_threads, axes.most_times))]
     pieces = [grid(axes), tag("polyline", points=axes.points(ideal), class_="ideal")]
     for number_of, view in enumerate(views):
-        pieces.append(curve_lines(axes, view.answers, "s%d" % number_of))
+        pieces.append(curve_lines(axes, view, "s%d" % number_of))
     for number_of, view in enumerate(views):
         pieces.append(reached_mark(axes, view, "s%d" % number_of))
     return tag("svg", *pieces, viewBox="0 0 %d %d" % (WIDTH, HEIGHT), class_="chart", role="img",
                aria_label="Speed-up on 1 to %d threads" % most_threads)
 
 
+def keys(view, colour, name):
+    """What line, band and diamond of a program mean."""
+    items = [tag("span", tag("i", class_="key line " + colour), name, "the greedy run"),
+             tag("span", tag("i", class_="key area " + colour), name,
+                 "from what every greedy run reaches to what no run passes")]
+    if view.reached:
+        hollow = "" if view.reached.is_elapsed else " hollow"
+        items.append(tag("span", tag("i", class_="key diamond " + colour + hollow), name, view.reached.words))
+    return items
+
+
 def legend(views):
     items = []
     for number_of, view in enumerate(views):
-        name = view.answers.name + ": " if len(views) > 1 else ""
-        colour = " s%d" % number_of
-        items.append(tag("span", tag("i", class_="key line" + colour), name + "the greedy run"))
-        items.append(tag("span", tag("i", class_="key area" + colour),
-                         name + "from what every greedy run reaches to what no run passes"))
-        if view.reached:
-            items.append(tag("span", tag("i", class_="key diamond" + colour + ("" if view.reached.is_elapsed else " hollow")), name + view.reached.words))
+        items += keys(view, "s%d" % number_of, view.name + ": " if len(views) > 1 else "")
     items.append(tag("span", tag("i", class_="key dotted"), "as many times as threads"))
-    return tag("p", *items, class_="legend")
+    return tag("p", *items, class_="legend given")
 
 
 def shown_threads(answers):
@@ -117,24 +131,24 @@ def shown_threads(answers):
     return sorted(powers & set(answers.curve))
 
 
-def numbers(answers):
-    def cells(threads):
-        row = answers.curve[threads]
-        out = [tag("b", threads) if threads == answers.threads else threads]
-        for column in ("least", "end", "bound"):
-            source = "curve %d %s" % (threads, column)
-            out.append(number(row[column], source, PROVED))
-            out.append(times(answers.work, row[column], "span work / " + source, PROVED, 2))
-        return out
+def cells(view, threads):
+    answers, show = view.answers, view.figures
+    words = show.told("span", threads, ["curve %d threads" % threads])
+    out = [tag("b", words) if threads == answers.threads else words]
+    for column in ("least", "end", "bound"):
+        source, value = "curve %d %s" % (threads, column), answers.curve[threads][column]
+        out += [show.number(value, source, PROVED), show.times(answers.work, value, "span work / " + source, PROVED, 2)]
+    return out
 
+
+def numbers(view):
     heads = ["threads", "no run ends before", "times", "the greedy run ends at", "times",
              "no greedy run ends after", "times"]
-    return table(heads, [cells(threads) for threads in shown_threads(answers)], numeric=range(7))
+    return table(heads, [cells(view, threads) for threads in shown_threads(view.answers)], numeric=range(7))
 
 
 def curve_part(views):
-    tables = [details("The numbers" + (" of " + view.answers.name if len(views) > 1 else ""),
-                      numbers(view.answers)) for view in views]
+    tables = [details("The numbers" + (" of " + view.name if len(views) > 1 else ""), numbers(view)) for view in views]
     return section("speed-up", "Speed-up", tag("figure", picture(views), legend(views)),
                    note("The curve and its bounds: ", badges(PROVED), " for the costs and waits of the text. A run "
                         "that leaves no thread idle while a segment is ready lies in the band, whatever its order."),

@@ -1,76 +1,97 @@
 """The summary: the program's numbers, what they mean for a run on so many threads, and what the recording lacks."""
-from report.figures import MEANINGS, MEASURED, PROVED, RECORDED, badge, grouped, number, share, times
-from report.markup import Markup, join, section, tag
+from report.figures import MEANINGS, MEASURED, PROVED, RECORDED, badge
+from report.markup import join, note, section, tag
+
+NAMES = {"elapsed": "in this region"}   # where the head says it otherwise
 
 
-def tile(label, figure, kinds, below=""):
+def tile(label, figure, kinds, *below):
     return tag("div", tag("span", label, class_="label"), tag("b", figure),
                tag("span", join([badge(kind) for kind in kinds], " "), class_="kinds"),
-               tag("span", below, class_="below") if below else "", class_="tile")
+               *[tag("span", words, class_="below") for words in below if words], class_="tile")
 
 
-def tiles(view):
-    answers, unit = view.answers, view.unit
+def moved(view, *names):
+    """What the recording remarks on one of these numbers, such as `span too low`; it leads to the remarks."""
+    effects = [remark.rpartition(": ")[2] for remark in view.answers.head.remarks]
+    own = dict.fromkeys(effect for effect in effects if any(name in effect for name in names))
+    return tag("a", "remarked: ", "; ".join(own), href="#remarks", class_="moved") if own else ""
+
+
+def first_tiles(view):
+    answers, show, unit = view.answers, view.figures, view.unit
     cost = [view.cost_kind, PROVED]
-    row = answers.curve[answers.threads]
-    out = [tile("Work", number(answers.work, "span work", PROVED, unit=unit), cost, "the time of one thread"),
-           tile("Span", number(answers.span, "span span", PROVED, unit=unit), cost, "no run ends sooner"),
-           tile("Parallelism", times(answers.work, answers.span, "span work / span span", PROVED), [PROVED],
-                "times faster at most, on any threads"),
-           tile("Tasks", number(answers.tasks, "tasks", RECORDED), [RECORDED],
-                join([number(answers.span_numbers["segments"], "span segments", RECORDED), " segments"])),
-           tile("%d threads give at most" % answers.threads,
-                times(answers.work, row["least"], "span work / curve %d least" % answers.threads, PROVED),
-                [PROVED], join(["times; a greedy run at least ", times(
-                    answers.work, row["bound"], "span work / curve %d bound" % answers.threads, PROVED)]))]
-    if answers.head.elapsed:
-        out.append(tile("Reached on %s threads" % (answers.head.threads or "the"),
-                        times(answers.work, answers.head.elapsed, "span work / elapsed", MEASURED),
-                        [MEASURED], join(["times; elapsed ", number(answers.head.elapsed, "elapsed", MEASURED, unit=unit)])))
-    return tag("div", *out, class_="tiles")
+    segments = show.number(answers.span_numbers["segments"], "span segments", view.shape_kind)
+    return [tile("Work", show.number(answers.work, "span work", PROVED, unit=unit), cost, "the time on one thread",
+                 moved(view, "work")),
+            tile("Span", show.number(answers.span, "span span", PROVED, unit=unit), cost, "no run ends sooner",
+                 moved(view, "span")),
+            tile("Parallelism", show.times(answers.work, answers.span, "span work / span span", PROVED), [PROVED],
+                 "times faster at most, on any threads", moved(view, "work", "span")),
+            tile("Tasks", show.number(answers.tasks, "tasks", view.shape_kind), [view.shape_kind],
+                 join([segments, " segments"]))]
 
 
-def recording(view):
+def threads_tile(view):
+    """What the threads of the recording, or those asked for, can give."""
+    answers, show, threads = view.answers, view.figures, view.answers.threads
+    row, source = answers.curve[threads], "span work / curve %d " % threads
+    at_least = show.times(answers.work, row["bound"], source + "bound", PROVED)
+    return tile(tag("span", "%d threads give at most" % threads, class_="given"),
+                show.times(answers.work, row["least"], source + "least", PROVED), [PROVED],
+                join(["times; a greedy run at least ", at_least]))
+
+
+def reached_tile(view):
+    head, show = view.answers.head, view.figures
+    if not head.elapsed:
+        return ""
+    elapsed = show.number(head.elapsed, "elapsed", MEASURED, unit=view.unit)
+    return tile(tag("span", "Reached on %s threads" % (head.threads or "the"), class_="given"),
+                show.times(view.answers.work, head.elapsed, "span work / elapsed", MEASURED), [MEASURED],
+                join(["times; elapsed ", elapsed]))
+
+
+def recorded_words(view):
     """One line that says what the text is a recording of."""
     head = view.answers.head
     clock = {"cpu": "processor time", "wall": "wall time"}.get(head.clock, head.clock)
+    unit = "costs in %s of %s" % (view.unit.replace("× ", ""), clock) if head.unit else \
+        "costs as the text declares them: nothing says that they were measured"
     parts = ["recorded from %s" % head.program if head.program else "",
              "the parallel region at %s" % head.region if head.region else "", head.date,
-             "%d threads" % head.threads if head.threads else "",
-             "costs in %s of %s" % (view.unit, clock) if head.unit else
-             "costs as the text declares them: nothing says that they were measured"]
-    return tag("p", ", ".join(filter(None, parts)), class_="recording")
+             "%d threads" % head.threads if head.threads else "", unit]
+    return ", ".join(filter(None, parts))
 
 
 def on_the_threads(view):
-    answers, threads = view.answers, view.answers.threads
-    row = answers.curve[threads]
-    words = [Markup("On %d threads no run ends before " % threads),
-             number(row["least"], "curve %d least" % threads, PROVED, unit=view.unit),
+    answers, show, threads = view.answers, view.figures, view.answers.threads
+    row, named = answers.curve[threads], "curve %d " % threads
+    words = [tag("span", "On %d threads" % threads, class_="given"), " no run ends before ",
+             show.number(row["least"], named + "least", PROVED, unit=view.unit),
              ", and every run that leaves no thread idle while a segment is ready is over by ",
-             number(row["bound"], "curve %d bound" % threads, PROVED, unit=view.unit), "."]
+             show.number(row["bound"], named + "bound", PROVED, unit=view.unit), "."]
     elapsed = answers.head.elapsed
     if elapsed:
-        words += [" The recorded run took ", number(elapsed, "elapsed", MEASURED, unit=view.unit),
-                  "." if elapsed <= row["bound"] else ": the runtime left threads idle, or its own part is large."]
+        words += [" The recorded run took ", show.number(elapsed, "elapsed", MEASURED, unit=view.unit), "."]
     return tag("p", *words)
 
 
 def where_the_span_is(view, halved):
     """The first place of the critical path, and what half its costs would do."""
-    place, answers = view.places[0], view.answers
+    place, answers, show = view.places[0], view.answers, view.figures
     if not answers.span or not place.critical_cost:
         return ""
-    after = halved(place)
+    after, what_if = halved(place)["span"], "whatif %d 0.5 span" % place.number
+    path = "place %d path / span span" % place.number
     return tag("p", "Most of the span: ", tag("span", place.name, class_="place"), ", ",
-               share(place.critical_cost, answers.span, "place %d path / span span" % place.number, view.cost_kind),
+               show.share(place.critical_cost, answers.span, path, view.cost_kind),
                " of it. At half that cost the span would be ",
-               number(after["span"], "whatif %d 0.5 span" % place.number, PROVED, unit=view.unit), ", ",
-               share(answers.span - after["span"], answers.span,
-                     "span span - whatif %d 0.5 span / span span" % place.number, PROVED), " less.")
+               show.number(after, what_if, PROVED, unit=view.unit), ", ",
+               show.share(answers.span - after, answers.span, "span span - %s / span span" % what_if, PROVED), " less.")
 
 
-def remarks(view):
+def remarks(view, name="remarks"):
     """What the recording lacks, as the text's own head tells it."""
     head = view.answers.head
     items = [tag("li", words) for words in head.remarks]
@@ -79,7 +100,8 @@ def remarks(view):
         items.append(tag("li", view.without_run))
     if not items:
         return ""
-    return tag("div", tag("h3", "What the recording remarks"), tag("ul", *items), class_="remarks", role="note")
+    return tag("div", tag("h3", "What the recording remarks"), tag("ul", *items), class_="remarks given", id=name,
+               role="note")
 
 
 def stack(view, title, parts):
@@ -87,10 +109,11 @@ def stack(view, title, parts):
     whole = sum(value for _, value in parts)
     if not whole:
         return ""
-    pieces = [tag("i", style="flex:%d" % max(value, whole // 500), class_="part%d" % i,
-                  title="%s: %s %s" % (name, grouped(value), view.unit)) for i, (name, value) in enumerate(parts)]
-    words = [tag("span", tag("i", class_="key square part%d" % i), name, " ",
-                 number(value, "head " + name, MEASURED, unit=view.unit)) for i, (name, value) in enumerate(parts)]
+    pieces = [tag("i", style="flex:%d" % max(value, whole // 500), class_="part%d" % i, title=name)
+              for i, (name, value) in enumerate(parts) if value]
+    words = [tag("span", tag("i", class_="key square part%d" % i), NAMES.get(name, name), " ",
+                 view.figures.number(value, "head " + name, MEASURED, unit=view.unit))
+             for i, (name, value) in enumerate(parts)]
     return tag("div", tag("h3", title, " ", badge(MEASURED)), tag("div", *pieces, class_="stack"),
                tag("p", *words, class_="legend"))
 
@@ -107,10 +130,18 @@ def division(view):
 
 
 def kinds_explained(view):
-    kinds = [view.cost_kind, RECORDED, PROVED]
-    return tag("p", *[tag("span", badge(kind), " ", MEANINGS[kind]) for kind in kinds], class_="kinds-explained")
+    """The legend of the words that stand beside the numbers."""
+    kinds = dict.fromkeys([MEASURED] * bool(view.answers.head.elapsed) + [view.cost_kind, view.shape_kind] +
+                          [RECORDED] * bool(view.run) + [PROVED])
+    items = [piece for kind in kinds for piece in (tag("dt", badge(kind)), tag("dd", MEANINGS[kind]))]
+    return tag("div", tag("h3", "What the words beside the numbers mean"), tag("dl", *items, class_="kinds-explained"),
+               note("The tooltip of a number says which answer of spanprof it is, or of which it is a sum, a "
+                    "difference or a quotient."))
 
 
-def summary_part(view, halved):
-    return section("summary", "Summary", recording(view), tiles(view), on_the_threads(view),
+def summary_part(view, halved, of=""):
+    """`of` names the program where the page has two."""
+    tiles = tag("div", *first_tiles(view), threads_tile(view), reached_tile(view), class_="tiles")
+    recorded = tag("p", recorded_words(view), class_="recording given")
+    return section("summary", "Summary" + of, recorded, tiles, on_the_threads(view),
                    where_the_span_is(view, halved), remarks(view), division(view), kinds_explained(view))

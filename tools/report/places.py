@@ -33,7 +33,7 @@ def places(answers):
 
 @dataclass
 class TaskPlace:
-    """The tasks that one construct has made; the root is one of its own."""
+    """The tasks that one construct has created; the root is one of its own."""
     name: str
     number: int = 0
     tasks: List[int] = field(default_factory=list)
@@ -41,7 +41,7 @@ class TaskPlace:
     critical_cost: int = 0
     slack: int = 0           # the least of a segment
     critical_tasks: int = 0
-    making: int = 0          # what the segments cost that end by making one of these tasks
+    creating: int = 0        # what the segments cost that end by creating one of these tasks
 
     @property
     def cost(self):
@@ -59,7 +59,7 @@ class Task:
     critical_cost: int = 0
     is_critical: bool = False
     slack: int = 0
-    making: int = 0
+    creating: int = 0
 
 
 def tasks(answers):
@@ -67,9 +67,9 @@ def tasks(answers):
     out = []
     for s, (segment, row) in enumerate(zip(answers.code, answers.rows)):
         if not segment.after:
-            made_by = answers.rows[s - 1].cost if s else 0  # the segment before a task's first makes it
+            created_by = answers.rows[s - 1].cost if s else 0  # the segment before a task's first creates it
             out.append(Task(segment.task_place or ("a task" if row.task else "the root"), slack=row.slack,
-                            making=made_by))
+                            creating=created_by))
         task = out[row.task]
         task.cost += row.cost
         task.slack = min(task.slack, row.slack)
@@ -88,7 +88,7 @@ def task_places(answers):
         place.critical_cost += task.critical_cost
         place.critical_tasks += task.is_critical
         place.slack = min(place.slack, task.slack)
-        place.making += task.making
+        place.creating += task.creating
     ordered = sorted(found.values(), key=lambda place: (-place.cost, place.name))
     for number, place in enumerate(ordered):
         place.number = number

@@ -17,15 +17,20 @@ class RecordedRun:
     ends: List[float]
     workers: List[Optional[int]]   # None for a segment that was not started
     is_timed: bool = False         # by the clock, and not only in order
+    unit: int = 1                  # of a timed run, in nanoseconds
+    threads: int = 1               # that were recorded; some of them may have run nothing
 
     @property
     def count(self):
         """How many workers there were."""
-        return 1 + max((worker for worker in self.workers if worker is not None), default=0)
+        return max(self.threads, 1 + max((worker for worker in self.workers if worker is not None), default=0))
 
     @property
     def end(self):
         return max(self.ends, default=0)
+
+    def nanoseconds(self, time):
+        return round(time * self.unit)
 
 
 class NoRun(Exception):
@@ -72,14 +77,16 @@ def place_in_time(log, rows, predecessors):
 def read_times(path, answers):
     """The recorder's table `segment,thread,start_ns,end_ns`, in the unit of the text."""
     count, unit = len(answers.rows), answers.head.nanoseconds or 1
-    run = RecordedRun([0] * count, [0] * count, [None] * count, is_timed=True)
+    run = RecordedRun([0] * count, [0] * count, [None] * count, is_timed=True, unit=unit)
     with open(path, encoding="utf-8") as file:
-        for row in program.rows(file.read()):
+        table = program.rows(file.read())
+    try:
+        for row in table:
             s = int(row["segment"])
-            if s >= count:
-                raise NoRun("%s is not of %s: it has a segment %d" % (os.path.basename(path), answers.name, s))
             run.workers[s] = int(row["thread"])
             run.starts[s], run.ends[s] = int(row["start_ns"]) / unit, int(row["end_ns"]) / unit
+    except (IndexError, KeyError, ValueError) as wrong:
+        raise NoRun("%s is no table of times of %s" % (os.path.basename(path), answers.name)) from wrong
     return run
 
 
@@ -87,6 +94,9 @@ def recorded_run(path, answers):
     """The run of a replay document, which spanprof has to accept; with its times where they stand beside it."""
     log = read_replay(path, answers)
     times = os.path.splitext(path)[0] + ".times"
-    if os.path.exists(times):
-        return read_times(times, answers)
-    return place_in_time(log, answers.rows, answers.predecessors)
+    is_timed = os.path.exists(times)
+    run = read_times(times, answers) if is_timed else place_in_time(log, answers.rows, answers.predecessors)
+    run.threads = answers.head.threads or 1
+    if is_timed and [(worker, s) for kind, worker, s in log if kind == "start" and run.workers[s] != worker]:
+        raise NoRun("%s is of another run than %s" % (os.path.basename(times), os.path.basename(path)))
+    return run

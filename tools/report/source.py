@@ -3,6 +3,8 @@ import os
 import re
 
 MOST_ENTRIES = 20000  # of the folders that are searched
+MOST_BLANK = 4        # lines between a directive and its statement
+DIRECTIVES = ("#pragma", "!$omp", "c$omp")
 
 
 def files_below(folders):
@@ -36,13 +38,25 @@ class Sources:
         with open(next(iter(paths)), encoding="utf-8", errors="replace") as file:
             return file.read().split("\n")
 
-    def line(self, place):
-        """The line that a place names, or nothing."""
+    def snippet(self, place):
+        """The line that a place names, and after a directive the statement that it belongs to; or nothing."""
         named = re.search(r"([^\s:/]+):(\d+)(?:,|$|\s)", place)
         if not named:
-            return ""
+            return []
         name, number = named[1], int(named[2])
         if name not in self.lines:
             self.lines[name] = self.read(name)
-        lines = self.lines[name]
-        return lines[number - 1].strip() if 0 < number <= len(lines) else ""
+        return snippet(self.lines[name], number)
+
+
+def snippet(lines, number):
+    if not 0 < number <= len(lines):
+        return []
+    here = number
+    while here < len(lines) and lines[here - 1].rstrip().endswith("\\"):
+        here += 1
+    first = " ".join(line.strip().rstrip("\\").strip() for line in lines[number - 1:here])
+    if not first.lower().startswith(DIRECTIVES):
+        return [first] if first else []
+    following = (line.strip() for line in lines[here:here + MOST_BLANK])
+    return [first, *[line for line in following if line not in ("", "{", "}")][:1]]

@@ -1,5 +1,5 @@
 """Tables of the page. A column of numbers can be sorted by its head."""
-from report.markup import Markup, markup, tag
+from report.markup import Markup, breakable, markup, tag
 
 
 def cell(name, piece, is_number, **attributes):
@@ -18,10 +18,10 @@ def table(heads, rows, numeric=(), is_sortable=False, class_=None):
     return tag("div", tag("table", top, tag("tbody", *lines), class_=words), class_="wide")
 
 
-def place_cell(name, line="", colour=None):
-    """A place with the line of its source, and the colour that stands for it in the timelines."""
+def place_cell(name, lines=(), colour=None):
+    """A place with the lines of its source, and the colour that stands for it in the timelines."""
     key = tag("i", class_="key square c%d" % colour) if colour is not None else Markup("")
-    return tag("span", key, tag("span", name, class_="place"), tag("code", line) if line else "", class_="where")
+    return tag("span", key, tag("span", breakable(name), class_="place"), *[tag("code", line) for line in lines], class_="where")
 
 
 def bar(percent, class_=""):

@@ -6,6 +6,10 @@ import json
 from dataclasses import dataclass
 from typing import Sequence
 
+from report.graph import kind_of
+
+FLOWS_OF_A_RUN = 10 ** 7    # numbers of flows are of one run each
+
 
 @dataclass
 class Run:
@@ -24,7 +28,8 @@ class Run:
 def runs_of(view):
     answers, run, out = view.answers, view.run, []
     if run:
-        out.append(Run(1, "the run as it was", run.starts, run.ends, run.workers, run.count))
+        title = "the run as it was" if run.is_timed else "the recorded run, in the order of the replay"
+        out.append(Run(1, title, run.starts, run.ends, run.workers, run.count))
     starts, threads = zip(*answers.greedy)
     ends = [start + row.cost for start, row in zip(starts, answers.rows)]
     out.append(Run(2, "the greedy run", starts, ends, threads, answers.threads))
@@ -39,27 +44,33 @@ def names(run):
 
 
 def bars(view, run, scale):
-    rows, code = view.answers.rows, view.answers.code
-    for s, row in enumerate(rows):
+    code = view.answers.code
+    for s, row in enumerate(view.answers.rows):
         if run.shows(s):
+            length = (run.ends[s] - run.starts[s]) * scale
             yield {"name": code[s].place(), "cat": "critical" if row.critical else "other", "ph": "X",
-                   "ts": run.starts[s] * scale, "dur": (run.ends[s] - run.starts[s]) * scale, "pid": run.process, "tid": run.threads[s],
+                   "ts": run.starts[s] * scale, "dur": length, "pid": run.process, "tid": run.threads[s],
                    "args": {"segment": s, "task": row.task, "cost": row.cost, "slack": row.slack,
                             "critical": row.critical}}
 
 
+def flow(view, run, scale, p, s, number):
+    """An arrow from inside the bar of `p`, since it belongs to the bar that its moment lies in, to the start of `s`."""
+    shared = {"name": kind_of(view.answers.code, p, s), "cat": "edge", "id": run.process * FLOWS_OF_A_RUN + number,
+              "pid": run.process}
+    middle = (run.starts[p] + run.ends[p]) / 2
+    yield dict(shared, ph="s", ts=middle * scale, tid=run.threads[p])
+    yield dict(shared, ph="f", bp="e", ts=run.starts[s] * scale, tid=run.threads[s])
+
+
 def flows(view, run, scale):
-    """An arrow for each kept edge between threads or tasks: from the end of the one to the start of the other."""
+    """An arrow for each edge between tasks: a creation, a dependence or a wait."""
     rows, number = view.answers.rows, 0
     for s, before in enumerate(view.answers.predecessors):
         for p in before:
-            if rows[p].task == rows[s].task or not (run.shows(p) and run.shows(s)):
-                continue
-            number += 1
-            shared = {"name": "waits for", "cat": "edge", "id": run.process * 10000000 + number, "pid": run.process}
-            inside = (run.starts[p] + run.ends[p]) / 2  # an arrow belongs to the bar that its moment lies in
-            yield dict(shared, ph="s", ts=inside * scale, tid=run.threads[p])
-            yield dict(shared, ph="f", bp="e", ts=run.starts[s] * scale, tid=run.threads[s])
+            if rows[p].task != rows[s].task and run.shows(p) and run.shows(s):
+                number += 1
+                yield from flow(view, run, scale, p, s, number)
 
 
 def ready_counts(view, run):
@@ -78,14 +89,15 @@ def ready_counts(view, run):
 
 
 def counters(view, run, scale):
-    for moment, count in ready_counts(view, run):
+    for moment, count in [(0, 0), *ready_counts(view, run)]:
         yield {"name": "ready", "ph": "C", "ts": moment * scale, "pid": run.process, "args": {"segments": count}}
 
 
 def trace_text(view):
-    scale, events = (view.answers.head.nanoseconds or 1000) / 1000, []
+    head, events = view.answers.head, []
+    scale = (head.nanoseconds or 1000) / 1000
     for run in runs_of(view):
         for part in (names(run), bars(view, run, scale), flows(view, run, scale), counters(view, run, scale)):
             events += part
     return json.dumps({"traceEvents": events, "displayTimeUnit": "ns",
-                       "metadata": {"program": view.answers.name, "remarks": view.answers.head.remarks}}) + "\n"
+                       "metadata": {"program": view.name, "costs": head.unit_of_costs, "remarks": head.remarks}}) + "\n"

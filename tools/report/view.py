@@ -5,10 +5,12 @@ from functools import cached_property
 from typing import Optional
 
 from report.answers import Answers
-from report.figures import DECLARED, MEASURED, grouped, unit_name
+from report.figures import DECLARED, MEASURED, RECORDED, Figures, unit_name
 from report.places import places, task_places
 from report.recorded_run import NoRun, RecordedRun, recorded_run
 from report.source import Sources
+
+COLOURS = 10
 
 
 @dataclass
@@ -18,17 +20,17 @@ class Reached:
     end: int
     speed_up: float
     is_elapsed: bool
+    source: str     # of the end
 
     @property
     def words(self):
-        if self.is_elapsed:
-            return "reached: elapsed %s" % grouped(self.end)
-        return "the recorded order with the measured costs"
+        return "reached, by the clock" if self.is_elapsed else "the order of the replay with the costs of the text"
 
 
 class View:
-    def __init__(self, path, replay=None, threads=None, source=None):
-        self.answers = Answers(path, threads)
+    def __init__(self, path, replay=None, threads=None, source=None, prefix="", tell=None):
+        self.answers = Answers(path, threads, tell)
+        self.figures = Figures(prefix)
         here = [os.path.dirname(os.path.abspath(path)), os.getcwd()]
         self.sources = Sources(source or here)
         self.places = places(self.answers)
@@ -46,9 +48,13 @@ class View:
             return recorded_run(path, self.answers)
         except NoRun as reason:
             if replay:
-                raise SystemExit(str(reason)) from reason
+                raise SystemExit("spanprof-report: %s" % reason) from reason
             self.without_run = str(reason)
             return None
+
+    @property
+    def name(self):
+        return self.answers.name
 
     @property
     def unit(self):
@@ -58,18 +64,31 @@ class View:
     def cost_kind(self):
         return MEASURED if self.answers.head.is_measured else DECLARED
 
+    @property
+    def shape_kind(self):
+        """Of tasks, segments and what waits for what."""
+        head = self.answers.head
+        return RECORDED if head.program or head.threads or head.unit else DECLARED
+
     @cached_property
     def reached(self):
         work, head = self.answers.work, self.answers.head
         if head.elapsed and head.threads:
-            return Reached(head.threads, head.elapsed, work / head.elapsed, True)
+            return Reached(head.threads, head.elapsed, work / head.elapsed, True, "elapsed")
         if self.run and self.run.end and not self.run.is_timed:
-            return Reached(head.threads or self.run.count, self.run.end, work / self.run.end, False)
+            return Reached(self.run.count, self.run.end, work / self.run.end, False, "run end")
         return None
 
-    def task_colour(self, task_place):
+    def colour_of(self, task_place):
         """The number of a colour: one for each of the first places of tasks, and one for all others."""
         return min(task_place.number, COLOURS - 1)
 
+    @cached_property
+    def place_of(self):
+        """Of each segment the number of its place."""
+        return {s: place.number for place in self.places for s in place.segments}
 
-COLOURS = 10
+    @cached_property
+    def task_place_of(self):
+        """Of each task the number of the place that creates it."""
+        return {task: place.number for place in self.task_places for task in place.tasks}

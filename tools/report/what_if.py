@@ -3,7 +3,7 @@ FACTORS = (0.5, 0.0)
 
 
 def changed(view, place, factor):
-    """The costs that change: the nearest whole numbers, as tools/plots/what_if.py takes them."""
+    """The costs that change: the nearest whole numbers, and of two that are as near the even one."""
     rows = view.answers.rows
     return {s: round(rows[s].cost * factor) for s in place.segments if rows[s].cost}
 

@@ -52,6 +52,11 @@ class OneThreadMakesTasks(unittest.TestCase):
     def test_lost_cost(self):
         self.assertIn("0 ns before step 0", self.damaged(lambda body: body.pop(0)))
 
+    def test_lost_cost_that_is_remarked(self):
+        self.body.pop(0)
+        head = "# remark: untied task whose end another thread told, 1 time: work and span too low\n"
+        self.assertEqual(difference(self.shape, read(head + text(self.shape, [[self.body]]))), "")
+
     def test_missing_task(self):
         self.assertNotEqual(self.damaged(lambda body: body.pop(2)), "")
 

@@ -1,6 +1,6 @@
 import unittest
 
-from expect import body_of, regions, shape
+from expect import body_of, regions, shape, works
 from program import (All, Barrier, For, Master, Region, Repeat, Sections, Single, Task, Taskgroup, Taskloop, Taskwait,
                      Work)
 from structure import costs, nodes
@@ -33,6 +33,19 @@ class Bodies(unittest.TestCase):
 
     def test_a_loop_repeats(self):
         self.assertEqual(len(nodes(body_of([Repeat([Task([]), Taskwait()], 5)], False))), 10)
+
+
+class Works(unittest.TestCase):
+    def test_every_thread_and_every_turn_works(self):
+        region = Region([All([Work(1), Task([Work(1)])]), Single([Taskloop([Work(1)], 3)]), For([Work(1)], 5)])
+        self.assertEqual(works([Work(1), region], 4), 1 + 4 * 2 + 3 + 5)
+
+    def test_an_empty_block_works_once(self):
+        self.assertEqual(works([Region([Single([Task([])]), Sections([[], [Work(1)]])])], 4), 3)
+        self.assertEqual(works([Region([])], 4), 4)
+
+    def test_a_region_inside_has_threads_of_its_own(self):
+        self.assertEqual(works([Region([All([Task([Region([All([Work(1)])], 3)])])])], 2), 6)
 
 
 class Regions(unittest.TestCase):

@@ -2,7 +2,8 @@
 use Rattle.std.proofs.Common.{ℕ, ◌*◌, ◌<◌, ◌≤◌, ◌≡◌, ◌⊎◌, suc, Bool, true, false, List}
 use Rattle.std.proofs.Common.{[], ◌∷◌, Option, None, length, refl, sym, ap, ◌∙◌, subst, arith}
 use Rattle.std.proofs.Common.{inl, inr, sum, sum_by, cond, get_or}
-use Rattle.std.specs.Prelude.{All}
+use Rattle.std.specs.Prelude.{All, Vec}
+use Rattle.std.specs.declared.alloc.Global.{Global}
 use Rattle.std.proofs.lemmas.List.Sums.{sum_by-le}
 use Rattle.std.proofs.lemmas.Option.{slice_get-get_or}
 use Rattle.open_segments.proofs.Ascending.{length_below, Lists-same}
@@ -24,6 +25,7 @@ use Rattle.open_segments.specs.declared.counters.Counters.{Counters}
 use Rattle.open_segments.specs.Counters.{GoesUp, IsOpenBy}
 use Rattle.dispatch_core.specs.Sound.{TellFinished}
 use Rattle.depend_table.specs.Kept.{IsKeptEdge}
+use Rattle.open_segments.specs.KeptLists.{AreFirstLists}
 use Rattle.open_segments.specs.NumberLists.{items_of}
 use Rattle.open_segments.specs.UpToDate.{IsUpToDate}
 use Rattle.dispatch_core.proofs.KeptEnough.{kept_at, open_after}
@@ -185,6 +187,17 @@ graph_of_program table graph sound of =
           ((of.predecessors t (omega arith)).each edge.0).1 kept in
           omega (arith, member.1);
     }
+
+-- the kept predecessors of all segments, and their costs
+pub graph_of_lists : (table : Table) (costs : List ℕ) (lists : List (Vec ℕ Global))
+    → costs ≡ costs_of table
+    → AreFirstLists table (length table.segments) (items_of lists)
+    → IsGraphOf table (record { costs = costs; predecessors = items_of lists })
+graph_of_lists table costs lists are_costs are_lists = record {
+  costs = are_costs;
+  each = are_lists.each;
+  predecessors = λ t known. are_lists.kept t known;
+}
 
 -- how many pairs of a predecessor and a segment a graph has
 pub few_edges : (graph : RecordedGraph)

@@ -1,5 +1,5 @@
--- Runs that are given: every segment in order, or a list of events.
-use Rattle.std.specs.Prelude.{ℕ, ◌<◌, ◌≡◌, List, Some, slice_get, take}
+-- Runs that are given as a list of events.
+use Rattle.std.specs.Prelude.{ℕ, ◌≡◌, List, Some, slice_get, take}
 use Rattle.task_segments.specs.Table.{Table}
 use Rattle.dispatch_core.specs.declared.event.Event.{Event}
 use Rattle.dispatch_core.specs.declared.event.Event.TheVariants.{Start, Finish}
@@ -9,13 +9,8 @@ use Rattle.dispatch_core.specs.declared.replay.ReplayFault.{ReplayFault}
 use Rattle.dispatch_core.specs.declared.replay.ReplayFault.TheVariants.{At, OutOfMemory}
 use Rattle.dispatch_core.specs.declared.replay.StepFault.{StepFault}
 use Rattle.dispatch_core.specs.declared.replay.StepFault.TheVariants.{Refused, NoMemory}
-use Rattle.dispatch_core.specs.Run.{HasStarted, HasFinished, Runs, IsLegalRun}
+use Rattle.dispatch_core.specs.Run.{Runs, IsLegalRun}
 use Rattle.dispatch_core.specs.Refusals.{RefusesStart}
-
--- the segments below a number are finished, and no other is started
-pub record AreDone (history : List Event) (count : ℕ) : Type 0 where
-  pub done : (s : ℕ) → s < count → HasFinished history s
-  pub no_other : (s : ℕ) → HasStarted history s → s < count
 
 -- why the event may not be the next one
 abbrev pub RefusesNext : Table → List Event → Event → ReplayRefusal → Type 0

@@ -1,10 +1,17 @@
 //! Recorded graphs: segments with costs, each with its predecessors.
 ghost use Rattle.std.specs.Prelude.{ℕ, List, ◌≡◌, ◌<◌, ◌≤◌, ◌^◌, length, sum, sum_by};
-ghost use Rattle.std.specs.Prelude.{slice_index_or, map};
+ghost use Rattle.std.specs.Prelude.{slice_index_or, map, IfOk};
 ghost use Rattle.program_text.specs.declared.limits.TheConstants.{MOST_WORK};
+ghost use Rattle.dispatch_core.specs.Graph.{IsGraphOf};
 ghost use Rattle.dispatch_core.specs.RecordedGraph.{RecordedGraph, IsGraph, predecessors_of};
 
+use crate::places::costs;
+use open_segments::laws::serves_runs;
+use open_segments::predecessors::all_predecessors;
+use std::alloc::Global;
 use std::marker::Model;
+use task_program::AllocFault;
+use task_segments::table::SegTable;
 
 /// A recorded graph: for each segment, by its number from 0, its cost and the numbers of its
 /// predecessors. Contracts see these two lists.
@@ -23,6 +30,17 @@ impl Model for Graph {
     ghost view = { graph_of_fields };
 
     ghost invariant = { λ a. IsGraph (graph_of_fields a) };
+}
+
+/// The graph of a program's segments, with their kept predecessors. It fails only if memory runs
+/// out.
+pub fn graph_of(alloc: Global, table: &SegTable) -> Result<Graph, AllocFault>
+    ensures { IfOk result (IsGraphOf table.now) }
+{
+    serves_runs(table);
+    let costs = costs(alloc, table)?;
+    let predecessors = all_predecessors(alloc, table)?;
+    Ok(make_graph(costs, predecessors))
 }
 
 /// The graph with these costs and predecessors.

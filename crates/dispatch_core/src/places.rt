@@ -78,10 +78,11 @@ pub fn make_places(alloc: Global, table: &SegTable) -> Result<Places, AllocFault
     })
 }
 
-fn costs(alloc: Global, table: &SegTable) -> Result<Vec<u64>, AllocFault>
+/// The costs of a program's segments.
+pub fn costs(alloc: Global, table: &SegTable) -> Result<Vec<u64>, AllocFault>
     ensures { IfOk result (λ list. list.items ≡ costs_of table.now) }
 {
-    let mut list = Vec::new(alloc);
+    let mut list = Vec::with_capacity(alloc, table.len() as usize)?;
     for segment in 0..table.len() {
         list.push(table.cost(segment))?;
     }

@@ -1,17 +1,16 @@
-//! Runs that are given: every segment in order, or a list of events.
+//! The graph of a program, and runs that are given as a list of events.
 ghost use Rattle.std.specs.Prelude.{ℕ, Some, ◌≡◌, ◌<◌, ◌≤◌, ◌+◌, ◌++◌, ◌∷◌, [], length, IfOk};
 ghost use Rattle.std.specs.Prelude.{IfErr, IsOk, OnOk, OnErr, false, take};
 ghost use Rattle.dispatch_core.specs.Run.{Run, Runs, IsLegalRun};
 ghost use Rattle.dispatch_core.specs.Values.{IsInput};
 ghost use Rattle.dispatch_core.specs.Refusals.{IsCost};
 ghost use Rattle.dispatch_core.specs.Graph.{IsGraphOf};
-ghost use Rattle.dispatch_core.specs.Replays.{AreDone, RefusesStep, RefusesReplay, fault_at};
+ghost use Rattle.dispatch_core.specs.Replays.{RefusesStep, RefusesReplay, fault_at};
 
 use crate::dispatch::{Core, NewFault};
 use crate::event::{Event, FinishKind, StartRefusal};
-use crate::graph::Graph;
-use crate::kernel::{Kernel, KernelFault, MixKernel, SegResult};
-use open_segments::laws::serves_runs;
+use crate::graph::{Graph, graph_of};
+use crate::kernel::{Kernel, MixKernel, SegResult};
 use std::alloc::{AllocError, Global};
 use task_program::AllocFault;
 use task_segments::table::SegTable;
@@ -44,58 +43,14 @@ enum StepFault {
     NoMemory,
 }
 
-/// A kernel that answers 0: no graph tells values.
-struct ZeroKernel;
-
-impl Kernel for ZeroKernel {
-    ghost value_of = { λ segment cost input. 0 };
-
-    ghost may_fault = { λ segment cost input. false };
-
-    fn run(&self, _segment: u32, _cost: u64, _input: u64) -> Result<u64, KernelFault>
-        ensures ok { IfOk result (λ value. value ≡ 0) }
-        ensures never { IsOk result }
-    {
-        Ok(0)
-    }
-}
-
-/// The program's graph, by a run of every segment in the order of numbers on worker 0. It fails
-/// only if memory runs out, and then the table comes back.
+/// The program's graph. It fails only if memory runs out, and then the table comes back.
 pub fn in_order(alloc: Global, table: SegTable) -> Result<Graph, NewFault>
     ensures ok { IfOk result (IsGraphOf table) }
     ensures err { IfErr result (λ fault. fault.table ≡ table) }
 {
-    let mut core = Core::<ZeroKernel>::new(alloc, table)?;
-    for segment in 0..core.table().len() {
-        if run_next(&mut core, segment).is_err() {
-            return Err(NewFault {
-                table: core.into_table(),
-            });
-        }
-    }
-    match core.into_graph() {
+    match graph_of(alloc, &table) {
         Ok(graph) => Ok(graph),
-        Err(_) => unreachable!(),
-    }
-}
-
-/// Runs the next segment from its start to its finish. It fails only if memory runs out.
-fn run_next(core: &mut Core<ZeroKernel>, segment: u32) -> Result<(), AllocFault>
-    requires known { segment < length core.old.table.segments }
-    requires next { AreDone core.old.history segment }
-    ensures table { core.new.table ≡ core.old.table }
-    ensures ok { OnOk result (AreDone core.new.history (segment + 1)) }
-{
-    serves_runs(core.table());
-    let _ = core.history();
-    match core.start(0, segment) {
-        Ok(_) => {}
-        Err(_) => unreachable!(),
-    }
-    match core.task_of(0, segment) {
-        Some((cost, input)) => finish_computed(core, &ZeroKernel, 0, segment, cost, input),
-        None => unreachable!(),
+        Err(_) => Err(NewFault { table }),
     }
 }
 

@@ -14,3 +14,4 @@ pub mod OpenSteps
 pub mod SiblingSteps
 pub mod AtFirst
 pub mod Stages
+pub mod KeptLists

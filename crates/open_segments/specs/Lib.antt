@@ -6,3 +6,4 @@ pub mod Counters
 pub mod Facts
 pub mod UpToDate
 pub mod Openings
+pub mod KeptLists

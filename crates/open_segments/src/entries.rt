@@ -30,7 +30,7 @@ pub fn value_entry(values: &[Option<u64>], at: u32) -> Option<u64>
 pub fn copies_of<T: Copy + Drop>(alloc: Global, one: T, count: u32) -> Result<Vec<T>, AllocFault>
     ensures { IfOk result (λ list. list.items ≡ replicate count one) }
 {
-    let mut list = Vec::new(alloc);
+    let mut list = Vec::with_capacity(alloc, count as usize)?;
     for _ in 0..count {
         list.push(one)?;
     }

@@ -9,4 +9,5 @@ pub mod laws;
 mod number_lists;
 pub mod opener;
 mod opening;
+pub mod predecessors;
 mod record;

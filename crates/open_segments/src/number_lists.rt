@@ -14,7 +14,7 @@ use task_program::AllocFault;
 pub fn no_lists(alloc: Global, count: u32) -> Result<Vec<Vec<u32>>, AllocFault>
     ensures { IfOk result (λ lists. items_of lists.items ≡ replicate count []) }
 {
-    let mut lists = Vec::new(alloc);
+    let mut lists = Vec::with_capacity(alloc, count as usize)?;
     for _ in 0..count {
         lists.push(Vec::new(alloc))?;
     }

@@ -33,7 +33,7 @@ pub struct Opening {
 pub fn no_siblings(alloc: Global, count: u32) -> Result<Vec<SiblingTable>, AllocFault>
     ensures { IfOk result (λ siblings. siblings.items ≡ replicate count []) }
 {
-    let mut siblings = Vec::new(alloc);
+    let mut siblings = Vec::with_capacity(alloc, count as usize)?;
     for _ in 0..count {
         siblings.push(SiblingTable::new(alloc)?)?;
     }
@@ -108,7 +108,7 @@ pub fn first_opening(
 }
 
 /// The kept siblings of a child, with room for one more.
-fn kept_siblings(
+pub fn kept_siblings(
     table: &SegTable,
     siblings: &[SiblingTable],
     child: u32,
@@ -132,7 +132,7 @@ fn kept_siblings(
 }
 
 /// Adds a child to its parent's children.
-fn add_sibling(
+pub fn add_sibling(
     table: &SegTable,
     siblings: &mut Vec<SiblingTable>,
     child: u32,

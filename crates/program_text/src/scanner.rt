@@ -42,7 +42,7 @@ impl<'a> Token<'a> {
     pub fn is(self, word: &[u8]) -> bool
         ensures { result ≡ is_text self.entry.text.now word.now }
     {
-        self.text == word
+        self.text.len() == word.len() && self.text == word
     }
 
     /// Whether it is a number.

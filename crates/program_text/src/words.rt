@@ -1,5 +1,5 @@
 //! The words and numbers of the grammar.
-ghost use Rattle.std.specs.Prelude.{◌≡◌, ◌≤◌, true};
+ghost use Rattle.std.specs.Prelude.{◌≡◌, ◌≤◌, ◌∷◌, [], true};
 ghost use Rattle.std.specs.Option.{SomeIff};
 ghost use Rattle.std.specs.List.{list_all};
 ghost use Rattle.std.specs.Char.{is_ascii_digit};
@@ -52,8 +52,17 @@ pub fn value_within(digits: &[u8], most: u64) -> Option<u64>
 pub fn is_sign(token: Token<'_>) -> bool
     ensures { result ≡ is_sign token.entry.text.now }
 {
-    ((token.is(b"(") || token.is(b")")) || (token.is(b"{") || token.is(b"}")))
-        || (token.is(b":") || token.is(b","))
+    match token.text {
+        [byte] => is_sign_byte(*byte),
+        _ => false,
+    }
+}
+
+fn is_sign_byte(byte: u8) -> bool
+    ensures { result ≡ is_sign (byte ∷ []) }
+{
+    ((byte == b'(' || byte == b')') || (byte == b'{' || byte == b'}'))
+        || (byte == b':' || byte == b',')
 }
 
 /// A run as a text.

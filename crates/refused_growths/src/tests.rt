@@ -7,8 +7,10 @@ mod one_growth;
 mod programs;
 mod runs;
 mod schedules;
+mod short;
 mod supply;
 mod texts;
+mod turns;
 
 use commands::Command;
 use std::alloc::AllocGlobal;
@@ -73,48 +75,4 @@ fn made_again<T, E: Drop>(answer: Result<T, E>) -> Result<T, Fail> {
         Ok(made) => Ok(made),
         Err(_) => Err("refused twice".into()),
     }
-}
-
-/// What is left at a turn: 32 bytes more at each, since no growth takes less, and twice as much at
-/// each of the last ones, which have room for the stacks of threads.
-fn left_at(turn: usize) -> usize {
-    if turn < SMALL_TURNS {
-        32 * turn
-    } else {
-        (32 * SMALL_TURNS) << (turn - SMALL_TURNS).min(13)
-    }
-}
-
-const SMALL_TURNS: usize = 2048;
-
-const TURNS: usize = SMALL_TURNS + 14;
-
-/// Makes the calls with ample memory, then with none, and then with a little more at each turn,
-/// until no growth is refused.
-fn refuse_each<H: AllocGlobal + Threads + Wait + Abort + Sync>(
-    rt: &H,
-    calls: Calls,
-) -> Result<(), Fail> {
-    let mut ample = Supply::ample(rt.alloc());
-    make(rt, calls, &mut ample)?;
-    assert!(rt;
-        !ample.was_refused(),
-        "a growth is refused with ample memory"
-    );
-    let mut supply = Supply::scarce(rt.alloc())?;
-    let mut refusals = 0usize;
-    let mut is_enough = false;
-    for turn in 0..TURNS {
-        supply.leave(left_at(turn));
-        make(rt, calls, &mut supply)?;
-        if !supply.was_refused() {
-            is_enough = true;
-            break;
-        }
-        refusals = refusals.saturating_add(1);
-    }
-    supply.restore();
-    assert!(rt; is_enough, "refused at every turn");
-    assert!(rt; refusals > 0, "no growth is refused");
-    Ok(())
 }

@@ -13,6 +13,7 @@ use Rattle.command_words.specs.declared.request.Request.TheVariants.{Certify, Ch
 use Rattle.command_words.specs.declared.request.Request.TheVariants.{Replay, Run, Show, Slack, Span}
 use Rattle.command_words.specs.declared.request.Request.TheVariants.{WhatIf}
 use Rattle.task_program.proofs.ReadWhole.{found_tree_of}
+use Rattle.task_program.proofs.Readings.{read_as}
 use Rattle.task_program.specs.Canonical.{canonical_text}
 use Rattle.task_program.specs.Document.{program_part, rest_part}
 use Rattle.task_program.specs.ProgramMarks.{ProgramMarks}
@@ -93,7 +94,7 @@ on_read Says some input (Ok program) is =
     some program (whole_table program (tree_fits input program tree)) in
     (said.0, inl (record { program = program; tree = tree; says = said.1 }))
 on_read Says some input (Err fault) is =
-    (program_refusal fault, inr (record { fault = fault; is_fault = is; says = refl }))
+    (program_refusal fault, inr (record { fault = fault; is_fault = read_as input (Err fault) is; says = refl }))
 
 on_program : (Says : ProgramMarks → Report → Type 0) → SaysSome Says → (input : List ℕ)
     → (output : Report) × OnProgram Says input output

@@ -8,15 +8,17 @@ use Rattle.program_text.specs.declared.fault.ReadFault.{ReadFault}
 use Rattle.loop_text.specs.Loops.{Tree}
 use Rattle.task_program.specs.Expansion.{Piece, expansion}
 use Rattle.task_program.specs.SecondPass.{take_pieces}
-use Rattle.task_program.specs.PieceFaults.{fault_of}
+use Rattle.task_program.specs.SecondPass.{fault_of}
 use Rattle.task_program.specs.Expanded.{ExpansionState, after_piece}
 use Rattle.task_program.specs.SecondPass.{take_piece}
 use Rattle.task_program.specs.Expanded.{empty_expansion}
-use Rattle.task_program.specs.ExpandsTo.{after_pieces}
+use Rattle.task_program.specs.Expanded.{after_pieces}
 use Rattle.task_program.specs.ReadInVersion.{second_pass, expanded_program}
 use Rattle.task_program.specs.ExpansionFault.{AreRightPieces, IsFirstPieceFault, HasExpansionFault}
 use Rattle.task_program.specs.ExpansionFault.AreRightPieces.{Nothing, More}
 use Rattle.task_program.specs.ExpansionFault.IsFirstPieceFault.{AtPiece}
+use Rattle.task_program.specs.PieceFaults.{fault_after}
+use Rattle.task_program.proofs.PieceCounts.{one_fault_after}
 use Rattle.task_program.proofs.Expanding.{no_pieces, then_pieces, then_fault, in_turn_ok, one_piece}
 
 -- where these pieces lead from the start, with no test
@@ -68,6 +70,8 @@ first_fault_from [] before fault rights h =
     absurd (no_fault (reached before) (reached before) fault (no_pieces (reached before)) h)
 first_fault_from (piece ∷ pieces) before fault rights h =
     let state : ExpansionState = reached before in
+    let same_fault : fault_of state piece ≡ fault_after before piece =
+    one_fault_after before piece in
     piece_cases (fault_of state piece)
     (λ right.
     let one = then_pieces state (after_piece state piece) piece pieces
@@ -77,12 +81,13 @@ first_fault_from (piece ∷ pieces) before fault rights h =
     (sym one ∙ h) in
     subst (λ (ps : List Piece). IsFirstPieceFault ps fault)
     (append_assoc before (piece ∷ []) pieces)
-    (first_fault_from pieces (before ++ piece ∷ []) fault (More before piece rights right) later))
+    (first_fault_from pieces (before ++ piece ∷ []) fault (More before piece rights (sym same_fault ∙ right))
+    later))
     (λ other wrong.
     let same : other ≡ fault = one_fault (take_pieces state (piece ∷ pieces)) other fault
     (then_fault state other piece pieces (piece_refused state piece other wrong)) h in
     subst (λ (f : ReadFault). IsFirstPieceFault (before ++ piece ∷ pieces) f) same
-    (AtPiece before pieces piece other rights wrong))
+    (AtPiece before pieces piece other rights (sym same_fault ∙ wrong)))
 
 -- pieces of which none is wrong are taken
 right_taken : (before : List Piece)
@@ -92,7 +97,7 @@ right_taken before Nothing = no_pieces empty_expansion
 right_taken before (More others piece rights right) =
     in_turn_ok empty_expansion (reached others) others (piece ∷ []) (right_taken others rights)
     ∙ one_piece (reached others) piece
-    ∙ piece_taken (reached others) piece right
+    ∙ piece_taken (reached others) piece (one_fault_after others piece ∙ right)
     ∙ ap (λ (s : ExpansionState). taken_so s) (one_more others piece)
 
 -- the first wrong piece is where the pass stops, with its fault
@@ -102,7 +107,7 @@ refused_first : (pieces : List Piece) (fault : ReadFault)
 refused_first pieces fault (AtPiece before later piece _ rights wrong) =
     in_turn_ok empty_expansion (reached before) before (piece ∷ later) (right_taken before rights)
     ∙ then_fault (reached before) fault piece later
-    (piece_refused (reached before) piece fault wrong)
+    (piece_refused (reached before) piece fault (one_fault_after before piece ∙ wrong))
 
 pass_fault : (read : Result ExpansionState ReadFault) (fault : ReadFault)
     → expanded_program read ≡ Err fault

@@ -30,7 +30,7 @@ use Rattle.task_program.specs.Versions.{begins_version_two}
 use Rattle.task_program.specs.ViablePrefix.{IsSentence, IsViable}
 use Rattle.task_program.specs.FirstFault.{IsMisplaced, IsWrong, IsRight, AreRight, EndsEarly}
 use Rattle.task_program.specs.FirstFault.{IsFirstFault, HasFault}
-use Rattle.task_program.specs.FaultsAgree.{IsToldApart, FaultIsFirst}
+use Rattle.task_program.proofs.MachineFaults.{IsToldApart, FaultIsFirst}
 use Rattle.task_program.specs.FirstFault.IsMisplaced.{OfHeader, AfterWhole, Elsewhere}
 use Rattle.task_program.specs.FirstFault.IsWrong.{ByItself, Misplaced, PastLimit}
 use Rattle.task_program.specs.FirstFault.AreRight.{Nothing, More}

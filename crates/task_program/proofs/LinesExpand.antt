@@ -26,7 +26,8 @@ use Rattle.task_program.specs.Expansion.{Piece, subscript_of, item_comes, task_p
 use Rattle.task_program.specs.Expansion.Piece.{TaskComes, TaskOpens, GroupComes, GroupOpens}
 use Rattle.task_program.specs.Expansion.Piece.{BlockEnds, WorkIs, WaitIs}
 use Rattle.task_program.specs.Expanded.{ExpansionState, after_piece, bytes_after}
-use Rattle.task_program.specs.ExpandsTo.{HasIndexInRange, after_pieces}
+use Rattle.task_program.specs.ExpandsTo.{HasIndexInRange}
+use Rattle.task_program.specs.Expanded.{after_pieces}
 use Rattle.task_program.proofs.FoundPlaces.{own_number}
 use Rattle.task_program.proofs.Sound.{fits_more, kept_names}
 use Rattle.task_program.proofs.KeptNames.{line_stays}

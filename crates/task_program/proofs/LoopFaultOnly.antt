@@ -22,7 +22,7 @@ use Rattle.task_program.specs.LoopViablePrefix.{IsLoopSentence}
 use Rattle.task_program.specs.FirstLoopFault.{IsLoopMisplaced, IsPastLoopLimit, IsLoopWrong}
 use Rattle.task_program.specs.FirstLoopFault.{IsLoopRight, AreLoopRight, EndsInLoops}
 use Rattle.task_program.specs.FirstLoopFault.{IsFirstLoopFault, IsTreeOf, body_of, HasLoopFault}
-use Rattle.task_program.specs.FaultsAgree.{IsToldInLoops, LoopFaultIsFirst}
+use Rattle.task_program.proofs.MachineFaults.{IsToldInLoops, LoopFaultIsFirst}
 use Rattle.task_program.specs.FirstLoopFault.IsLoopMisplaced.{AfterWhole, Elsewhere}
 use Rattle.task_program.specs.FirstLoopFault.IsPastLoopLimit.{LargeNumber, DeepBlock}
 use Rattle.task_program.specs.FirstLoopFault.IsLoopWrong.{ByItself, Misplaced, PastLimit}

@@ -1,7 +1,10 @@
 -- What the machines read of a text is its one reading.
-use Rattle.std.proofs.Common.{◌≡◌, ℕ, Bool, MatchBool, List, Result, Ok, Err, refl, subst, sym}
+use Rattle.std.proofs.Common.{◌≡◌, ◌≢◌, ℕ, Bool, false, MatchBool, IfErr, List, Result}
+use Rattle.std.proofs.Common.{Ok, Err, refl, subst, sym}
 use Rattle.program_text.specs.declared.fault.ReadFault.{ReadFault}
-use Rattle.program_text.specs.Answers.{Gives}
+use Rattle.program_text.specs.declared.fault.ReadKind.{ReadKind}
+use Rattle.program_text.specs.declared.fault.ReadKind.TheVariants.{OutOfMemory}
+use Rattle.program_text.specs.Answers.{Fails, Gives, is_memory}
 use Rattle.program_text.specs.Tokens.{tokens_of}
 use Rattle.program_text.proofs.Bools.{bool_cases}
 use Rattle.task_program.specs.ProgramMarks.{ProgramMarks}
@@ -9,7 +12,6 @@ use Rattle.task_program.specs.ReadInVersion.{program_of}
 use Rattle.task_program.specs.Versions.{begins_version_two}
 use Rattle.task_program.specs.FirstFault.{HasFault}
 use Rattle.task_program.specs.FirstLoopFault.{HasLoopFault}
-use Rattle.task_program.specs.FaultsAgree.{IsToldApart, IsToldInLoops}
 use Rattle.task_program.specs.Readings.{HasFirstFault, IsReading, HasOneReading}
 use Rattle.task_program.proofs.FaultFound.{fault_is_first}
 use Rattle.task_program.proofs.LoopFaultOnly.{loop_fault_is_first}
@@ -18,6 +20,18 @@ use Rattle.task_program.proofs.ReadWhole.{found_tree_of, only_tree}
 -- the fault by the version
 abbrev fault_by : List ℕ → ReadFault → Bool → Type 0
 fault_by text fault two = MatchBool two (HasLoopFault text fault) (HasFault text fault)
+
+not_memory : (kind : ReadKind) → kind ≢ OutOfMemory → is_memory kind ≡ false
+not_memory OutOfMemory other = absurd (other refl)
+not_memory _ other = refl
+
+told_fault : (fault : ReadFault) (read : Result ProgramMarks ReadFault)
+    → Fails fault read
+    → fault.kind ≢ OutOfMemory
+    → read ≡ Err fault
+told_fault fault read h other =
+    subst (λ (memory : Bool). MatchBool memory (fault.line ≡ 0) (read ≡ Err fault))
+    (not_memory fault.kind other) h
 
 refused_is_first : (text : List ℕ) (fault : ReadFault)
     → program_of text ≡ Err fault
@@ -69,3 +83,10 @@ pub gives_reading : (text : List ℕ) (result : Result ProgramMarks ReadFault)
 gives_reading text result h reading is =
     subst (λ (r : Result ProgramMarks ReadFault). Gives (λ (p : ProgramMarks). p) result r)
     (reading_is text reading is) h
+
+-- and what is refused beside the machines, memory aside, is refused with the first fault
+pub refused_first : (text : List ℕ) (result : Result ProgramMarks ReadFault)
+    → Gives (λ program. program) result (program_of text)
+    → IfErr result (λ fault. fault.kind ≢ OutOfMemory → HasFirstFault text fault)
+refused_first text (Ok program) h = tt
+refused_first text (Err fault) h = λ other. refused_is_first text fault (told_fault fault (program_of text) h other)

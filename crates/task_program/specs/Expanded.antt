@@ -1,5 +1,5 @@
 -- What the pieces of an expansion amount to, one after another.
-use Rattle.std.specs.Prelude.{ℕ, ◌+◌, List, [], ◌∷◌, ◌++◌}
+use Rattle.std.specs.Prelude.{ℕ, ◌+◌, List, [], ◌∷◌, ◌++◌, fold}
 use Rattle.program_text.specs.declared.statement.Item.{Item}
 use Rattle.program_text.specs.Marks.{Mark}
 use Rattle.program_text.specs.Marks.Mark.{Begins, Works, Waits, GroupBegins}
@@ -65,3 +65,6 @@ after_piece state (WaitIs line) = record state {
   bytes = bytes_after state Waits 0;
   tree = with_mark state.tree Waits;
 }
+
+abbrev pub after_pieces : ExpansionState → List Piece → ExpansionState
+after_pieces state pieces = fold after_piece state pieces

@@ -4,16 +4,14 @@ use Rattle.std.specs.Prelude.{◌≡◌, false, List, [], ◌∷◌, ◌++◌, S
 use Rattle.program_text.specs.declared.fault.ReadFault.{ReadFault}
 use Rattle.loop_text.specs.Loops.{Tree}
 use Rattle.task_program.specs.Expansion.{Piece, expansion}
-use Rattle.task_program.specs.PieceFaults.{fault_of}
-use Rattle.task_program.specs.Expanded.{empty_expansion}
-use Rattle.task_program.specs.ExpandsTo.{after_pieces}
+use Rattle.task_program.specs.PieceFaults.{fault_after}
 
 -- nothing is wrong with any of these after those before it
 pub data AreRightPieces : List Piece → Type 0 where
   Nothing : AreRightPieces []
   More : (before : List Piece) (piece : Piece)
       → AreRightPieces before
-      → fault_of (after_pieces empty_expansion before) piece ≡ None
+      → fault_after before piece ≡ None
       → AreRightPieces (before ++ piece ∷ [])
 
 -- The first piece at which something is wrong after those before it, and what: the first test of
@@ -21,7 +19,7 @@ pub data AreRightPieces : List Piece → Type 0 where
 pub data IsFirstPieceFault : List Piece → ReadFault → Type 0 where
   AtPiece : (before later : List Piece) (piece : Piece) (fault : ReadFault)
       → AreRightPieces before
-      → fault_of (after_pieces empty_expansion before) piece ≡ Some fault
+      → fault_after before piece ≡ Some fault
       → IsFirstPieceFault (before ++ piece ∷ later) fault
 
 -- the first fault of all pieces of a tree's expansion

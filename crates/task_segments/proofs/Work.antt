@@ -188,16 +188,20 @@ little_work table h =
       h.is_program.work,
     )
 
+-- the table at a moment has all work so far
+pub all_work_at : (e : List Mark) → IsProper e → sum (costs_of (table_at e)) ≡ work_of e
+all_work_at e p =
+    omega (
+      arith,
+      sum-map (λ (row : Segment). row.cost) (table_at e).segments,
+      total_is e (segments_so_far e),
+      sums_all e p,
+    )
+
 -- a table has all work of its program
 pub all_work : (program : ProgramMarks) → IsProgram program
     → sum (costs_of (table_of program.marks)) ≡ work_of program.marks
 all_work program h =
     let moment = last_moment program.marks in
     let proper = (last_of_nested program.marks (is_nested program h)).proper in
-    omega (
-      arith,
-      sum-map (λ (row : Segment). row.cost) (table_at moment).segments,
-      total_is moment (segments_so_far moment),
-      sums_all moment proper,
-      work_read (Begins false [] ∷ []) program.marks,
-    )
+    omega (arith, all_work_at moment proper, work_read (Begins false [] ∷ []) program.marks)

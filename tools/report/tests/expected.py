@@ -1,30 +1,8 @@
-"""What each number of a page has to be, worked out again from the answers of spanprof alone.
-
-    python3 -m report.tests.expected PAGE.html MINE.tasks [OTHER.tasks]    compares all of them; run in tools/
-"""
-import json
+"""What each number of a page has to be, worked out again from the answers of spanprof alone."""
 import os
 import re
-import sys
-from html.parser import HTMLParser
 
-
-class Reader(HTMLParser):
-    """All numbers with the sources that they name, and the data of the script."""
-
-    def __init__(self):
-        super().__init__()
-        self.figures, self.data, self.is_data = [], "", False
-
-    def handle_starttag(self, tag, attributes):
-        named = dict(attributes)
-        self.is_data = tag == "script" and named.get("id") == "data"
-        if "data-from" in named:
-            self.figures.append((named["data-from"], named.get("value", named.get("data-value"))))
-
-    def handle_data(self, words):
-        if self.is_data:
-            self.data += words
+ROWS_OF_A_CURVE = 64
 
 
 def unpacked(words):
@@ -36,16 +14,23 @@ def table(text):
     return [dict(zip(heads, line)) for line in lines]
 
 
+def recorded_waits(answer):
+    """Of each segment those that it has to wait for, from what `replay` prints."""
+    lines = [line.split()[1:] for line in answer.split("\n") if line.startswith("preds")]
+    return {int(s): [int(p) for p in rest] for s, *rest in lines}
+
+
 class Program:
-    """One program; `ask` gives what spanprof prints for words and a text."""
+    """One program; `ask` gives what spanprof prints for words and a text. Sources begin with a method's name."""
 
     def __init__(self, path, data, ask):
         with open(path, encoding="utf-8") as file:
             self.text = file.read()
-        self.path_of_text, self.ask = path, ask
-        self.place, self.task_place = unpacked(data["place"]), unpacked(data["taskPlace"])
+        self.base, self.ask = os.path.splitext(path)[0], ask
+        self.place_of, self.task_place_of = unpacked(data["place"]), unpacked(data["taskPlace"])
         self.slack = table(ask(["slack"], self.text))
         self.cost = [int(row["cost"]) for row in self.slack]
+        self.task_of = [int(row["task"]) for row in self.slack]
         self.data, self.kept = data, {}
 
     def answer(self, *words):
@@ -56,71 +41,78 @@ class Program:
     def line(self, name, *words):
         return int(re.search(r"(?m)^%s (\d+)$" % name, self.answer(*words))[1])
 
-    def segments(self, place=None, on_path=None):
-        return [s for s, row in enumerate(self.slack) if (place is None or self.place[s] == place)
+    def segments(self, places=None, on_path=None):
+        return [s for s, row in enumerate(self.slack) if (places is None or self.place_of[s] in places)
                 and (on_path is None or (row["chain"] == "1") == on_path)]
 
     def total(self, segments):
         return sum(self.cost[s] for s in segments)
 
-    def task_costs(self, place):
-        costs = {task: 0 for task, number in enumerate(self.task_place) if number == place}
-        for row in self.slack:
-            if int(row["task"]) in costs:
-                costs[int(row["task"])] += int(row["cost"])
-        return costs
-
-    # ---- one method for each first word of a source ----
-
     def span(self, name):
         return self.line(name, "span")
 
     def curve(self, threads, column):
-        return int(table(self.answer("curve", "--upto", threads))[-1][column])
+        """Of as many rows as are needed, and of many at once."""
+        upto = str(max(int(threads), ROWS_OF_A_CURVE))
+        return int(table(self.answer("curve", "--upto", upto))[int(threads) - 1][column])
 
     def tasks(self):
-        return max(int(row["task"]) for row in self.slack)
-
-    def elapsed(self):
-        return int(re.search(r"(?m)^# elapsed: (\d+)", self.text)[1])
+        return max(self.task_of)
 
     def head(self, *name):
         return int(re.search(r"(?m)^# %s: (\d+)" % " ".join(name), self.text)[1])
 
-    def place_(self, number, what):
-        own, path = self.segments(int(number)), self.segments(int(number), True)
-        return {"cost": self.total(own), "segments": len(own), "path": self.total(path),
-                "path-segments": len(path)}[what]
+    def elapsed(self):
+        return self.head("elapsed")
 
-    def task_place_(self, number, what):
-        costs = self.task_costs(int(number))
-        own = [s for s, row in enumerate(self.slack) if int(row["task"]) in costs]
+    def threads(self):
+        """Those of the head, and those that the recorded run needed."""
+        recorded = re.search(r"(?:threads|on) (\d+)", self.text.partition("omptasks")[0])
+        needed = 1 + max((int(worker) for _, _, worker in self.bars()), default=0)
+        return max(int(recorded[1]) if recorded else 1, needed)
+
+    def of_places(self, numbers, what):
+        own, path = self.segments(numbers), self.segments(numbers, True)
+        return {"cost": self.total(own), "segments": len(own), "path": self.total(path), "path-segments": len(path),
+                "count": len(numbers)}[what]
+
+    def place(self, number, what):
+        return self.of_places({int(number)}, what)
+
+    def places_from(self, number, what):
+        return self.of_places({n for n in self.place_of if n >= int(number)}, what)
+
+    def task_place(self, number, what):
+        members = {task for task, place in enumerate(self.task_place_of) if place == int(number)}
+        own = [s for s, task in enumerate(self.task_of) if task in members]
+        costs = sorted(self.total(s for s in own if self.task_of[s] == task) for task in members)
         path = [s for s in own if self.slack[s]["chain"] == "1"]
-        firsts = {}
-        for s in own:
-            firsts.setdefault(self.slack[s]["task"], s)
-        return {"count": len(costs), "least": min(costs.values()), "greatest": max(costs.values()),
-                "median": sorted(costs.values())[(len(costs) - 1) // 2], "cost": sum(costs.values()),
-                "path": self.total(path), "slack": min(int(self.slack[s]["slack"]) for s in own),
-                "critical": len({self.slack[s]["task"] for s in path if self.cost[s]}),
-                "making": sum(self.cost[s - 1] for s in firsts.values() if s)}[what]
+        firsts = {self.task_of[s]: s for s in reversed(own)}
+        return {"count": len(costs), "least": costs[0], "greatest": costs[-1], "cost": sum(costs),
+                "median": costs[(len(costs) - 1) // 2], "path": self.total(path),
+                "slack": min(int(self.slack[s]["slack"]) for s in own),
+                "critical": len({self.task_of[s] for s in path if self.cost[s]}),
+                "creating": sum(self.cost[s - 1] for s in firsts.values() if s)}[what]
 
-    def task(self, number, _):
-        return sum(int(row["cost"]) for row in self.slack if row["task"] == number)
+    def task(self, number, what):
+        own = [s for s, task in enumerate(self.task_of) if task == int(number)]
+        return {"number": int(number), "cost": self.total(own),
+                "slack": min(int(self.slack[s]["slack"]) for s in own)}[what]
 
     def segment(self, number, _):
         return int(self.slack[int(number)]["start"])
 
     def path(self, what, *ends):
-        if what == "segments":
-            return len(self.segments(on_path=True))
+        path = self.segments(on_path=True)
+        if not ends:
+            return {"segments": len(path), "costly": sum(self.cost[s] > 0 for s in path)}[what]
         first, last = int(ends[0]), int(ends[-1])
         if what == "end":
             return int(self.slack[last]["start"]) + self.cost[last]
-        return self.total(s for s in self.segments(on_path=True) if first <= s <= last)
+        return self.total(s for s in path if first <= s <= last)
 
     def changed(self, factors):
-        costs = {s: round(self.cost[s] * factor) for place, factor in factors for s in self.segments(place)
+        costs = {s: round(self.cost[s] * factor) for place, factor in factors for s in self.segments({place})
                  if self.cost[s]}
         return ["whatif"] + ["%d=%d" % pair for pair in sorted(costs.items())]
 
@@ -135,91 +127,75 @@ class Program:
         threads = self.data["runs"]["greedy"]["count"]
         return threads * self.curve(str(threads), "end")
 
-    def recorded(self):
-        """Starts and ends of the recorded run: from the table of times, or from the order of the log."""
-        base = os.path.splitext(self.path_of_text)[0]
-        if os.path.exists(base + ".times"):
-            unit = {"ns": 1, "us": 1000, "ms": 1000000}[re.search(r"unit (\w+)", self.text)[1]]
-            with open(base + ".times", encoding="utf-8") as file:
-                rows = table(file.read())
-            return {int(row["segment"]): (int(row["start_ns"]) / unit, int(row["end_ns"]) / unit, row["thread"])
-                    for row in rows}
-        with open(base + ".replay", encoding="utf-8") as file:
+    def waits(self):
+        """Of each segment what it has to wait for, by a run of all segments in their order."""
+        if "waits" not in self.kept:
+            events = "".join("start 0 %d finish 0 %d\n" % (s, s) for s in range(len(self.cost)))
+            self.kept["waits"] = recorded_waits(self.ask(["replay"], self.text + "\n---\n" + events))
+        return self.kept["waits"]
+
+    def edges_of_tasks(self, kind, a, b, of=None):
+        """Between two tasks, or between the tasks of two places: a task's first segment waits for its creation."""
+        of, count, seen = of or list(range(max(self.task_of) + 1)), 0, set()
+        for s, before in sorted(self.waits().items()):
+            is_first = self.task_of[s] not in seen
+            seen.add(self.task_of[s])
+            for p in before:
+                pair = (str(of[self.task_of[p]]), str(of[self.task_of[s]]))
+                own = "waits" if not is_first else "creates" if p == s - 1 else "depends"
+                count += self.task_of[p] != self.task_of[s] and (own, *pair) == (kind, a, b)
+        return count
+
+    def edges(self, kind, a, b):
+        return self.edges_of_tasks(kind, a, b, self.task_place_of)
+
+    def events(self):
+        with open(self.base + ".replay", encoding="utf-8") as file:
             document = file.read()
-        waits = [line.split()[1:] for line in self.ask(["replay"], document).split("\n") if line.startswith("preds")]
-        before, ends, free = {int(s): [int(p) for p in rest] for s, *rest in waits}, {}, {}
-        out = {}
-        for kind, worker, s in re.findall(r"(start|finish) (\d+) (\d+)", document.split("\n---\n")[1]):
+        return document, re.findall(r"(start|finish) (\d+) (\d+)", document.split("\n---\n")[1])
+
+    def by_clock(self):
+        unit = re.search(r"unit (?:(\d+) )?(\w+)", self.text)
+        scale = int(unit[1] or 1) * {"ns": 1, "us": 1000, "ms": 1000000}[unit[2]]
+        with open(self.base + ".times", encoding="utf-8") as file:
+            rows = table(file.read())
+        return [(int(row["start_ns"]) / scale, int(row["end_ns"]) / scale, row["thread"]) for row in rows]
+
+    def in_order(self):
+        """Each segment as early as its thread and what it waits for allow."""
+        document, events = self.events()
+        before, ends, free, out = recorded_waits(self.ask(["replay"], document)), {}, {}, []
+        for kind, worker, s in events:
             if kind == "start":
                 start = max([free.get(worker, 0)] + [ends[p] for p in before[int(s)]])
                 ends[int(s)] = free[worker] = start + self.cost[int(s)]
-                out[int(s)] = (start, free[worker], worker)
+                out.append((start, free[worker], worker))
         return out
 
+    def bars(self):
+        """Start, end and worker of each segment that ran, where there is a recorded run."""
+        if not os.path.exists(self.base + ".replay"):
+            return []
+        return self.by_clock() if os.path.exists(self.base + ".times") else self.in_order()
+
     def run(self, what):
-        bars = self.recorded().values()
+        bars = self.bars()
         end = max(end for _, end, _ in bars)
         return {"end": round(end), "busy": sum(end - start for start, end, _ in bars),
-                "time": end * (1 + max(int(worker) for _, _, worker in bars))}[what]
+                "time": end * self.threads()}[what]
 
     def term(self, words):
         name, *rest = words.split()
-        name = {"place": "place_", "task-place": "task_place_"}.get(name, name)
-        return getattr(self, name)(*rest)
+        return getattr(self, name.replace("-", "_"))(*rest)
 
     def value(self, source):
-        """Of `[percent] A [- B] [/ C]`, without `other`."""
+        """Of `[percent] A [+ B ..] [- B ..] [/ C]`."""
         is_percent = source.startswith("percent ")
         above, _, below = source.removeprefix("percent ").partition(" / ")
-        first, *others = above.split(" - ")
-        value = self.term(first) - sum(self.term(other) for other in others)
+        signed = re.split(r" ([+-]) ", "+ " + above)
+        first, rest = signed[0].removeprefix("+ "), zip(signed[1::2], signed[2::2])
+        value = self.term(first) + sum(self.term(other) * (1 if sign == "+" else -1) for sign, other in rest)
         if below:
             whole = self.term(below)
             value = value / whole if whole else 0.0 if is_percent else 1.0
         return 100 * value if is_percent else value
-
-
-def is_same(shown, expected):
-    """Whole numbers as they are, quotients to six digits."""
-    return shown == str(expected) if isinstance(expected, int) else shown == "%.6g" % expected
-
-
-def drawn_differences(program, name, run):
-    """Where the greedy run of the script's data is not that of the command."""
-    rows = table(program.answer("greedy", "--threads", str(run["count"])))
-    expected = [(int(row["start"]), int(row["thread"]) if row["thread"] else None) for row in rows]
-    drawn = list(zip(unpacked(run["starts"]), unpacked(run["lanes"])))
-    return [] if drawn == expected else ["%s: the greedy run that is drawn is another" % name]
-
-
-def differences(page, paths, ask):
-    """All numbers of the page that are not what they have to be, and how many there are."""
-    reader = Reader()
-    reader.feed(page)
-    data = json.loads(reader.data)["programs"]
-    programs = [Program(path, own, ask) for path, own in zip(paths, data)]
-    wrong = []
-    for source, shown in reader.figures:
-        is_other = source.removeprefix("percent ").startswith("other ")
-        expected = programs[is_other].value(source.replace("other ", "", 1) if is_other else source)
-        if not is_same(shown, expected):
-            wrong.append("%s: the page has %s, and not %s" % (source, shown, expected))
-    for program, own in zip(programs, data):
-        wrong += drawn_differences(program, own["name"], own["runs"]["greedy"])
-    return wrong, len(reader.figures)
-
-
-def main(paths):
-    here = os.path.dirname(os.path.abspath(__file__))
-    sys.path.insert(0, os.path.join(here, "..", "..", "plots"))
-    import program
-    with open(paths[0], encoding="utf-8") as file:
-        wrong, count = differences(file.read(), paths[1:], program.ask)
-    for line in wrong:
-        print(line)
-    print("%d numbers, %d wrong" % (count, len(wrong)))
-    sys.exit(bool(wrong))
-
-
-if __name__ == "__main__":
-    main(sys.argv[1:])

@@ -80,6 +80,7 @@ fn analysis_of(alloc: Global, program: &Program) -> Result<Analysis, AllocFault>
 fn analysed(alloc: Global, supply: &mut Supply, program: &Program) -> Result<Analysis, Fail>
     ensures { IfOk result (λ analysis. IsAnalysisOf program.now analysis) }
 {
+    supply.before_call();
     match analysis_of(alloc, program) {
         Ok(analysis) => Ok(analysis),
         Err(_) => {
@@ -109,6 +110,7 @@ fn write(
     requires { IsAnalysisOf program.now analysis.now }
 {
     let mut writer = empty_room();
+    supply.before_call();
     match write_certificate(alloc, program, analysis, &mut writer) {
         Ok(()) => assert_eq!(rt; writer.inner().taken(), CERTIFICATE.as_bytes()),
         Err(fault) => {
@@ -146,6 +148,7 @@ pub(super) fn checked<H: AllocGlobal + Threads + Abort + Sync>(
     let wrong = b"omptasks 1\nwork 5\n---\nend 5\nstart 0 0\nchain 0 0\n".as_slice();
     let step = Err(CheckFault::ChainStep { s: 0, t: 0 });
     for (document, wanted) in [(CERTIFICATE.as_bytes(), ACCEPTED), (wrong, step)] {
+        supply.before_call();
         let answer = match check(rt, alloc, document) {
             Err(CheckFault::OutOfMemory) => {
                 supply.refused();

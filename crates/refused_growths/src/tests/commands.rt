@@ -5,6 +5,8 @@ use super::texts::command_line;
 use counted_io::Counted;
 use spanprof_command::{Status, command};
 use std::alloc::AllocGlobal;
+use std::io;
+use std::io::Read;
 use std::process::Abort;
 use std::sync::Wait;
 use std::test::Fail;
@@ -89,13 +91,35 @@ fn example_of(command: Command) -> Example {
     }
 }
 
+/// Gives an input. Memory may be taken before the first read.
+#[derive(Drop)]
+struct Taking<'a> {
+    left: &'a [u8],
+    supply: &'a mut Supply,
+}
+
+impl Read for Taking<'_> {
+    fn read(&mut self, buffer: &mut [u8]) -> io::Result<usize> {
+        if !self.left.is_empty() {
+            self.supply.before_call();
+        }
+        let given = buffer.len().min(self.left.len());
+        buffer[..given].copy_from_slice(&self.left[..given]);
+        self.left = &self.left[given..];
+        Ok(given)
+    }
+}
+
 /// What a command answers and writes.
 fn answer_to<H: AllocGlobal + Threads + Wait + Abort + Sync>(
     rt: &H,
+    supply: &mut Supply,
     line: &[String],
     input: &str,
 ) -> (Status, Room) {
-    let mut reader = Counted::new(input.as_bytes());
+    supply.before_call();
+    let left = input.as_bytes();
+    let mut reader = Counted::new(Taking { left, supply });
     let mut writer = empty_room();
     let status = command(rt, line, &mut reader, &mut writer);
     (status, writer.into_inner())
@@ -109,7 +133,7 @@ pub(super) fn report<H: AllocGlobal + Threads + Wait + Abort + Sync>(
 ) -> Result<(), Fail> {
     let Example { words, input, text } = example_of(asked);
     let line = command_line(rt.alloc(), supply, words)?;
-    let (status, room) = answer_to(rt, line.as_slice(), input);
+    let (status, room) = answer_to(rt, supply, line.as_slice(), input);
     if status == Status::Done {
         assert!(rt; room.taken() == text.as_bytes(), "{text}");
         return Ok(());
@@ -120,7 +144,7 @@ pub(super) fn report<H: AllocGlobal + Threads + Wait + Abort + Sync>(
         room.taken() == b"error: out of memory\n".as_slice(),
         "{text}"
     );
-    let (status, room) = answer_to(rt, line.as_slice(), input);
+    let (status, room) = answer_to(rt, supply, line.as_slice(), input);
     assert!(rt; status == Status::Done, "{text}");
     assert!(rt; room.taken() == text.as_bytes(), "{text}");
     Ok(())

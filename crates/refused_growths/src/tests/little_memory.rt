@@ -1,6 +1,7 @@
 //! All growths are refused from one on, whichever it is.
+use super::Calls;
 use super::commands::Command;
-use super::{Calls, refuse_each};
+use super::turns::refuse_each;
 use std::test::Fail;
 
 #[test]

@@ -27,6 +27,7 @@ fn cut_program(alloc: Global, program: &Program) -> Result<SegTable, AllocFault>
 }
 
 fn cut_once_more(alloc: Global, supply: &mut Supply, program: &Program) -> Result<SegTable, Fail> {
+    supply.before_call();
     match cut_program(alloc, program) {
         Ok(table) => Ok(table),
         Err(_) => {
@@ -57,6 +58,7 @@ fn graph_in_order(alloc: Global, table: SegTable) -> Result<Graph, SegTable> {
 /// The worked program's graph. Where a growth is refused, the table comes back.
 pub(super) fn graph_of<H: AllocGlobal + Abort>(rt: &H, supply: &mut Supply) -> Result<Graph, Fail> {
     let table = table_of(rt, supply, WORKED)?;
+    supply.before_call();
     match graph_in_order(rt.alloc(), table) {
         Ok(graph) => Ok(graph),
         Err(table) => {
@@ -76,6 +78,7 @@ fn copy_of(table: &SegTable) -> Result<SegTable, AllocFault> {
 }
 
 fn copied(supply: &mut Supply, table: &SegTable) -> Result<SegTable, Fail> {
+    supply.before_call();
     match copy_of(table) {
         Ok(copy) => Ok(copy),
         Err(_) => {
@@ -112,6 +115,7 @@ fn kept_siblings(
     table: &SiblingTable,
     items: &[Item],
 ) -> Result<Vec<u32>, Fail> {
+    supply.before_call();
     match list_kept(table, items) {
         Ok(kept) => Ok(kept),
         Err(_) => {
@@ -135,6 +139,7 @@ fn generated(
 {
     let siblings = kept_siblings(supply, table, items)?;
     assert_eq!(rt; siblings.as_slice(), wanted, "before task {task}");
+    supply.before_call();
     let kept = match table.generate(task, items) {
         Ok(kept) => kept,
         Err(_) => {
@@ -149,6 +154,7 @@ fn generated(
 
 /// A refused sibling leaves the table as it was.
 pub(super) fn siblings<H: AllocGlobal + Abort>(rt: &H, supply: &mut Supply) -> Result<(), Fail> {
+    supply.before_call();
     let mut table = match SiblingTable::new(rt.alloc()) {
         Ok(table) => table,
         Err(_) => {
@@ -183,6 +189,7 @@ fn new_core(alloc: Global, table: SegTable) -> Result<Core<MixKernel>, SegTable>
 
 fn core_of<H: AllocGlobal + Abort>(rt: &H, supply: &mut Supply) -> Result<Core<MixKernel>, Fail> {
     let table = table_of(rt, supply, WORKED)?;
+    supply.before_call();
     match new_core(rt.alloc(), table) {
         Ok(core) => Ok(core),
         Err(table) => {
@@ -231,6 +238,7 @@ fn finished<H: Abort>(
     core: &mut Core<MixKernel>,
 ) -> Result<Vec<u32>, Fail> {
     let outcome = started(rt, core)?;
+    supply.before_call();
     match finish(core, outcome) {
         Ok(ready) => Ok(ready),
         Err(outcome) => {
@@ -243,6 +251,7 @@ fn finished<H: Abort>(
 
 /// The segments that are ready.
 fn ready_of(supply: &mut Supply, core: &Core<MixKernel>) -> Result<Vec<u32>, Fail> {
+    supply.before_call();
     match list_ready(core) {
         Ok(ready) => Ok(ready),
         Err(_) => {
@@ -287,6 +296,7 @@ fn assert_replayed<H: AllocGlobal + Abort>(rt: &H, supply: &mut Supply) -> Resul
         Event::Start { worker, segment },
         Event::Finish { worker, segment },
     ];
+    supply.before_call();
     let core = match replayed(rt.alloc(), table, &events) {
         Ok(core) => core,
         Err(table) => {

@@ -16,6 +16,7 @@ use worker_run::run::{digest, run};
 
 /// A lane with two thieves.
 pub(super) fn lane_of_two<H: AllocGlobal + Abort>(rt: &H, supply: &mut Supply) -> Result<(), Fail> {
+    supply.before_call();
     let (mut owner, mut thieves) = match lane(rt.alloc(), 3, 2) {
         Ok(ends) => ends,
         Err(_) => {
@@ -46,6 +47,7 @@ pub(super) fn recorded<H: AllocGlobal + Threads + Wait + Abort + Sync>(
     workers: u32,
 ) -> Result<(), Fail> {
     let table = table_of(rt, supply, WORKED)?;
+    supply.before_call();
     let made = match run_table(rt, table, workers) {
         Ok(made) => made,
         Err(fault) => {

@@ -21,6 +21,7 @@ fn analysed(alloc: Global, graph: &Graph) -> Result<Analysis, AllocFault> {
 /// The analysis of the worked program.
 fn analysis_of<H: AllocGlobal + Abort>(rt: &H, supply: &mut Supply) -> Result<Analysis, Fail> {
     let graph = graph_of(rt, supply)?;
+    supply.before_call();
     match analysed(rt.alloc(), &graph) {
         Ok(found) => Ok(found),
         Err(_) => {
@@ -49,6 +50,7 @@ fn run_of<H: AllocGlobal + Abort>(
     supply: &mut Supply,
     graph: &Graph,
 ) -> Result<GreedyRun, Fail> {
+    supply.before_call();
     match run_on_two(rt.alloc(), graph) {
         Ok(run) => Ok(run),
         Err(fault) => {
@@ -81,6 +83,7 @@ pub(super) fn ends<H: AllocGlobal + Threads + Abort + Sync>(
     supply: &mut Supply,
 ) -> Result<(), Fail> {
     let graph = graph_of(rt, supply)?;
+    supply.before_call();
     let ends = match ends_of(rt, rt.alloc(), &graph) {
         Ok(ends) => ends,
         Err(fault) => {
@@ -103,6 +106,7 @@ fn new_trial(alloc: Global, graph: Graph) -> Result<WhatIf, Graph> {
 
 fn trial_of<H: AllocGlobal + Abort>(rt: &H, supply: &mut Supply) -> Result<WhatIf, Fail> {
     let graph = graph_of(rt, supply)?;
+    supply.before_call();
     match new_trial(rt.alloc(), graph) {
         Ok(trial) => Ok(trial),
         Err(graph) => {
@@ -127,6 +131,7 @@ fn assert_sums(rt: &impl Abort, trial: &WhatIf, work: u64, span: u64) {
 
 /// A refused change leaves the trial as it was.
 fn assert_set(rt: &impl Abort, supply: &mut Supply, trial: &mut WhatIf) {
+    supply.before_call();
     let span = match set(trial, 2, 4) {
         Err(WhatFault::OutOfMemory) => {
             supply.refused();
@@ -141,6 +146,7 @@ fn assert_set(rt: &impl Abort, supply: &mut Supply, trial: &mut WhatIf) {
 
 /// So does a refused way back to the graph's own costs.
 fn assert_reset(rt: &impl Abort, supply: &mut Supply, trial: &mut WhatIf) {
+    supply.before_call();
     let span = match reset(trial) {
         Err(WhatFault::OutOfMemory) => {
             supply.refused();

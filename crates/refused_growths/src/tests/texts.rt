@@ -39,6 +39,7 @@ pub(super) fn program_of<H: AllocGlobal + Abort>(
     supply: &mut Supply,
     text: &[u8],
 ) -> Result<Program, Fail> {
+    supply.before_call();
     match read(rt.alloc(), text) {
         Ok(program) => Ok(program),
         Err(fault) => {
@@ -58,6 +59,7 @@ fn printed<H: AllocGlobal>(
     supply: &mut Supply,
     program: &Program,
 ) -> Result<Vec<u8>, Fail> {
+    supply.before_call();
     match print(rt.alloc(), program) {
         Ok(text) => Ok(text),
         Err(_) => {
@@ -68,6 +70,7 @@ fn printed<H: AllocGlobal>(
 }
 
 fn copied(supply: &mut Supply, items: &Items) -> Result<Items, Fail> {
+    supply.before_call();
     match items.copy() {
         Ok(copy) => Ok(copy),
         Err(_) => {
@@ -125,6 +128,7 @@ fn assert_looped<H: AllocGlobal + Abort>(rt: &H, supply: &mut Supply) -> Result<
 
 /// A fault is told.
 fn assert_unopened<H: AllocGlobal + Abort>(rt: &H, supply: &mut Supply) -> Result<(), Fail> {
+    supply.before_call();
     let mut fault = fault_of(rt.alloc(), UNOPENED)?;
     if fault.kind == ReadKind::OutOfMemory {
         supply.refused();
@@ -175,6 +179,7 @@ fn request<H: AllocGlobal>(
 ) -> Result<Result<Request, WordsFault>, Fail> {
     let alloc = rt.alloc();
     let list = command_line(alloc, supply, words)?;
+    supply.before_call();
     match request_of(alloc, list.as_slice()) {
         Err(WordsFault::OutOfMemory) => {
             supply.refused();
@@ -209,6 +214,7 @@ fn read_long(alloc: Global) -> (Result<Vec<u8>, InputFault>, u64) {
 
 /// An input is read to its end.
 pub(super) fn input<H: AllocGlobal + Abort>(rt: &H, supply: &mut Supply) -> Result<(), Fail> {
+    supply.before_call();
     let bytes = match read_long(rt.alloc()) {
         (Ok(bytes), _) => bytes,
         (Err(fault), faults) => {
@@ -231,6 +237,7 @@ fn table_text(alloc: Global) -> Result<Vec<u8>, AllocError> {
 /// Rows of a table. A refused call spends the table, so that it is made anew.
 pub(super) fn rows<H: AllocGlobal + Abort>(rt: &H, supply: &mut Supply) -> Result<(), Fail> {
     let alloc = rt.alloc();
+    supply.before_call();
     let text = match table_text(alloc) {
         Ok(text) => text,
         Err(_) => {

@@ -1,0 +1,92 @@
+"""What a case asks for, read from the comments at the head of its program, and what a run left of it.
+
+    // env: NAME=VALUE            a variable of the run
+    // status: N                  its exit status, 0 where none is named; negative for a signal
+    // old: FILE ..               files of an earlier run that lie there
+    // again: NAME=VALUE          a second run with this too; `advised NAME` takes the value that the first run advised
+    // says: PATTERN              on standard error of the first run
+    // text: PATTERN              in out.tasks; `no text:` nowhere in it
+    // file: NAME ..              which must lie there, or by `no file:` after the first run must not
+    // expect: WHAT OP NUMBER     work, span, tasks, parallelism of out.tasks, or `inout span` of out.inout.tasks
+"""
+import fnmatch
+import operator
+import re
+from collections import defaultdict
+from dataclasses import dataclass, field
+
+KEYS = ("env", "status", "old", "again", "says", "text", "no text", "file", "no file", "expect")
+COMPARE = {"<=": operator.le, ">=": operator.ge, "=": operator.eq}
+
+
+@dataclass
+class Left:
+    """What a run left: its status, its standard error, the files by name, and the numbers of spanprof."""
+    status: int
+    said: str
+    files: dict
+    numbers: dict = field(default_factory=dict)
+    refused: list = field(default_factory=list)  # runs that spanprof refuses, with why
+
+
+def wants(source):
+    """The lines of a program's head by their keys."""
+    out = defaultdict(list)
+    for line in source.split("\n"):
+        found = re.match(r"// (%s): (.*)" % "|".join(KEYS), line)
+        if found:
+            out[found[1]].append(found[2])
+        elif not line.startswith("//"):
+            break
+    return out
+
+
+def has_file(left, pattern):
+    return any(fnmatch.fnmatchcase(name, pattern) for name in left.files)
+
+
+def first_faults(wanted, left):
+    """What is wrong after the first run."""
+    status = int(wanted["status"][0]) if wanted["status"] else 0
+    if left.status != status:
+        yield "status %d, and not %d" % (left.status, status)
+    for pattern in wanted["says"]:
+        if not re.search(pattern, left.said):
+            yield "standard error has no /%s/" % pattern
+    for name in " ".join(wanted["no file"]).split():
+        if has_file(left, name):
+            yield "%s is there" % name
+
+
+def number_fault(words, numbers):
+    what, compare, number = words.rsplit(" ", 2)
+    if what not in numbers:
+        return "there is no %s" % what
+    if not COMPARE[compare](numbers[what], float(number)):
+        return "%s is %s, and not %s %s" % (what, numbers[what], compare, number)
+    return ""
+
+
+def last_faults(wanted, left):
+    """What is wrong with what the last run left."""
+    text = left.files.get("out.tasks", "")
+    for pattern in wanted["text"]:
+        if not re.search(pattern, text):
+            yield "out.tasks has no /%s/" % pattern
+    for pattern in wanted["no text"]:
+        if re.search(pattern, text):
+            yield "out.tasks has /%s/" % pattern
+    for name in " ".join(wanted["file"]).split():
+        if not has_file(left, name):
+            yield "%s is missing" % name
+    yield from filter(None, (number_fault(words, left.numbers) for words in wanted["expect"]))
+    yield from left.refused
+
+
+def second_setting(words, said):
+    """NAME and VALUE of the second run; nothing where none was advised."""
+    if not words.startswith("advised "):
+        return tuple(words.split("=", 1))
+    name = words[len("advised "):]
+    found = re.search(name + r"=(\d+)", said)
+    return (name, found[1]) if found else None

@@ -1,0 +1,101 @@
+#!/usr/bin/env python3
+"""Records the programs of this folder one by one: cases.py [NAME ..].
+
+What each must leave stands at its head (case.py). SPANPROF names the program, RECORDER the recorder's library, LLVM its
+version. Status 1: something was wrong.
+"""
+import glob
+import os
+import subprocess
+import sys
+import tempfile
+
+from case import Left, first_faults, last_faults, second_setting, wants
+
+HERE = os.path.dirname(os.path.abspath(__file__))
+TOP = os.path.dirname(os.path.dirname(HERE))
+SPANPROF = os.environ.get("SPANPROF", os.path.join(TOP, "crates/spanprof/out/spanprof"))
+RECORDER = os.path.abspath(os.environ.get("RECORDER", os.path.join(TOP, "tools/openmp_recorder/librecorder.so")))
+LLVM = os.environ.get("LLVM", "16")
+SECONDS = 120  # for one run
+
+
+def build(source, program):
+    library = "/usr/lib/llvm-%s/lib" % LLVM
+    subprocess.run(["clang-" + LLVM, "-O2", "-g", "-fopenmp", "-fopenmp-version=51", source, "-o", program,
+                    "-L" + library, "-Wl,-rpath," + library], check=True)
+
+
+def spanprof(command, text):
+    return subprocess.run([SPANPROF, command], input=text, capture_output=True, text=True)
+
+
+def numbers_of(files):
+    """Work, span and more of the texts, as spanprof tells them."""
+    out = {}
+    for name, prefix in (("out.tasks", ""), ("out.inout.tasks", "inout ")):
+        if name not in files:
+            continue
+        told = dict(line.split() for line in spanprof("span", files[name]).stdout.split("\n") if line)
+        out.update({prefix + what: int(number) for what, number in told.items()})
+        out[prefix + "tasks"] = sum(line.strip().startswith("task ") for line in files[name].split("\n"))
+        out[prefix + "parallelism"] = out[prefix + "work"] / max(out[prefix + "span"], 1)
+    return out
+
+
+def refused_runs(files):
+    for name, text in sorted(files.items()):
+        if name.endswith(".replay"):
+            done = spanprof("replay", text)
+            if done.returncode:
+                yield "%s: %s" % (name, done.stdout.strip() or done.stderr.strip())
+
+
+def run(program, folder, settings):
+    environment = dict(os.environ, OMP_NUM_THREADS="4", OMP_TOOL_LIBRARIES=RECORDER,
+                       SPANPROF_OUT=os.path.join(folder, "out"), **settings)
+    done = subprocess.run([program], env=environment, capture_output=True, text=True, timeout=SECONDS)
+    files = {}
+    for path in glob.glob(os.path.join(folder, "out*")):
+        with open(path, encoding="utf-8") as file:
+            files[os.path.basename(path)] = file.read()
+    return Left(done.returncode, done.stderr, files, numbers_of(files), list(refused_runs(files)))
+
+
+def faults_of(wanted, program, folder):
+    for name in " ".join(wanted["old"]).split():
+        with open(os.path.join(folder, name), "w", encoding="utf-8") as file:
+            file.write("of an earlier run\n")
+    settings = dict(words.split("=", 1) for words in wanted["env"])
+    left = run(program, folder, settings)
+    out = list(first_faults(wanted, left))
+    for words in wanted["again"]:
+        setting = second_setting(words, left.said)
+        if not setting:
+            return out + ["nothing is " + words]
+        left = run(program, folder, dict(settings, **dict([setting])))
+    return out + list(last_faults(wanted, left))
+
+
+def judge(source):
+    with open(source, encoding="utf-8") as file:
+        wanted = wants(file.read())
+    with tempfile.TemporaryDirectory() as folder:
+        program = os.path.join(folder, os.path.basename(source)[:-2])
+        build(source, program)
+        return faults_of(wanted, program, folder)
+
+
+def main(names):
+    sources = [os.path.join(HERE, name + ".c") for name in names] or sorted(glob.glob(os.path.join(HERE, "*.c")))
+    wrong = 0
+    for source in sources:
+        faults = judge(source)
+        print(os.path.basename(source)[:-2] + "".join("\n  " + fault for fault in faults), flush=True)
+        wrong += bool(faults)
+    print("%d of %d cases wrong" % (wrong, len(sources)))
+    return 1 if wrong else 0
+
+
+if __name__ == "__main__":
+    sys.exit(main(sys.argv[1:]))

@@ -1,0 +1,21 @@
+// 32 tasks of 1 ms and 1 ms in one critical section: waiting is no cost, and the lock is told.
+// env: SPANPROF_CLOCK=cpu
+// expect: work >= 64000000
+// expect: work <= 90000000
+// text: # lock critical at contended_lock.c:\d+: 32 times, (3[2-9]|4\d)\d{6} inside
+// text: # remark: time inside locks, which exclude each other, 32 times at contended_lock.c:\d+: span too low
+#include "spend.h"
+
+int main(void) {
+#pragma omp parallel
+#pragma omp single
+    for (int i = 0; i < 32; i++) {
+#pragma omp task
+        {
+            spend(1);
+#pragma omp critical
+            spend(1);
+        }
+    }
+    return 0;
+}

@@ -1,0 +1,17 @@
+// Tasks with dependences cannot be folded, and the message says so.
+// says: 5000 tasks, and spanprof takes 4096; parallelism is .* blocks larger; no fold fits, since tasks with depend are not
+// no file: out.tasks
+#include "spend.h"
+
+static char place[5000];
+
+int main(void) {
+    (void)place;
+#pragma omp parallel
+#pragma omp single
+    for (int i = 0; i < 5000; i++) {
+#pragma omp task depend(inout: place[i])
+        spend(0);
+    }
+    return 0;
+}

@@ -1,0 +1,54 @@
+import unittest
+
+from case import Left, first_faults, last_faults, second_setting, wants
+
+SOURCE = """\
+// A program.
+// env: A=1
+// says: not written
+// text: # remark: \\d+
+// file: out.tasks out.[0-9]*.tasks
+// no file: out.9.tasks
+// expect: work >= 10
+#include <omp.h>
+// text: of the program's own
+"""
+
+
+def left(**changes):
+    values = dict(status=0, said="it is not written", files={"out.tasks": "# remark: 3", "out.71.tasks": ""},
+                  numbers={"work": 10})
+    return Left(**dict(values, **changes))
+
+
+class Wanted(unittest.TestCase):
+    def setUp(self):
+        self.wanted = wants(SOURCE)
+
+    def faults(self, **changes):
+        return list(first_faults(self.wanted, left(**changes))) + list(last_faults(self.wanted, left(**changes)))
+
+    def test_only_the_head_asks(self):
+        self.assertEqual(self.wanted["text"], ["# remark: \\d+"])
+
+    def test_right(self):
+        self.assertEqual(self.faults(), [])
+
+    def test_each_wish(self):
+        self.assertIn("status", self.faults(status=1)[0])
+        self.assertIn("standard error", self.faults(said="")[0])
+        self.assertEqual(self.faults(files={"out.tasks": "# remark: 3"}), ["out.[0-9]*.tasks is missing"])
+        self.assertIn("has no", self.faults(files={"out.tasks": "", "out.1.tasks": ""})[0])
+        self.assertEqual(self.faults(files={"out.tasks": "# remark: 3", "out.9.tasks": ""}), ["out.9.tasks is there"])
+        self.assertEqual(self.faults(numbers={"work": 9}), ["work is 9, and not >= 10"])
+        self.assertEqual(self.faults(numbers={}), ["there is no work"])
+        self.assertEqual(self.faults(refused=["out.replay: NotReady"]), ["out.replay: NotReady"])
+
+    def test_the_second_run(self):
+        self.assertEqual(second_setting("A=5", ""), ("A", "5"))
+        self.assertEqual(second_setting("advised FOLD", "or record with FOLD=12 (3 tasks)"), ("FOLD", "12"))
+        self.assertIsNone(second_setting("advised FOLD", "nothing"))
+
+
+if __name__ == "__main__":
+    unittest.main()

@@ -1,0 +1,96 @@
+#!/usr/bin/env bash
+# Tries tools/spanprof-report: its unit tests; then for each example, each recorded text, a text at the limits and, where
+# clang-16 and LLVM's OpenMP runtime are there, each program of docs/TUNING.md recorded anew: the page is made, each of its
+# numbers is compared with spanprof's answers, and it is opened in Chromium: errors, sizes, looks in light, dark, narrow
+# and print, keys and mouse. Build spanprof first.
+#
+#     checks/page.sh [PROGRAM [FOLDER]]    another program than crates/spanprof/out/spanprof; where pages and pictures go
+set -euo pipefail
+cd "$(dirname "$0")/.."
+program=$(realpath "${1:-crates/spanprof/out/spanprof}")
+[ -x "$program" ] || { echo "no program $program"; exit 1; }
+export SPANPROF=$program
+if [ $# -gt 1 ]; then
+    folder=$(realpath -m "$2")
+    mkdir -p "$folder"
+else
+    folder=$(mktemp -d)
+    trap 'rm -rf "$folder"' EXIT
+fi
+llvm=/usr/lib/llvm-16/lib
+wrong=0
+fail() { echo "  $1"; wrong=$((wrong + 1)); }
+
+unit_tests() {
+    python3 -m unittest discover -s tools/report/tests -t tools || fail "unit tests of the page"
+    python3 -m unittest discover -s checks/page/tests -t checks/page || fail "unit tests of the client"
+    (cd tools && python3 -m report.tests.worked check) || fail "spanprof answers otherwise than the unit tests have it"
+}
+
+record() { # NAME CLOCK WORD ..: a program of examples/openmp, which `compile` has made
+    local name=$1 clock=$2
+    shift 2
+    SPANPROF_QUIET=1 OMP_TOOL_LIBRARIES=$PWD/tools/openmp_recorder/librecorder.so OMP_NUM_THREADS=4 SPANPROF_UNIT=us \
+        SPANPROF_CLOCK=$clock SPANPROF_OUT=$folder/$name-$clock "$folder/$name" "$@" > "$folder/said" 2>&1 ||
+        fail "$name cannot be recorded: $(tail -1 "$folder/said")"
+}
+
+record_all() { # the programs of docs/TUNING.md, by both clocks
+    make -s -C tools/openmp_recorder LLVM=16
+    while read -r name words; do
+        clang-16 -O2 -g -fopenmp "examples/openmp/$name.c" -o "$folder/$name" -lm -L$llvm -Wl,-rpath,$llvm
+        # shellcheck disable=SC2086
+        for clock in wall cpu; do record "$name" $clock $words; done
+    done <<'PROGRAMS'
+merge_sort
+merge_sort_split
+wavefront
+wavefront_overlapped
+fibonacci 27 16
+cholesky 4
+PROGRAMS
+}
+
+make_page() { # NAME OPTION ..: the page of a text of the folder, and its numbers; further texts by --with
+    local name=$1 other=()
+    shift
+    [ "${1:-}" = --with ] && other=("$2")
+    tools/spanprof-report "$folder/$name.tasks" -o "$folder/$name.html" --source examples/openmp "$@" ||
+        { fail "$name has no page"; return; }
+    (cd tools && python3 -m report.tests.compare "$folder/$name.html" "$folder/$name.tasks" "${other[@]}") \
+        > "$folder/compared" || { fail "$name:"; head -20 "$folder/compared"; }
+    echo "$name: $(tail -1 "$folder/compared"), $(wc -c < "$folder/$name.html") bytes"
+}
+
+unit_tests
+cp examples/*.tasks "$folder"
+for text in examples/openmp/recorded/*.tasks; do cp "$text" "$folder/kept_$(basename "$text")"; done
+checks/page/large_text.py "$folder"
+if command -v clang-16 > /dev/null && [ -e $llvm/libomp.so ]; then
+    record_all
+else
+    echo "skipped: no program is recorded (packages clang-16, libomp-16-dev)"
+fi
+
+names=()
+for text in "$folder"/*.tasks; do names+=("$(basename "$text" .tasks)"); done
+TIMEFORMAT="large: the page took %R seconds, %U of them of processor time"
+for name in "${names[@]}"; do
+    [ "$name" = large ] || make_page "$name"
+done
+time make_page large
+for pair in kept_merge_sort:kept_merge_sort_split kept_wavefront:kept_wavefront_overlapped \
+        merge_sort-wall:merge_sort_split-wall wavefront-cpu:wavefront_overlapped-cpu; do
+    first=${pair%:*} second=${pair#*:}
+    [ -e "$folder/$first.tasks" ] || continue
+    for ending in tasks replay times; do
+        [ ! -e "$folder/$first.$ending" ] || cp "$folder/$first.$ending" "$folder/${first}_and_other.$ending"
+    done
+    make_page "${first}_and_other" --with "$folder/$second.tasks"
+    names+=("${first}_and_other")
+done
+status=0
+checks/page/visit.py "$program" "$folder" "${names[@]}" || status=$?
+if [ $status = 2 ]; then echo "skipped: no page is opened"; elif [ $status != 0 ]; then fail "pages in the browser"; fi
+echo "$wrong wrong"
+[ "$wrong" -eq 0 ]

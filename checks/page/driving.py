@@ -1,0 +1,172 @@
+"""Zoom, movement, tooltips, tables, factors and colours of a page, by keys and mouse. Each trial yields faults."""
+import subprocess
+
+CTRL = 2    # the bit of the key in an event of the mouse
+
+
+def stretch(page):
+    """From and to of the first program's timelines."""
+    return page.evaluate("[stretches[0].from, stretches[0].to, stretches[0].whole]")
+
+
+def length(page):
+    start, end, _ = stretch(page)
+    return end - start
+
+
+def tip(page):
+    """The words of the tooltip that is shown."""
+    return page.evaluate("(t => t ? t.textContent : '')(document.querySelector('.tip.shown'))")
+
+
+def has_timeline(page):
+    return page.evaluate("!!document.querySelector('.lanes')")
+
+
+def keys_zoom_and_move(page):
+    page.evaluate("document.querySelector('.lanes').focus()")
+    whole = length(page)
+    page.key("+", "+")
+    zoomed = length(page)
+    if whole > 20 and not zoomed < whole:
+        yield "+ does not zoom"
+    start = stretch(page)[0]
+    page.key("ArrowRight")
+    if zoomed < whole and not stretch(page)[0] > start:
+        yield "the arrow to the right does not move"
+    page.key("0", "0")
+    if length(page) != whole:
+        yield "0 does not show all"
+
+
+def keys_go_from_segment_to_segment(page):
+    page.evaluate("document.querySelector('.lanes').focus()")
+    seen = []
+    for name in (".", ".", ",", "n", "ArrowDown", "ArrowUp"):
+        page.key(name, name if len(name) == 1 else None)
+        seen.append(tip(page))
+    if not all("segment" in words and "cost" in words and "slack" in words for words in seen):
+        yield "no tooltip after a key: %r" % seen
+    if "on the critical path" not in seen[3]:
+        yield "n does not go to the critical path: %r" % seen[3]
+    page.key("Escape")
+    if tip(page):
+        yield "Escape does not close the tooltip"
+
+
+def widest_bar(page, is_close=False):
+    """The middle of the widest bar of the first timeline, in the window; where it is wanted, from close by."""
+    return page.evaluate("""(() => {
+      const lanes = allLanes[0];
+      lanes.element.scrollIntoView({block: 'center'});
+      const box = lanes.element.getBoundingClientRect();
+      const all = lanes.rows.flatMap((row, i) => row.map(bar => ({...bar, i})));
+      const bar = all.reduce((a, b) => b.end - b.start > a.end - a.start ? b : a);
+      if (%s) lanes.stretch.show(2 * bar.start - bar.end, 3 * (bar.end - bar.start));
+      drawAll();
+      return {x: box.left + lanes.x((bar.start + bar.end) / 2), y: box.top + lanes.top(bar.i) + lanes.height / 2,
+              words: lanes.words([bar]), isThin: (bar.end - bar.start) * lanes.scale < 1};
+    })()""" % ("true" if is_close else "false"))
+
+
+def mouse_tells(page):
+    page.key("0", "0")
+    bar = widest_bar(page)
+    page.mouse("mouseMoved", bar["x"], bar["y"])
+    if bar["isThin"] and "segments, too thin to be told apart here" not in tip(page):
+        yield "the tooltip of bars thinner than a pixel says %r" % tip(page)
+    bar = widest_bar(page, is_close=True)
+    page.mouse("mouseMoved", bar["x"], bar["y"])
+    if tip(page) != bar["words"]:
+        yield "the tooltip says %r, and not %r" % (tip(page), bar["words"])
+    page.mouse("mouseMoved", 5, 5)
+    if tip(page):
+        yield "the tooltip stays"
+    page.key("0", "0")
+
+
+def mouse_zooms_and_moves(page):
+    bar = widest_bar(page)
+    whole = length(page)
+    page.mouse("mouseWheel", bar["x"], bar["y"], deltaX=0, deltaY=-100, modifiers=CTRL)
+    zoomed = length(page)
+    if whole > 20 and not zoomed < whole:
+        yield "Ctrl with the wheel does not zoom"
+    start = stretch(page)[0]
+    page.mouse("mousePressed", bar["x"], bar["y"], button="left", buttons=1, clickCount=1)
+    page.mouse("mouseMoved", bar["x"] - 60, bar["y"], button="left", buttons=1)
+    page.mouse("mouseReleased", bar["x"] - 60, bar["y"], button="left", clickCount=1)
+    if stretch(page)[1] < stretch(page)[2] and not stretch(page)[0] > start:
+        yield "dragging does not move"
+    for act, want in (("all", whole), ("in", None), ("out", whole)):
+        page.evaluate("document.querySelector('[data-act=%s]').click()" % act)
+        page.settled()
+        if want and abs(length(page) - want) > 1e-6 * want:
+            yield "the button %s does not show all" % act
+
+
+def tables_sort(page):
+    columns = page.evaluate("""[...document.querySelectorAll('table.sortable')].flatMap((table, t) =>
+      [...table.tHead.rows[0].cells].map((head, c) => {
+        head.querySelector('button').click();
+        const cells = [...table.tBodies[0].rows].map(row => row.cells[c].querySelector('data')?.value);
+        const numbers = cells.filter(value => value !== undefined).map(Number);
+        return [t, c, head.getAttribute('aria-sort'), numbers.every((v, i) => !i || numbers[i - 1] >= v)];
+      }))""")
+    for table, column, said, is_sorted in columns:
+        if said != "descending" or not is_sorted:
+            yield "column %d of table %d is not sorted: %s" % (column, table, said)
+
+
+def factors_give_a_line(page, text, program):
+    """The line for the first place at half its cost answers what stands in the table."""
+    row = page.evaluate("""(() => {
+      const box = document.querySelector('input.factor');
+      if (!box) return null;
+      const half = box.closest('tr').cells[2].querySelector('data').value;
+      box.value = '0.5';
+      box.dispatchEvent(new Event('input', {bubbles: true}));
+      return {half, short: document.getElementById('factors-line').textContent,
+              exact: document.getElementById('changes-line').textContent};
+    })()""")
+    if row is None:
+        return
+    if "--factor" not in row["short"]:
+        yield "no factor in %r" % row["short"]
+    words = row["exact"].partition(" <")[0].split()[1:]
+    with open(text, encoding="utf-8") as file:
+        told = subprocess.run([program, *words], stdin=file, capture_output=True, text=True).stdout
+    if "\nspan %s\n" % row["half"] not in told:
+        yield "the table has %s, and the line %r prints %r" % (row["half"], row["exact"][:60], told)
+
+
+def colours_change(page):
+    before = page.evaluate("getComputedStyle(document.body).backgroundColor")
+    page.evaluate("document.getElementById('theme').click()")
+    page.settled()
+    if page.evaluate("getComputedStyle(document.body).backgroundColor") == before:
+        yield "the button does not change light and dark"
+    page.evaluate("document.getElementById('theme').click()")
+
+
+def focus_goes_through(page):
+    """By Tab alone one comes to each kind of control."""
+    page.evaluate("document.activeElement.blur()")
+    seen = set()
+    for _ in range(page.evaluate("document.querySelectorAll('a, button, input, summary, [tabindex]').length") + 1):
+        page.key("Tab")
+        seen.add(page.evaluate("document.activeElement.className || document.activeElement.tagName"))
+        if {"skip", "lanes", "factor", "SUMMARY"} <= seen:
+            return
+    yield "Tab comes to %s alone" % sorted(seen)
+
+
+def drive(page, text, program):
+    """All trials. Those of the timelines are left out where nothing takes time."""
+    trials = [tables_sort, colours_change]
+    if has_timeline(page):
+        trials += [focus_goes_through, keys_zoom_and_move, keys_go_from_segment_to_segment, mouse_tells,
+                   mouse_zooms_and_moves]
+    for trial in trials:
+        yield from trial(page)
+    yield from factors_give_a_line(page, text, program)

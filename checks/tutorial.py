@@ -1,0 +1,87 @@
+#!/usr/bin/env python3
+"""Tries docs/TUNING.md letter by letter: all its commands, one after the other, in a fresh clone.
+
+    checks/tutorial.py [PROGRAM]
+A clone of what is committed, with a spanprof that is built already; clang-16 and LLVM's runtime are needed. Costs are
+measured anew, so of what a command prints only the words of the first line are compared; checks/documents.py compares
+all of it where the texts are kept. The clone must be as git left it afterwards, but for what git ignores.
+"""
+import os
+import re
+import shutil
+import subprocess
+import sys
+import tempfile
+
+sys.dont_write_bytecode = True
+
+from documents import TOP, commands
+
+MARK = "=== ended with"
+DOCUMENT = os.path.join("docs", "TUNING.md")
+
+
+def fresh_clone(program):
+    folder = os.path.join(tempfile.mkdtemp(), "spanprof")
+    subprocess.run(["git", "clone", "--quiet", TOP, folder], check=True)
+    out = os.path.join(folder, "crates", "spanprof", "out")
+    os.makedirs(out)
+    shutil.copy(program, os.path.join(out, "spanprof"))
+    return folder
+
+
+def run_all(pairs, folder):
+    """What each command printed on both streams, and its status. One shell runs them all."""
+    script = "".join("%s\nprintf '\\n%s %%d\\n' $?\n" % (command, MARK) for command, _ in pairs)
+    environment = {name: value for name, value in os.environ.items() if not name.startswith(("SPANPROF", "OMP_"))}
+    environment["PATH"] = "/usr/bin:" + environment["PATH"]  # Debian's python3 has matplotlib
+    done = subprocess.run(["bash", "-c", script], cwd=folder, env=environment, stdin=subprocess.DEVNULL, text=True,
+                          stdout=subprocess.PIPE, stderr=subprocess.STDOUT, check=False)
+    parts = re.split(r"\n%s (\d+)\n" % MARK, done.stdout)
+    return list(zip(parts[0::2], map(int, parts[1::2])))
+
+
+def words_of_first_line(text):
+    return re.sub(r"[0-9][0-9,.]*", "N", text.split("\n")[0])
+
+
+def fault(expected, printed, status):
+    """What is wrong with a command's end; a command that the document shows as refused has another status than 0."""
+    refused = "spanprof-record: nothing is recorded" in expected
+    if bool(status) != refused:
+        return "ends with %d:\n%s" % (status, printed)
+    wanted, got = words_of_first_line(expected), words_of_first_line(printed)
+    if re.search("[a-z]", wanted) and wanted != got:
+        return "begins with '%s', and not with '%s'" % (got, wanted)
+    return ""
+
+
+def left_behind(folder):
+    done = subprocess.run(["git", "status", "--short"], cwd=folder, capture_output=True, text=True, check=True)
+    return done.stdout.strip()
+
+
+def main():
+    program = os.path.abspath(sys.argv[1] if len(sys.argv) > 1 else TOP + "/crates/spanprof/out/spanprof")
+    if not os.access(program, os.X_OK):
+        sys.exit("no program " + program)
+    if not shutil.which("clang-16"):
+        print("skipped: clang-16 is missing (package clang-16)")
+        return
+    folder = fresh_clone(program)
+    pairs, wrong = list(commands(os.path.join(folder, DOCUMENT))), 0
+    ends = run_all(pairs, folder)
+    for (command, expected), (printed, status) in zip(pairs, ends):
+        told = fault(expected, printed, status)
+        wrong += bool(told)
+        print("%s: %s\n%s" % (DOCUMENT, command, told) if told else "right: " + command)
+    if len(ends) != len(pairs) or left_behind(folder):
+        wrong += 1
+        print("%d of %d commands ended; git finds %s" % (len(ends), len(pairs), left_behind(folder) or "nothing"))
+    shutil.rmtree(os.path.dirname(folder))
+    print("%d wrong" % wrong)
+    sys.exit(wrong > 0)
+
+
+if __name__ == "__main__":
+    main()

@@ -1,0 +1,15 @@
+pub mod Stays
+pub mod Last
+pub mod Greatest
+pub mod Held
+pub mod Taken
+pub mod Measured
+pub mod Tasks
+pub mod Earliest
+pub mod Later
+pub mod Children
+pub mod Began
+pub mod InGroups
+pub mod Whole
+pub mod Program
+pub mod Taking

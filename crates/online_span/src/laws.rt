@@ -1,0 +1,20 @@
+//! What holds of the span of every program.
+ghost use Rattle.std.specs.Prelude.{ℕ, ◌≡◌, List};
+ghost use Rattle.task_program.specs.Marks.{Mark};
+ghost use Rattle.task_program.specs.Nested.{IsNested};
+ghost use Rattle.task_segments.specs.Precedence.{MustPrecede};
+ghost use Rattle.task_segments.specs.Schedule.{IsSpan};
+ghost use Rattle.task_segments.specs.Table.{costs_of, table_of};
+ghost use Rattle.online_span.specs.Spans.{IsSpanOf};
+
+/// There is one span: what `Meter::span` tells of a program is what any other call finds as the
+/// greatest sum of a chain of its table, such as the analysis of its graph.
+pub fn one_span()
+    ensures { (body : List Mark) (span other : ℕ) → IsSpanOf body span
+        → IsSpan (costs_of (table_of body)) (MustPrecede (table_of body)) other → span ≡ other }
+{}
+
+/// Each list of nested marks has a span.
+pub fn some_span()
+    ensures { (body : List Mark) → IsNested body → (span : ℕ) × IsSpanOf body span }
+{}

@@ -1,0 +1,108 @@
+# Completion of spanprof and its tools, for bash. Where it is not installed: source tools/completion/spanprof.bash
+
+_spanprof_among() { # CURRENT WORD ..: those of the words that begin like the current one
+    local current=$1
+    shift
+    mapfile -t COMPREPLY < <(compgen -W "$*" -- "$current")
+}
+
+_spanprof_files() { # CURRENT [END]: folders, and files whose names end so
+    mapfile -t COMPREPLY < <((compgen -f -X "!*${2-}" -- "$1"; compgen -d -- "$1") | sort -u)
+    compopt -o filenames 2> /dev/null
+}
+
+_spanprof_folders() { # CURRENT
+    mapfile -t COMPREPLY < <(compgen -d -- "$1")
+    compopt -o filenames 2> /dev/null
+}
+
+_spanprof_options() { # WORD ..: the options that a command's --help lists
+    "$@" --help 2> /dev/null | grep -oE '^ +(-[a-z],? )?([A-Za-z.]+, )?--[a-z-]+' | grep -oE -e '--[a-z-]+'
+}
+
+_spanprof() {
+    local current=${COMP_WORDS[COMP_CWORD]} before=${COMP_WORDS[COMP_CWORD - 1]}
+    case $before in
+        '<' | '>') _spanprof_files "$current" ;;
+        spanprof | */spanprof)
+            _spanprof_among "$current" span show slack greedy curve whatif certify check run replay ;;
+        greedy) _spanprof_among "$current" --threads ;;
+        curve) _spanprof_among "$current" --upto ;;
+        run) _spanprof_among "$current" --workers ;;
+    esac
+}
+
+_spanprof_record_program() { # the place of the program among the words; none where the options have not ended
+    local i
+    for ((i = 1; i < COMP_CWORD; i++)); do
+        case ${COMP_WORDS[i]} in
+            --) echo $((i + 1)); return ;;
+            --open | -h | --help) ;;
+            -*) ((i++)) ;;
+            *) echo "$i"; return ;;
+        esac
+    done
+}
+
+_spanprof_record() {
+    local current=${COMP_WORDS[COMP_CWORD]} before=${COMP_WORDS[COMP_CWORD - 1]} program
+    program=$(_spanprof_record_program)
+    if [ -n "$program" ]; then
+        if declare -F _command_offset > /dev/null; then _command_offset "$program"
+        else _spanprof_files "$current"; fi
+        return
+    fi
+    case $before in
+        --unit) _spanprof_among "$current" ns us ms ;;
+        --clock) _spanprof_among "$current" wall cpu ;;
+        --html) _spanprof_files "$current" .html ;;
+        --out | --runtime) _spanprof_files "$current" ;;
+        --fold) _spanprof_among "$current" depth= cost= chunk=; compopt -o nospace 2> /dev/null ;;
+        --threads | --runs) ;;
+        *) case $current in
+            -*) _spanprof_among "$current" -- "$(_spanprof_options "${COMP_WORDS[0]}")" ;;
+            *) _spanprof_files "$current" ;;
+        esac ;;
+    esac
+}
+
+_spanprof_report() {
+    local current=${COMP_WORDS[COMP_CWORD]} before=${COMP_WORDS[COMP_CWORD - 1]}
+    case $before in
+        -o | --output) _spanprof_files "$current" .html ;;
+        --replay) _spanprof_files "$current" .replay ;;
+        --trace | --speedscope) _spanprof_files "$current" .json ;;
+        --source) _spanprof_folders "$current" ;;
+        --threads | --factor) ;;
+        *) case $current in
+            -*) _spanprof_among "$current" "$(_spanprof_options "${COMP_WORDS[0]}")" ;;
+            *) _spanprof_files "$current" .tasks ;;
+        esac ;;
+    esac
+}
+
+_spanprof_conformance() {
+    local current=${COMP_WORDS[COMP_CWORD]} before=${COMP_WORDS[COMP_CWORD - 1]}
+    if [ "$COMP_CWORD" = 1 ]; then
+        _spanprof_among "$current" "$(_spanprof_commands "${COMP_WORDS[0]}")"
+        return
+    fi
+    case $before in
+        --cc) mapfile -t COMPREPLY < <(compgen -c -- "$current" | grep -E '^(gcc|clang|cc|icx)' | sort -u) ;;
+        --tasks) _spanprof_among "$current" tied untied mixed ;;
+        --settings) _spanprof_among "$current" free priorities pinned active passive ;;
+        *) case $current in
+            -*) _spanprof_among "$current" "$(_spanprof_options "${COMP_WORDS[@]:0:2}")" ;;
+            *) _spanprof_files "$current" ;;
+        esac ;;
+    esac
+}
+
+_spanprof_commands() { # WORD: the commands that its --help lists
+    "$1" --help 2> /dev/null | sed -n 's/^ *{\(.*\)}.*/\1/p' | head -1 | tr ',' ' '
+}
+
+complete -F _spanprof spanprof
+complete -F _spanprof_record spanprof-record
+complete -F _spanprof_report spanprof-report
+complete -F _spanprof_conformance spanprof-conformance

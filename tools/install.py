@@ -1,0 +1,115 @@
+#!/usr/bin/env python3
+"""Puts spanprof and its tools below a prefix, or takes them away; the Makefile calls it.
+
+    install.py install|uninstall DESTDIR PREFIX
+A list of what was put there stands in PREFIX/share/spanprof, and only what it names is taken away.
+"""
+import glob
+import os
+import shutil
+import sys
+
+TOOLS = os.path.dirname(os.path.abspath(__file__))
+SPANPROF = os.path.join(TOOLS, "..", "crates", "spanprof", "out", "spanprof")
+LIST = os.path.join("share", "spanprof", "installed")
+COMMANDS = ("spanprof-record", "spanprof-report", "spanprof-conformance")
+SHARED = ("*.py", "record/*.py", "report/*.py", "report/template/*", "plots/*.py", "conformance/*.py",
+          "conformance/*/*.py", "conformance/directed/*.tasks", "conformance/harness/*", "conformance/mutants/*")
+LEFT_OUT = ("install.py", "/tests/")
+
+
+def shared_files():
+    """What the commands need, as paths below tools/."""
+    found = sorted({path for pattern in SHARED for path in glob.glob(pattern, root_dir=TOOLS)})
+    return [path for path in found if os.path.isfile(os.path.join(TOOLS, path))
+            and not any(part in "/" + path for part in LEFT_OUT)]
+
+
+def plan(spanprof=SPANPROF):
+    """Where each file goes: pairs of a file and its path below the prefix."""
+    pairs = [(spanprof, "bin/spanprof")]
+    pairs += [(os.path.join(TOOLS, name), "bin/" + name) for name in COMMANDS]
+    pairs += [(os.path.join(TOOLS, "openmp_recorder", "librecorder.so"), "lib/spanprof/librecorder.so")]
+    pairs += [(os.path.join(TOOLS, path), "share/spanprof/" + path) for path in shared_files()]
+    for name in ("spanprof",) + COMMANDS:
+        pairs += [(os.path.join(TOOLS, "man", name + ".1"), "share/man/man1/%s.1" % name),
+                  (os.path.join(TOOLS, "completion", "spanprof.bash"), "share/bash-completion/completions/" + name)]
+    return pairs + [(os.path.join(TOOLS, "completion", "_spanprof"), "share/zsh/site-functions/_spanprof")]
+
+
+def mode(path):
+    return 0o755 if path.startswith("bin/") else 0o644
+
+
+def make_folders(root, path, made):
+    """Makes the folders that are missing above a file, and notes them."""
+    missing, folder = [], os.path.dirname(path)
+    while folder and not os.path.isdir(os.path.join(root, folder)):
+        missing.append(folder)
+        folder = os.path.dirname(folder)
+    for folder in reversed(missing):
+        os.mkdir(os.path.join(root, folder), 0o755)
+        made.append(folder + "/")
+
+
+def install(root, pairs):
+    for source, path in pairs:
+        if not os.path.isfile(source):
+            shown = os.path.relpath(source, os.path.join(TOOLS, ".."))
+            sys.exit("install: %s: no such %s" % (shown, "program; README.md tells how spanprof is built"
+                                                  if path == "bin/spanprof" else "file"))
+    uninstall(root)
+    made = [] if os.path.isdir(root) else ["./"]
+    os.makedirs(root, exist_ok=True)
+    places = [path for _, path in pairs] + [LIST]
+    for path in places:
+        make_folders(root, path, made)
+    with open(os.path.join(root, LIST), "w", encoding="utf-8") as file:
+        file.write("\n".join(made + places) + "\n")
+    for source, path in pairs:
+        shutil.copyfile(source, os.path.join(root, path))
+        os.chmod(os.path.join(root, path), mode(path))
+    print("%d files below %s" % (len(pairs) + 1, root))
+
+
+def uninstall(root):
+    """Takes away the listed files, and the folders that were made for them where nothing else is in them."""
+    try:
+        with open(os.path.join(root, LIST), encoding="utf-8") as file:
+            listed = file.read().split("\n")[:-1]
+    except FileNotFoundError:
+        return 0
+    files = [path for path in listed if not path.endswith("/")]
+    for path in files:
+        if os.path.lexists(os.path.join(root, path)):
+            os.remove(os.path.join(root, path))
+    for folder in reversed([path for path in listed if path.endswith("/")]):
+        remove_if_empty(os.path.normpath(os.path.join(root, folder)))
+    return len(files)
+
+
+def remove_if_empty(folder):
+    try:
+        os.rmdir(folder)
+    except OSError:
+        pass  # somebody else's file is in it
+
+
+def main():
+    if len(sys.argv) != 4 or sys.argv[1] not in ("install", "uninstall"):
+        sys.exit(__doc__)
+    command, destination, prefix = sys.argv[1:]
+    if not os.path.isabs(prefix):
+        sys.exit("install: PREFIX is a whole path, such as /usr/local, and not '%s'" % prefix)
+    root = destination + os.path.normpath(prefix)
+    try:
+        if command == "install":
+            install(root, plan(os.environ.get("SPANPROF") or SPANPROF))
+        else:
+            print("%d files taken from %s" % (uninstall(root), root))
+    except OSError as wrong:
+        sys.exit("install: %s: %s" % (wrong.filename, wrong.strerror))
+
+
+if __name__ == "__main__":
+    main()

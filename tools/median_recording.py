@@ -1,0 +1,150 @@
+#!/usr/bin/env python3
+"""Costs that stand still: one text of several recordings that have the same shape.
+
+    median_recording.py OUT.tasks FIRST.tasks SECOND.tasks ..
+
+Each cost is the median of that cost in all of them, and so is each time of the head; lines and places are the first
+one's. Status 1: the shapes differ, and the first line that does is told. Status 2: a file is no recorded text.
+"""
+import re
+import statistics
+import sys
+from dataclasses import dataclass, field
+
+HEADER = "omptasks 1"
+TIMES = ("elapsed", "outside regions", "in other regions", "in parts without tasks", "in tasks")
+
+
+@dataclass
+class Recording:
+    """The head's lines, and the lines of the program with the cost that stands before each."""
+    name: str
+    head: list
+    lines: list = field(default_factory=list)    # other than `work`
+    numbers: list = field(default_factory=list)  # of these lines in the file
+    costs: list = field(default_factory=list)    # one more than lines
+    notes: list = field(default_factory=list)    # comments of the costs
+
+
+class Unreadable(Exception):
+    """A file is no text that the recorder wrote."""
+
+
+def words_of(line):
+    return line.partition("#")[0].strip()
+
+
+def read(name, text):
+    lines = text.split("\n")
+    first = next((i for i, line in enumerate(lines) if words_of(line)), len(lines))
+    if first == len(lines) or words_of(lines[first]) != HEADER:
+        raise Unreadable("%s: no recorded text, since no line %s begins it" % (name, HEADER))
+    out = Recording(name, lines[:first])
+    cost, note = 0, ""
+    for number, line in enumerate(lines[first:] + ["}"], first + 1):  # the last one ends the last cost
+        words = words_of(line)
+        work = re.fullmatch(r"work (\d+)", words)
+        if work:
+            cost, note = cost + int(work[1]), line.partition("#")[2].strip()
+        elif words:
+            out.lines.append(line)
+            out.numbers.append(number)
+            out.costs.append(cost)
+            out.notes.append(note)
+            cost, note = 0, ""
+    out.lines.pop()
+    return out
+
+
+def difference(first, other):
+    """The first line in which two shapes differ; nothing where they do not."""
+    for i, (one, two) in enumerate(zip(first.lines, other.lines)):
+        if words_of(one) != words_of(two):
+            return "%s:%d has `%s`, and %s:%d has `%s`" % (first.name, first.numbers[i], words_of(one), other.name,
+                                                           other.numbers[i], words_of(two))
+    if len(first.lines) != len(other.lines):
+        longer, shorter = (first, other) if len(first.lines) > len(other.lines) else (other, first)
+        i = len(shorter.lines)
+        return "%s:%d has `%s`, and %s ends before" % (longer.name, longer.numbers[i], words_of(longer.lines[i]),
+                                                       shorter.name)
+    return ""
+
+
+def median(numbers):
+    return int(statistics.median_low(numbers))
+
+
+def time_of(line):
+    """The name and number of a line of the head that tells a time."""
+    found = re.match(r"# ([a-z ]+): (\d+)$", line)
+    return (found[1], int(found[2])) if found and found[1] in TIMES else None
+
+
+def head_of(recordings):
+    out, times = [], {}
+    for one in recordings:
+        for name, number in filter(None, map(time_of, one.head)):
+            times.setdefault(name, []).append(number)
+    remarks = dict.fromkeys(line for one in recordings for line in one.head if line.startswith("# remark: "))
+    for line in recordings[0].head:
+        time = time_of(line)
+        if time:
+            out.append("# %s: %d" % (time[0], median(times[time[0]])))
+        elif not line.startswith("# remark: "):
+            out.append(line)
+    told = "# remark: each cost is the median of %d recordings: work and span are of no single run" % len(recordings)
+    return out + list(remarks) + [told]
+
+
+def depth_change(line):
+    words = words_of(line)
+    return words.endswith("{") - (words == "}")
+
+
+def text_of(recordings):
+    """The text with the median costs."""
+    first, depth = recordings[0], 0
+    out = head_of(recordings)
+    for i in range(len(first.costs)):
+        cost = median([one.costs[i] for one in recordings])
+        note = "  # " + first.notes[i] if first.notes[i] else ""
+        if cost or note:
+            out.append("%swork %d%s" % ("  " * depth, cost, note))
+        if i < len(first.lines):
+            out.append(first.lines[i])
+            depth += depth_change(first.lines[i])
+    return "\n".join(out) + "\n"
+
+
+def combine(recordings):
+    """The text of several recordings, or in what their shapes differ."""
+    for other in recordings[1:]:
+        told = difference(recordings[0], other)
+        if told:
+            return "", told
+    return text_of(recordings), ""
+
+
+def main(words):
+    if len(words) < 2 or words[0].startswith("-"):
+        print(__doc__, file=sys.stderr)
+        return 2
+    try:
+        recordings = []
+        for name in words[1:]:
+            with open(name, encoding="utf-8") as file:
+                recordings.append(read(name, file.read()))
+        text, told = combine(recordings)
+        if told:
+            print("the shapes differ: " + told, file=sys.stderr)
+            return 1
+        with open(words[0], "w", encoding="utf-8") as file:
+            file.write(text)
+    except (OSError, UnicodeDecodeError, Unreadable) as fault:
+        print("median_recording.py: %s" % fault, file=sys.stderr)
+        return 2
+    return 0
+
+
+if __name__ == "__main__":
+    sys.exit(main(sys.argv[1:]))

@@ -1,0 +1,123 @@
+#include "advice.hpp"
+
+#include <algorithm>
+#include <cmath>
+#include <cstdio>
+
+#include "fold.hpp"
+#include "span.hpp"
+
+namespace {
+struct Offer {
+  std::string setting;
+  uint64_t tasks;  // that it leaves
+  int64_t span;
+};
+
+class Adviser {
+ public:
+  Adviser(Region &of, int64_t chosen) : region(of), unit(chosen), whole(fold(of, {})) {}
+  std::vector<Offer> offers();
+  const Size &size() const { return whole; }
+
+ private:
+  Region &region;
+  int64_t unit;
+  Size whole;
+
+  bool fits(const Folds &folds) { return over_the_limits(fold(region, folds, most_tasks), unit).empty(); }
+  void offer(std::vector<Offer> &out, const Folds &folds, const std::string &setting);
+  Folds by_depth();
+  Folds by_chunk();
+  Folds by_cost();
+};
+
+void Adviser::offer(std::vector<Offer> &out, const Folds &folds, const std::string &setting) {
+  Size left = fold(region, folds);
+  out.push_back({setting, left.tasks, span_of(region)});
+}
+
+// The deepest one that fits; depth 0 where none does.
+Folds Adviser::by_depth() {
+  if (!fits({1, 0, 0})) return {};
+  uint64_t depth = 1, too_deep = most_blocks;  // what lies deeper than that many blocks never fits
+  while (too_deep - depth > 1) {
+    uint64_t middle = (depth + too_deep) / 2;
+    (fits({middle, 0, 0}) ? depth : too_deep) = middle;
+  }
+  return {depth, 0, 0};
+}
+
+// A small one that fits: more tasks in a row than the limit allows need that many in each chunk at least.
+Folds Adviser::by_chunk() {
+  uint64_t chunk = std::max<uint64_t>(2, (whole.tasks + most_tasks - 1) / most_tasks);
+  for (; chunk < 2 * whole.tasks; chunk += 1 + chunk / 8)
+    if (fits({0, 0, chunk})) return {0, 0, chunk};
+  return {};
+}
+
+int64_t in_two_digits(int64_t number) {
+  int64_t digit = 1;
+  while (number / digit >= 100) digit *= 10;
+  return (number + digit - 1) / digit * digit;
+}
+
+// Costs are measured anew by each run, so the threshold lies in the widest gap of them that leaves an eighth to three
+// quarters of the tasks that the limit allows.
+int64_t cost_in_a_gap(std::vector<int64_t> &costs) {
+  constexpr size_t fewest = most_tasks / 8, most = most_tasks * 3 / 4;
+  std::partial_sort(costs.begin(), costs.begin() + most + 1, costs.end(), std::greater<>());
+  auto gap = [&](size_t stay) { return static_cast<double>(costs[stay - 1] + 1) / static_cast<double>(costs[stay] + 1); };
+  size_t best = most_tasks / 2;
+  for (size_t stay = fewest; stay <= most; stay++)
+    if (gap(stay) > 1.5 && gap(stay) > gap(best)) best = stay;
+  return static_cast<int64_t>(static_cast<double>(costs[best] + 1) * std::sqrt(gap(best)));
+}
+
+Folds Adviser::by_cost() {
+  std::vector<int64_t> costs;
+  for (const Task &t : region.tasks)
+    if (t.parent && !t.part) costs.push_back(t.total);
+  if (costs.size() <= most_tasks) return {};
+  for (int64_t units = cost_in_a_gap(costs) / unit + 1; units <= 2 * (whole.total / unit + 1); units += 1 + units / 4) {
+    Folds folds{0, in_two_digits(units) * unit, 0};
+    if (fits(folds)) return folds;
+  }
+  return {};
+}
+
+std::vector<Offer> Adviser::offers() {
+  std::vector<Offer> out;
+  if (Folds folds = by_depth(); folds.depth) offer(out, folds, "SPANPROF_FOLD_DEPTH=" + std::to_string(folds.depth));
+  if (Folds folds = by_chunk(); folds.chunk) offer(out, folds, "SPANPROF_FOLD_CHUNK=" + std::to_string(folds.chunk));
+  if (Folds folds = by_cost(); folds.below)
+    offer(out, folds, "SPANPROF_FOLD_COST=" + std::to_string(folds.below / unit));
+  std::stable_sort(out.begin(), out.end(), [](auto &a, auto &b) { return a.span < b.span; });
+  // What leaves less than half of the best one's parallelism is no advice.
+  while (out.size() > 1 && out.back().span / 2 > out.front().span) out.pop_back();
+  return out;
+}
+}  // namespace
+
+std::string parallelism(int64_t work, int64_t span) {
+  char text[32];
+  snprintf(text, sizeof text, "%.1f", span ? static_cast<double>(work) / static_cast<double>(span) : 1.0);
+  return text;
+}
+
+std::string advice_for(Region &region, int64_t unit) {
+  Adviser adviser(region, unit);
+  const Size &whole = adviser.size();
+  if (whole.items > most_items) return "give each task fewer depend items";
+  Size one_piece;
+  one_piece.largest = whole.largest;
+  one_piece.total = whole.total;
+  if (!over_the_limits(one_piece, unit).empty()) return "choose a larger SPANPROF_UNIT";
+  std::string out = "parallelism is " + parallelism(whole.total, region.span) + "; make the program's own cutoff or blocks larger";
+  std::vector<Offer> offers = adviser.offers();
+  if (offers.empty()) return out + "; no fold fits, since tasks with depend are not folded";
+  for (const Offer &one : offers)
+    out += ", or record with " + one.setting + " (" + std::to_string(one.tasks) + " tasks left, parallelism " +
+           parallelism(whole.total, one.span) + ")";
+  return out;
+}

@@ -1,0 +1,98 @@
+#include "made.hpp"
+
+#include <utility>
+
+#include "../compose.hpp"
+#include "../events.hpp"
+#include "../fold.hpp"
+#include "check.hpp"
+
+Made::Made(unsigned threads) : count(threads) {
+  for (unsigned i = 0; i < threads; i++) logs.push_back(std::make_unique<Log>(i));
+  logs[0]->regions.push_back({1, true, time, 0});
+  add(0, Told::ParallelBegin, 0, 1);
+  begin_threads();
+}
+
+Made &Made::after(int64_t nanoseconds) {
+  time += nanoseconds;
+  return *this;
+}
+
+Made &Made::stood_still(uint32_t nanoseconds) {
+  still = nanoseconds;
+  return *this;
+}
+
+Made &Made::add(unsigned thread, Told told, uint32_t task, uint32_t other, unsigned detail, uint64_t code) {
+  Record record{};
+  record.at = time;
+  record.order = order++;
+  record.stood_still = std::exchange(still, 0);
+  record.task = task;
+  record.other = other;
+  record.code = code;
+  record.kind = static_cast<uint8_t>(told);
+  record.detail = detail;
+  logs[thread]->records.push(record);
+  return *this;
+}
+
+Made &Made::begin_threads() {
+  for (unsigned i = 0; i < count; i++) add(i, Told::ImplicitBegin, 1 + i, 1, 0, count);
+  return *this;
+}
+
+Made &Made::create(unsigned thread, uint32_t task, uint32_t child, unsigned details, uint64_t place) {
+  return add(thread, Told::Create, task, child, details, place);
+}
+
+Made &Made::depend(unsigned thread, uint32_t task, const std::vector<DependItem> &items) {
+  Log &log = *logs[thread];
+  add(thread, Told::Dependences, task, static_cast<uint32_t>(log.items.size()), 0, items.size());
+  for (const DependItem &one : items) log.items.push(one);
+  return *this;
+}
+
+Made &Made::go(unsigned thread, uint32_t from, uint32_t to, ompt_task_status_t why) {
+  return add(thread, Told::Schedule, from, to, why);
+}
+
+Made &Made::run(unsigned thread, uint32_t from, uint32_t task, int64_t nanoseconds) {
+  return go(thread, from, task).after(nanoseconds).go(thread, task, from, ompt_task_complete);
+}
+
+Made &Made::sync(unsigned thread, uint32_t task, ompt_sync_region_t kind) {
+  return add(thread, Told::SyncBegin, task, 0, kind).add(thread, Told::SyncEnd, task, 0, kind);
+}
+
+Made &Made::barrier(unsigned thread, uint32_t task) {
+  return add(thread, Told::SyncBegin, task, 0, ompt_sync_region_barrier_implicit_parallel);
+}
+
+Run Made::read(const Ending &ending) {
+  if (!ending.wall) logs[0]->regions[0].end = time;
+  std::vector<const Log *> all;
+  for (auto &log : logs) all.push_back(log.get());
+  return read_run(all, ending);
+}
+
+DependItem item(ompt_dependence_type_t type, uint64_t address) { return {address, static_cast<uint64_t>(type)}; }
+
+Region &only_region(Run &run) {
+  Region &region = *run.regions.begin()->second;
+  EXPECT(compose(region), true);
+  add_up(region);
+  fold(region, {});
+  return region;
+}
+
+std::string text_of(Region &region, const Style &style) {
+  std::string words = program_text(region, style, Places()).words;
+  return words.substr(words.find('\n') + 1);
+}
+
+std::string events_of(Region &region) {
+  text_of(region);
+  return event_lines(region).words;
+}

@@ -1,0 +1,37 @@
+// Made-up records of a run, as the runtime's calls would leave them.
+#pragma once
+#include <omp-tools.h>
+
+#include <memory>
+#include <string>
+#include <vector>
+
+#include "../run.hpp"
+#include "../text.hpp"
+
+class Made {
+ public:
+  explicit Made(unsigned threads = 1);  // of region 1, whose implicit tasks have the numbers 1 and on
+  Made &after(int64_t nanoseconds);     // the next records are so much later
+  Made &stood_still(uint32_t nanoseconds);  // of them the next record's thread was in the recorder
+  Made &add(unsigned thread, Told told, uint32_t task, uint32_t other = 0, unsigned detail = 0, uint64_t code = 0);
+  Made &begin_threads();
+  Made &create(unsigned thread, uint32_t task, uint32_t child, unsigned details = 0, uint64_t place = 100);
+  Made &depend(unsigned thread, uint32_t task, const std::vector<DependItem> &items);  // task 0: of a wait
+  Made &go(unsigned thread, uint32_t from, uint32_t to, ompt_task_status_t why = ompt_task_switch);
+  Made &run(unsigned thread, uint32_t from, uint32_t task, int64_t nanoseconds);  // begins, costs so much, and ends
+  Made &sync(unsigned thread, uint32_t task, ompt_sync_region_t kind);            // begins and ends at once
+  Made &barrier(unsigned thread, uint32_t task);                                  // begins
+  Run read(const Ending &ending = {});
+
+ private:
+  std::vector<std::unique_ptr<Log>> logs;
+  unsigned count;
+  uint32_t order = 0, still = 0;
+  int64_t time = 1000;
+};
+
+DependItem item(ompt_dependence_type_t type, uint64_t address);
+Region &only_region(Run &run);                                       // composed and added up, without folds
+std::string text_of(Region &region, const Style &style = {});        // without its first line
+std::string events_of(Region &region);                               // after its text

@@ -1,0 +1,110 @@
+// Heads, remarks, names, files.
+#include "../events.hpp"
+#include "../files.hpp"
+#include "../fold.hpp"
+#include "../head.hpp"
+#include "../merge.hpp"
+#include "check.hpp"
+#include "made.hpp"
+
+namespace {
+Run two_tasks() {
+  return Made(2).after(1499).create(0, 1, 3).barrier(0, 1).barrier(1, 2).go(1, 2, 3).after(2500)
+      .go(1, 3, 2, ompt_task_complete).read();
+}
+}  // namespace
+
+TEST(costs_are_in_the_unit_and_rounded) {
+  Run run = two_tasks();
+  Region &region = only_region(run);
+  EXPECT(text_of(region, {1000, false}), "work 1\ntask {\n  work 3\n}\n");
+  EXPECT(program_text(region, {1000, false}, Places()).work, 4);
+}
+
+TEST(times_of_segments_are_since_the_region_began) {
+  Run run = two_tasks();
+  Region &region = only_region(run);
+  text_of(region);
+  Events events = event_lines(region);
+  EXPECT(events.times, "segment,thread,start_ns,end_ns\n0,0,0,1499\n2,0,1499,1499\n1,1,1499,3999\n");
+  EXPECT(events.whole, true);
+  EXPECT(events.workers, 2u);
+}
+
+TEST(a_run_that_is_not_whole_says_so) {
+  Run run = Made().create(0, 1, 2).barrier(0, 1).read();
+  Region &region = only_region(run);
+  text_of(region);
+  EXPECT(event_lines(region).whole, false);
+}
+
+TEST(the_head_tells_the_recording) {
+  Run run = two_tasks();
+  Region &region = only_region(run);
+  region.place = 2;
+  region.locks[7] = {ompt_mutex_critical, nullptr, 3, 400, 90};
+  region.remarks[Remark::Detach].add(nullptr);
+  Options options;
+  options.unit_name = "ns";
+  Recording recording{"sort", "2026-11-24T00:10:02Z", 5, {100, 9000}};
+  std::string head = head_of(region, recording, options, Places());
+  EXPECT(head, "# recorded: from sort, 2026-11-24T00:10:02Z, threads 2, clock wall, unit ns\n# region: 2 of 5\n"
+               "# elapsed: 3999\n# outside regions: 100\n# in other regions: 5001\n# in parts without tasks: 1499\n"
+               "# in tasks: 3999\n# lock critical: 3 times, 400 inside, 90 waiting\n"
+               "# remark: detach, written as complete where the code ends, 1 time: span too low\n"
+               "# remark: parts without tasks, left out, 1 time: work and span too low\n");
+}
+
+TEST(locks_that_take_a_hundredth_are_remarked) {
+  Run run = two_tasks();
+  Region &region = only_region(run);
+  region.locks[7] = {ompt_mutex_critical, nullptr, 3, 30, 90};
+  remark_locks(region);
+  EXPECT(region.remarks.count(Remark::HeldLock), 0u);
+  region.locks[8] = {ompt_mutex_lock, nullptr, 1, 30, 90};
+  remark_locks(region);
+  EXPECT(region.remarks[Remark::HeldLock].times, 4u);
+}
+
+TEST(lengths_are_limited) {
+  EXPECT(over_the_length("work 1 # " + std::string(1048577, 'x') + "\n"), "");
+  EXPECT_PART(over_the_length(std::string(1048577, 'x')), "1048577 bytes outside comments");
+  EXPECT_PART(over_the_length("#" + std::string(4194304, 'x')), "SPANPROF_LINES=0");
+}
+
+TEST(files_of_a_run_are_known_by_their_names) {
+  for (const char *name : {"out.tasks", "out.replay", "out.times", "out.2.tasks", "out.inout.tasks", "out.2.inout.tasks",
+                           "out.4711.tasks", "out.4711.2.replay"})
+    EXPECT(is_of_run(name, "out"), true);
+  for (const char *name : {"out", "other.tasks", "out.csv", "out2.tasks", "out.x.tasks", "about.tasks"})
+    EXPECT(is_of_run(name, "out"), false);
+}
+
+TEST(records_come_in_their_common_order) {
+  Log first(0), second(1);
+  for (uint32_t order : {0u, 3u, 4u, 7u}) {
+    Record record{};
+    record.order = order;
+    first.records.push(record);
+  }
+  for (uint32_t order : {1u, 2u, 5u, 6u, 8u}) {
+    Record record{};
+    record.order = order;
+    second.records.push(record);
+  }
+  InOrder records({&first, &second});
+  std::string seen;
+  while (const Record *record = records.next()) seen += std::to_string(record->order) + (&records.log() == &first ? "a" : "b");
+  EXPECT(seen, "0a1b2b3a4a5b6b7a8b");
+}
+
+TEST(locks_count_times_inside_and_waiting) {
+  Locks locks;
+  locks.ask(ompt_mutex_critical, 7, nullptr, 100);
+  EXPECT(locks.get(7, 130, 0), 100);
+  locks.leave(7, 1, 150);  // on the thread's own clock, which stood still until 100
+  const LockUse &use = locks.uses().at({1, 7});
+  EXPECT(use.times, 1u);
+  EXPECT(use.waiting, 30);
+  EXPECT(use.inside, 50);
+}

@@ -1,0 +1,71 @@
+"""spanprof-record: a program's run as a program text, and what it could gain from more threads."""
+import os
+import signal
+import subprocess
+import sys
+import webbrowser
+
+from record.console import say, tell
+from record.fault import OWN_FAULT, Fault
+from record.options import parse
+from record.run import end_as
+from record.session import TOOLS, Session
+from record.summary import other_region, summary
+from record.verdict import verdict
+from report.answers import Answers
+
+REPORTERS = [os.path.join(TOOLS, "spanprof-report"), os.path.join(TOOLS, "..", "..", "bin", "spanprof-report")]
+
+
+def print_summary(session, found, said):
+    """Of the heaviest region, which is answered; the others in a line each."""
+    tell("reading " + ", ".join(os.path.basename(recording.text) for recording in found))
+    answers = [Answers(recording.text) for recording in found]
+    heaviest = max(range(len(found)), key=lambda i: answers[i].work)
+    remarks = {remark for one in answers for remark in one.head.remarks}
+    news = session.notes + said.news(session.out, [recording.text for recording in found], remarks)
+    others = [other_region(one) for i, one in enumerate(answers) if i != heaviest]
+    for line in summary(answers[heaviest], verdict(found[heaviest]), news, others):
+        print(line, file=sys.stderr)
+    return found[heaviest]
+
+
+def write_page(options, recording):
+    reporter = next((path for path in REPORTERS if os.path.exists(path)), REPORTERS[0])
+    words = [sys.executable, reporter, recording.text, "-o", options.html]
+    if recording.replay:
+        words += ["--replay", recording.replay]
+    tell("making %s" % options.html)
+    if subprocess.run(words, check=False).returncode:
+        raise Fault("no page is written")
+    if options.open and not webbrowser.open("file://" + os.path.abspath(options.html)):
+        say("there is no browser to show %s" % options.html)
+
+
+def report(session, found, said):
+    try:
+        recording = print_summary(session, found, said)
+    except SystemExit as refused:  # a word of spanprof's
+        raise Fault(str(refused)) from refused
+    if session.options.html:
+        write_page(session.options, recording)
+
+
+def record_and_report(options):
+    """The exit status, or less than 0 the signal. What goes wrong here counts only where the program ended with 0."""
+    status = 0
+    try:
+        session = Session(options)
+        status, found, said = session.record()
+        if found:
+            report(session, found, said)
+        return status if found else status or OWN_FAULT
+    except Fault as fault:
+        say(str(fault))
+        return status or fault.status
+    except KeyboardInterrupt:
+        return status or -signal.SIGINT
+
+
+def main(words):
+    end_as(record_and_report(parse(words)))

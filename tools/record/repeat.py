@@ -1,0 +1,81 @@
+"""Several recordings of one program: the median of each segment's costs, where all runs have one shape."""
+import os
+import re
+import shutil
+import subprocess
+import sys
+
+import program
+from record.fault import Fault
+from record.files import recordings, stem_of
+
+
+def names(out, runs):
+    """The first name of each run's files, in a folder of their own."""
+    return [os.path.join(out + ".runs", "run%d" % (i + 1)) for i in range(runs)]
+
+
+def make_folder(out, runs):
+    folder = out + ".runs"
+    try:
+        os.makedirs(folder, exist_ok=True)
+    except OSError as wrong:
+        raise Fault("%s: %s" % (folder, wrong.strerror)) from wrong
+    for entry in os.listdir(folder):
+        if re.fullmatch(r"run\d+(\.\d+)?(\.inout)?\.(tasks|replay|times)", entry):
+            os.remove(os.path.join(folder, entry))
+    return names(out, runs)
+
+
+def work(text):
+    """The work of a recorded text."""
+    return int(program.ask(["span"], program.read(text)).split()[3])
+
+
+def middle(texts):
+    """The recording whose work is the median."""
+    return sorted(texts, key=lambda recording: work(recording.text))[len(texts) // 2]
+
+
+def take(recording, out):
+    """The files of one run under the name of all."""
+    shutil.copyfile(recording.text, out + ".tasks")
+    for path in filter(None, (recording.replay, recording.times)):
+        shutil.copyfile(path, out + os.path.splitext(path)[1])
+
+
+def replay_of(text, events_of, path):
+    """The events of one run, after the text with the costs of all: whether they are legal does not hang on costs."""
+    with open(events_of, encoding="utf-8", errors="replace", newline="") as file:
+        events = re.split(r"(?m)^---\r?\n", file.read(), maxsplit=1)[1]
+    with open(text, encoding="utf-8", errors="replace", newline="") as file:
+        whole = file.read() + "---\n" + events
+    with open(path, "w", encoding="utf-8", newline="") as file:
+        file.write(whole)
+
+
+def combine(tool, out, same_region):
+    """Makes OUT.tasks and OUT.replay of the recordings of one region; answers what is to be remarked."""
+    middle_run = middle(same_region)
+    done = subprocess.run([sys.executable, tool, out + ".tasks"] + [recording.text for recording in same_region],
+                          capture_output=True, text=True, errors="replace", check=False)
+    if done.returncode:
+        take(middle_run, out)
+        why = (done.stderr or done.stdout).strip().replace("\n", "; ").replace(os.path.dirname(out) + os.sep, "")
+        return ["the runs have no median, and this is the one with the median work: " + why]
+    if middle_run.replay:
+        replay_of(out + ".tasks", middle_run.replay, out + ".replay")
+    return []
+
+
+def combine_all(tool, out, run_names):
+    """The same for each region that all runs have written."""
+    by_run = [{one.number: one for one in recordings(name)} for name in run_names]
+    every = set().union(*by_run)
+    common = sorted(number for number in every if all(number in found for found in by_run))
+    remarks = []
+    for number in common:
+        remarks += combine(tool, stem_of(out, number), [found[number] for found in by_run])
+    if len(common) < len(every):
+        remarks.append("regions that not all runs wrote, left out: %d" % (len(every) - len(common)))
+    return remarks

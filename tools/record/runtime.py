@@ -1,0 +1,55 @@
+"""LLVM's runtime: the recorder is a tool for its interface, so the program has to run on it."""
+import glob
+import os
+import re
+
+from record.fault import Fault
+from record.linkage import GCC, LLVM, listed, symbols
+
+WHERE = ("/usr/lib/llvm-*/lib/libomp.so.5", "/usr/lib/*-linux-gnu/libomp.so.5", "/usr/lib64/libomp.so",
+         "/usr/local/lib/libomp.so")
+TRIED_VERSION = 16  # of those that Debian has, the one that was tried most
+PACKAGE = "LLVM's OpenMP runtime is missing (package libomp-%d-dev)" % TRIED_VERSION
+
+
+def by_version(path):
+    """The version that was tried comes first, and then the newest."""
+    version = re.search(r"llvm-(\d+)", path)
+    number = int(version[1]) if version else 0
+    return (number != TRIED_VERSION, -number, path)
+
+
+def llvm_runtime():
+    found = sorted((path for pattern in WHERE for path in glob.glob(pattern)), key=by_version)
+    if not found:
+        raise Fault(PACKAGE)
+    return found[0]
+
+
+def refuse(path, linkage):
+    """Ends where no recorder can be loaded into the program."""
+    if linkage.is_static:
+        raise Fault("%s is linked statically, and no recorder can be loaded into it; link it without -static" % path)
+    if GCC in linkage.inside:
+        raise Fault("%s has %s inside; link it with the shared library, or compile it with clang" % (path, GCC))
+    if not (linkage.libraries or linkage.inside or linkage.is_script):
+        raise Fault("%s has no OpenMP in it: it is linked neither with %s nor with %s; was it compiled with -fopenmp? "
+                    "(--runtime FILE runs it on that library all the same)" % (path, GCC, LLVM))
+
+
+def to_preload(path, linkage, wanted=None):
+    """The library to load before the program's own; empty where it is linked with LLVM's runtime already."""
+    if wanted:
+        if not os.path.isfile(wanted):
+            raise Fault("--runtime %s: no such file" % wanted)
+        return os.path.abspath(wanted)
+    refuse(path, linkage)
+    if GCC in linkage.libraries or linkage.libraries.get(LLVM) == "":
+        return llvm_runtime()
+    return ""
+
+
+def what_it_lacks(library, called):
+    """Those functions of gcc's runtime that a program calls and LLVM's does not have."""
+    defined, _ = symbols(listed(["readelf", "-W", "--dyn-syms", library]))
+    return sorted(called - defined) if defined else []

@@ -1,0 +1,100 @@
+"""One program, recorded once or several times."""
+import os
+import tempfile
+
+import program
+from record.console import say, tell
+from record.fault import Fault
+from record.files import check_folder, messages, recordings, remove_old
+from record.linkage import linkage
+from record.recorder import recorder_library
+from record.repeat import combine_all, make_folder
+from record.run import environment, run, signal_name
+from record.runtime import to_preload, what_it_lacks
+from record.target import find
+
+TOOLS = os.path.dirname(os.path.dirname(os.path.abspath(__file__)))
+RECORDERS = [os.path.join(TOOLS, "openmp_recorder"), os.path.join(TOOLS, "..", "..", "lib", "spanprof")]
+MEDIAN = os.path.join(TOOLS, "median_recording.py")
+
+
+def check_spanprof():
+    """Ends before the run where there is nothing to read its recording with."""
+    try:
+        program.ask(["span"], "omptasks 1\n")
+    except SystemExit as missing:
+        raise Fault(str(missing)) from missing
+
+
+def notes_on(preload, called):
+    lacking = what_it_lacks(preload, called) if preload and called else []
+    return ["LLVM's runtime has no %s, which the program calls: gcc's is used there" % name for name in lacking]
+
+
+def why_nothing(status, said, out, is_script):
+    """The reason for which there is no text."""
+    if status < 0:
+        return "the program ended by %s, and then nothing is written" % signal_name(status)
+    if said.loaded:
+        return "; ".join(said.news(out)) or "the recorder says nothing of it"
+    if is_script:
+        return "no OpenMP runtime loaded the recorder; where the script runs a program of gcc's, say --runtime FILE"
+    return "its OpenMP runtime did not load the recorder; it begins only where a program meets a construct of OpenMP"
+
+
+def rewind():
+    """Where standard input is a file, each run reads it from its beginning."""
+    try:
+        os.lseek(0, 0, os.SEEK_SET)
+    except OSError:
+        pass  # a terminal or a pipe: later runs read what is left
+
+
+class Session:
+    def __init__(self, options):
+        self.options = options
+        self.path = find(options.command[0])
+        self.out = os.path.abspath(options.out)
+        check_folder(options.out)
+        check_spanprof()
+        linked = linkage(self.path)
+        self.is_script = linked.is_script
+        self.preload = to_preload(self.path, linked, options.runtime)
+        self.library = os.path.realpath(recorder_library(RECORDERS, tell))
+        self.notes = notes_on(self.preload, linked.called)
+
+    def run(self, out):
+        """One run: how the program ended, and what the recorder said."""
+        remove_old(out)
+        with tempfile.TemporaryDirectory(prefix="spanprof-record-") as folder:
+            words = os.path.join(folder, "messages")
+            variables = environment(os.environ, self.options, self.library, self.preload, out, words)
+            return run(self.path, self.options.command, variables), messages(words)
+
+    def record_once(self):
+        """The program's end, the recordings, and what was said."""
+        status, said = self.run(self.out)
+        found = recordings(self.out)
+        if not found:
+            say("nothing is recorded: " + why_nothing(status, said, self.out, self.is_script))
+        return status, found, said
+
+    def record_often(self):
+        """The same for all runs together; at one that fails or writes nothing they end."""
+        remove_old(self.out)
+        names = make_folder(self.out, self.options.runs)
+        for i, name in enumerate(names):
+            tell("run %d of %d" % (i + 1, len(names)))
+            rewind()
+            status, said = self.run(name)
+            if status or not recordings(name):
+                why = why_nothing(status, said, name, self.is_script) if not recordings(name) else \
+                    "the program ended with status %d" % status
+                say("run %d of %d is the last, and there is no median: %s" % (i + 1, len(names), why))
+                return status, [], said
+        tell("taking medians")
+        self.notes += combine_all(MEDIAN, self.out, names)
+        return 0, recordings(self.out), said.without([recording.text for recording in recordings(names[-1])])
+
+    def record(self):
+        return self.record_often() if self.options.runs > 1 else self.record_once()

@@ -1,0 +1,15 @@
+"""What spanprof says of a recorded run."""
+import program
+
+
+def verdict(recording):
+    """Whether each start and finish was legal; a run without a replay document has none."""
+    if not recording.replay:
+        return ""
+    with open(recording.replay, encoding="utf-8", errors="replace", newline="") as file:
+        document = file.read()
+    try:
+        program.ask(["replay"], document)
+    except SystemExit as refused:
+        return "its run is refused: %s" % refused
+    return "its run was legal (proved)"

@@ -1,0 +1,73 @@
+"""Compares each number of a page with what it has to be.
+
+    python3 -m report.tests.compare PAGE.html MINE.tasks [OTHER.tasks]    in tools/; status 1 where one is wrong
+"""
+import json
+import sys
+
+from report.tests.expected import Program, table, unpacked
+from report.tests.page_reader import read_page
+
+
+def expected_value(programs, source):
+    if source.startswith("change "):
+        before, after = (program.value(source.removeprefix("change ")) for program in programs)
+        return 100 * (after - before) / before
+    is_other = source.startswith("other ")
+    return programs[is_other].value(source.removeprefix("other "))
+
+
+def is_same(shown, expected):
+    """Whole numbers as they are, quotients to six digits."""
+    return shown == str(expected) if isinstance(expected, int) else shown == "%.6g" % expected
+
+
+def is_seen(words, expected):
+    """What a reader sees, to as many digits as are shown."""
+    plain = words.replace(",", "").replace("−", "-")
+    return plain.lstrip("+") == "%.*f" % (len(plain.partition(".")[2]), expected)
+
+
+def faults_of(figure, programs):
+    values = [expected_value(programs, source) for source in figure.sources]
+    if len(figure.shown) != len(values):
+        return ["%s: the page has %r" % ("; ".join(figure.sources), figure.words)]
+    wrong = ["%s: the page shows %s, and not %s" % (source, words, value)
+             for source, words, value in zip(figure.sources, figure.shown, values) if not is_seen(words, value)]
+    if figure.exact and not is_same(figure.exact, values[0]):
+        wrong.append("%s: the page has %s, and not %s" % (figure.sources[0], figure.exact, values[0]))
+    return wrong
+
+
+def drawn_differences(program, name, run):
+    """Where the greedy run of the script's data is not that of the command."""
+    rows = table(program.answer("greedy", "--threads", str(run["count"])))
+    expected = [(int(row["start"]), int(row["thread"]) if row["thread"] else None) for row in rows]
+    drawn = list(zip(unpacked(run["starts"]), unpacked(run["lanes"])))
+    return [] if drawn == expected else ["%s: the greedy run that is drawn is another" % name]
+
+
+def differences(page, paths, ask):
+    """All numbers of the page that are not what they have to be, and how many there are."""
+    reader = read_page(page)
+    data = json.loads(reader.data)["programs"]
+    programs = [Program(path, own, ask) for path, own in zip(paths, data)]
+    wrong = [fault for figure in reader.figures for fault in faults_of(figure, programs)]
+    wrong += ["%r: a number without a source" % words for words in reader.without_source]
+    for program, own in zip(programs, data):
+        wrong += drawn_differences(program, own["name"], own["runs"]["greedy"])
+    return wrong, sum(len(figure.sources) for figure in reader.figures)
+
+
+def main(paths):
+    import program
+    with open(paths[0], encoding="utf-8") as file:
+        wrong, count = differences(file.read(), paths[1:], program.ask)
+    for line in wrong:
+        print(line)
+    print("%d numbers, %d wrong" % (count, len(wrong)))
+    sys.exit(bool(wrong))
+
+
+if __name__ == "__main__":
+    main(sys.argv[1:])

@@ -1,0 +1,87 @@
+"""In tools/: python3 -m unittest discover -s tests -t ."""
+import contextlib
+import io
+import os
+import tempfile
+import unittest
+
+import install
+
+
+class Plan(unittest.TestCase):
+    def test_what_goes_where(self):
+        places = [path for _, path in install.plan()]
+        for path in ("bin/spanprof", "bin/spanprof-record", "lib/spanprof/librecorder.so",
+                     "share/man/man1/spanprof.1", "share/bash-completion/completions/spanprof-report",
+                     "share/zsh/site-functions/_spanprof", "share/spanprof/record/command.py",
+                     "share/spanprof/report/template/page.html", "share/spanprof/plots/program.py",
+                     "share/spanprof/conformance/tester/judge.py", "share/spanprof/conformance/harness/log.c"):
+            self.assertIn(path, places)
+        self.assertEqual(len(places), len(set(places)))
+
+    def test_tests_and_the_installer_stay_behind(self):
+        self.assertFalse([path for path in install.shared_files() if "tests/" in path or path.endswith("install.py")])
+
+
+class Prefix(unittest.TestCase):
+    def setUp(self):
+        self.kept = tempfile.TemporaryDirectory()
+        self.root = os.path.join(self.kept.name, "usr")
+        self.source = self.write("source", "program\n")
+        self.pairs = [(self.source, "bin/spanprof"), (self.source, "share/spanprof/record/run.py")]
+
+    def tearDown(self):
+        self.kept.cleanup()
+
+    def write(self, name, text=""):
+        path = os.path.join(self.kept.name, name)
+        os.makedirs(os.path.dirname(path), exist_ok=True)
+        with open(path, "w", encoding="utf-8") as file:
+            file.write(text)
+        return path
+
+    def install(self):
+        with contextlib.redirect_stdout(io.StringIO()):
+            install.install(self.root, self.pairs)
+
+    def files(self):
+        return sorted(os.path.relpath(os.path.join(where, name), self.root)
+                      for where, _, names in os.walk(self.root) for name in names)
+
+    def test_all_of_it_is_taken_away(self):
+        self.install()
+        self.assertEqual(self.files(), ["bin/spanprof", "share/spanprof/installed", "share/spanprof/record/run.py"])
+        self.assertTrue(os.access(os.path.join(self.root, "bin", "spanprof"), os.X_OK))
+        self.assertEqual(install.uninstall(self.root), 3)
+        self.assertFalse(os.path.exists(self.root))
+
+    def test_what_was_there_stays(self):
+        self.write("usr/bin/other")
+        os.makedirs(os.path.join(self.root, "share"))
+        self.install()
+        install.uninstall(self.root)
+        self.assertEqual(self.files(), ["bin/other"])
+        self.assertEqual(sorted(os.listdir(self.root)), ["bin", "share"])
+
+    def test_a_second_time(self):
+        self.install()
+        self.pairs.pop()
+        self.install()
+        self.assertEqual(self.files(), ["bin/spanprof", "share/spanprof/installed"])
+        install.uninstall(self.root)
+        self.assertFalse(os.path.exists(self.root))
+
+    def test_nothing_to_take_away(self):
+        self.assertEqual(install.uninstall(self.root), 0)
+
+    def test_a_file_that_is_missing(self):
+        missing = os.path.join(self.kept.name, "none")
+        for path, words in (("bin/spanprof", "none: no such program; README.md tells"), ("lib/x.so", "none: no such file")):
+            self.pairs[1] = (missing, path)
+            with self.assertRaisesRegex(SystemExit, words):
+                self.install()
+            self.assertFalse(os.path.exists(self.root))
+
+
+if __name__ == "__main__":
+    unittest.main()
