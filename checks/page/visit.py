@@ -91,4 +91,5 @@ def main(words):
     sys.exit(wrong > 0)
 
 
-main(sys.argv[1:])
+if __name__ == "__main__":
+    main(sys.argv[1:])
