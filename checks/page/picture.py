@@ -30,4 +30,5 @@ def main(words):
         page.keep(picture, page.call("Page.captureScreenshot", format="png", captureBeyondViewport=True, clip=clip))
 
 
-main(sys.argv[1:])
+if __name__ == "__main__":
+    main(sys.argv[1:])

@@ -38,6 +38,25 @@ def look_at(browser, path, look, script):
     return ["%s: %s" % (name, fault) for fault in faults]
 
 
+SPOIL = """
+    document.querySelector('.chart text').setAttribute('x', '-30');
+    document.querySelector('h2').style.color = getComputedStyle(document.body).backgroundColor;
+    document.querySelector('section').style.minWidth = '3000px';
+    console.error('spoilt')"""
+SPOILT = ("console: ", "cut off: ", "contrast 1.0: ", "the page is ")
+
+
+def try_spoilt(browser, path):
+    """Of a page that is spoilt on purpose the faults that are not seen."""
+    page = browser.page()
+    page.open(path)
+    page.evaluate(SPOIL)
+    faults = page.evaluate(looks()) + page.complaints()
+    page.close()
+    return ["not seen on a spoilt page: " + kind for kind in SPOILT
+            if not any(fault.startswith(kind) for fault in faults)]
+
+
 def try_print(browser, path):
     page, pdf = browser.page(), os.path.splitext(path)[0] + ".pdf"
     page.open(path)
@@ -80,8 +99,10 @@ def main(words):
     if not find_browser():
         print("no Chromium (Debian: chromium)")
         sys.exit(2)
-    wrong = 0
     with Browser(find_browser()) as browser:
+        unseen = try_spoilt(browser, os.path.join(folder, names[0] + ".html"))
+        wrong = len(unseen)
+        print("\n".join(unseen or ["a spoilt page: right"]), flush=True)
         for name in names:
             faults = faults_of(browser, program, folder, name)
             wrong += len(faults)
@@ -91,4 +112,5 @@ def main(words):
     sys.exit(wrong > 0)
 
 
-main(sys.argv[1:])
+if __name__ == "__main__":
+    main(sys.argv[1:])

@@ -8,10 +8,10 @@ from report.markup import join, tag
 
 MEASURED, RECORDED, PROVED, DECLARED = "measured", "recorded", "proved", "declared"
 MEANINGS = {
-    MEASURED: "a cost or a time by the recorder's clock, or a sum or quotient of such",
-    DECLARED: "what the text says and nobody recorded: its costs, its tasks and what waits for what, or a sum of such",
-    RECORDED: "as the program ran: its tasks and segments, what waits for what, and the order of the run",
-    PROVED: "follows from costs and shape, told by a program that is proved to answer right",
+    MEASURED: "read from the recorder's clock, or a sum or quotient of such readings",
+    DECLARED: "stated by the text, with no recording behind it, or a sum of such statements",
+    RECORDED: "taken from the run: tasks and segments, what waits for what, the order of events",
+    PROVED: "follows from costs and shape, computed by a program that is proved correct",
 }
 
 

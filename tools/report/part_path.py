@@ -57,7 +57,7 @@ def piece_cells(view, piece):
                 tag("span", "%d cheaper segments" % len(piece), class_="given")]
     place = view.answers.code[first].place()
     numbers = [tag("span", number, class_="given") for number in (first, view.answers.rows[first].task)]
-    return [*numbers, place_cell(place, view.sources.snippet(place))]
+    return [*numbers, place_cell(place, view.sources.snippet(place)[-1:])]
 
 
 def step_row(view, piece):

@@ -135,7 +135,7 @@ def kinds_explained(view):
                           [RECORDED] * bool(view.run) + [PROVED])
     items = [piece for kind in kinds for piece in (tag("dt", badge(kind)), tag("dd", MEANINGS[kind]))]
     return tag("div", tag("h3", "What the words beside the numbers mean"), tag("dl", *items, class_="kinds-explained"),
-               note("The tooltip of a number says which answer of spanprof it is, or of which it is a sum, a "
+               note("A number's tooltip names the answer of spanprof that it is, or those of which it is a sum, a "
                     "difference or a quotient."))
 
 

@@ -24,14 +24,13 @@ const STEPS = {
   ArrowUp: (lanes) => lanes.changeRow(-1), ArrowDown: (lanes) => lanes.changeRow(1),
 };
 
-function listen(lanes) {
-  const { element } = lanes;
-  let held = null;
-  const inside = (event) => {
-    const box = element.getBoundingClientRect();
-    return [event.clientX - box.left, event.clientY - box.top];
-  };
-  element.addEventListener("keydown", (event) => {
+const inside = (element, event) => {
+  const box = element.getBoundingClientRect();
+  return [event.clientX - box.left, event.clientY - box.top];
+};
+
+function listenToKeys(lanes) {
+  lanes.element.addEventListener("keydown", (event) => {
     if (event.ctrlKey || event.metaKey || event.altKey) return;
     const act = ACTS[KEYS[event.key]], step = STEPS[event.key];
     if (event.key === "Escape") lanes.hush();
@@ -41,31 +40,37 @@ function listen(lanes) {
     act(lanes.stretch);
     drawSoon();
   });
+  lanes.element.addEventListener("blur", () => { lanes.cursor = null; lanes.hush(); drawSoon(); });
+}
+
+function listenToZoom(lanes) {
+  const { element } = lanes, zoom = (factor, event) => {
+    lanes.stretch.zoom(factor, lanes.time(inside(element, event)[0]));
+    drawSoon();
+  };
   element.addEventListener("wheel", (event) => {
     if (!event.ctrlKey) return;
     event.preventDefault();
-    lanes.stretch.zoom(event.deltaY > 0 ? 1.25 : 0.8, lanes.time(inside(event)[0]));
-    drawSoon();
+    zoom(event.deltaY > 0 ? 1.25 : 0.8, event);
   }, { passive: false });
-  element.addEventListener("dblclick", (event) => {
-    lanes.stretch.zoom(0.4, lanes.time(inside(event)[0]));
-    drawSoon();
-  });
+  element.addEventListener("dblclick", (event) => zoom(0.4, event));
+}
+
+function listenToPointer(lanes) {
+  const { element } = lanes;
+  let held = null;
   element.addEventListener("pointerdown", (event) => {
     held = { x: event.clientX, from: lanes.stretch.from };
     element.setPointerCapture(event.pointerId);     // so that a drag may leave the timeline
   });
   addEventListener("pointerup", () => { held = null; });
   element.addEventListener("pointermove", (event) => {
-    if (held) {
-      lanes.stretch.show(held.from - (event.clientX - held.x) / lanes.scale, lanes.stretch.length);
-      lanes.hush();
-      return drawSoon();
-    }
-    lanes.tell(lanes.barsAt(...inside(event)), event.clientX, event.clientY);
+    if (!held) return lanes.tell(lanes.barsAt(...inside(element, event)), event.clientX, event.clientY);
+    lanes.stretch.show(held.from - (event.clientX - held.x) / lanes.scale, lanes.stretch.length);
+    lanes.hush();
+    drawSoon();
   });
   element.addEventListener("pointerleave", () => lanes.hush());
-  element.addEventListener("blur", () => { lanes.cursor = null; lanes.hush(); drawSoon(); });
 }
 
 function listenToButtons(section) {
@@ -77,7 +82,7 @@ function listenToButtons(section) {
   }));
 }
 
-allLanes.forEach(listen);
+for (const listen of [listenToKeys, listenToZoom, listenToPointer]) allLanes.forEach(listen);
 document.querySelectorAll("section").forEach(listenToButtons);
 addEventListener("resize", drawSoon);
 drawAll();

@@ -39,12 +39,36 @@ def faults_of(figure, programs):
     return wrong
 
 
-def drawn_differences(program, name, run):
-    """Where the greedy run of the script's data is not that of the command."""
+def is_greedy(program, run):
     rows = table(program.answer("greedy", "--threads", str(run["count"])))
     expected = [(int(row["start"]), int(row["thread"]) if row["thread"] else None) for row in rows]
-    drawn = list(zip(unpacked(run["starts"]), unpacked(run["lanes"])))
-    return [] if drawn == expected else ["%s: the greedy run that is drawn is another" % name]
+    return list(zip(unpacked(run["starts"]), unpacked(run["lanes"]))) == expected
+
+
+def is_recorded(program, run):
+    """To a nanosecond."""
+    per = run.get("per", 1)
+    lengths = unpacked(run["lengths"]) if "lengths" in run else program.cost
+    drawn = [(lane, start / per, (start + length) / per) for lane, start, length in
+             zip(unpacked(run["lanes"]), unpacked(run["starts"]), lengths) if lane is not None]
+    expected = [(int(worker), start, end) for start, end, worker in program.bars()]
+    near = 0.51 / per
+    return len(drawn) == len(expected) and all(
+        a[0] == b[0] and abs(a[1] - b[1]) <= near and abs(a[2] - b[2]) <= near
+        for a, b in zip(sorted(drawn), sorted(expected)))
+
+
+def drawn_differences(program, data):
+    """Where the runs that the script draws are not those of the command and of the recording."""
+    runs = data["runs"]
+    wrong = [] if is_greedy(program, runs["greedy"]) else ["the greedy run that is drawn is another"]
+    if "recorded" in runs and not is_recorded(program, runs["recorded"]):
+        wrong.append("the recorded run that is drawn is another")
+    if unpacked(data["critical"]) != program.segments(on_path=True):
+        wrong.append("the critical path that is drawn is another")
+    if unpacked(data["slack"]) != [int(row["slack"]) for row in program.slack]:
+        wrong.append("the slacks of the tooltips are others")
+    return ["%s: %s" % (data["name"], words) for words in wrong]
 
 
 def differences(page, paths, ask):
@@ -55,7 +79,7 @@ def differences(page, paths, ask):
     wrong = [fault for figure in reader.figures for fault in faults_of(figure, programs)]
     wrong += ["%r: a number without a source" % words for words in reader.without_source]
     for program, own in zip(programs, data):
-        wrong += drawn_differences(program, own["name"], own["runs"]["greedy"])
+        wrong += drawn_differences(program, own)
     return wrong, sum(len(figure.sources) for figure in reader.figures)
 
 

@@ -83,6 +83,14 @@ class WrongNumbers(unittest.TestCase):
                          ["split.tasks: the greedy run that is drawn is another"])
 
 
+    def test_another_recorded_run(self):
+        for number, name in enumerate(("mesh", "split")):
+            lanes = json.loads(read_page(self.text).data)["programs"][number]["runs"]["recorded"]["lanes"]
+            other = lanes.replace("0", "2").replace("1", "0").replace("2", "1")
+            self.assertIn("%s.tasks: the recorded run that is drawn is another" % name,
+                          self.faults('"lanes":"%s"' % lanes, '"lanes":"%s"' % other))
+
+
 class Small(unittest.TestCase):
     def test_a_template_is_filled(self):
         self.assertEqual(filled("a {{ x }} b {{ y }}", {"x": "{1}", "y": "2"}), "a {1} b 2")
