@@ -19,7 +19,7 @@ test_runtime() { # COMPILER TASKS
         fail "$1: a run is not accepted"
     cat "$folder/run.txt"
     grep -q '^Never held back by this rule alone: none of these\.$' "$folder/run.txt" || fail "$1: a rule is not tried"
-    ./conformance.py mutants --cc "$1" --runs 4 --timeout 3 || fail "$1: a mutant is not caught"
+    ./conformance.py mutants --cc "$1" --threads 4 --runs 4 --timeout 3 || fail "$1: a mutant is not caught"
 }
 
 test_futures() { # FLAGS of the compiler

@@ -1,5 +1,6 @@
-// tasks COUNT LOOPS: one thread makes COUNT tasks of LOOPS turns each. Prints how long the region took, in nanoseconds,
-// and by how much the memory of the process grew in it, in bytes. tasks 0: how many turns a microsecond has.
+// tasks COUNT LOOPS: one thread makes COUNT tasks of LOOPS turns each. Prints how long the region took and how much
+// processor time, in nanoseconds, and by how much the memory of the process grew in it, in bytes. tasks 0: how many turns
+// a microsecond has.
 #include <stdio.h>
 #include <stdlib.h>
 #include <sys/resource.h>
@@ -43,9 +44,9 @@ int main(int argc, char **argv) {
     long count = argc > 1 ? atol(argv[1]) : 0, loops = argc > 2 ? atol(argv[2]) : 0;
     if (!count) return printf("%ld\n", turns_in_a_microsecond()) < 0;
     make_tasks(4, 0);  // starts the threads
-    long long memory = most_memory(), began = nanoseconds(CLOCK_MONOTONIC);
+    long long memory = most_memory(), began = nanoseconds(CLOCK_MONOTONIC), spent = nanoseconds(CLOCK_PROCESS_CPUTIME_ID);
     make_tasks(count, loops);
     long long took = nanoseconds(CLOCK_MONOTONIC) - began;
-    printf("%lld %lld\n", took, most_memory() - memory);
+    printf("%lld %lld %lld\n", took, nanoseconds(CLOCK_PROCESS_CPUTIME_ID) - spent, most_memory() - memory);
     return 0;
 }

@@ -54,28 +54,35 @@ def keys_go_from_segment_to_segment(page):
         yield "Escape does not close the tooltip"
 
 
-def widest_bar(page):
-    """The middle of the widest bar of the first timeline, in the window."""
+def widest_bar(page, is_close=False):
+    """The middle of the widest bar of the first timeline, in the window; where it is wanted, from close by."""
     return page.evaluate("""(() => {
       const lanes = allLanes[0];
       lanes.element.scrollIntoView({block: 'center'});
       const box = lanes.element.getBoundingClientRect();
       const all = lanes.rows.flatMap((row, i) => row.map(bar => ({...bar, i})));
       const bar = all.reduce((a, b) => b.end - b.start > a.end - a.start ? b : a);
+      if (%s) lanes.stretch.show(2 * bar.start - bar.end, 3 * (bar.end - bar.start));
+      drawAll();
       return {x: box.left + lanes.x((bar.start + bar.end) / 2), y: box.top + lanes.top(bar.i) + lanes.height / 2,
-              words: lanes.words([bar])};
-    })()""")
+              words: lanes.words([bar]), isThin: (bar.end - bar.start) * lanes.scale < 1};
+    })()""" % ("true" if is_close else "false"))
 
 
 def mouse_tells(page):
     page.key("0", "0")
     bar = widest_bar(page)
     page.mouse("mouseMoved", bar["x"], bar["y"])
+    if bar["isThin"] and "segments, too thin to be told apart here" not in tip(page):
+        yield "the tooltip of bars thinner than a pixel says %r" % tip(page)
+    bar = widest_bar(page, is_close=True)
+    page.mouse("mouseMoved", bar["x"], bar["y"])
     if tip(page) != bar["words"]:
         yield "the tooltip says %r, and not %r" % (tip(page), bar["words"])
     page.mouse("mouseMoved", 5, 5)
     if tip(page):
         yield "the tooltip stays"
+    page.key("0", "0")
 
 
 def mouse_zooms_and_moves(page):

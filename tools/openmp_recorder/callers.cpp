@@ -47,10 +47,7 @@ void find_runtime(const void *function) {
 
 bool in_runtime(const void *code) { return runtime.has(code); }
 
-// The caller of such a call, from the stack. After a tail call of the program the told place is in no such function, and
-// the caller is lost; a taskloop has too many arguments for one.
-const void *caller_in_program(const void *code) {
-  if (!is_in_called_function(code)) return nullptr;
+const void *nearest_in_program() {
   constexpr int most_frames = 12;
   void *frames[most_frames];
   int count = backtrace(frames, most_frames);
@@ -58,3 +55,7 @@ const void *caller_in_program(const void *code) {
     if (in_runtime(frames[i - 1]) && !in_runtime(frames[i])) return frames[i];
   return nullptr;
 }
+
+// The caller of such a call, from the stack. After a tail call of the program the told place is in no such function, and
+// the caller is lost; a taskloop has too many arguments for one.
+const void *caller_in_program(const void *code) { return is_in_called_function(code) ? nearest_in_program() : nullptr; }

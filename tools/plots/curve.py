@@ -84,4 +84,5 @@ def main():
     save(picture(curves), chosen.picture)
 
 
-main()
+if __name__ == "__main__":
+    main()

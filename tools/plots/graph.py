@@ -98,4 +98,5 @@ def main():
         print(words, end="")
 
 
-main()
+if __name__ == "__main__":
+    main()

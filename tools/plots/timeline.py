@@ -97,4 +97,5 @@ def main():
     save(picture(text, chosen.threads, bars), chosen.picture, bbox_inches="tight")
 
 
-main()
+if __name__ == "__main__":
+    main()

@@ -82,15 +82,20 @@ def reached_mark(axes, view, colour):
         return ""
     x, y = axes.x(reached.threads), axes.y(reached.speed_up)
     words = "%d threads: %.2f times, %s" % (reached.threads, reached.speed_up, reached.words)
-    title = view.figures.told("title", words, ["run threads", "span work / " + reached.source])
+    title = view.figures.told("title", words, ["threads", "span work / " + reached.source])
     hollow = "" if reached.is_elapsed else " hollow"
     return tag("path", title, d="M%g %gl7 7l-7 7l-7 -7z" % (x, y - 7), class_="reached " + colour + hollow)
 
 
+def most_shown(views):
+    """The greatest speed-up of the picture."""
+    bounds = [speed_up for view in views for _, speed_up in speed_ups(view.answers, "least")]
+    return max(bounds + [view.reached.speed_up for view in views if view.reached])
+
+
 def picture(views):
     most_threads = max(max(view.answers.curve) for view in views)
-    most_times = max(speed_up for view in views for _, speed_up in speed_ups(view.answers, "least"))
-    axes = Axes(most_threads, max(most_times * 1.06, 1.5))
+    axes = Axes(most_threads, max(most_shown(views) * 1.06, 1.5))
     ideal = [(1, 1), (min(most_threads, axes.most_times), min(most_threads, axes.most_times))]
     pieces = [grid(axes), tag("polyline", points=axes.points(ideal), class_="ideal")]
     for number_of, view in enumerate(views):

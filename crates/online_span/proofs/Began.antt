@@ -101,7 +101,7 @@ beginning_later (m ∷ e) u l = elim (cases_lt u (tasks_so_far e)) [
   ]
 ]
 
--- a task has begun where a segment after its first is to open
+-- a task whose first segment has opened has begun
 pub begun_before : (b e : List Mark) → Later b e → (u : ℕ) → u < tasks_so_far e
     → segments_so_far (before_task u e) < segments_so_far b
     → u < tasks_so_far b
@@ -199,7 +199,7 @@ row_of b e later p u l =
           ∙ ap (λ (xs : List Mark). children_of (running_task xs) xs) before;
     }
 
--- an earlier task began at one moment, from wherever it is looked at
+-- where an earlier task began, seen from where a later one did
 pub before_within : (e : List Mark) (u v : ℕ) → u < v → v < tasks_so_far e
     → before_task u e ≡ before_task u (before_task v e)
 before_within e u v less l = ap (drop 1) (beginning_within e u v less l)

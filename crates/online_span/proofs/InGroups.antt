@@ -67,7 +67,7 @@ groups_before u (m ∷ e) = elim (cases_Bool (begins_task m && eqb (tasks_so_far
   | inr r ↦ rw r (omega (arith, count-cons begins_group m e, groups_before u e))
 ]
 
--- who is open, and is not the task of an open group or one outside it, began since that group did
+-- an open task that is numbered above the task of an open group began since that group did
 open_since : (e : List Mark) → IsProper e → IsGrouped e → (u : ℕ) → Among u (open_tasks e)
     → (g : OpenGroup)
     → Has g (open_groups e)
@@ -215,7 +215,7 @@ ended_is_listed group (GroupBegins ∷ e) q s h =
 ended_is_listed group (GroupEnds ∷ e) q s h =
     ended_is_listed group e q.1 s (since_less GroupEnds group e s h h.begun h.gone)
 
--- a group that is open was open where a task began that did so since
+-- an open group was open wherever a task has begun since
 held_before : (b : List Mark) → IsProper b → IsGrouped b → (u : ℕ) → 0 < u → u < tasks_so_far b
     → (g : OpenGroup)
     → Has g (open_groups b)
@@ -234,8 +234,8 @@ held_before b p h u above l g k since =
       | inr left ↦ subst (Has g) (sym past.parts) (has_later g past.gone past.left left)
     ]
 
--- a child of the task of an open group began since the group did where it has at least as many
--- earlier siblings as the task had children then
+-- A child of the task of an open group began since the group did where it has at least as many
+-- earlier siblings as the task had children when the group began.
 pub counted_since : (b : List Mark) → IsProper b → IsGrouped b → (u : ℕ) → 0 < u
     → u < tasks_so_far b
     → (g : OpenGroup)
@@ -292,7 +292,7 @@ since_later b u v less l = elim (cases_eq u v) [
       omega (arith, groups_before u (before_task v b)))
 ]
 
--- what the innermost open group holds of a task: the child through which it descends
+-- the child, created in an open group by the group's task, from which a task descends
 pub record Branch (b e : List Mark) (g : OpenGroup) (d : ℕ) : Type 0 where
   pub child : ℕ
   pub above : 0 < child
@@ -368,7 +368,7 @@ pub branch_of : (b e : List Mark) → Later b e → IsProper e → IsGrouped b
 branch_of b e later p h g k a d above l since =
     branch_within (d + 1) b e later p h g k a d (omega arith) above l since
 
--- an ended task that began since a group of the running task did is none outside that one
+-- a task that began since an open group did, and has ended, is numbered above the group's task
 pub since_above : (b : List Mark) → IsProper b → IsGrouped b → (g : OpenGroup)
     → Has g (open_groups b)
     → Among g.task (open_tasks b)

@@ -53,7 +53,7 @@ room_within old new whole h xs ys zs is k = record {
 abbrev pub begins : TaskStmt → Mark
 begins statement = Begins statement.undeferred statement.items
 
--- where a task has been taken but for its end, the end can be
+-- where a task has been taken up to its end, its end can be taken
 pub task_ends : (old new : Meter) (task : TaskStmt) (h : HasRoom old (task_marks task))
     (marks : List Mark)
     → marks ≡ task.body

@@ -53,7 +53,7 @@ use Rattle.online_span.proofs.InGroups.{Has, listed_is_ended, ended_is_listed}
 use Rattle.online_span.proofs.InGroups.{counted_since, since_counted, since_later, since_above}
 use Rattle.online_span.proofs.InGroups.{branch_of}
 
--- segment t of the last moment opened with this mark, after those
+-- segment t of the last moment e opened with mark m, after the marks b
 record At (e : List Mark) (t : ℕ) (m : Mark) (b : List Mark) : Type 0 where
   last : IsLast e
   inside : t < segments_so_far e
@@ -89,7 +89,7 @@ at_opening e last t l h =
       nests = nests;
     }
 
--- how the segment closes that was the latest before this mark
+-- how the latest segment closes, where this mark opens another
 abbrev closing_by : Mark → List Mark → Closing
 closing_by (Begins d i) b = closings.Creates (tasks_so_far b)
 closing_by Ends b = closings.EndsTask
@@ -135,7 +135,7 @@ closes_so (k ∷ e) t m b a l o = elim (cases_lt t (segments_so_far e)) [
   ]
 ]
 
--- the segment before one that opened with this mark closes so
+-- and so it is in the table
 closing_at : (e : List Mark) (t : ℕ) (m : Mark) (b : List Mark) → At e t m b → 0 < t
     → (segment (table_at e) (t - 1)).closing ≡ closing_by m b
 closing_at e t m b h a =
@@ -162,7 +162,7 @@ continues_at e t m b h begun =
       ends = h.ends;
     }) (running_task (m ∷ b)) refl begun
 
--- and the number before it where its task runs on
+-- which has the number before its own, where its task ran before the mark
 continues_latest : (e : List Mark) (t : ℕ) (m : Mark) (b : List Mark) → At e t m b
     → running_task (m ∷ b) ≡ running_task b
     → 0 < length (open_tasks b)
@@ -573,7 +573,7 @@ awaits_resumption e s t GroupBegins b h k =
 awaits_resumption e s t GroupEnds b h k =
     absurd (created_sooner e s t GroupEnds b h refl h.proper.0 k)
 
--- a task with its last segment before one had begun where that one opened
+-- a task whose last segment is before t had begun where t opened
 begun_by : (e : List Mark) (t : ℕ) (m : Mark) (b : List Mark) → At e t m b
     → (u : ℕ)
     → IsTask (table_at e) u
@@ -585,7 +585,7 @@ begun_by e t m b h u is_task before =
     let segments = h.nests.segments u is_task in
     begun_before b e h.later u l (omega (arith, r.first, segments.in_order, h.number))
 
--- how a segment closes that another follows at once
+-- how a segment closes that the next number continues
 closes_by : (e : List Mark) (s t : ℕ) (m : Mark) (b : List Mark) → At e t m b
     → Continues (table_at e) s t
     → Continues (table_at e) s (s + 1)
@@ -710,7 +710,7 @@ awaited_precedes e last s t k = elim (cases_lt t (segments_so_far e)) [
   | inr l ↦ absurd (subst (λ (xs : List Mark). AwaitsNow xs s) (opening_of-none e t l) k)
 ]
 
--- where a segment opened, if it is one
+-- it is enough to look at the mark with which a segment opened
 awaits_at : (e : List Mark) → IsLast e → (s t : ℕ) → IsSegment (table_at e) t
     → ((m : Mark) (b : List Mark) → At e t m b → AwaitsNow (m ∷ b) s)
     → Awaits e s t

@@ -6,7 +6,7 @@ use Rattle.std.proofs.lemmas.Bool.{cases_lt}
 use Rattle.std.proofs.Math.Seq.{drop-append_seam, take-append_seam}
 use Rattle.worker_run.specs.declared.look.Found.{Found}
 use Rattle.worker_run.specs.declared.look.Found.TheVariants.{Token, Nothing, Unsure}
-use Rattle.worker_run.specs.Looks.{AreLookedAt, IsLookThen, after_unsure, in_turn}
+use Rattle.worker_run.specs.Looks.{AreLookedAt, after_unsure, in_turn}
 
 -- what is found in all, where an earlier look was unsure or not
 abbrev pub in_all : Bool → Found → Found

@@ -27,10 +27,10 @@ def facts(family="gomp", settings=("free", "pinned"), directed=True, **others):
 
 class Facts(unittest.TestCase):
     def test_what_is_tested(self):
-        found = facts(family="kmp", directed=False)
+        found = facts(settings=("free", "priorities"), directed=False)
         self.assertEqual(found, {
             "compiler": "cc 1.0, flags `-O1 -fopenmp`", "runtime": "/lib/libgomp.so", "threads": "2, 4",
-            "runs each": "3", "seed": "7", "settings": "free, pinned", "tasks": "tied"})
+            "runs each": "3", "seed": "7", "settings": "free, priorities", "tasks": "tied"})
 
     def test_what_is_left_out(self):
         found = facts(without=["loop"])

@@ -1,6 +1,8 @@
 // How bars and axes are drawn.
 
-const LEFT = 30, AXIS = 24;
+const AXIS = 24;
+const mostRows = Math.max(...programs.flatMap((program) => Object.values(program.runs).map((rows) => rows.length)));
+const LEFT = Math.max(30, 12 + 8 * String(mostRows - 1).length);     // room for the numbers of the threads
 const rowHeight = (count) => (count <= 8 ? 26 : count <= 16 ? 18 : count <= 32 ? 12 : 8);
 
 class Paths {

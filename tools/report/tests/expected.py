@@ -65,6 +65,12 @@ class Program:
     def elapsed(self):
         return self.head("elapsed")
 
+    def threads(self):
+        """Those of the head, and those that the recorded run needed."""
+        recorded = re.search(r"(?:threads|on) (\d+)", self.text.partition("omptasks")[0])
+        needed = 1 + max((int(worker) for _, _, worker in self.bars()), default=0)
+        return max(int(recorded[1]) if recorded else 1, needed)
+
     def of_places(self, numbers, what):
         own, path = self.segments(numbers), self.segments(numbers, True)
         return {"cost": self.total(own), "segments": len(own), "path": self.total(path), "path-segments": len(path),
@@ -166,13 +172,17 @@ class Program:
                 out.append((start, free[worker], worker))
         return out
 
+    def bars(self):
+        """Start, end and worker of each segment that ran, where there is a recorded run."""
+        if not os.path.exists(self.base + ".replay"):
+            return []
+        return self.by_clock() if os.path.exists(self.base + ".times") else self.in_order()
+
     def run(self, what):
-        bars = self.by_clock() if os.path.exists(self.base + ".times") else self.in_order()
-        recorded = re.search(r"(?:threads|on) (\d+)", self.text.partition("omptasks")[0])
-        workers = max(int(recorded[1]) if recorded else 1, 1 + max(int(worker) for _, _, worker in bars))
+        bars = self.bars()
         end = max(end for _, end, _ in bars)
-        return {"end": round(end), "busy": sum(end - start for start, end, _ in bars), "time": end * workers,
-                "threads": workers}[what]
+        return {"end": round(end), "busy": sum(end - start for start, end, _ in bars),
+                "time": end * self.threads()}[what]
 
     def term(self, words):
         name, *rest = words.split()

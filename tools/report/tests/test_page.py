@@ -37,6 +37,12 @@ class Pages(unittest.TestCase):
         for name in names:
             self.assertIn('<a href="#%s">' % name, text)
 
+    def test_words_of_a_text_are_words_on_the_page(self):
+        text = worked.page_text(["odd"])
+        self.assertNotIn("<img", text)
+        self.assertEqual(text.count("</script>"), 2)
+        self.assertIn("odd &lt;/script&gt; thing: span too low", text)
+
     def test_names_cannot_end_the_data(self):
         data = read_page(worked.page_text(["mesh"])).data
         self.assertEqual(json.loads(data)["programs"][0]["name"], "mesh.tasks")

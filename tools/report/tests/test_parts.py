@@ -48,6 +48,10 @@ class OfOneProgram(unittest.TestCase):
         self.assertEqual(part.count('class="dot s0"'), 16)
         self.assertIn("2 threads: 1.02 times, reached, by the clock", part)
 
+    def test_what_was_reached_is_inside_the_picture(self):
+        mark = re.search(r'd="M\S+ (\S+)l7 7l-7 7l-7 -7z"', curve_part([worked.view("odd")]))
+        self.assertGreater(float(mark[1]), 0)
+
     def test_a_run_without_times_is_not_called_as_it_was(self):
         words = seen(timeline_part(self.view, 0, "timeline", "Timeline"))
         self.assertIn("The recorded run, in the order of the replay , 2 threads , 31 µs", words)

@@ -11,6 +11,11 @@ class Reached(unittest.TestCase):
         self.assertEqual((reached.threads, reached.end, reached.is_elapsed), (2, 30, True))
         self.assertAlmostEqual(reached.speed_up, 37 / 30)
 
+    def test_by_the_head_alone(self):
+        view = worked.view("odd")
+        self.assertEqual((view.run, view.reached.threads, view.reached.end), (None, 2, 3))
+        self.assertEqual(view.unit, "× 250 ns")
+
     def test_nothing_recorded(self):
         view = worked.view("plain")
         self.assertIsNone(view.reached)

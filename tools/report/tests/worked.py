@@ -55,7 +55,7 @@ def view(name="mesh", **more):
 
 def pages():
     """Each page that the tests make, as names of texts and factors."""
-    return [(["mesh"], []), (["split"], []), (["plain"], []), (["mesh", "split"], []),
+    return [(["mesh"], []), (["split"], []), (["plain"], []), (["odd"], []), (["mesh", "split"], []),
             (["mesh"], ["task at mesh.c:8=0.5", "after taskwait at mesh.c:14=3"])]
 
 
