@@ -1,6 +1,7 @@
 """The recorder's library: found beside these tools, or built there."""
 import glob
 import os
+import re
 import shutil
 import subprocess
 
@@ -23,7 +24,7 @@ def is_built(folder):
 def why_not_built(complaint):
     """The line of make or the compiler that says what is missing."""
     lines = [line.strip() for line in complaint.splitlines() if line.strip()]
-    telling = [line for line in lines if "rror" in line or "not found" in line]
+    telling = [line for line in lines if re.search("error:|not found|No such file", line)]
     return (telling or lines or ["no word of it"])[0]
 
 
