@@ -40,6 +40,7 @@ grep -q '</html>' mine.html || fail "no page"
 installed spanprof-conformance run --cc gcc --tasks tied --threads 2 --runs 1 --settings free --programs 2 \
     --no-directed > tested || { fail "spanprof-conformance fails"; cat tested; }
 [ "$(installed spanprof-conformance list | wc -l)" -gt 100 ] || fail "the directed programs"
+env -i PATH=/usr/bin:/bin "$prefix/bin/spanprof-report" mine.tasks -o far.html || fail "no page without the PATH"
 for name in spanprof spanprof-record spanprof-report spanprof-conformance; do
     [ "$(man -M "$prefix/share/man" -w $name)" = "$prefix/share/man/man1/$name.1" ] || fail "man $name"
     [ -e "$prefix/share/bash-completion/completions/$name" ] || fail "no completion of $name"

@@ -100,6 +100,11 @@ printf '#!/bin/sh\nexec ./llvm\n' > script
 chmod +x script
 expect "a script" 0 spanprof-record -- ./script
 expect_recording script
+if command -v script > /dev/null; then
+    script -qec 'spanprof-record -- ./llvm < in' /dev/null > terminal
+    grep -q 'spanprof-record: reading llvm.tasks' terminal || fail "no progress on a terminal"
+fi
+grep -q reading err && fail "progress where there is no terminal"
 echo "options"
 
 expect "five runs" 0 spanprof-record --runs 5 --out five -- ./llvm

@@ -1,7 +1,7 @@
 """A program text as segments, each with the place in the source that its comments tell, and what spanprof answers.
 
 SPANPROF in the environment is the program, and may be several words. Without it the program is looked for on the PATH,
-and then in the repository.
+and then in the repository, or where `make install` has put it.
 """
 import os
 import re
@@ -16,11 +16,13 @@ signal.signal(signal.SIGPIPE, signal.SIG_DFL)  # so that `| head` ends it quietl
 
 TOP = os.path.dirname(os.path.dirname(os.path.dirname(os.path.abspath(__file__))))
 IN_REPOSITORY = os.path.join(TOP, "crates", "spanprof", "out", "spanprof")
+INSTALLED = os.path.join(TOP, "..", "bin", "spanprof")  # this file is then in PREFIX/share/spanprof/plots
 
 
 def spanprof():
     """The words that start the program."""
-    return shlex.split(os.environ.get("SPANPROF", "")) or [shutil.which("spanprof") or IN_REPOSITORY]
+    here = INSTALLED if os.path.basename(TOP) == "share" else IN_REPOSITORY
+    return shlex.split(os.environ.get("SPANPROF", "")) or [shutil.which("spanprof") or here]
 
 
 def ask(words, text):

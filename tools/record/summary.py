@@ -46,7 +46,7 @@ def elapsed_line(answers):
     if not elapsed:
         return "not told"
     threads = " on %s" % threads_of(answers.head) if answers.head.threads else ""
-    return "%s%s: %.2f times as fast as one was reached (measured)" % (
+    return "%s%s: it was %.2f times as fast as one (measured)" % (
         costs(elapsed, answers.head.unit), threads, answers.work / elapsed)
 
 

@@ -13,7 +13,7 @@ tasks         1, in 3 segments (recorded); its run was legal (proved)
 work          100 us: the time of one thread (measured)
 span          70 us: no run ends sooner (proved, of measured costs)
 parallelism   1.43: work / span; no number of threads gives more (proved)
-elapsed       40 us on 4 threads: 2.50 times as fast as one was reached (measured)
+elapsed       40 us on 4 threads: it was 2.50 times as fast as one (measured)
 threads       2: 1.17 to 1.43, 4: 1.29 to 1.43, 8: 1.36 to 1.43, 16: 1.40 to 1.43 times as fast as one (proved)
 span by place 71.4 % of the span, 50.0 % of the work: after a taskwait
               28.6 % of the span, 20.0 % of the work: the beginning
