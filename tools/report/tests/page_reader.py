@@ -1,6 +1,6 @@
 """The numbers of a page with the sources that they name, and the digits that stand there without a source."""
 import re
-from dataclasses import dataclass, field
+from dataclasses import dataclass
 from html.parser import HTMLParser
 
 EMPTY = {"br", "hr", "input", "meta", "wbr", "line", "rect", "circle", "path", "polyline", "polygon"}
