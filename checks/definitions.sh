@@ -15,7 +15,7 @@ for line in page.splitlines():
         names = re.findall(r"`(\w+)`", first)
         crate = names[0] if names else crate
         told |= {(crate, name) for name in re.findall(r"`([A-Z]\w*)`", files)}
-rest = page[page.index("How it is carried out"):].replace("\n", " ")
+rest = re.sub(r"\s+", " ", page[page.index("How it is carried out"):])
 for crate, files in re.findall(r"in `(\w+)` ((?:`[A-Z]\w*`(?:, )?)+)", rest):
     told |= {(crate, name) for name in re.findall(r"`(\w+)`", files)}
 there = {(path.parts[1], path.stem) for path in pathlib.Path().glob("crates/*/specs/*.antt") if path.stem != "Lib"}
