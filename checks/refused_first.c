@@ -1,7 +1,8 @@
-/* Stands before the system's malloc, realloc and pthread_create, changes nothing, and counts which growths are the first
-   that is refused in some turn of a test of crates/refused_growths. The start of a thread counts as a growth. The test
-   tells what it does by asking for LONG_MAX bytes, or for 1, 2 or 3 fewer. At the end standard error gets a line with the
-   number of growths that were the first, of how many, and the numbers of the others, each with its kind and size. */
+/* Stands before the system's malloc, realloc and pthread_create, changes nothing, and counts which growths are the
+   first that is refused in some turn of a test of crates/refused_growths. The start of a thread counts as a growth. The
+   test tells what it does by asking for LONG_MAX bytes, or for 1, 2 or 3 fewer. At the end standard error gets a line
+   with the number of growths that were the first, of how many, and the numbers of the others, each with its kind and
+   size. */
 #define _GNU_SOURCE
 #include <dlfcn.h>
 #include <errno.h>
@@ -65,7 +66,8 @@ void *realloc(void *old, size_t size) {
 
 int pthread_create(pthread_t *thread, const pthread_attr_t *attributes, void *(*body)(void *), void *argument) {
     static int (*real)(pthread_t *, const pthread_attr_t *, void *(*)(void *), void *);
-    if (!real) real = (int (*)(pthread_t *, const pthread_attr_t *, void *(*)(void *), void *))dlsym(RTLD_NEXT, "pthread_create");
+    if (!real)
+        real = (int (*)(pthread_t *, const pthread_attr_t *, void *(*)(void *), void *))dlsym(RTLD_NEXT, "pthread_create");
     int mine = numbered('t', 0);
     int status = real(thread, attributes, body, argument);
     ended(mine, status != 0);

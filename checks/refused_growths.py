@@ -3,15 +3,16 @@
 
     checks/refused_growths.py commands [PROGRAM]    the ten commands of crates/spanprof/out/spanprof, or of this program
     checks/refused_growths.py tests                 the tests of crates/refused_growths, as `rt test` there built them
-    checks/refused_growths.py gate                  counts what the same tests refuse by themselves, as they do in the gate
+    checks/refused_growths.py gate                  counts what the same tests refuse by themselves, as in the gate
 
 A command is run with that one growth refused, and with all from it on refused. It writes what it writes with ample
 memory and ends with that status, or writes `error: out of memory` and ends with status 3. A test is run with the one
 growth refused, and passes. Anything else is a wrong answer, as are a crash, a run of more than 60 seconds, and a test
-or a command that meets no growth. The start of a thread is a growth too. With `gate` nothing is refused from outside: of
-each test in which little memory is left it is told how many growths were the first that was refused, and which were not.
-A growth of a block that is already long enough, which the C library never refuses, is told apart. The exit status is 1 where any answer was
-wrong, where a program is missing, or where nothing was run. It needs a C compiler, for refuse.c and refused_first.c.
+or a command that meets no growth. The start of a thread is a growth too. With `gate` nothing is refused from outside:
+of each test in which little memory is left it is told how many growths were the first that was refused, and which were
+not. A growth of a block that is already long enough, which the C library never refuses, is told apart. The exit status
+is 1 where any answer was wrong, where a program is missing, or where nothing was run. It needs a C compiler, for
+refuse.c and refused_first.c.
 """
 
 import os
@@ -88,7 +89,8 @@ def command(refuser, program, words, text):
     text = text.encode()
     full = subprocess.run([program, *words], input=text, capture_output=True, timeout=SECONDS, check=False)
     if full.returncode not in (0, 1, 2) or full.stderr:
-        raise SystemExit(f"FAILED: {' '.join(words)} with ample memory: status {full.returncode}: {full.stderr[:200]!r}")
+        raise SystemExit(f"FAILED: {' '.join(words)} with ample memory: status {full.returncode}: "
+                         f"{full.stderr[:200]!r}")
 
     def is_right(status, written):
         return (status, written) in ((3, OUT_OF_MEMORY), (full.returncode, full.stdout))
@@ -123,7 +125,8 @@ def commands(refuser, program):
         ("show", LOOPS),
     ):
         command(refuser, program, words.split(), text)
-    for words in ("span", "show", "slack", "greedy --threads 4", "curve --upto 4", "whatif 1=7", "certify", "run --workers 2"):
+    for words in ("span", "show", "slack", "greedy --threads 4", "curve --upto 4", "whatif 1=7", "certify",
+                  "run --workers 2"):
         command(refuser, program, words.split(), larger)
 
 
@@ -169,7 +172,8 @@ def gate(library, program):
         sizes = [re.search(r"\((.)(\d+)\)", other) for other in others]
         needless = [size[1] == "r" and room_enough(int(size[2])) for size in sizes]
         left = [other for other, is_needless in zip(others, needless) if not is_needless]
-        print(f"{name}: {first} of {met} growths, {sum(needless)} cannot be, not: {' '.join(left) or 'none'}", flush=True)
+        print(f"{name}: {first} of {met} growths, {sum(needless)} cannot be, not: {' '.join(left) or 'none'}",
+              flush=True)
     return is_right
 
 
