@@ -75,6 +75,7 @@ def mouse_tells(page):
     page.mouse("mouseMoved", bar["x"], bar["y"])
     if bar["isThin"] and "segments, too thin to be told apart here" not in tip(page):
         yield "the tooltip of bars thinner than a pixel says %r" % tip(page)
+    page.mouse("mouseMoved", 5, 5)      # a mouse that stays where it is tells nothing
     bar = widest_bar(page, is_close=True)
     page.mouse("mouseMoved", bar["x"], bar["y"])
     if tip(page) != bar["words"]:
