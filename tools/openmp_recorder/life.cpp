@@ -22,13 +22,20 @@ struct Life {
   int64_t start = 0;
   pid_t process = 0;
   bool is_child = false;
-  std::atomic<bool> ended{false};
+  std::atomic<bool> ended{false}, written{false};
 };
 
 Life *life = nullptr;  // never destroyed: the runtime says goodbye after the destructors of globals have run
 
+// Whether something was recorded and is not in the files. A child that met no construct has nothing to write.
+bool is_lost() { return !life->written && !(life->is_child && nothing_recorded()); }
+
 // The process dies of the signal as it would have without the recorder, which may only say a word here.
 void on_fatal_signal(int signal) {
+  if (!is_lost()) {
+    raise(signal);
+    return;
+  }
   char words[] = "spanprof recorder: nothing is written, since the program ended by signal 00\n";
   char *number = words + sizeof words - 4;
   number[0] = static_cast<char>('0' + signal / 10);
@@ -45,7 +52,8 @@ int64_t time_of_day() {
 }
 
 void watch_signals() {
-  for (int signal : {SIGABRT, SIGSEGV, SIGBUS, SIGFPE, SIGILL, SIGTERM, SIGINT, SIGHUP, SIGQUIT}) {
+  for (int signal : {SIGABRT, SIGSEGV, SIGBUS, SIGFPE, SIGILL, SIGTERM, SIGINT, SIGHUP, SIGQUIT, SIGPIPE, SIGALRM,
+                     SIGUSR1, SIGUSR2, SIGXCPU, SIGXFSZ, SIGVTALRM, SIGPROF, SIGSYS, SIGTRAP}) {
     struct sigaction old {}, ours {};
     if (sigaction(signal, nullptr, &old) || (old.sa_flags & SA_SIGINFO) || old.sa_handler != SIG_DFL) continue;
     ours.sa_handler = on_fatal_signal;
@@ -74,7 +82,7 @@ void name_files() {
 void after_fork() {
   forget_records();
   life->is_child = true;
-  life->ended = false;
+  life->ended = life->written = false;
   life->start = wall_time();
   name_files();
 }
@@ -105,6 +113,12 @@ void end_of_process() {
   if (life && life->process == getpid()) end_recording();
 }
 
+// Threads that are in a region go on while the process ends, and the runtime takes from them what they need before it
+// calls the tool's end. What runs after `exit` where no thread is in a region is still recorded.
+void end_inside_a_region() {
+  if (life->process == getpid() && inside_a_region(all_logs())) end_recording();
+}
+
 // The runtime does not call the tool's end where the program ends inside a region.
 __attribute__((destructor)) void end_of_library() { end_of_process(); }
 }  // namespace
@@ -121,6 +135,7 @@ void begin_recording() {
   if (!life->options.quiet) say("recording to " + life->out + ".tasks");
   watch_signals();
   pthread_atfork(nullptr, nullptr, after_fork);
+  atexit(end_inside_a_region);
   at_quick_exit(end_of_process);
 }
 
@@ -133,4 +148,5 @@ void end_recording() {
   } catch (const std::bad_alloc &) {
     say("out of memory, and what is not written yet is not written");
   }
+  life->written = true;
 }

@@ -1,4 +1,5 @@
 """The summary of a recording in ten lines: what spanprof printed, quotients of that, and what the text's head tells."""
+from report.figures import rounded_down, rounded_up
 from report.places import places
 
 THREADS = (2, 4, 8, 16)
@@ -8,16 +9,6 @@ MOST_PLACES = 3
 
 def grouped(number):
     return "{:,}".format(number)
-
-
-def rounded_down(above, below):
-    """A quotient that is never told greater than it is."""
-    return "%.2f" % (100 * above // below / 100) if below else "1.00"
-
-
-def rounded_up(above, below):
-    """A quotient that is never told less than it is."""
-    return "%.2f" % (-(-100 * above // below) / 100) if below else "1.00"
 
 
 def threads_of(head):

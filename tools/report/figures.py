@@ -24,16 +24,26 @@ def percent(part, whole):
     return 100 * part / whole if whole else 0.0
 
 
+def rounded_down(above, below):
+    """A quotient that is never told greater than it is."""
+    return "%.2f" % (100 * above // below / 100) if below else "1.00"
+
+
+def rounded_up(above, below):
+    """A quotient that is never told less than it is."""
+    return "%.2f" % (-(-100 * above // below) / 100) if below else "1.00"
+
+
 class Figures:
     """The numbers of one program of the page; `prefix` stands before the sources of the second."""
 
     def __init__(self, prefix=""):
         self.prefix = prefix
 
-    def data(self, words, value, source, kind):
+    def data(self, words, value, source, kind, rounded=None):
         exact = value if isinstance(value, int) else "%.6g" % value
         return tag("data", words, value=exact, title="%s (%s)" % (kind, self.prefix + source),
-                   data_from=self.prefix + source, class_=kind)
+                   data_from=self.prefix + source, data_rounded=rounded, class_=kind)
 
     def number(self, value, source, kind, digits=0, unit=""):
         """A number as HTML. Its title says whether it was measured, recorded or proved, and by which answer."""
@@ -44,9 +54,17 @@ class Figures:
         value = percent(part, whole)
         return self.data("%.1f %%" % value, value, "percent " + source, kind)
 
-    def times(self, above, below, source, kind, digits=1):
+    def times(self, above, below, source, kind):
         """A quotient such as a speed-up; 1 where nothing costs anything."""
-        return self.number(above / below if below else 1.0, source, kind, digits)
+        return self.number(above / below if below else 1.0, source, kind, 2)
+
+    def times_at_most(self, above, below, source, kind):
+        """A quotient that nothing passes, rounded up."""
+        return self.data(rounded_up(above, below), above / below if below else 1.0, source, kind, "up")
+
+    def times_at_least(self, above, below, source, kind):
+        """A quotient that is reached, rounded down."""
+        return self.data(rounded_down(above, below), above / below if below else 1.0, source, kind, "down")
 
     def told(self, name, words, sources, **attributes):
         """An element, as of a picture, whose words have one number for each of the sources, in this order."""

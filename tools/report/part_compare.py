@@ -36,8 +36,8 @@ def numbers(views):
     rows = [[name, show.number(a, source, kind), other.number(b, source, kind), change(views, a, b, source, kind),
              badge(kind)] for name, a, b, source, kind in lines(views)]
     source = "span work / span span"
-    rows.insert(2, ["parallelism", show.times(first.work, first.span, source, PROVED),
-                    other.times(second.work, second.span, source, PROVED), "", badge(PROVED)])
+    rows.insert(2, ["parallelism", show.times_at_most(first.work, first.span, source, PROVED),
+                    other.times_at_most(second.work, second.span, source, PROVED), "", badge(PROVED)])
     return table(["", breakable(first.name), breakable(second.name), "second to first", ""], rows, numeric=range(1, 4))
 
 

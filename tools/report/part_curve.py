@@ -48,19 +48,20 @@ def grid(axes):
         pieces.append(tag("text", speed_up, class_="axis", x=LEFT - 7, y=y + 4, text_anchor="end"))
     middle = (TOP + axes.y(0)) / 2
     pieces.append(tag("text", "threads", x=(LEFT + WIDTH - RIGHT) / 2, y=HEIGHT - 6, text_anchor="middle"))
-    pieces.append(tag("text", "times faster than one thread", x=16, y=middle, text_anchor="middle",
+    pieces.append(tag("text", "times as fast as one thread", x=16, y=middle, text_anchor="middle",
                       transform="rotate(-90 16 %g)" % middle))
     return join(pieces)
 
 
 def told(view, threads):
     """What the curve says at a point, in one line."""
-    row, work = view.answers.curve[threads], view.answers.work
-    words, sources = "%d threads" % threads, ["curve %d threads" % threads]
+    row, work, named = view.answers.curve[threads], view.answers.work, "curve %d " % threads
+    times = work / row["end"] if row["end"] else 1
+    words = "%d threads, %.2f times" % (threads, times)
+    sources = [named + "threads", "span work / %send" % named]
     for column, name in COLUMNS:
-        words += "; %s %s, %.2f times" % (name, grouped(row[column]), work / row[column] if row[column] else 1)
-        source = "curve %d %s" % (threads, column)
-        sources += [source, "span work / " + source]
+        words += "; %s %s" % (name, grouped(row[column]))
+        sources.append(named + column)
     return view.figures.told("title", words, sources)
 
 
@@ -135,9 +136,9 @@ def cells(view, threads):
     answers, show = view.answers, view.figures
     words = show.told("span", threads, ["curve %d threads" % threads])
     out = [tag("b", words) if threads == answers.threads else words]
-    for column in ("least", "end", "bound"):
+    for column, times in (("least", show.times_at_most), ("end", show.times), ("bound", show.times_at_least)):
         source, value = "curve %d %s" % (threads, column), answers.curve[threads][column]
-        out += [show.number(value, source, PROVED), show.times(answers.work, value, "span work / " + source, PROVED, 2)]
+        out += [show.number(value, source, PROVED), times(answers.work, value, "span work / " + source, PROVED)]
     return out
 
 

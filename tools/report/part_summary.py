@@ -26,8 +26,8 @@ def first_tiles(view):
                  moved(view, "work")),
             tile("Span", show.number(answers.span, "span span", PROVED, unit=unit), cost, "no run ends sooner",
                  moved(view, "span")),
-            tile("Parallelism", show.times(answers.work, answers.span, "span work / span span", PROVED), [PROVED],
-                 "times faster at most, on any threads", moved(view, "work", "span")),
+            tile("Parallelism", show.times_at_most(answers.work, answers.span, "span work / span span", PROVED), [PROVED],
+                 "times as fast at most, on any number of threads", moved(view, "work", "span")),
             tile("Tasks", show.number(answers.tasks, "tasks", view.shape_kind), [view.shape_kind],
                  join([segments, " segments"]))]
 
@@ -36,9 +36,9 @@ def threads_tile(view):
     """What the threads of the recording, or those asked for, can give."""
     answers, show, threads = view.answers, view.figures, view.answers.threads
     row, source = answers.curve[threads], "span work / curve %d " % threads
-    at_least = show.times(answers.work, row["bound"], source + "bound", PROVED)
+    at_least = show.times_at_least(answers.work, row["bound"], source + "bound", PROVED)
     return tile(tag("span", "%d threads give at most" % threads, class_="given"),
-                show.times(answers.work, row["least"], source + "least", PROVED), [PROVED],
+                show.times_at_most(answers.work, row["least"], source + "least", PROVED), [PROVED],
                 join(["times; a greedy run at least ", at_least]))
 
 

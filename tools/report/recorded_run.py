@@ -78,7 +78,7 @@ def read_times(path, answers):
     """The recorder's table `segment,thread,start_ns,end_ns`, in the unit of the text."""
     count, unit = len(answers.rows), answers.head.nanoseconds or 1
     run = RecordedRun([0] * count, [0] * count, [None] * count, is_timed=True, unit=unit)
-    with open(path, encoding="utf-8") as file:
+    with open(path, encoding="utf-8", errors="replace") as file:
         table = program.rows(file.read())
     try:
         for row in table:

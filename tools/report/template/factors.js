@@ -3,7 +3,7 @@
 const quoted = (words) => "'" + words.replaceAll("'", "'\\''") + "'";
 
 const chosenFactors = () => [...document.querySelectorAll("input.factor")]
-  .filter((box) => box.value !== "" && Number(box.value) !== 1);
+  .filter((box) => box.value !== "" && box.validity.valid && Number(box.value) !== 1);
 
 // To the nearest whole number, and halfway to the even one, as spanprof-report rounds.
 function rounded(value) {
@@ -27,6 +27,7 @@ function showLines() {
   const changed = changes(programs[0], boxes);
   const command = changed.length ? ["spanprof whatif", ...changed] : ["spanprof span"];
   exact.textContent = [...command, "<", quoted(exact.dataset.file)].join(" ");
+  for (const one of [line, exact]) one.closest("pre").hidden = !boxes.length;
 }
 document.querySelectorAll("input.factor").forEach((box) => box.addEventListener("input", showLines));
 showLines();

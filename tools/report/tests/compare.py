@@ -3,6 +3,7 @@
     python3 -m report.tests.compare PAGE.html MINE.tasks [OTHER.tasks]    in tools/; status 1 where one is wrong
 """
 import json
+import math
 import sys
 
 from report.tests.expected import Program, table, unpacked
@@ -22,10 +23,15 @@ def is_same(shown, expected):
     return shown == str(expected) if isinstance(expected, int) else shown == "%.6g" % expected
 
 
-def is_seen(words, expected):
-    """What a reader sees, to as many digits as are shown."""
+def is_seen(words, expected, rounded=""):
+    """What a reader sees, to as many digits as are shown: the nearest, or the next one up or down."""
     plain = words.replace(",", "").replace("−", "-")
-    return plain.lstrip("+") == "%.*f" % (len(plain.partition(".")[2]), expected)
+    digits = len(plain.partition(".")[2])
+    if rounded:
+        to_whole = math.ceil if rounded == "up" else math.floor
+        near = round(expected * 10 ** digits, 6)    # a quotient of whole numbers in binary is not quite itself
+        expected = to_whole(near) / 10 ** digits
+    return plain.lstrip("+") == "%.*f" % (digits, expected)
 
 
 def faults_of(figure, programs):
@@ -33,7 +39,7 @@ def faults_of(figure, programs):
     if len(figure.shown) != len(values):
         return ["%s: the page has %r" % ("; ".join(figure.sources), figure.words)]
     wrong = ["%s: the page shows %s, and not %s" % (source, words, value)
-             for source, words, value in zip(figure.sources, figure.shown, values) if not is_seen(words, value)]
+             for source, words, value in zip(figure.sources, figure.shown, values) if not is_seen(words, value, figure.rounded)]
     if figure.exact and not is_same(figure.exact, values[0]):
         wrong.append("%s: the page has %s, and not %s" % (figure.sources[0], figure.exact, values[0]))
     return wrong

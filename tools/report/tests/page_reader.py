@@ -16,6 +16,7 @@ class Figure:
     sources: list
     exact: str = ""         # the value that the element carries, where it has one
     words: str = ""
+    rounded: str = ""       # up or down, where it is not to the nearest
 
     @property
     def shown(self):
@@ -44,7 +45,8 @@ class Reader(HTMLParser):
         element.is_name = above.is_name or tag in NAMES or bool(classes & WITHOUT_SOURCE) or tag == "h2"
         element.figure = above.figure
         if named.get("data-from"):
-            element.figure = Figure(named["data-from"].split("; "), named.get("value", ""))
+            element.figure = Figure(named["data-from"].split("; "), named.get("value", ""), "",
+                                    named.get("data-rounded", ""))
             self.figures.append(element.figure)
         if tag not in EMPTY:
             self.open.append(element)

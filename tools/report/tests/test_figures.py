@@ -21,7 +21,14 @@ class Numbers(unittest.TestCase):
 
     def test_quotients(self):
         self.assertIn('value="0.333333"', Figures().times(1, 3, "span work / elapsed", MEASURED))
-        self.assertIn(">1.0<", Figures().times(0, 0, "span work / span span", PROVED))
+        self.assertIn(">1.00<", Figures().times(0, 0, "span work / span span", PROVED))
+
+    def test_bounds_are_rounded_away_from_what_they_bound(self):
+        show, source = Figures(), "span work / curve 2 least"
+        self.assertIn('data-rounded="up" class="proved">1.33<', show.times_at_most(41, 31, source, PROVED))
+        self.assertIn('data-rounded="down" class="proved">1.32<', show.times_at_least(41, 31, source, PROVED))
+        self.assertIn(">1.50<", show.times_at_most(3, 2, source, PROVED))
+        self.assertIn(">1.00<", show.times_at_least(0, 0, source, PROVED))
 
     def test_words_with_several_numbers(self):
         self.assertEqual(Figures("other ").told("title", "2 of 3", ["tasks", "span segments"]),

@@ -66,7 +66,7 @@ class WrongNumbers(unittest.TestCase):
         self.assertEqual(len(self.faults(">41 µs<", ">42 µs<")), 1)
 
     def test_a_wrong_tooltip(self):
-        self.assertTrue(self.faults("1 threads; the greedy run ends at 41", "1 threads; the greedy run ends at 40"))
+        self.assertTrue(self.faults("1.00 times; the greedy run ends at 41", "1.00 times; the greedy run ends at 40"))
 
     def test_a_number_of_the_wrong_program(self):
         self.assertTrue(self.faults('data-from="other span work"', 'data-from="span work"'))
@@ -100,3 +100,10 @@ class Small(unittest.TestCase):
         self.assertTrue(is_seen("−9.8", -9.756))
         self.assertTrue(is_seen("+12.0", 12))
         self.assertFalse(is_seen("1,234", 1235))
+
+    def test_a_bound_is_seen_rounded_its_way(self):
+        self.assertTrue(is_seen("1.33", 41 / 31, "up"))
+        self.assertTrue(is_seen("1.32", 41 / 31, "down"))
+        self.assertTrue(is_seen("1.10", 1.1, "up"))
+        self.assertFalse(is_seen("1.32", 41 / 31, "up"))
+        self.assertFalse(is_seen("1.33", 41 / 31, "down"))

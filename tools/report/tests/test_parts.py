@@ -109,7 +109,7 @@ class OfTwo(unittest.TestCase):
         part = curve_part(self.views)
         self.assertIn('class="curve s0"', part)
         self.assertIn('class="curve s1"', part)
-        self.assertIn('data-from="other curve 2 threads; other curve 2 end;', part)
+        self.assertIn('data-from="other curve 2 threads; other span work / curve 2 end; other curve 2 end;', part)
 
     def test_a_second_timeline_is_of_the_second_program(self):
         part = timeline_part(self.views[1], 1, "timeline-other", "Timeline of split.tasks")
