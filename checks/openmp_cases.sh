@@ -7,6 +7,7 @@ cd "$(dirname "$0")/.."
 llvm=${LLVM:-16}
 skip() { echo "skipped: $1"; exit 0; }
 command -v "clang++-$llvm" > /dev/null || skip "clang-$llvm is missing (package clang-$llvm)"
+command -v gcc > /dev/null || skip "gcc is missing (package gcc)"
 [ -e "/usr/lib/llvm-$llvm/lib/libomp.so" ] || skip "LLVM's OpenMP runtime is missing (package libomp-$llvm-dev)"
 built=crates/spanprof/out/spanprof
 [ -n "${SPANPROF:-}" ] || [ -x $built ] || { echo "no program $built"; exit 1; }
