@@ -1,5 +1,6 @@
 """What a case asks for, read from the comments at the head of its program, and what a run left of it.
 
+    // compiler: gcc              in the place of clang; the program then runs on LLVM's runtime in the place of gcc's
     // env: NAME=VALUE            a variable of the run
     // status: N                  its exit status, 0 where none is named; negative for a signal
     // old: FILE ..               files of an earlier run that lie there
@@ -15,7 +16,7 @@ import re
 from collections import defaultdict
 from dataclasses import dataclass, field
 
-KEYS = ("env", "status", "old", "again", "says", "text", "no text", "file", "no file", "expect")
+KEYS = ("compiler", "env", "status", "old", "again", "says", "text", "no text", "file", "no file", "expect")
 COMPARE = {"<=": operator.le, ">=": operator.ge, "=": operator.eq}
 
 
@@ -39,6 +40,10 @@ def wants(source):
         elif not line.startswith("//"):
             break
     return out
+
+
+def is_of_gcc(wanted):
+    return wanted["compiler"] == ["gcc"]
 
 
 def has_file(left, pattern):

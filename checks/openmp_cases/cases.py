@@ -10,20 +10,20 @@ import subprocess
 import sys
 import tempfile
 
-from case import Left, first_faults, last_faults, second_setting, wants
+from case import Left, first_faults, is_of_gcc, last_faults, second_setting, wants
 
 HERE = os.path.dirname(os.path.abspath(__file__))
 TOP = os.path.dirname(os.path.dirname(HERE))
 SPANPROF = os.environ.get("SPANPROF", os.path.join(TOP, "crates/spanprof/out/spanprof"))
 RECORDER = os.path.abspath(os.environ.get("RECORDER", os.path.join(TOP, "tools/openmp_recorder/librecorder.so")))
 LLVM = os.environ.get("LLVM", "16")
+LIBRARY = "/usr/lib/llvm-%s/lib" % LLVM
 SECONDS = 120  # for one run
 
 
-def build(source, program):
-    library = "/usr/lib/llvm-%s/lib" % LLVM
-    subprocess.run(["clang-" + LLVM, "-O2", "-g", "-fopenmp", "-fopenmp-version=51", source, "-o", program,
-                    "-L" + library, "-Wl,-rpath," + library], check=True)
+def build(source, program, by_gcc):
+    compiler = ["gcc"] if by_gcc else ["clang-" + LLVM, "-fopenmp-version=51", "-L" + LIBRARY, "-Wl,-rpath," + LIBRARY]
+    subprocess.run(compiler + ["-O2", "-g", "-fopenmp", source, "-o", program], check=True)
 
 
 def spanprof(command, text):
@@ -66,7 +66,8 @@ def faults_of(wanted, program, folder):
     for name in " ".join(wanted["old"]).split():
         with open(os.path.join(folder, name), "w", encoding="utf-8") as file:
             file.write("of an earlier run\n")
-    settings = dict(words.split("=", 1) for words in wanted["env"])
+    settings = {"LD_PRELOAD": LIBRARY + "/libomp.so.5"} if is_of_gcc(wanted) else {}
+    settings.update(words.split("=", 1) for words in wanted["env"])
     left = run(program, folder, settings)
     out = list(first_faults(wanted, left))
     for words in wanted["again"]:
@@ -82,7 +83,7 @@ def judge(source):
         wanted = wants(file.read())
     with tempfile.TemporaryDirectory() as folder:
         program = os.path.join(folder, os.path.basename(source)[:-2])
-        build(source, program)
+        build(source, program, is_of_gcc(wanted))
         return faults_of(wanted, program, folder)
 
 

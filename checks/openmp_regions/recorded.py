@@ -43,7 +43,7 @@ def read(text):
     Under gcc's code LLVM may tell the region's line for a construct in it; that counts as a line that is not known.
     """
     head, _, rest = text.partition("omptasks 1\n")
-    where = re.search(r"region:? at \S*?:(\d+)", head)
+    where = re.search(r"region: at \S*?:(\d+)", head)
     root = []
     open_bodies = [root]
     for line in rest.split("\n"):

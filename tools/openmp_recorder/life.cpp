@@ -9,11 +9,14 @@
 #include <new>
 
 #include "files.hpp"
+#include "modules.hpp"
 #include "options.hpp"
 #include "program_time.hpp"
 #include "records.hpp"
+#include "remarks.hpp"
 #include "report.hpp"
 #include "say.hpp"
+#include "source.hpp"
 
 namespace {
 struct Life {
@@ -133,6 +136,7 @@ void begin_recording() {
   start_records(life->options.records, life->options.processor_clock);
   remove_old_files(life->out, time_of_day() - (wall_time() - life->start));
   if (!life->options.quiet) say("recording to " + life->out + ".tasks");
+  if (has_unseen_detach()) say(life->out + ": " + remark_line(Remark::UnseenDetach, {}, Places()));
   watch_signals();
   pthread_atfork(nullptr, nullptr, after_fork);
   atexit(end_inside_a_region);

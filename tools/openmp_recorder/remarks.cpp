@@ -15,6 +15,8 @@ Words words(Remark remark) {
     case Remark::AllMemory: return {"dependence on all memory, left out", "span too low"};
     case Remark::UnknownItem: return {"depend item of an unknown type, written as inout", "span too high"};
     case Remark::Detach: return {"detach, written as complete where the code ends", "span too low"};
+    case Remark::UnseenDetach:
+      return {"detach of gcc's code, which LLVM's runtime does not see", "span too low, and the program may crash"};
     case Remark::Cancel: return {"cancellation, left out", "another run may have more or less work and span"};
     case Remark::Target: return {"target task, left out", "work and span too low"};
     case Remark::NestedRegion:
@@ -33,7 +35,8 @@ Words words(Remark remark) {
 }
 
 bool is_counted(Remark remark) {
-  return remark != Remark::LeftInside && remark != Remark::RecordsFull && remark != Remark::Rounding;
+  return remark != Remark::UnseenDetach && remark != Remark::LeftInside && remark != Remark::RecordsFull &&
+         remark != Remark::Rounding;
 }
 }  // namespace
 

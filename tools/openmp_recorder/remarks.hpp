@@ -11,6 +11,7 @@ enum class Remark : uint8_t {
   AllMemory,
   UnknownItem,
   Detach,
+  UnseenDetach,
   Cancel,
   Target,
   NestedRegion,

@@ -11,6 +11,7 @@
 #include "files.hpp"
 #include "fold.hpp"
 #include "head.hpp"
+#include "modules.hpp"
 #include "say.hpp"
 #include "span.hpp"
 #include "text.hpp"
@@ -65,7 +66,8 @@ Text Reporter::finish(Region &region, bool exclusion_as_order) {
 }
 
 void Reporter::tell_remarks(const Region &region, const std::string &name) {
-  for (auto &[what, seen] : region.remarks) say(name + ": " + remark_line(what, seen, places));
+  for (auto &[what, seen] : region.remarks)
+    if (what != Remark::UnseenDetach) say(name + ": " + remark_line(what, seen, places));  // said when recording began
 }
 
 // Which files hold the run; where there is no replay document, why.
@@ -137,6 +139,8 @@ void report(const Job &job, const Ending &ending) {
   if (with_tasks.empty() && !job.may_be_empty)
     say(ending.wall ? "no parallel region with tasks, and the program ended inside a region"
                     : "no parallel region with tasks");
+  if (has_unseen_detach())
+    for (Region *region : with_tasks) region->remarks[Remark::UnseenDetach];
   keep_the_heaviest(with_tasks, job.options);
   for (size_t i = 0; i < with_tasks.size(); i++)
     reporter.write(*with_tasks[i], job.out + (i ? "." + std::to_string(i + 1) : ""));

@@ -56,28 +56,16 @@ def read_recorded(head, words):
             head.program = value
         elif name == "threads" and value.isdigit():
             head.threads = int(value)
-        elif name in ("clock", "unit", "region"):
+        elif name in ("clock", "unit"):
             setattr(head, name, value)
         elif re.match(r"\d{4}-\d\d-\d\d", part):
             head.date = part.strip()
 
 
-def read_sentence(head, words):
-    """The two sentences of older recordings."""
-    recorded = re.match(r"recorded from (\S+), the parallel region(?: at (\S+))?, on (\d+) thread", words)
-    if recorded:
-        head.program, head.region, head.threads = recorded[1], recorded[2] or "", int(recorded[3])
-    measured = re.match(r"measured costs in (.+) of (processor|wall) time", words)
-    if measured:
-        head.unit, head.clock = measured[1], "cpu" if measured[2] == "processor" else "wall"
-
-
 def read_line(head, words):
-    name, colon, value = words.partition(": ")
+    name, _, value = words.partition(": ")
     first = re.match(r"\d+", value)
-    if not colon:
-        read_sentence(head, words)
-    elif name == "recorded":
+    if name == "recorded":
         read_recorded(head, value)
     elif name == "elapsed" and first:
         head.elapsed = int(first[0])

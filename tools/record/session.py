@@ -34,7 +34,8 @@ def notes_on(preload, called):
 def why_nothing(status, said, out, is_script):
     """The reason for which there is no text."""
     if status < 0:
-        return "the program ended by %s, and then nothing is written" % signal_name(status)
+        ended = "the program ended by %s, and then nothing is written" % signal_name(status)
+        return "; ".join([ended] + said.news(out))
     if said.loaded:
         return "; ".join(said.news(out)) or "the recorder says nothing of it"
     if is_script:

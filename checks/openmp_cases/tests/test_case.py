@@ -1,6 +1,6 @@
 import unittest
 
-from case import Left, first_faults, last_faults, second_setting, wants
+from case import Left, first_faults, is_of_gcc, last_faults, second_setting, wants
 
 SOURCE = """\
 // A program.
@@ -30,6 +30,10 @@ class Wanted(unittest.TestCase):
 
     def test_only_the_head_asks(self):
         self.assertEqual(self.wanted["text"], ["# remark: \\d+"])
+
+    def test_the_compiler(self):
+        self.assertFalse(is_of_gcc(self.wanted))
+        self.assertTrue(is_of_gcc(wants("// compiler: gcc\n")))
 
     def test_right(self):
         self.assertEqual(self.faults(), [])

@@ -4,8 +4,8 @@ from recorded import read
 from structure import costs, nodes, total
 
 TEXT = """\
-# recorded from region, the parallel region at region.c:9, on 2 threads
-# measured costs in ns of wall time
+# recorded: from region, threads 2, clock wall, unit ns
+# region: at region.c:9, 1 of 1
 omptasks 1
 work 7
 taskgroup {  # region.c:10

@@ -4,6 +4,7 @@
 #include "../fold.hpp"
 #include "../head.hpp"
 #include "../merge.hpp"
+#include "../modules.hpp"
 #include "check.hpp"
 #include "made.hpp"
 
@@ -78,6 +79,17 @@ TEST(files_of_a_run_are_known_by_their_names) {
     EXPECT(is_of_run(name, "out"), true);
   for (const char *name : {"out", "other.tasks", "out.csv", "out2.tasks", "out.x.tasks", "about.tasks"})
     EXPECT(is_of_run(name, "out"), false);
+}
+
+TEST(a_module_calls_what_its_relocations_name) {
+  EXPECT(one_module_calls({"opendir", "dl_iterate_phdr"}), true);  // files.cpp and modules.cpp
+  EXPECT(one_module_calls({"opendir", "GOMP_task"}), false);
+  EXPECT(has_unseen_detach(), false);
+}
+
+TEST(a_remark_on_what_is_not_seen_has_no_number) {
+  EXPECT(remark_line(Remark::UnseenDetach, {}, Places()),
+         "detach of gcc's code, which LLVM's runtime does not see: span too low, and the program may crash");
 }
 
 TEST(records_come_in_their_common_order) {

@@ -6,7 +6,7 @@ from unittest import mock
 import program
 from head import read_head, said
 
-NEW = """\
+TEXT = """\
 # recorded: from sort, 2026-11-24T00:31:07Z, threads 4, clock cpu, unit 250 ns
 # region: at sort.c:48, 2 of 5
 # elapsed: 900
@@ -19,12 +19,6 @@ NEW = """\
 omptasks 1
 # remark: not of the head
 work 1
-"""
-
-OLD = """\
-# recorded from sort, the parallel region at sort.c:48, on 4 threads
-# measured costs in us of processor time
-omptasks 1
 """
 
 TASKS = """\
@@ -43,23 +37,22 @@ work 1
 
 
 class Heads(unittest.TestCase):
-    def test_new(self):
-        head = read_head(NEW)
+    def test_each_line(self):
+        head = read_head(TEXT)
         self.assertEqual((head.program, head.threads, head.clock, head.unit), ("sort", 4, "cpu", "250 ns"))
         self.assertEqual((head.region, head.number, head.elapsed, head.nanoseconds), ("sort.c:48", "2 of 5", 900, 250))
         self.assertEqual(head.division, {"outside regions": 20, "in other regions": 30, "in parts without tasks": 4,
                                          "in tasks": 3000})
-        self.assertEqual(said(NEW), ["remark: mutexinoutset, 12 times at sort.c:40: span too low",
+        self.assertEqual(said(TEXT), ["remark: mutexinoutset, 12 times at sort.c:40: span too low",
                                      "lock critical at sort.c:9: 32 times, 77 inside, 5 waiting"])
 
     def test_a_region_without_place(self):
         head = read_head("# region: 1 of 1\nomptasks 1\n")
         self.assertEqual((head.region, head.number), ("", "1 of 1"))
 
-    def test_old(self):
-        head = read_head(OLD)
-        self.assertEqual((head.program, head.region, head.threads, head.nanoseconds), ("sort", "sort.c:48", 4, 1000))
-        self.assertEqual(head.unit_of_costs, "us of processor time")
+    def test_units(self):
+        head = read_head("# recorded: from sort, threads 4, clock cpu, unit us\n")
+        self.assertEqual((head.nanoseconds, head.unit_of_costs), (1000, "us of processor time"))
 
     def test_none(self):
         head = read_head("omptasks 1 work 3 # remark: no\n")
