@@ -1,8 +1,9 @@
 #!/usr/bin/env bash
-# Runs tools/conformance: its unit tests; on gcc's and LLVM's runtimes the directed part and a few random programs, which
-# have to be accepted and to try every rule; all mutants, which have to be caught; a campaign that is killed and goes on;
-# and the example's pool of threads, of which the broken one has to be refused. Build spanprof first. It may be named, or
-# told by SPANPROF, or stand on the PATH. LLVM's runtime is left out where clang-16 is missing, and gets tied tasks alone.
+# Runs tools/conformance: its unit tests; on gcc's and LLVM's runtimes the directed part and a few random programs,
+# which have to be accepted and to try every rule; all mutants, which have to be caught; a campaign that is killed and
+# goes on; and the example's pool of threads, of which the broken one has to be refused. Build spanprof first. It may be
+# named, or told by SPANPROF, or stand on the PATH. LLVM's runtime is left out where clang-16 is missing, and gets tied
+# tasks alone.
 set -euo pipefail
 cd "$(dirname "$0")/.."
 program=${1:-${SPANPROF:-crates/spanprof/out/spanprof}}

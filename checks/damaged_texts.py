@@ -1,6 +1,6 @@
 #!/usr/bin/env python3
-"""Damages texts, certificates and replay documents: cut at each byte, and each byte replaced by some others. No command may
-crash, hang or answer with anything but a report or one line of error.
+"""Damages texts, certificates and replay documents: cut at each byte, and each byte replaced by some others. No command
+may crash, hang or answer with anything but a report or one line of error.
 
     checks/damaged_texts.py [PROGRAM]    the built program; crates/spanprof/out/spanprof if none is given
 

@@ -20,7 +20,8 @@ for crate, files in re.findall(r"in `(\w+)` ((?:`[A-Z]\w*`(?:, )?)+)", rest):
     told |= {(crate, name) for name in re.findall(r"`(\w+)`", files)}
 there = {(path.parts[1], path.stem) for path in pathlib.Path().glob("crates/*/specs/*.antt") if path.stem != "Lib"}
 for crate, name in sorted(told ^ there):
-    print(f"{crate}/specs/{name}.antt:", "not in docs/ARCHITECTURE.md" if (crate, name) in there else "there is no such file")
+    what = "not in docs/ARCHITECTURE.md" if (crate, name) in there else "there is no such file"
+    print(f"{crate}/specs/{name}.antt: {what}")
 sys.exit(told != there)
 P
 echo "the tables name every file of definitions"

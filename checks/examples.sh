@@ -1,6 +1,7 @@
 #!/usr/bin/env bash
 # Compares the texts of examples/ with what make_kernels.py writes (but for their heads), those that are said by loops
-# with the same program written out, and the table of examples/README.md with what `span` prints. Build spanprof first. Another program may be named.
+# with the same program written out, and the table of examples/README.md with what `span` prints. Build spanprof first.
+# Another program may be named.
 set -euo pipefail
 cd "$(dirname "$0")/.."
 program=${1:-crates/spanprof/out/spanprof}
@@ -14,7 +15,8 @@ for text in examples/*.tasks; do
     case $name in
         worked) continue ;;
         *_loops)
-            cmp -s <("$program" slack < "$text") <("$program" slack < "examples/${name%_loops}.tasks") || fail "$name: another program"
+            cmp -s <("$program" slack < "$text") <("$program" slack < "examples/${name%_loops}.tasks") ||
+                fail "$name: another program"
             continue ;;
     esac
     cmp -s <(without_head "$text") <(examples/make_kernels.py "$name" | without_head) || fail "$name: made otherwise"

@@ -1,11 +1,11 @@
 #!/usr/bin/env python3
-"""Runs each command on inputs that cannot be read and outputs that cannot be written, and on a pipe that gives and takes
-few bytes at a time.
+"""Runs each command on inputs that cannot be read and outputs that cannot be written, and on a pipe that gives and
+takes few bytes at a time.
 
     checks/failing_devices.py [PROGRAM]    the built program; crates/spanprof/out/spanprof if none is given
 
-A read that fails is `error: read fault` with status 3, a write that fails has status 3, and a slow pipe changes nothing.
-The exit status is 1 where an answer was wrong.
+A read that fails is `error: read fault` with status 3, a write that fails has status 3, and a slow pipe changes
+nothing. The exit status is 1 where an answer was wrong.
 """
 
 import os
@@ -31,7 +31,8 @@ def run(words, **how):
 def without(words, text, descriptor):
     """With this descriptor closed."""
     script = f'exec "$@" {descriptor}{"<" if descriptor == 0 else ">"}&-'
-    ran = subprocess.run(["sh", "-c", script, "", PROGRAM, *words], input=text, capture_output=True, timeout=60, check=False)
+    ran = subprocess.run(["sh", "-c", script, "", PROGRAM, *words], input=text, capture_output=True, timeout=60,
+                         check=False)
     return ran.returncode, ran.stdout, ran.stderr
 
 
@@ -46,7 +47,8 @@ def to_broken_pipe(words, text):
 
 def byte_by_byte(words, text):
     """Gives one byte at a time, and takes what comes."""
-    ran = subprocess.Popen([PROGRAM, *words], stdin=subprocess.PIPE, stdout=subprocess.PIPE, stderr=subprocess.PIPE, bufsize=0)
+    ran = subprocess.Popen([PROGRAM, *words], stdin=subprocess.PIPE, stdout=subprocess.PIPE, stderr=subprocess.PIPE,
+                           bufsize=0)
 
     def give():
         for byte in text:

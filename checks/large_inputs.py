@@ -1,6 +1,6 @@
 #!/usr/bin/env python3
-"""Runs every command on texts near each limit (those of bench/make_texts.py) and compares the reports with numbers known
-beforehand and with one another: an answer that is always "out of memory" from some size on would show here.
+"""Runs every command on texts near each limit (those of bench/make_texts.py) and compares the reports with numbers
+known beforehand and with one another: an answer that is always "out of memory" from some size on would show here.
 
     checks/large_inputs.py [PROGRAM]        the built program; crates/spanprof/out/spanprof if none is given
 """

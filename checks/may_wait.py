@@ -1,7 +1,7 @@
 #!/usr/bin/env python3
 """Compares the numbers of functions that may wait, as crates.txt gives them, with what the check itself prints.
 
-    checks/may_wait.py [CRATE..]    the crates whose functions may wait, if none is named; status 1 where a number differs
+    checks/may_wait.py [CRATE..]    those whose functions may wait, if none is named; status 1 where a number differs
 It runs `rt check` in each crate, which takes minutes where nothing is kept in out/.
 """
 import pathlib

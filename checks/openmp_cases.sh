@@ -9,7 +9,8 @@ skip() { echo "skipped: $1"; exit 0; }
 command -v "clang++-$llvm" > /dev/null || skip "clang-$llvm is missing (package clang-$llvm)"
 command -v gcc > /dev/null || skip "gcc is missing (package gcc)"
 [ -e "/usr/lib/llvm-$llvm/lib/libomp.so" ] || skip "LLVM's OpenMP runtime is missing (package libomp-$llvm-dev)"
-[ -n "${SPANPROF:-}" ] || [ -x crates/spanprof/out/spanprof ] || { echo "no program crates/spanprof/out/spanprof"; exit 1; }
+built=crates/spanprof/out/spanprof
+[ -n "${SPANPROF:-}" ] || [ -x $built ] || { echo "no program $built"; exit 1; }
 python3 -m unittest discover -q -s checks/openmp_cases/tests -t checks/openmp_cases
 (cd tools && python3 -m unittest discover -q -s tests -t .)
 make -s -C tools/openmp_recorder LLVM="$llvm" librecorder.so test

@@ -1,10 +1,10 @@
 #!/usr/bin/env bash
-# Tries tools/spanprof-report: its unit tests; then for each example, each recorded text, a text at the limits and, where
-# clang-16 and LLVM's OpenMP runtime are there, each program of docs/TUNING.md recorded anew: the page is made, each of its
-# numbers is compared with spanprof's answers, and it is opened in Chromium: errors, sizes, looks in light, dark, narrow
-# and print, keys and mouse. Build spanprof first.
+# Tries tools/spanprof-report: its unit tests; then for each example, each recorded text, a text at the limits and,
+# where clang-16 and LLVM's OpenMP runtime are there, each program of docs/TUNING.md recorded anew: the page is made,
+# each of its numbers is compared with spanprof's answers, and it is opened in Chromium: errors, sizes, looks in light,
+# dark, narrow and print, keys and mouse. Build spanprof first.
 #
-#     checks/page.sh [PROGRAM [FOLDER]]    another program than crates/spanprof/out/spanprof; where pages and pictures go
+#     checks/page.sh [PROGRAM [FOLDER]]    instead of crates/spanprof/out/spanprof; where pages and pictures go
 set -euo pipefail
 cd "$(dirname "$0")/.."
 program=$(realpath "${1:-crates/spanprof/out/spanprof}")

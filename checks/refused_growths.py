@@ -92,7 +92,8 @@ def command(refuser, program, words, text):
     text = text.encode()
     full = subprocess.run([program, *words], input=text, capture_output=True, timeout=SECONDS, check=False)
     if full.returncode not in (0, 1, 2) or full.stderr:
-        raise SystemExit(f"FAILED: {' '.join(words)} with ample memory: status {full.returncode}: {full.stderr[:200]!r}")
+        raise SystemExit(f"FAILED: {' '.join(words)} with ample memory: status {full.returncode}: "
+                         f"{full.stderr[:200]!r}")
 
     def is_right(status, written):
         return (status, written) in ((3, OUT_OF_MEMORY), (full.returncode, full.stdout))
@@ -127,7 +128,8 @@ def commands(refuser, program):
         ("show", LOOPS),
     ):
         command(refuser, program, words.split(), text)
-    for words in ("span", "show", "slack", "greedy --threads 4", "curve --upto 4", "whatif 1=7", "certify", "run --workers 2"):
+    for words in ("span", "show", "slack", "greedy --threads 4", "curve --upto 4", "whatif 1=7", "certify",
+                  "run --workers 2"):
         command(refuser, program, words.split(), larger)
 
 

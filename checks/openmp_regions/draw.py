@@ -1,7 +1,7 @@
 """Draws a program and how it is run from a seed.
 
-What LLVM 16 itself gets wrong is not drawn. With any tool or none: an untied task with `if(0)`, with `taskyield`, with a
-loop, or directly inside another untied task. With any tool: an `if(0)` with `inoutset` or `mutexinoutset`.
+What LLVM 16 itself gets wrong is not drawn. With any tool or none: an untied task with `if(0)`, with `taskyield`, with
+a loop, or directly inside another untied task. With any tool: an `if(0)` with `inoutset` or `mutexinoutset`.
 """
 import random
 from dataclasses import dataclass

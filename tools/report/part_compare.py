@@ -12,12 +12,12 @@ MOST_PLACES = 30
 
 @dataclass
 class Line:
-    """A number of both programs; `is_time` where it is one of their units."""
+    """A number of both programs; `is_time` where it is one of their units. Without a kind it is one of their shapes."""
     name: str
     first: Optional[int]
     second: Optional[int]
     source: str
-    kind: str
+    kind: str = ""
     is_time: bool = False
 
 
@@ -54,23 +54,23 @@ def greedy_lines(first, second):
 
 
 def lines(views):
-    (first, second), shape = (view.answers for view in views), views[0].shape_kind
+    first, second = (view.answers for view in views)
     segments = [answers.span_numbers["segments"] for answers in (first, second)]
     return [Line("work", first.work, second.work, "span work", PROVED, True),
             Line("span", first.span, second.span, "span span", PROVED, True),
-            Line("tasks", first.tasks, second.tasks, "tasks", shape),
-            Line("segments", *segments, "span segments", shape),
+            Line("tasks", first.tasks, second.tasks, "tasks"), Line("segments", *segments, "span segments"),
             *recorded_lines(views), *greedy_lines(first, second)]
 
 
 def row_of(views, line):
     """A line's cells. Times of different units are not compared."""
-    values = (line.first, line.second)
+    values, kinds = (line.first, line.second), [line.kind or view.shape_kind for view in views]
     cells = ["" if value is None else
-             view.figures.number(value, line.source, line.kind, unit=view.unit if line.is_time else "")
-             for view, value in zip(views, values)]
+             view.figures.number(value, line.source, kind, unit=view.unit if line.is_time else "")
+             for view, value, kind in zip(views, values, kinds)]
     is_compared = None not in values and (have_one_unit(views) or not line.is_time)
-    return [line.name, *cells, change(views, *values, line.source, line.kind) if is_compared else "", badge(line.kind)]
+    changed = change(views, *values, line.source, kinds[0]) if is_compared else ""
+    return [line.name, *cells, changed, badges(*dict.fromkeys(kinds))]
 
 
 def numbers(views):

@@ -26,8 +26,8 @@ def first_tiles(view):
                  moved(view, "work")),
             tile("Span", show.number(answers.span, "span span", PROVED, unit=unit), cost, "no run ends sooner",
                  moved(view, "span")),
-            tile("Parallelism", show.times_at_most(answers.work, answers.span, "span work / span span", PROVED), [PROVED],
-                 "times as fast at most, on any number of threads", moved(view, "work", "span")),
+            tile("Parallelism", show.times_at_most(answers.work, answers.span, "span work / span span", PROVED),
+                 [PROVED], "times as fast at most, on any number of threads", moved(view, "work", "span")),
             tile("Tasks", show.number(answers.tasks, "tasks", view.shape_kind), [view.shape_kind],
                  join([segments, " segments"]))]
 

@@ -76,7 +76,8 @@ class Prefix(unittest.TestCase):
 
     def test_a_file_that_is_missing(self):
         missing = os.path.join(self.kept.name, "none")
-        for path, words in (("bin/spanprof", "none: no such program; README.md tells"), ("lib/x.so", "none: no such file")):
+        for path, words in (("bin/spanprof", "none: no such program; README.md tells"),
+                            ("lib/x.so", "none: no such file")):
             self.pairs[1] = (missing, path)
             with self.assertRaisesRegex(SystemExit, words):
                 self.install()

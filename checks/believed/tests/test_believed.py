@@ -67,7 +67,8 @@ class Definitions(unittest.TestCase):
         self.assertEqual(arms_of(found["twice"]), [])
 
     def test_imports_by_the_name_here(self):
-        self.assertEqual(imports_of(HIGH), {"doubled": ("low.specs.Numbers", "twice"), "low": ("low.specs.Numbers", None)})
+        self.assertEqual(imports_of(HIGH),
+                         {"doubled": ("low.specs.Numbers", "twice"), "low": ("low.specs.Numbers", None)})
 
     def test_strings_and_comments_cite_nothing(self):
         words = definitions_of("m", 'abbrev a : X\na = codes "---" ++ tail -- not this')["a"].words

@@ -1,5 +1,5 @@
 /* The value of each segment, as spanprof's own kernel computes it: from its number and the values of its predecessors,
- * x = 5x + 1 so many times as its cost says, up to 4096. In plain memory, so that a fence that a runtime forgets shows. */
+ * x = 5x + 1 so many times as its cost says, up to 4096. In plain memory, so that a forgotten fence shows. */
 #ifndef VALUES_H
 #define VALUES_H
 #include "conformance.h"

@@ -39,7 +39,8 @@ def faults_of(figure, programs):
     if len(figure.shown) != len(values):
         return ["%s: the page has %r" % ("; ".join(figure.sources), figure.words)]
     wrong = ["%s: the page shows %s, and not %s" % (source, words, value)
-             for source, words, value in zip(figure.sources, figure.shown, values) if not is_seen(words, value, figure.rounded)]
+             for source, words, value in zip(figure.sources, figure.shown, values)
+             if not is_seen(words, value, figure.rounded)]
     if figure.exact and not is_same(figure.exact, values[0]):
         wrong.append("%s: the page has %s, and not %s" % (figure.sources[0], figure.exact, values[0]))
     return wrong

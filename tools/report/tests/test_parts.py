@@ -61,7 +61,7 @@ class OfOneProgram(unittest.TestCase):
     def test_a_run_with_times_is(self):
         words = seen(timeline_part(worked.view("split"), 0, "timeline", "Timeline"))
         self.assertIn("The run as it was , 2 threads , 28 µs", words)
-        self.assertIn("From the region's beginning to its end 30 µs elapsed measured , 2 µs of it after the last segment",
+        self.assertIn("From the region's beginning to its end 30 µs elapsed measured , 2 µs of it after the last",
                       words)
 
     def test_what_elapsed_beyond_the_costs(self):
@@ -112,7 +112,7 @@ class OfTwo(unittest.TestCase):
         words = seen(compare_part([self.views[0], worked.view("plain", prefix="other ")]))
         self.assertIn("costs in different units: µs and none named . So their times are not compared.", words)
         self.assertRegex(words, r"work 41 µs \d+ proved span 31 µs \d+ proved")
-        self.assertRegex(words, r"tasks 5 \d+ \S+ % recorded")
+        self.assertRegex(words, r"tasks 5 \d+ \S+ % recorded declared segments")
         self.assertIn("threads of the recorded run 2 recorded elapsed 40 µs measured", words)
 
     def test_no_difference_of_nothing(self):
