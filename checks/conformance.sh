@@ -15,8 +15,8 @@ wrong=0
 fail() { echo "  $1"; wrong=$((wrong + 1)); }
 
 test_runtime() { # COMPILER TASKS
-    ./conformance.py run --cc "$1" --tasks "$2" --threads 2,4 --programs 10 --runs 2 > "$folder/run.txt" ||
-        fail "$1: a run is not accepted"
+    ./conformance.py run --cc "$1" --tasks "$2" --threads 2,4 --programs 10 --runs 2 --timeout 60 \
+        > "$folder/run.txt" || fail "$1: a run is not accepted"
     cat "$folder/run.txt"
     grep -q '^Never held back by this rule alone: none of these\.$' "$folder/run.txt" || fail "$1: a rule is not tried"
     ./conformance.py mutants --cc "$1" --threads 4 --runs 4 --timeout 3 || fail "$1: a mutant is not caught"

@@ -28,11 +28,11 @@ def keys_zoom_and_move(page):
     whole = length(page)
     page.key("+", "+")
     zoomed = length(page)
-    if whole > 20 and not zoomed < whole:
+    if not zoomed < whole:
         yield "+ does not zoom"
     start = stretch(page)[0]
     page.key("ArrowRight")
-    if zoomed < whole and not stretch(page)[0] > start:
+    if not stretch(page)[0] > start:
         yield "the arrow to the right does not move"
     page.key("0", "0")
     if length(page) != whole:
@@ -90,7 +90,7 @@ def mouse_zooms_and_moves(page):
     whole = length(page)
     page.mouse("mouseWheel", bar["x"], bar["y"], deltaX=0, deltaY=-100, modifiers=CTRL)
     zoomed = length(page)
-    if whole > 20 and not zoomed < whole:
+    if not zoomed < whole:
         yield "Ctrl with the wheel does not zoom"
     start = stretch(page)[0]
     page.mouse("mousePressed", bar["x"], bar["y"], button="left", buttons=1, clickCount=1)

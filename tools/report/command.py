@@ -44,7 +44,7 @@ def check_files(paths):
 
 def write(path, text):
     try:
-        with open(path, "w", encoding="utf-8") as file:
+        with open(path, "w", encoding="utf-8", errors="replace") as file:   # a file's name may be no UTF-8
             file.write(text)
     except OSError as wrong:
         sys.exit("spanprof-report: %s: %s" % (path, wrong.strerror))

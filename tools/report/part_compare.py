@@ -1,10 +1,24 @@
 """Two programs side by side: their numbers, and where their work and span differ."""
-from report.figures import MEASURED, PROVED, badge, badges, percent
+from dataclasses import dataclass
+from typing import Optional
+
+from report.figures import MEASURED, PROVED, RECORDED, badge, badges, percent
 from report.markup import breakable, join, note, section, tag
 from report.part_summary import recorded_words, remarks
 from report.tables import place_cell, table
 
 MOST_PLACES = 30
+
+
+@dataclass
+class Line:
+    """A number of both programs; `is_time` where it is one of their units."""
+    name: str
+    first: Optional[int]
+    second: Optional[int]
+    source: str
+    kind: str
+    is_time: bool = False
 
 
 def change(views, before, after, source, kind):
@@ -15,30 +29,56 @@ def change(views, before, after, source, kind):
     return views[0].figures.data(("%+.1f %%" % more).replace("-", "−"), more, "change " + source, kind)
 
 
-def lines(views):
-    """Name, values, source and kind of each row."""
-    (first, second), shape = (view.answers for view in views), views[0].shape_kind
-    out = [("work", first.work, second.work, "span work", PROVED),
-           ("span", first.span, second.span, "span span", PROVED),
-           ("tasks", first.tasks, second.tasks, "tasks", shape),
-           ("segments", first.span_numbers["segments"], second.span_numbers["segments"], "span segments", shape)]
-    if first.head.elapsed and second.head.elapsed:
-        out.append(("elapsed", first.head.elapsed, second.head.elapsed, "elapsed", MEASURED))
+def have_one_unit(views):
+    return views[0].unit == views[1].unit
+
+
+def threads_of(view):
+    """Those of the recorded run, where there is one."""
+    return view.run.count if view.run else view.answers.head.threads
+
+
+def recorded_lines(views):
+    """On how many threads the runs were, and what they took."""
+    threads, elapsed = ([of(view) for view in views] for of in (threads_of, lambda view: view.answers.head.elapsed))
+    out = [Line("threads of the recorded run", *threads, "threads", RECORDED)] if any(threads) else []
+    return out + ([Line("elapsed", *elapsed, "elapsed", MEASURED, True)] if any(elapsed) else [])
+
+
+def greedy_lines(first, second):
     for threads in (2, 4, 8, 16, 32):
         if threads in first.curve and threads in second.curve:
-            out.append((tag("span", "greedy run on %d threads" % threads, class_="given"), first.curve[threads]["end"],
-                        second.curve[threads]["end"], "curve %d end" % threads, PROVED))
-    return out
+            name = tag("span", "greedy run on %d threads" % threads, class_="given")
+            yield Line(name, first.curve[threads]["end"], second.curve[threads]["end"], "curve %d end" % threads,
+                       PROVED, True)
+
+
+def lines(views):
+    (first, second), shape = (view.answers for view in views), views[0].shape_kind
+    segments = [answers.span_numbers["segments"] for answers in (first, second)]
+    return [Line("work", first.work, second.work, "span work", PROVED, True),
+            Line("span", first.span, second.span, "span span", PROVED, True),
+            Line("tasks", first.tasks, second.tasks, "tasks", shape),
+            Line("segments", *segments, "span segments", shape),
+            *recorded_lines(views), *greedy_lines(first, second)]
+
+
+def row_of(views, line):
+    """A line's cells. Times of different units are not compared."""
+    values = (line.first, line.second)
+    cells = ["" if value is None else
+             view.figures.number(value, line.source, line.kind, unit=view.unit if line.is_time else "")
+             for view, value in zip(views, values)]
+    is_compared = None not in values and (have_one_unit(views) or not line.is_time)
+    return [line.name, *cells, change(views, *values, line.source, line.kind) if is_compared else "", badge(line.kind)]
 
 
 def numbers(views):
-    (first, second), show, other = (view.answers for view in views), views[0].figures, views[1].figures
-    rows = [[name, show.number(a, source, kind), other.number(b, source, kind), change(views, a, b, source, kind),
-             badge(kind)] for name, a, b, source, kind in lines(views)]
-    source = "span work / span span"
-    rows.insert(2, ["parallelism", show.times_at_most(first.work, first.span, source, PROVED),
-                    other.times_at_most(second.work, second.span, source, PROVED), "", badge(PROVED)])
-    return table(["", breakable(first.name), breakable(second.name), "second to first", ""], rows, numeric=range(1, 4))
+    rows, source = [row_of(views, line) for line in lines(views)], "span work / span span"
+    parallelism = [view.figures.times_at_most(view.answers.work, view.answers.span, source, PROVED) for view in views]
+    rows.insert(2, ["parallelism", *parallelism, "", badge(PROVED)])
+    names = [breakable(view.name) for view in views]
+    return table(["", *names, "second to first", ""], rows, numeric=range(1, 4))
 
 
 def kind_and_lines(view, place):
@@ -95,17 +135,21 @@ def pair_name(views, pair):
 def by_place(views):
     rows = [[pair_name(views, pair), *place_cells(views[0], pair[0]), *place_cells(views[1], pair[1])]
             for pair in side_by_side(views)[:MOST_PLACES]]
-    first, second = (view.answers.name for view in views)
-    heads = ["place", join(["cost: ", breakable(first)]), "of its span", join(["cost: ", breakable(second)]),
-             "of its span"]
+    heads = ["place", cost_head(views[0]), "of its span", cost_head(views[1]), "of its span"]
     return table(heads, rows, numeric=range(1, 5), is_sortable=True)
+
+
+def cost_head(view):
+    unit = tag("span", ", in " + view.unit.replace("× ", ""), class_="given") if view.unit else ""
+    return join(["cost: ", breakable(view.name), unit])
 
 
 def compare_part(views):
     words = ""
-    if views[0].answers.head.unit != views[1].answers.head.unit:
-        words = note("The two texts have costs in different units: ", views[0].unit or "none named", " and ",
-                     views[1].unit or "none named", ".")
+    if not have_one_unit(views):
+        words = note("The two texts have costs in different units: ", tag("span", views[0].unit or "none named",
+                     class_="given"), " and ", tag("span", views[1].unit or "none named", class_="given"),
+                     ". So their times are not compared.")
     kinds = dict.fromkeys(view.cost_kind for view in views)
     other = [tag("p", views[1].name, ": ", recorded_words(views[1]), class_="recording given"),
              remarks(views[1], "remarks-other")]

@@ -1,5 +1,5 @@
 """The timelines: the run as it was, above the greedy run on the same threads. The page's script draws them."""
-from report.figures import PROVED, RECORDED, badges
+from report.figures import MEASURED, PROVED, RECORDED, badge, badges
 from report.markup import details, join, note, section, tag
 from report.view import COLOURS
 
@@ -19,6 +19,18 @@ def recorded_title(view):
     name = "The run as it was" if run.is_timed else "The recorded run, in the order of the replay"
     return title(name, run.count, show.number(round(run.end), "run end", kind, unit=view.unit),
                  show.share(busy, run.count * run.end, "run busy / run time", kind), [RECORDED, kind])
+
+
+def until_the_end(view):
+    """Why what elapsed is more than the end of the recorded run."""
+    run, elapsed = view.run, view.answers.head.elapsed
+    if not elapsed or elapsed <= round(run.end):
+        return ""
+    show = view.figures
+    words = AFTER_THE_LAST if run.is_timed else NOT_IN_THE_ORDER
+    return note("From the region's beginning to its end ", show.number(elapsed, "elapsed", MEASURED, unit=view.unit),
+                " elapsed ", badge(MEASURED), ", ",
+                show.number(elapsed - round(run.end), "elapsed - run end", MEASURED, unit=view.unit), words)
 
 
 def greedy_title(view):
@@ -63,7 +75,7 @@ def lanes_of(view, program):
         return [note(tag("span", view.name, class_="given"), ": no segment takes time.")]
     out = []
     if view.run:
-        out.append(lane(recorded_title(view), program, "recorded"))
+        out += [lane(recorded_title(view), program, "recorded"), until_the_end(view)]
     out.append(lane(greedy_title(view), program, "greedy"))
     out.append(colour_legend(view))
     return out
@@ -75,6 +87,11 @@ IN_ORDER = "Of the recorded run there are the order of the replay and the costs 
     "segment stands as early as its thread, in the recorded order, and the segments that it waits for allow. A gap " \
     "is a wait for another segment; the runtime's own time is not shown, nor that a thread slept while something " \
     "was ready."
+
+
+AFTER_THE_LAST = " of it after the last segment, while the threads came to the region's end."
+NOT_IN_THE_ORDER = " more than the costs in this order need: the runtime's own time, and that of threads that slept " \
+    "or had no processor."
 
 
 def how_to_read(view):

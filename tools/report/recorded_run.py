@@ -82,9 +82,10 @@ def read_times(path, answers):
         table = program.rows(file.read())
     try:
         for row in table:
-            s = int(row["segment"])
-            run.workers[s] = int(row["thread"])
-            run.starts[s], run.ends[s] = int(row["start_ns"]) / unit, int(row["end_ns"]) / unit
+            s, thread, start, end = (int(row[name]) for name in ("segment", "thread", "start_ns", "end_ns"))
+            if min(s, thread, start, end - start) < 0:
+                raise ValueError("below zero")
+            run.workers[s], run.starts[s], run.ends[s] = thread, start / unit, end / unit
     except (IndexError, KeyError, ValueError) as wrong:
         raise NoRun("%s is no table of times of %s" % (os.path.basename(path), answers.name)) from wrong
     return run
@@ -97,6 +98,7 @@ def recorded_run(path, answers):
     is_timed = os.path.exists(times)
     run = read_times(times, answers) if is_timed else place_in_time(log, answers.rows, answers.predecessors)
     run.threads = answers.head.threads or 1
-    if is_timed and [(worker, s) for kind, worker, s in log if kind == "start" and run.workers[s] != worker]:
+    started = {s: worker for kind, worker, s in log if kind == "start"}
+    if is_timed and started != {s: worker for s, worker in enumerate(run.workers) if worker is not None}:
         raise NoRun("%s is of another run than %s" % (os.path.basename(times), os.path.basename(path)))
     return run

@@ -35,8 +35,11 @@ class Sources:
         paths = self.files.get(name, set())
         if len(paths) != 1:
             return []
-        with open(next(iter(paths)), encoding="utf-8", errors="replace") as file:
-            return file.read().split("\n")
+        try:
+            with open(next(iter(paths)), encoding="utf-8", errors="replace") as file:
+                return file.read().split("\n")
+        except OSError:     # such as a file that one may not read
+            return []
 
     def snippet(self, place):
         """The line that a place names, and after a directive the statement that it belongs to; or nothing."""

@@ -51,11 +51,11 @@ less_room lists more count place less
       room = let enough = room.room in omega (arith, enough, less);
     }
 
-new_room : (lists : List (Vec ℕ Global)) (count place : ℕ) (after : Vec ℕ Global)
+pub room_at : (lists : List (Vec ℕ Global)) (count place : ℕ) (after : Vec ℕ Global)
     → place < length lists
     → vec_len after + count ≤ vec_capacity after
     → HasRoom (slice_set lists place after) count place
-new_room lists count place after within
+room_at lists count place after within
     enough = record { row = after; is_row = get-set_same lists place after within; room = enough }
 
 other_room : (lists : List (Vec ℕ Global)) (count place other : ℕ) (after : Vec ℕ Global)
@@ -102,16 +102,10 @@ roomier_at lists place row after within is items more = record {
         (subst (λ (n : ℕ). HasRoom lists count n) same room) in
         let long : length after.items ≡ length row.items = ap (λ (l : List ℕ). length l) items in
         subst (λ (n : ℕ). HasRoom (slice_set lists place after) count n) (sym same)
-        (new_room lists count place after within (omega (arith, enough, long, more)))
+        (room_at lists count place after within (omega (arith, enough, long, more)))
     | inr apart ↦ other_room lists count place other after apart room
   ];
 }
-
-pub room_at : (lists : List (Vec ℕ Global)) (count place : ℕ) (after : Vec ℕ Global)
-    → place < length lists
-    → vec_len after + count ≤ vec_capacity after
-    → HasRoom (slice_set lists place after) count place
-room_at lists count place after within enough = new_room lists count place after within enough
 
 pub fuller_same : (these : ℕ → Type 0) (lists : List (Vec ℕ Global)) → IsFuller these lists lists
 fuller_same these
@@ -134,7 +128,7 @@ fuller_at lists place number row after within is items more = record {
         let long : length after.items ≡ length row.items + 1 =
         ap (λ (l : List ℕ). length l) items ∙ length_push row.items number in
         subst (λ (n : ℕ). HasRoom (slice_set lists place after) count n) (sym same)
-        (new_room lists count place after within (omega (arith, enough, long, more)))
+        (room_at lists count place after within (omega (arith, enough, long, more)))
     | inr apart ↦ other_room lists count place other after apart
         (less_room lists (count + 1) count other (omega arith) room)
   ];

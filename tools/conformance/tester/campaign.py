@@ -51,16 +51,28 @@ class Progress:
             sys.stderr.flush()
 
 
-def run_cases(bench, cases, plan, jobs):
-    """The results of cases, each run as the plan says."""
-    results, progress, begun = Results(), Progress(len(cases)), time.monotonic()
-    pool = concurrent.futures.ThreadPoolExecutor(jobs)
+def tried(bench, cases, plan, jobs):
+    """Each of the cases with its tallies, as it ends; each is run as the plan says."""
+    progress, pool = Progress(len(cases)), concurrent.futures.ThreadPoolExecutor(jobs)
     try:
         futures = {pool.submit(bench.try_case, case, plan.conditions(case)): case for case in cases}
         for future in concurrent.futures.as_completed(futures):
-            results.add(futures[future], future.result())
             progress.add(future.result())
+            yield futures[future], future.result()
     finally:
         pool.shutdown(cancel_futures=True)
+
+
+def run_cases(bench, cases, plan, jobs):
+    """The results of cases."""
+    begun = time.monotonic()
+    return summed(tried(bench, cases, plan, jobs), begun)
+
+
+def summed(outcomes, begun):
+    """The results of cases with their tallies, which were begun at a time of the monotonic clock."""
+    results = Results()
+    for case, tallies in outcomes:
+        results.add(case, tallies)
     results.seconds = time.monotonic() - begun
     return results

@@ -18,6 +18,7 @@ from tester.opening import entry_points, judge_of, mutate, open_bench, plan_of, 
 from tester.publish import publish
 from tester.report import Report
 from tester.reproduce import Reproducer
+from tester.second_try import run_surely
 from tester.text import text_of
 from tester.variants import in_variant
 
@@ -69,7 +70,7 @@ def command_mutants(options, folder):
     caught = {}
     for name, meaning in {"none": "nothing", **mutants_of(family)}.items():
         bench.environment = mutated(plain, library, name)
-        results = run_cases(bench, cases, plan_of(options, bench), options.jobs)
+        results = run_surely(bench, cases, plan_of(options, bench), options.jobs)
         caught[name] = results.failed_programs()
         print(tables.mutant_line(name, meaning, results), flush=True)
     if options.report:

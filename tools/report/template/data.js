@@ -2,7 +2,7 @@
 // What the page knows of its programs, from the element `data`, and the stretch of time that is shown.
 
 const numbers = (text) => text.split(" ").map((word) => (word === "-" ? null : parseInt(word, 36)));
-const grouped = (value) => Math.round(value).toLocaleString("en-US");
+const grouped = (value, digits = 0) => value.toLocaleString("en-US", { maximumFractionDigits: digits });
 const byId = (name) => document.getElementById(name);
 
 function rowsOf(program, run) {
@@ -23,6 +23,7 @@ function unpacked(packed) {
   for (const column of ["cost", "task", "place", "slack"]) program[column] = numbers(packed[column]);
   program.colour = numbers(packed.taskPlace).map((place) => Math.min(place, packed.colours - 1));
   program.critical = new Set(numbers(packed.critical));
+  program.per = Math.max(...Object.values(packed.runs).map((run) => run.per || 1));
   for (const [name, run] of Object.entries(packed.runs)) program.runs[name] = rowsOf(program, run);
   return program;
 }
@@ -30,10 +31,15 @@ function unpacked(packed) {
 const programs = JSON.parse(byId("data").textContent).programs.map(unpacked);
 
 class Stretch {
-  constructor(end) { this.whole = Math.max(end, 1); this.from = 0; this.to = this.whole; }
+  // No less is shown than 20 units, a part of a shorter run, or 2 microseconds of one whose unit is `per` nanoseconds.
+  constructor(end, per) {
+    this.whole = Math.max(end, 1);
+    this.least = Math.min(20, this.whole / 20, 2000 / per);
+    this.show(0, this.whole);
+  }
   get length() { return this.to - this.from; }
   show(from, length) {
-    const kept = Math.min(Math.max(length, Math.min(20, this.whole)), this.whole);
+    const kept = Math.min(Math.max(length, this.least), this.whole);
     this.from = Math.min(Math.max(from, 0), this.whole - kept);
     this.to = this.from + kept;
   }
@@ -48,7 +54,6 @@ class Stretch {
 const lastEnd = (rows) => Math.max(0, ...rows.map((row) => (row.length ? row[row.length - 1].end : 0)));
 const ends = (program) => Object.values(program.runs).map(lastEnd);
 // Programs of one unit share a scale, so that their lengths can be compared.
-const stretches = programs.map((program) => new Stretch(Math.max(...ends(program))));
-if (programs.length > 1 && programs[0].unit === programs[1].unit) {
-  stretches.fill(new Stretch(Math.max(...programs.flatMap(ends))));
-}
+const stretchOf = (some) => new Stretch(Math.max(...some.flatMap(ends)), Math.max(...some.map((one) => one.per)));
+const stretches = programs.map((program) => stretchOf([program]));
+if (programs.length > 1 && programs[0].unit === programs[1].unit) stretches.fill(stretchOf(programs));

@@ -53,13 +53,15 @@ function firstToEndAfter(row, time) {
 
 function niceStep(length, most) {
   const raw = length / most, power = 10 ** Math.floor(Math.log10(raw));
-  return Math.max(1, [1, 2, 5, 10].find((step) => step * power >= raw) * power);
+  return ([1, 2, 5].find((step) => step * power >= raw) || 10) * power;
 }
 
-// How the times of an axis are written: in the largest unit in which all of them are whole.
+// How the times of an axis are written: in the largest unit in which all of them are whole, where there is one.
 function inUnit(step, unit) {
   const units = ["ns", "µs", "ms", "s"];
   let index = units.indexOf(unit), divisor = 1;
+  while (index > 0 && step / divisor < 1) { divisor /= 1000; index--; }
   while (index >= 0 && index < 3 && step % (divisor * 1000) === 0) { divisor *= 1000; index++; }
-  return (time) => `${grouped(time / divisor)} ${index < 0 ? unit : units[index]}`.trim();
+  const digits = Math.max(0, -Math.floor(Math.log10(step / divisor) + 1e-9));
+  return (time) => `${grouped(time / divisor, digits)} ${index < 0 ? unit : units[index]}`.trim();
 }

@@ -75,9 +75,9 @@ class Lanes {
   words(bars) {
     const { cost, task, place, places, slack, critical, unit } = this.program;
     if (bars.length === 1) {
-      const { segment, start, end } = bars[0];
+      const { segment, start, end } = bars[0], digits = end - start < 20 ? 3 : 0;
       return `${places[place[segment]]}\nsegment ${segment} of task ${task[segment]}\ncost ${grouped(cost[segment])} ` +
-        `${unit}, from ${grouped(start)} to ${grouped(end)}\nslack ${grouped(slack[segment])}` +
+        `${unit}, from ${grouped(start, digits)} to ${grouped(end, digits)}\nslack ${grouped(slack[segment])}` +
         (critical.has(segment) ? ", on the critical path" : "");
     }
     const sum = bars.reduce((all, bar) => all + cost[bar.segment], 0), by = new Map();

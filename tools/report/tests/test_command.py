@@ -2,6 +2,7 @@ import contextlib
 import io
 import json
 import os
+import shutil
 import tempfile
 import unittest
 
@@ -34,6 +35,13 @@ class Command(unittest.TestCase):
         for name in ("m.json", "m.scope"):
             with open(self.out(name), encoding="utf-8") as file:
                 self.assertTrue(json.load(file))
+
+    def test_a_name_that_is_no_text(self):
+        text = os.path.join(os.fsencode(self.folder.name), b"\xff.tasks")
+        shutil.copy(worked.path("plain.tasks"), text)
+        main([os.fsdecode(text), "-o", self.out("m.html")])
+        with open(self.out("m.html"), encoding="utf-8") as file:
+            self.assertIn("?.tasks", file.read())
 
     def test_factors_alone_print_the_answer(self):
         told = io.StringIO()

@@ -1,6 +1,7 @@
 """The parts of the page on the worked programs."""
 import re
 import unittest
+from html import unescape
 
 from report.part_compare import change, compare_part, partners
 from report.part_curve import curve_part, shown_threads, step_of
@@ -17,7 +18,7 @@ from report.what_if import Trials
 
 def seen(piece):
     """The words of a part, without its elements and tooltips."""
-    return re.sub(r"\s+", " ", re.sub(r"<[^>]*>", " ", re.sub(r"<title.*?</title>", "", piece)))
+    return unescape(re.sub(r"\s+", " ", re.sub(r"<[^>]*>", " ", re.sub(r"<title.*?</title>", "", piece))))
 
 
 class OfOneProgram(unittest.TestCase):
@@ -60,6 +61,14 @@ class OfOneProgram(unittest.TestCase):
     def test_a_run_with_times_is(self):
         words = seen(timeline_part(worked.view("split"), 0, "timeline", "Timeline"))
         self.assertIn("The run as it was , 2 threads , 28 µs", words)
+        self.assertIn("From the region's beginning to its end 30 µs elapsed measured , 2 µs of it after the last segment",
+                      words)
+
+    def test_what_elapsed_beyond_the_costs(self):
+        words = seen(timeline_part(self.view, 0, "timeline", "Timeline"))
+        self.assertIn("40 µs elapsed measured , 9 µs more than the costs in this order need", words)
+        self.view.answers.head.elapsed = 31
+        self.assertNotIn("elapsed", seen(timeline_part(self.view, 0, "timeline", "Timeline")))
 
     def test_no_run(self):
         words = seen(timeline_part(worked.view("plain"), 0, "timeline", "Timeline"))
@@ -94,8 +103,17 @@ class OfTwo(unittest.TestCase):
 
     def test_differences(self):
         words = seen(compare_part(self.views))
-        self.assertIn("work 41 37 −9.8 % proved", words)
-        self.assertIn("elapsed 40 30 −25.0 % measured", words)
+        self.assertIn("work 41 µs 37 µs −9.8 % proved", words)
+        self.assertIn("threads of the recorded run 2 2 the same recorded", words)
+        self.assertIn("elapsed 40 µs 30 µs −25.0 % measured", words)
+        self.assertIn("cost: mesh.tasks , in µs of its span", words)
+
+    def test_times_of_different_units_are_not_compared(self):
+        words = seen(compare_part([self.views[0], worked.view("plain", prefix="other ")]))
+        self.assertIn("costs in different units: µs and none named . So their times are not compared.", words)
+        self.assertRegex(words, r"work 41 µs \d+ proved span 31 µs \d+ proved")
+        self.assertRegex(words, r"tasks 5 \d+ \S+ % recorded")
+        self.assertIn("threads of the recorded run 2 recorded elapsed 40 µs measured", words)
 
     def test_no_difference_of_nothing(self):
         changes = [change(self.views, a, b, "tasks", "recorded") for a, b in ((0, 3), (4, 4))]

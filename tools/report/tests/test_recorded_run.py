@@ -57,13 +57,27 @@ class ByClock(unittest.TestCase):
         self.assertEqual(run.nanoseconds(run.ends[0]), 4710)
 
     def test_a_table_of_another_program(self):
-        for row in ("99,0,1,2", "0,x,1,2", "0"):
+        for row in ("99,0,1,2", "0,x,1,2", "0", "0,\ufffd,1,2"):
+            with self.assertRaisesRegex(NoRun, "split.times is no table of times of split.tasks"):
+                self.run_with("segment,thread,start_ns,end_ns\n%s\n" % row)
+
+    def test_numbers_below_zero(self):
+        for row in ("-1,0,1,2", "0,-1,1,2", "0,0,-1,2", "0,0,2,1"):
             with self.assertRaisesRegex(NoRun, "split.times is no table of times of split.tasks"):
                 self.run_with("segment,thread,start_ns,end_ns\n%s\n" % row)
 
     def test_a_table_of_another_run(self):
-        with self.assertRaisesRegex(NoRun, "split.times is of another run than split.replay"):
-            self.run_with("segment,thread,start_ns,end_ns\n0,1,0,5\n")
+        for row in ("0,1,0,5", "0,0,0,5"):      # another thread; one segment alone
+            with self.assertRaisesRegex(NoRun, "split.times is of another run than split.replay"):
+                self.run_with("segment,thread,start_ns,end_ns\n%s\n" % row)
+
+    def test_bytes_that_are_no_text(self):
+        with open(worked.path("split.times"), "rb") as file:
+            times = file.read().replace(b"segment", b"\xff\xfesegment", 1)
+        with open(os.path.join(self.folder, "split.times"), "wb") as file:
+            file.write(times)
+        with self.assertRaisesRegex(NoRun, "split.times is no table of times of split.tasks"):
+            recorded_run(os.path.join(self.folder, "split.replay"), Answers(worked.path("split.tasks")))
 
 
 class Threads(unittest.TestCase):

@@ -36,6 +36,17 @@ class Files(unittest.TestCase):
             self.assertEqual(Sources([folder]).snippet("task at x.c:1"), [])
             self.assertEqual(Sources([os.path.join(folder, "a")]).snippet("task at x.c:1"), ["a"])
 
+    def test_bytes_that_are_no_text(self):
+        with tempfile.TemporaryDirectory() as folder:
+            with open(os.path.join(folder, "x.c"), "wb") as file:
+                file.write(b"f(\xff);\n")
+            self.assertEqual(Sources([folder]).snippet("task at x.c:1"), ["f(\ufffd);"])
+
+    def test_what_cannot_be_read_has_no_lines(self):
+        with tempfile.TemporaryDirectory() as folder:
+            os.symlink("nowhere", os.path.join(folder, "x.c"))
+            self.assertEqual(Sources([folder]).snippet("task at x.c:1"), [])
+
     def test_hidden_folders_are_passed_over(self):
         with tempfile.TemporaryDirectory() as folder:
             os.mkdir(os.path.join(folder, ".git"))
