@@ -159,8 +159,9 @@ TEST(tasks_with_depend_are_not_folded) {
 
 TEST(the_span_goes_by_dependences) {
   Made made;
-  ompt_dependence_type_t types[] = {ompt_dependence_type_out, ompt_dependence_type_in, ompt_dependence_type_in,
-                                    ompt_dependence_type_inoutset, ompt_dependence_type_inoutset, ompt_dependence_type_inout};
+  ompt_dependence_type_t types[] = {ompt_dependence_type_out,      ompt_dependence_type_in,
+                                    ompt_dependence_type_in,       ompt_dependence_type_inoutset,
+                                    ompt_dependence_type_inoutset, ompt_dependence_type_inout};
   for (uint32_t i = 0; i < 6; i++) made.create(0, 1, 2 + i).depend(0, 2 + i, {item(types[i], 64)});
   made.barrier(0, 1);
   for (uint32_t i = 0; i < 6; i++) made.run(0, 1, 2 + i, 10 + i);
