@@ -1,5 +1,5 @@
-/* Stands before the system's malloc, realloc and pthread_create, and refuses growths of memory. The start of a thread
-   counts as a growth. REFUSE is the number of the growth that is refused, counted from 1; if REFUSE_LATER is set, all
+/* Stands before the system's malloc, realloc and pthread_create, and refuses allocations. The start of a thread counts
+   as an allocation. REFUSE is the number of the allocation that is refused, counted from 1; if REFUSE_LATER is set, all
    after it are refused too. Standard error tells of each. */
 #define _GNU_SOURCE
 #include <dlfcn.h>

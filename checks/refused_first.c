@@ -1,8 +1,8 @@
-/* Stands before the system's malloc, realloc and pthread_create, changes nothing, and counts which growths are the
-   first that is refused in some turn of a test of crates/refused_growths. The start of a thread counts as a growth. The
-   test tells what it does by asking for LONG_MAX bytes, or for 1, 2 or 3 fewer. At the end standard error gets a line
-   with the number of growths that were the first, of how many, and the numbers of the others, each with its kind and
-   size. */
+/* Stands before the system's malloc, realloc and pthread_create, changes nothing, and counts which allocations are the
+   first that is refused in some turn of a test of crates/refused_growths. The start of a thread counts as an
+   allocation. The test tells what it does by asking for LONG_MAX bytes, or for 1, 2 or 3 fewer. At the end standard
+   error gets a line with the number of allocations that were the first, of how many, and the numbers of the others,
+   each with its kind and size. */
 #define _GNU_SOURCE
 #include <dlfcn.h>
 #include <errno.h>
@@ -13,10 +13,10 @@
 
 enum { MOST = 20000, TURN_BEGINS = 0, TAKING = 1, TAKEN = 2, TURN_ENDS = 3 };
 
-static struct growth {
+static struct allocation {
     char kind, was_first;
     size_t size;
-} growths[MOST];
+} allocations[MOST];
 static int counts, number, met;
 
 /* Whether this request only tells something. */
@@ -27,13 +27,13 @@ static int is_told(size_t size) {
     return 1;
 }
 
-/* The number of this growth in its turn; 0 where none are counted. */
+/* The number of this allocation in its turn; 0 where none are counted. */
 static int numbered(char kind, size_t size) {
     if (!counts) return 0;
     int mine = __atomic_add_fetch(&number, 1, __ATOMIC_SEQ_CST);
     if (mine >= MOST) return 0;
-    growths[mine].kind = kind;
-    growths[mine].size = size;
+    allocations[mine].kind = kind;
+    allocations[mine].size = size;
     return mine;
 }
 
@@ -41,7 +41,7 @@ static void ended(int mine, int was_refused) {
     if (mine == 0 || !counts) return;
     if (mine > met) met = mine;
     if (!was_refused) return;
-    growths[mine].was_first = 1;
+    allocations[mine].was_first = 1;
     counts = 0;
 }
 
@@ -77,10 +77,10 @@ int pthread_create(pthread_t *thread, const pthread_attr_t *attributes, void *(*
 void _exit(int status) {
     void (*real)(int) = (void (*)(int))dlsym(RTLD_NEXT, "_exit");
     int first = 0;
-    for (int i = 1; i <= met; i++) first += growths[i].was_first;
+    for (int i = 1; i <= met; i++) first += allocations[i].was_first;
     fprintf(stderr, "first: %d of %d; not:", first, met);
     for (int i = 1; i <= met; i++)
-        if (!growths[i].was_first) fprintf(stderr, " %d(%c%zu)", i, growths[i].kind, growths[i].size);
+        if (!allocations[i].was_first) fprintf(stderr, " %d(%c%zu)", i, allocations[i].kind, allocations[i].size);
     fprintf(stderr, "\n");
     real(status);
     abort();

@@ -1,18 +1,21 @@
 #!/usr/bin/env python3
-"""Refuses the growths of memory of a program one by one: the first, the second, .., until a run meets none.
+"""Refuses the allocations of a program one by one: the first, the second, .., until a run meets none.
 
     checks/refused_growths.py commands [PROGRAM]    the ten commands of crates/spanprof/out/spanprof, or of this program
     checks/refused_growths.py tests                 the tests of crates/refused_growths, as `rt test` there built them
     checks/refused_growths.py gate                  counts what the same tests refuse by themselves, as in the gate
 
-A command is run with that one growth refused, and with all from it on refused. It writes what it writes with ample
+A command is run with that one allocation refused, and with all from it on refused. It writes what it writes with ample
 memory and ends with that status, or writes `error: out of memory` and ends with status 3. A test is run with the one
-growth refused, and passes. Anything else is a wrong answer, as are a crash, a run of more than 60 seconds, and a test
-or a command that meets no growth. The start of a thread is a growth too. With `gate` nothing is refused from outside:
-of each test in which little memory is left it is told how many growths were the first that was refused, and which were
-not. A growth of a block that is already long enough, which the C library never refuses, is told apart. The exit status
-is 1 where any answer was wrong, where a program is missing, or where nothing was run. It needs a C compiler, for
-refuse.c and refused_first.c.
+allocation refused, and passes. Anything else is a wrong answer, as are a crash, a run of more than 60 seconds, and a
+test or a command that meets no allocation. The start of a thread is an allocation too.
+
+With `gate` nothing is refused from outside. Of each test in which little memory is left it is told how many allocations
+were the first that was refused, and which were not. A block that grows and is already long enough, which the C library
+never refuses, is told apart.
+
+The exit status is 1 where any answer was wrong, where a program is missing, or where nothing was run. It needs a C
+compiler, for refuse.c and refused_first.c.
 """
 
 import os
@@ -48,7 +51,7 @@ class Refuser:
         self.runs = self.refusals = self.wrong = 0
 
     def run(self, words, text, number, later):
-        """The status, standard output, and how many growths were refused, at the growth of this number."""
+        """The status, standard output, and how many allocations were refused, at the allocation of this number."""
         env = {**os.environ, "LD_PRELOAD": self.library, "REFUSE": str(number)}
         if later:
             env["REFUSE_LATER"] = "yes"
@@ -62,7 +65,7 @@ class Refuser:
         return ran.returncode, ran.stdout, refused
 
     def refuse_each(self, name, words, text, is_right, ways):
-        """Refuses growth after growth in each way, and says how many there were."""
+        """Refuses allocation after allocation in each way, and says how many there were."""
         counts = []
         for later in ways:
             number = 1
@@ -72,7 +75,7 @@ class Refuser:
                     break
                 if not is_right(status, written):
                     self.wrong += 1
-                    what = "this growth and all later ones" if later else "this growth"
+                    what = "this allocation and all later ones" if later else "this allocation"
                     print(f"WRONG: {name}, {what} refused: {number}: status {status}: {written[:200]!r}", flush=True)
                 if status == "no end":
                     break
@@ -80,12 +83,12 @@ class Refuser:
             counts.append(number - 1)
         if 0 in counts:
             self.wrong += 1
-            print(f"WRONG: {name}: it met no growth", flush=True)
-        print(f"{name}: growths refused: {', '.join(map(str, counts))}", flush=True)
+            print(f"WRONG: {name}: it met no allocation", flush=True)
+        print(f"{name}: allocations refused: {', '.join(map(str, counts))}", flush=True)
 
 
 def command(refuser, program, words, text):
-    """Refuses each growth of a command."""
+    """Refuses each allocation of a command."""
     text = text.encode()
     full = subprocess.run([program, *words], input=text, capture_output=True, timeout=SECONDS, check=False)
     if full.returncode not in (0, 1, 2) or full.stderr:
@@ -137,7 +140,7 @@ def named(program, module):
 
 
 def tests(refuser, program):
-    """The tests in which one growth may be refused."""
+    """The tests in which one allocation may be refused."""
     for name in named(program, "one_growth"):
         refuser.refuse_each(name, [program, name], b"", lambda status, written: status == 0, (False,))
 
@@ -151,7 +154,7 @@ def room_enough(size):
 
 
 def count(library, program, name):
-    """How many growths of a test were refused first, how many it met, and the others; None where the test failed."""
+    """How many allocations of a test were refused first, how many it met, the others; None where the test failed."""
     ran = subprocess.run([program, name], capture_output=True, env={**os.environ, "LD_PRELOAD": library}, check=False)
     counted = COUNTED.search(ran.stderr.decode())
     if ran.returncode or not counted:
@@ -171,9 +174,8 @@ def gate(library, program):
         first, met, others = counted
         sizes = [re.search(r"\((.)(\d+)\)", other) for other in others]
         needless = [size[1] == "r" and room_enough(int(size[2])) for size in sizes]
-        left = [other for other, is_needless in zip(others, needless) if not is_needless]
-        print(f"{name}: {first} of {met} growths, {sum(needless)} cannot be, not: {' '.join(left) or 'none'}",
-              flush=True)
+        left = " ".join(other for other, is_needless in zip(others, needless) if not is_needless)
+        print(f"{name}: {first} of {met} allocations, {sum(needless)} cannot be, not: {left or 'none'}", flush=True)
     return is_right
 
 
@@ -195,7 +197,7 @@ def main():
             raise SystemExit(not gate(built(folder, "refused_first"), str(program)))
         refuser = Refuser(folder)
         refuse(refuser, str(program))
-        print(f"{refuser.runs} runs, {refuser.refusals} with a refused growth, {refuser.wrong} wrong")
+        print(f"{refuser.runs} runs, {refuser.refusals} with a refused allocation, {refuser.wrong} wrong")
         raise SystemExit(refuser.wrong > 0 or refuser.refusals == 0)
 
 

@@ -3,8 +3,8 @@
 # to 6 segments; 3 with up to 4 where no lane is passed over, and up to 3 where lanes are; 4 with up to 2. Nobody may
 # sleep for ever, nor after the end, nor be passed over while a token lies in a lane and all others are in their
 # kernels; and every run ends, unless the system wakes a worker for no reason for ever. Each wrong form of the model
-# must fail. First it looks whether the model still stands for the code. It needs python3, spin and a C compiler, and up
-# to 6 GB of memory.
+# must fail. First it looks whether the model still stands for the code. It needs python3, spin and a C compiler, 8 GB
+# of memory, and some 26 minutes of one processor.
 set -euo pipefail
 cd "$(dirname "$0")/waiting"
 python3 -B lines_test.py 2> /dev/null || { echo "FAILED: lines_test.py"; exit 1; }

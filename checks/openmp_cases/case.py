@@ -8,7 +8,8 @@
     // says: PATTERN              on standard error of the first run
     // text: PATTERN              in out.tasks; `no text:` nowhere in it
     // file: NAME ..              which must lie there, or by `no file:` after the first run must not
-    // expect: WHAT OP NUMBER     work, span, tasks, parallelism of out.tasks, or `inout span` of out.inout.tasks
+    // expect: WHAT OP NUMBER     work, span, tasks, parallelism of out.tasks, `span without folds` of its head, or
+    //                            `inout span` of out.inout.tasks
 """
 import fnmatch
 import operator
@@ -86,6 +87,12 @@ def last_faults(wanted, left):
             yield "%s is missing" % name
     yield from filter(None, (number_fault(words, left.numbers) for words in wanted["expect"]))
     yield from left.refused
+
+
+def unfolded_span(text):
+    """The line of a folded text's head, as a number by its name."""
+    found = re.search(r"^# (span without folds): (\d+)", text, re.M)
+    return {found[1]: int(found[2])} if found else {}
 
 
 def second_setting(words, said):

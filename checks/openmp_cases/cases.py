@@ -10,7 +10,7 @@ import subprocess
 import sys
 import tempfile
 
-from case import Left, first_faults, is_of_gcc, last_faults, second_setting, wants
+from case import Left, first_faults, is_of_gcc, last_faults, second_setting, unfolded_span, wants
 
 HERE = os.path.dirname(os.path.abspath(__file__))
 TOP = os.path.dirname(os.path.dirname(HERE))
@@ -32,7 +32,7 @@ def spanprof(command, text):
 
 def numbers_of(files):
     """Work, span and more of the texts, as spanprof tells them."""
-    out = {}
+    out = unfolded_span(files.get("out.tasks", ""))
     for name, prefix in (("out.tasks", ""), ("out.inout.tasks", "inout ")):
         if name not in files:
             continue

@@ -1,5 +1,6 @@
 // Tasks with dependences cannot be folded, and the message says so. On a busy machine parts without tasks count too.
-// says: 50[0-9][0-9] tasks, and spanprof takes 4096; parallelism is .* blocks larger; no fold fits, since tasks with depend are not
+// says: 50[0-9][0-9] tasks, and spanprof takes 4096; parallelism is
+// says: blocks larger; no fold fits, since tasks with depend are not
 // no file: out.tasks
 #include "spend.h"
 

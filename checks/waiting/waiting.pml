@@ -198,7 +198,7 @@ steal:  /* Station::steal: a patient worker may pass over a lane. LaneThief::try
 #ifdef COUNT_LAST
     seen = news;
 #endif
-    /* crew.rt: Next::Wait(turn) => signal.wait(self.rt, turn), */
+    /* crew.rt: Next::Wait(idle) => signal.wait(self.rt, idle), */
     /* signal.rt: if self.news() != turn.seen { */
     /* Many looks without news are as one. */
     if :: news != seen -> goto again :: else fi;

@@ -67,11 +67,12 @@ int64_t in_two_digits(int64_t number) {
 int64_t cost_in_a_gap(std::vector<int64_t> &costs) {
   constexpr size_t fewest = most_tasks / 8, most = most_tasks * 3 / 4;
   std::partial_sort(costs.begin(), costs.begin() + most + 1, costs.end(), std::greater<>());
-  auto gap = [&](size_t stay) { return static_cast<double>(costs[stay - 1] + 1) / static_cast<double>(costs[stay] + 1); };
+  auto cost = [&](size_t stay) { return static_cast<double>(costs[stay] + 1); };
+  auto gap = [&](size_t stay) { return cost(stay - 1) / cost(stay); };
   size_t best = most_tasks / 2;
   for (size_t stay = fewest; stay <= most; stay++)
     if (gap(stay) > 1.5 && gap(stay) > gap(best)) best = stay;
-  return static_cast<int64_t>(static_cast<double>(costs[best] + 1) * std::sqrt(gap(best)));
+  return static_cast<int64_t>(cost(best) * std::sqrt(gap(best)));
 }
 
 Folds Adviser::by_cost() {
@@ -113,7 +114,8 @@ std::string advice_for(Region &region, int64_t unit) {
   one_piece.largest = whole.largest;
   one_piece.total = whole.total;
   if (!over_the_limits(one_piece, unit).empty()) return "choose a larger SPANPROF_UNIT";
-  std::string out = "parallelism is " + parallelism(whole.total, region.span) + "; make the program's own cutoff or blocks larger";
+  std::string out = "parallelism is " + parallelism(whole.total, region.span) +
+                    "; make the program's own cutoff or blocks larger";
   std::vector<Offer> offers = adviser.offers();
   if (offers.empty()) return out + "; no fold fits, since tasks with depend are not folded";
   for (const Offer &one : offers)

@@ -56,6 +56,6 @@ const void *nearest_in_program() {
   return nullptr;
 }
 
-// The caller of such a call, from the stack. After a tail call of the program the told place is in no such function, and
-// the caller is lost; a taskloop has too many arguments for one.
+// The caller of such a call, from the stack. After a tail call of the program the told place is in no such function,
+// and the caller is lost; a taskloop has too many arguments for one.
 const void *caller_in_program(const void *code) { return is_in_called_function(code) ? nearest_in_program() : nullptr; }

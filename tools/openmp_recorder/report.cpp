@@ -117,8 +117,9 @@ void keep_the_heaviest(std::vector<Region *> &regions, const Options &options) {
   std::stable_sort(regions.begin(), regions.end(), [](auto *a, auto *b) { return work_of(*a) > work_of(*b); });
   int64_t left_out = 0;
   for (size_t i = options.regions; i < regions.size(); i++) left_out += work_of(*regions[i]);
-  say(std::to_string(regions.size() - options.regions) + " more regions with tasks, the lightest, are not written: work " +
-      std::to_string(left_out / options.unit) + " " + options.unit_name + "; SPANPROF_REGIONS says how many are");
+  say(std::to_string(regions.size() - options.regions) +
+      " more regions with tasks, the lightest, are not written: work " + std::to_string(left_out / options.unit) + " " +
+      options.unit_name + "; SPANPROF_REGIONS says how many are");
   regions.resize(options.regions);
   std::sort(regions.begin(), regions.end(), [](auto *a, auto *b) { return a->place < b->place; });
 }

@@ -77,7 +77,8 @@ void Places::look_up(const std::vector<const void *> &codes) {
   std::map<std::string, std::vector<const void *>> by_module;
   for (const void *code : codes) {
     Dl_info info;
-    if (!code || in_runtime(code) || known.count(code) || !dladdr(const_cast<void *>(code), &info) || !info.dli_fname) continue;
+    if (!code || in_runtime(code) || known.count(code)) continue;
+    if (!dladdr(const_cast<void *>(code), &info) || !info.dli_fname) continue;
     known[code] = symbol(code, info);
     by_module[*info.dli_fname == '/' ? info.dli_fname : program()].push_back(code);
   }

@@ -1,6 +1,6 @@
 import unittest
 
-from case import Left, first_faults, is_of_gcc, last_faults, second_setting, wants
+from case import Left, first_faults, is_of_gcc, last_faults, second_setting, unfolded_span, wants
 
 SOURCE = """\
 // A program.
@@ -52,6 +52,11 @@ class Wanted(unittest.TestCase):
         self.assertEqual(second_setting("A=5", ""), ("A", "5"))
         self.assertEqual(second_setting("advised FOLD", "or record with FOLD=12 (3 tasks)"), ("FOLD", "12"))
         self.assertIsNone(second_setting("advised FOLD", "nothing"))
+
+    def test_the_span_without_folds(self):
+        text = "# in tasks: 9\n# span without folds: 7, as the recorder adds it up\nomptasks 1\n"
+        self.assertEqual(unfolded_span(text), {"span without folds": 7})
+        self.assertEqual(unfolded_span("omptasks 1\n"), {})
 
 
 if __name__ == "__main__":

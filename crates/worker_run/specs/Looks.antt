@@ -40,5 +40,5 @@ MatchFound Unsure none some = none
 -- what holds of the turn with which a worker waits
 abbrev pub IfWaits : Next → (Turn → Type 0) → Type 0
 IfWaits (Run token) waits = Unit {0}
-IfWaits (Wait turn) waits = waits turn
+IfWaits (Wait idle) waits = waits idle.turn
 IfWaits Again waits = Unit {0}

@@ -5,6 +5,7 @@ ghost use Rattle.worker_run.specs.Ends.{Tells, TellNothing, IsFirstTold};
 ghost use Rattle.worker_run.specs.Jobs.{AreFinishedBefore, IsJobOf};
 ghost use Rattle.worker_run.specs.Workers.{AreBelow, worker_of};
 
+use crate::closing::Leftover;
 use crate::record::RunFault;
 use crate::rest::input_of;
 use crate::worker::{Ending, Job, WorkerEnd};
@@ -15,19 +16,20 @@ use std::alloc::{AllocError, Global};
 use task_program::AllocFault;
 use task_segments::table::SegTable;
 
-/// The core after all workers have ended, and how they did, in their order. The core can be had only
-/// where no end counts as a fault.
+/// The core after all workers have ended, how they did, in their order, and what is left in their
+/// lanes. The core can be had only where no end counts as a fault.
 #[derive(Drop)]
 pub struct Worked<K: Kernel> {
     core: Core<K>,
     ends: Vec<WorkerEnd<K>>,
+    left: Leftover,
 }
 
 impl<K: Kernel> Worked<K> {
-    pub(crate) fn new(core: Core<K>, ends: Vec<WorkerEnd<K>>) -> Worked<K>
-        ensures { (result.core ≡ core) × (result.ends ≡ ends) }
+    pub(crate) fn new(core: Core<K>, ends: Vec<WorkerEnd<K>>, left: Leftover) -> Worked<K>
+        ensures { (result.core ≡ core) × (result.ends ≡ ends) × (result.left ≡ left) }
     {
-        Worked { core, ends }
+        Worked { core, ends, left }
     }
 
     /// The same with a new core, where this one does not fit the table or the number of workers.
@@ -41,9 +43,9 @@ impl<K: Kernel> Worked<K> {
         ensures below { IfOk result (λ worked. AreBelow workers worked.core.history) }
         ensures ends { IfOk result (λ worked. worked.ends ≡ self.ends) }
     {
-        let Worked { core, ends } = self;
+        let Worked { core, ends, left } = self;
         let core = fitting_core(alloc, core, table, workers)?;
-        Ok(Worked { core, ends })
+        Ok(Worked { core, ends, left })
     }
 
     /// The core, where no end counts as a fault, and otherwise the first fault that counts.
@@ -56,7 +58,8 @@ impl<K: Kernel> Worked<K> {
             (map (λ end. end.how) self.ends.items)) }
         ensures err { IfErr result (MayAnswer self.core.table K.value_of K.may_fault workers) }
     {
-        let Worked { core, ends } = self;
+        let Worked { core, ends, left } = self;
+        drop(left);
         match first_fault(&core, ends.as_slice(), workers) {
             Some(fault) => Err(fault),
             None => Ok(core),

@@ -32,8 +32,9 @@ TEST(a_barrier_ends_a_group) {
   made.create(0, 1, 3);
   explicit_barrier(made).run(0, 1, 3, 5).create(1, 2, 4).barrier(0, 1).barrier(1, 2).run(0, 1, 4, 6);
   Run run = made.read();
-  EXPECT(text_of(only_region(run)), "taskgroup {\n" + part + "    task {\n      work 5\n    }\n  }\n}\ntaskgroup {\n" + part +
-                                        "    work 5\n    task {\n      work 6\n    }\n  }\n}\n");
+  EXPECT(text_of(only_region(run)),
+         "taskgroup {\n" + part + "    task {\n      work 5\n    }\n  }\n}\n"
+         "taskgroup {\n" + part + "    work 5\n    task {\n      work 6\n    }\n  }\n}\n");
 }
 
 TEST(a_long_part_without_tasks_is_written) {

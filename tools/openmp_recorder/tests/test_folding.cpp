@@ -28,6 +28,18 @@ Run nested(uint32_t levels, int64_t cost) {
   return made.read();
 }
 
+// The same, with a task beside each level.
+Run nested_in_pairs(uint32_t levels, int64_t cost) {
+  Made made;
+  made.create(0, 1, 2).barrier(0, 1);
+  for (uint32_t task = 2, end = 2 * levels; task <= end; task += 2) {
+    made.go(0, 1, task).create(0, task, task + 1);
+    if (task < end) made.create(0, task, task + 2);
+    made.go(0, task, 1, ompt_task_complete).run(0, 1, task + 1, cost);
+  }
+  return made.read();
+}
+
 std::string folded(Run &run, const Folds &folds) {
   Region &region = only_region(run);
   fold(region, folds);
@@ -123,6 +135,18 @@ TEST(deep_tasks_are_advised_to_be_folded_by_depth) {
   EXPECT_PART(advice_for(region, 1), "SPANPROF_FOLD_DEPTH=63 (63 tasks left");
 }
 
+TEST(advice_tells_what_a_fold_by_depth_leaves) {
+  Run run = nested_in_pairs(200, 10);
+  Region &region = only_region(run);
+  region.span = span_of(region);
+  EXPECT(region.span, 10);
+  EXPECT(over_the_limits(fold(region, {}), 1), "201 tasks and groups inside each other, and spanprof takes 64");
+  EXPECT_PART(advice_for(region, 1), "parallelism is 200.0; make the program's own cutoff or blocks larger, or record "
+                                     "with SPANPROF_FOLD_DEPTH=63 (125 tasks left, parallelism 1.4)");
+  EXPECT(over_the_limits(fold(region, {63, 0, 0}), 1), "");
+  EXPECT(span_of(region), 10 * (200 - 62));
+}
+
 TEST(tasks_with_depend_are_not_folded) {
   Made made;
   for (uint32_t task = 2; task < 4200; task++)
@@ -135,8 +159,9 @@ TEST(tasks_with_depend_are_not_folded) {
 
 TEST(the_span_goes_by_dependences) {
   Made made;
-  ompt_dependence_type_t types[] = {ompt_dependence_type_out, ompt_dependence_type_in, ompt_dependence_type_in,
-                                    ompt_dependence_type_inoutset, ompt_dependence_type_inoutset, ompt_dependence_type_inout};
+  ompt_dependence_type_t types[] = {ompt_dependence_type_out,      ompt_dependence_type_in,
+                                    ompt_dependence_type_in,       ompt_dependence_type_inoutset,
+                                    ompt_dependence_type_inoutset, ompt_dependence_type_inout};
   for (uint32_t i = 0; i < 6; i++) made.create(0, 1, 2 + i).depend(0, 2 + i, {item(types[i], 64)});
   made.barrier(0, 1);
   for (uint32_t i = 0; i < 6; i++) made.run(0, 1, 2 + i, 10 + i);

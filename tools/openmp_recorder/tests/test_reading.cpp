@@ -6,7 +6,8 @@ TEST(costs_stand_between_what_the_task_meets) {
   Run run = Made().after(10).create(0, 1, 2).after(20).create(0, 1, 3).after(5)
                 .add(0, Told::SyncBegin, 1, 0, ompt_sync_region_taskwait).run(0, 1, 3, 7).run(0, 1, 2, 8)
                 .add(0, Told::SyncEnd, 1, 0, ompt_sync_region_taskwait).after(4).barrier(0, 1).read();
-  EXPECT(text_of(only_region(run)), "work 10\ntask {\n  work 8\n}\nwork 20\ntask {\n  work 7\n}\nwork 5\ntaskwait\nwork 4\n");
+  EXPECT(text_of(only_region(run)),
+         "work 10\ntask {\n  work 8\n}\nwork 20\ntask {\n  work 7\n}\nwork 5\ntaskwait\nwork 4\n");
   EXPECT(events_of(only_region(run)), "start 0 0\nfinish 0 0\nstart 0 2\nfinish 0 2\nstart 0 4\nfinish 0 4\n"
                                       "start 0 3\nfinish 0 3\nstart 0 1\nfinish 0 1\nstart 0 5\nfinish 0 5\n");
 }
@@ -87,7 +88,8 @@ TEST(a_task_that_did_not_end_is_remarked_and_open_groups_are_closed) {
 }
 
 TEST(what_only_a_remark_can_tell) {
-  Run run = Made().create(0, 1, 2).depend(0, 2, {item(ompt_dependence_type_mutexinoutset, 64), item(ompt_dependence_type_in, 0)})
+  Run run = Made().create(0, 1, 2)
+                .depend(0, 2, {item(ompt_dependence_type_mutexinoutset, 64), item(ompt_dependence_type_in, 0)})
                 .create(0, 1, 0, is_target).add(0, Told::Cancel, 1).go(0, 1, 2).go(0, 2, 1, ompt_task_detach)
                 .barrier(0, 1).read();
   Region &region = only_region(run);

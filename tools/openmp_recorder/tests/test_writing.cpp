@@ -74,8 +74,8 @@ TEST(lengths_are_limited) {
 }
 
 TEST(files_of_a_run_are_known_by_their_names) {
-  for (const char *name : {"out.tasks", "out.replay", "out.times", "out.2.tasks", "out.inout.tasks", "out.2.inout.tasks",
-                           "out.4711.tasks", "out.4711.2.replay"})
+  for (const char *name : {"out.tasks", "out.replay", "out.times", "out.2.tasks", "out.inout.tasks",
+                           "out.2.inout.tasks", "out.4711.tasks", "out.4711.2.replay"})
     EXPECT(is_of_run(name, "out"), true);
   for (const char *name : {"out", "other.tasks", "out.csv", "out2.tasks", "out.x.tasks", "about.tasks"})
     EXPECT(is_of_run(name, "out"), false);
@@ -106,7 +106,8 @@ TEST(records_come_in_their_common_order) {
   }
   InOrder records({&first, &second});
   std::string seen;
-  while (const Record *record = records.next()) seen += std::to_string(record->order) + (&records.log() == &first ? "a" : "b");
+  while (const Record *record = records.next())
+    seen += std::to_string(record->order) + (&records.log() == &first ? "a" : "b");
   EXPECT(seen, "0a1b2b3a4a5b6b7a8b");
 }
 

@@ -80,9 +80,9 @@ class Signals(unittest.TestCase):
     def test_one_that_comes_before_the_program_does(self):
         program = mock.Mock()
         with PassedOn() as passed_on:
-            os.kill(os.getpid(), signal.SIGHUP)
+            os.kill(os.getpid(), signal.SIGTERM)
             passed_on.to(program)
-        program.send_signal.assert_called_once_with(signal.SIGHUP)
+        program.send_signal.assert_called_once_with(signal.SIGTERM)
 
     def test_one_that_is_ignored_stays_ignored(self):
         before = signal.signal(signal.SIGHUP, signal.SIG_IGN)

@@ -7,7 +7,7 @@ EMPTY = {"br", "hr", "input", "meta", "wbr", "line", "rect", "circle", "path", "
 NUMBER = r"[+−]?\d[\d,]*(?:\.\d+)?"
 # what is no number of spanprof: names, words of the text's head, ticks of an axis, keys, commands
 WITHOUT_SOURCE = {"place", "given", "axis"}
-NAMES = {"code", "kbd", "h1", "nav", "style", "script"}
+NAMES = {"title", "code", "kbd", "h1", "nav", "style", "script"}
 
 
 @dataclass

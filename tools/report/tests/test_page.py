@@ -71,6 +71,9 @@ class WrongNumbers(unittest.TestCase):
     def test_a_number_of_the_wrong_program(self):
         self.assertTrue(self.faults('data-from="other span work"', 'data-from="span work"'))
 
+    def test_a_name_may_have_digits(self):
+        self.assertEqual(self.faults("<title>mesh", "<title>mesh_14"), [])
+
     def test_a_number_without_a_source(self):
         self.assertEqual(self.faults("shorten this chain.", "shorten this chain of 31."),
                          ["'. To make the program faster on many threads, shorten this chain of 31.': "

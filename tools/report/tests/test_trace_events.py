@@ -2,6 +2,7 @@
 import json
 import unittest
 
+from report.recorded_run import read_times
 from report.trace_events import Run, ready_counts, trace_text
 from report.tests import worked
 
@@ -76,6 +77,23 @@ class Times(unittest.TestCase):
 
     def test_without_a_unit_a_cost_of_1_is_a_microsecond(self):
         self.assertEqual(of_kind(events_of("plain"), "X", 2)[0]["dur"], 5)
+
+    def test_costs_in_any_unit_show_as_microseconds(self):
+        self.assertEqual([bar["dur"] for bar in of_kind(events_of("odd"), "X", 2)], [5 * 0.25, 7 * 0.25])
+        view = worked.view("plain")
+        for unit, length in (("ns", 0.005), ("us", 5), ("ms", 5000)):
+            view.answers.head.unit = unit
+            bars = of_kind(json.loads(trace_text(view))["traceEvents"], "X", 2)
+            self.assertEqual((bars[0]["ts"], bars[0]["dur"]), (0, length))
+
+    def test_times_are_nanoseconds_whatever_the_unit_of_costs(self):
+        view = worked.view("split")
+        for unit, cost in (("ns", 1), ("us", 1000), ("250 ns", 250)):
+            view.answers.head.unit = unit
+            with worked.patched():
+                run = read_times(worked.path("split.times"), view.answers)
+            self.assertEqual(run.nanoseconds(run.starts[7]), 25600)
+            self.assertAlmostEqual(run.starts[7] * cost, 25600)
 
     def test_ready_segments(self):
         view = worked.view("plain")

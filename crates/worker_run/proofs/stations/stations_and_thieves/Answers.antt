@@ -1,36 +1,28 @@
-use Rattle.std.proofs.Common.{ℕ, ◌<◌, ◌≡◌, ◌++◌, ◌∷◌, [], List, length, get_or, arith}
+use Rattle.std.proofs.Common.{ℕ, ◌≡◌, ◌<◌, ◌≤◌, ◌^◌, All, length, refl, ap, arith, ◌∷◌, [], length-append}
 use Rattle.std.proofs.lemmas.Grind.{common_steps}
-use Rattle.worker_run.specs.LaneViews.{LaneId}
-use Rattle.worker_run.specs.declared.new_lane.NewLane.{NewLane}
-use Rattle.worker_run.specs.NewLanes.{lanes_of}
+use Rattle.std.specs.Vec.Iter.{into_iter_items}
+use Rattle.worker_run.proofs.Sharing.{each_pushed_at}
 use Rattle.worker_run.proofs.stations.stations_and_thieves.Goals as goal
 
--- the names of all but the last lane
-named_before : (lane_of : ℕ → LaneId) (lanes rest : List NewLane) (lane : NewLane)
-    → lanes ≡ rest ++ lane ∷ []
-    → ((i : ℕ) → i < length lanes → get_or (lanes_of lanes) i (0, 0) ≡ lane_of i)
-    → (i : ℕ) → i < length rest → get_or (lanes_of rest) i (0, 0) ≡ lane_of i
-named_before lane_of lanes rest lane same named i below =
-    grind (arith, common_steps, same, named i)
-
--- the name of the last lane
-named_last : (lane_of : ℕ → LaneId) (lanes rest : List NewLane) (lane : NewLane) (n : ℕ)
-    → lanes ≡ rest ++ lane ∷ [] → length rest ≡ n
-    → ((i : ℕ) → i < length lanes → get_or (lanes_of lanes) i (0, 0) ≡ lane_of i)
-    → lane.owner.lane ≡ lane_of n
-named_last lane_of lanes rest lane n same count named =
-    grind (arith, common_steps, same, count, named n)
-
 pub loop-lane-preserved : goal.loop-lane-preserved
-loop-lane-preserved g c = record {
-  named = named_before g.J.Lanes.lane_of c.loop-lane.lanes.items c.pop.new.self.items
-      c.in-Some.lane c.in-Some.ensures.items c.loop-lane.invariant.named;
-  few = let few = c.loop-lane.invariant.few in let len = c.in-Some.ensures.len in
-      omega (arith, few, len);
-}
-
-pub station_and_thieves-requires : goal.station_and_thieves-requires
-station_and_thieves-requires g c = named_last g.J.Lanes.lane_of c.loop-lane.lanes.items
-    c.pop.new.self.items c.in-Some.lane c.len-in-Some.result c.in-Some.ensures.items
-    (let len = c.len-in-Some.ensures in let ok = c.pop.new.self.ok in omega (arith, len, ok))
-    c.loop-lane.invariant.named
+loop-lane-preserved g c =
+    let inv = c.loop-lane.invariant in
+    let whole = ap length inv.rest in
+    let few : length c.loop-lane.yielded < 2 ^ 32 =
+    omega (arith, whole, length-append c.loop-lane.yielded (into_iter_items c.loop-lane.lane-iterator), c.requires.few) in
+    record {
+      count =
+          let long = c.in_ok-push-2.ensures.len in let before = inv.count in let ok = c.loop-lane.stations.ok in
+          let new_ok = c.push-in-loop-lane.new.self.ok in
+          omega (arith, long, before, ok, new_ok, length-append c.loop-lane.yielded (c.in-Some.lane ∷ []));
+      lists =
+          let long = c.in_ok-push.ensures.len in let before = inv.lists in let ok = c.loop-lane.all.ok in
+          let new_ok = c.push.new.self.ok in
+          omega (arith, long, before, ok, new_ok, length-append c.loop-lane.yielded (c.in-Some.lane ∷ []));
+      numbers = rw c.in_ok-push.ensures.items
+          (each_pushed_at (λ n its. All (λ t. t.number ≡ n) its.items) c.loop-lane.all.items _ (length c.loop-lane.all.items) refl
+          inv.numbers (λ k d less.
+          let is = c.in_ok-station.ensures k d less in let long = c.len-number.ensures in let ok = c.loop-lane.stations.ok in
+          omega (arith, is, long, ok, few, inv.count, inv.lists)));
+      rest = grind (arith, common_steps);
+    }

@@ -1,0 +1,9 @@
+use Rattle.std.proofs.Common.{◌≡◌, ◌++◌, length}
+use Rattle.std.specs.Vec.Iter.{into_iter_items}
+use Rattle.worker_run.proofs.crew.shared.Given as goal
+
+abbrev pub invariant-loop-station : goal.invariant-loop-station
+invariant-loop-station g l = record {
+  count : length l.all.items ≡ length l.yielded;
+  rest : l.yielded ++ into_iter_items l.station-iterator ≡ l.fn.stations.items;
+}
