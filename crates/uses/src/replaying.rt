@@ -24,7 +24,8 @@ pub fn record_of(
     ensures legal { OnOk result (IsLegalRun table events.now) }
     ensures record { IfOk result (λ found. MatchOption found
         (¬ IsOpen table events.now segment)
-        (λ preds. Lists (λ before. IsKeptEdge table before segment) preds.items)) }
+        (λ preds. IsOpen table events.now segment
+        × Lists (λ before. IsKeptEdge table before segment) preds.items)) }
     ensures refused { IfErr result (RefusesReplay table events.now) }
 {
     match replay(alloc, table, events) {
@@ -44,7 +45,8 @@ fn copy_of_record(
 ) -> Result<Option<Vec<u32>>, AllocFault>
     ensures { IfOk result (λ found. MatchOption found
         (¬ IsOpen core.now.table core.now.history segment)
-        (λ preds. Lists (λ before. IsKeptEdge core.now.table before segment) preds.items)) }
+        (λ preds. IsOpen core.now.table core.now.history segment
+        × Lists (λ before. IsKeptEdge core.now.table before segment) preds.items)) }
 {
     match core.preds_of(segment) {
         Some(preds) => Ok(Some(preds.to_vec(alloc)?)),

@@ -9,4 +9,4 @@ returns-in_ok-to_vec-in-Some c =
     Lists (λ before. IsKeptEdge c.args.core.now.table before c.args.segment) in
     let same : c.in_ok-to_vec-in-Some.field-0.items ≡ c.in-Some.preds.now =
     c.in_ok-to_vec-in-Some.ensures.items_if_clones_equal (λ x y h. h) in
-    subst AreRecorded (sym same) c.in-Some.ensures.1
+    (c.in-Some.ensures.0, subst AreRecorded (sym same) c.in-Some.ensures.1)

@@ -9,5 +9,6 @@ pub returns-in-Ok-copy_of_record-clause-record : goal.returns-in-Ok-copy_of_reco
 returns-in-Ok-copy_of_record-clause-record c =
     let IsRecorded : Run → Type 0 = λ run. MatchOption c.in-Ok-copy_of_record.found
     (¬ IsOpen run.table run.history c.args.segment)
-    (λ preds. Lists (λ before. IsKeptEdge run.table before c.args.segment) preds.items) in
+    (λ preds. IsOpen run.table run.history c.args.segment
+    × Lists (λ before. IsKeptEdge run.table before c.args.segment) preds.items) in
     subst IsRecorded c.in-Ok.ensures.ok c.in-Ok-copy_of_record.ensures
