@@ -1,0 +1,3 @@
+pub mod LargeFaults
+pub mod LargeTrees
+pub mod LargeReading

@@ -1,0 +1,9 @@
+//! Texts of version 1 of any size: their marks, one after another. What is kept grows with the
+//! nesting of tasks and groups and with the names, and not with the text.
+#![tactic(auto)]
+
+mod forms;
+pub mod limits;
+pub mod marks;
+mod place_tests;
+pub mod reader;
