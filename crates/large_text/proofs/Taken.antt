@@ -16,7 +16,7 @@ use Rattle.program_text.specs.Tokens.{Token}
 use Rattle.program_text.proofs.FaultRows.{row_no_memory, no_row}
 use Rattle.task_program.specs.declared.place.Place.{Place}
 use Rattle.task_program.specs.Faults.{State, start, after_at}
-use Rattle.task_program.specs.Nested.IsNested as nested
+use Rattle.task_program.specs.Nested.IsNested.{Nothing as NoMarks}
 use Rattle.task_program.proofs.Accepting.{sentence_accepted}
 use Rattle.task_program.proofs.FoundPlaces.{Explained}
 use Rattle.task_program.proofs.Begun.{Began}
@@ -29,7 +29,7 @@ use Rattle.large_text.specs.LargeReading.{state_of, marks_after, large_step, wit
 use Rattle.large_text.specs.LargeReading.{IsReadSoFar, IsLargeWithin}
 use Rattle.large_text.specs.LargeReading.AreOpen.{NoneOpen}
 use Rattle.large_text.specs.LargeTrees.{IsLargeWrong}
-use Rattle.large_text.specs.LargeTrees.AreLargeRight as right
+use Rattle.large_text.specs.LargeTrees.AreLargeRight.{Nothing as NoTokens}
 use Rattle.large_text.proofs.SoFar.{read_more}
 use Rattle.large_text.proofs.Refused.{token_wrong, fault_told}
 
@@ -82,8 +82,8 @@ starts reader state work =
       tally_is =
           subst (λ (s : State). tally_of [] ≡ tally_now s) (sym state) nothing_counted;
       no_items = subst (λ (s : State). NoItems s.place s.head.items) (sym state) refl;
-      right = right.Nothing;
-      open_are = rw (ap (λ (s : State). s.tree.blocks) state) (NoneOpen [] nested.Nothing);
+      right = NoTokens;
+      open_are = rw (ap (λ (s : State). s.tree.blocks) state) (NoneOpen [] NoMarks);
       work_is = work;
       within = record {
         bytes = omega (arith, bytes);
