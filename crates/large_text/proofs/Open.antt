@@ -15,8 +15,11 @@ use Rattle.task_program.specs.Nested.{IsNested}
 use Rattle.task_program.specs.Nested.IsNested.{Nothing, Work, Wait, Task, Group}
 use Rattle.task_program.specs.TreeSoFar.{Block, TreeSoFar, after_end_of}
 use Rattle.task_program.specs.TreeSoFar.Block.{TaskBlock, GroupBlock}
-use Rattle.large_text.specs.LargeReading.{AreOpen}
-use Rattle.large_text.specs.LargeReading.AreOpen.{NoneOpen, InTask, InGroup}
+use Rattle.large_text.proofs.Sound.{AreOpen}
+use Rattle.large_text.proofs.Sound.AreOpen.{NoneOpen, InTask, InGroup}
+
+pub none_open : (marks : List Mark) → AreOpen [] marks → IsNested marks
+none_open _ (NoneOpen marks h) = h
 
 -- nested marks, and others behind them
 nested_more : (xs ys : List Mark) → IsNested xs → IsNested ys → IsNested (xs ++ ys)
@@ -60,7 +63,7 @@ abbrev pub TreeOpen : TreeSoFar → Type 0
 TreeOpen tree = AreOpen tree.blocks tree.marks
 
 -- the innermost block ends
-open_ends : (blocks : List Block) (marks : List Mark)
+pub open_ends : (blocks : List Block) (marks : List Mark)
     → AreOpen blocks marks
     → TreeOpen (after_end_of blocks marks)
 open_ends _ _ (NoneOpen marks g) = NoneOpen marks g

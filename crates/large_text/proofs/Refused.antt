@@ -23,10 +23,13 @@ use Rattle.large_text.specs.declared.reader.MarkReader.{MarkReader}
 use Rattle.large_text.specs.LargeFaults.{grammar_fault, large_limit_by, large_limit_after}
 use Rattle.large_text.specs.LargeFaults.{closes_no_block, is_inside_at, items_coming}
 use Rattle.large_text.specs.LargeFaults.{large_form_fault}
-use Rattle.large_text.specs.LargeReading.{state_of, with_bytes, large_step, IsReadSoFar}
-use Rattle.large_text.specs.LargeTrees.{IsLargeWrong, large_form_fault_after}
+use Rattle.large_text.specs.LargeReading.{state_of, large_step}
+use Rattle.large_text.specs.LargeTrees.{IsLargeWrong, IsLargeFirstFault, AreLargeRight}
+use Rattle.large_text.specs.LargeTrees.{large_form_fault_after}
+use Rattle.large_text.specs.LargeTrees.IsLargeFirstFault.{AtToken}
 use Rattle.large_text.specs.LargeTrees.IsLargeWrong.{ByItself, Misplaced, PastLimit}
 use Rattle.large_text.proofs.Steps.{closes_so, is_there}
+use Rattle.large_text.proofs.Sound.{IsSound}
 use Rattle.large_text.proofs.SoFar.{limits_so}
 
 abbrev fault_so : ReadKind → ℕ → ReadFault
@@ -40,14 +43,15 @@ unless_err : {P : Type 0} (found : Option ReadKind) (line : ℕ) (after : Result
 unless_err (Some kind) line after fault h here later = here kind refl cc
 unless_err None line after fault h here later = later refl h
 
-wrong_so : (before : List Token) (text : List ℕ) (line : ℕ) (kind : ReadKind) (fault : ReadFault)
-    → fault_so kind line ≡ fault
-    → IsLargeWrong before text kind
-    → IsLargeWrong before text fault.kind × (fault.line ≡ line)
-wrong_so before text line kind fault same wrong = (
-  subst (λ (f : ReadFault). IsLargeWrong before text f.kind) same wrong,
-  sym (ap (λ (f : ReadFault). f.line) same),
-)
+first_so : (before later : List Token) (token : Token) (end_line : ℕ) (kind : ReadKind)
+    (fault : ReadFault)
+    → AreLargeRight before
+    → fault_so kind token.line ≡ fault
+    → IsLargeWrong before token.text kind
+    → IsLargeFirstFault (before ++ token ∷ later) end_line fault
+first_so before later token end_line kind fault right same wrong =
+    subst (IsLargeFirstFault (before ++ token ∷ later) end_line) same
+    (AtToken before later token end_line kind right wrong)
 
 -- the grammar has not the token there
 misplaced : (before : List Token) (state : State) (text : List ℕ) (kind : ReadKind)
@@ -105,29 +109,29 @@ viable_there before state text began h =
     ∙ there.unopened)
     there.allowed)
 
--- what is wrong with a token that is refused
-pub token_wrong : (before : List Token) (marks : List Mark) (reader : MarkReader) (token : Token)
-    (fault : ReadFault)
-    → IsReadSoFar before marks reader
+-- a token that is refused is the first fault
+pub first_fault : (before later : List Token) (marks : List Mark) (reader : MarkReader)
+    (token : Token) (end_line : ℕ) (fault : ReadFault)
+    → IsSound before marks reader
     → large_step reader.work (state_of reader marks) token ≡ Err fault
-    → IsLargeWrong before token.text fault.kind × (fault.line ≡ token.line)
-token_wrong before marks reader token fault r h =
+    → IsLargeFirstFault (before ++ token ∷ later) end_line fault
+first_fault before later marks reader token end_line fault r h =
     let state = state_of reader marks in
     let text = token.text in
     unless_err (large_form_fault state.bytes text) token.line _ fault h
     (λ kind form same. let told : IsLargeWrong before text kind = ByItself before text kind
     (subst (λ (n : ℕ). large_form_fault n text ≡ Some kind) r.began.bytes_are form) in
-    wrong_so before text token.line kind fault same told)
+    first_so before later token end_line kind fault r.right same told)
     (λ form h1.
     let formed = subst (λ (n : ℕ). large_form_fault n text ≡ None) r.began.bytes_are form in
     unless_err (grammar_fault state.place state.head.has_if (length state.tree.blocks) text)
     token.line _ fault h1
-    (λ kind wrong same. wrong_so before text token.line kind fault same
+    (λ kind wrong same. first_so before later token end_line kind fault r.right same
     (misplaced before state text kind r.began formed wrong))
     (λ grammar h2. unless_err (large_limit_by (is_inside_at state.place) reader.work
     (length state.head.items + items_coming state.place) (length state.tree.blocks) text)
     token.line _ fault h2
-    (λ kind limit same. wrong_so before text token.line kind fault same
+    (λ kind limit same. first_so before later token end_line kind fault r.right same
     (PastLimit before text kind formed (viable_there before state text r.began grammar)
     (limits_so before state reader.work text r.tally_is r.work_is ∙ limit)))
     (λ none wrong. absurd cc)))

@@ -37,9 +37,10 @@ use Rattle.large_text.specs.declared.limits.TheConstants.{MOST_LARGE_TOKEN_BYTES
 use Rattle.large_text.specs.LargeFaults.{large_limit_by, large_limit_after, is_inside_at}
 use Rattle.large_text.specs.LargeFaults.{items_coming, large_form_fault}
 use Rattle.large_text.specs.LargeReading.{state_of, with_bytes, marks_after, large_step}
-use Rattle.large_text.specs.LargeReading.{IsLargeWithin, IsReadSoFar, mark_seen}
+use Rattle.large_text.specs.LargeReading.{IsLargeWithin, mark_seen}
 use Rattle.large_text.specs.LargeTrees.{IsLargeRight, AreLargeRight}
 use Rattle.large_text.specs.LargeTrees.AreLargeRight.{More}
+use Rattle.large_text.proofs.Sound.{IsSound}
 use Rattle.large_text.proofs.Open.{TreeOpen, place_open}
 use Rattle.large_text.proofs.Steps.{Passed, passed, IsThere, is_there, IsUnder, is_under, closes_so}
 use Rattle.large_text.proofs.Steps.{number_fits, is_formed, names_grow, items_grow}
@@ -259,13 +260,18 @@ right_more before work state next token began tally_is work_is p = record {
   within = limits_so before state work token.text tally_is work_is ∙ p.limit;
 }
 
+one_mark : (marks : List Mark) (mark : Option TextMark)
+    → length (marks_after marks mark) ≤ length marks + 1
+one_mark marks None = omega arith
+one_mark marks (Some mark) = omega (arith, length-append marks (mark_seen mark ∷ []))
+
 -- one token more
 pub read_more : (before : List Token) (marks : List Mark) (old new : MarkReader) (token : Token)
     (mark : Option TextMark)
-    → IsReadSoFar before marks old
+    → IsSound before marks old
     → large_step old.work (state_of old marks) token ≡ Ok (state_of new (marks_after marks mark))
     → new.work ≡ old.work + work_of (marks_after [] mark)
-    → IsReadSoFar (before ++ token ∷ []) (marks_after marks mark) new
+    → IsSound (before ++ token ∷ []) (marks_after marks mark) new
 read_more before marks old new token mark r step work =
     let state = state_of old marks in
     let next = state_of new (marks_after marks mark) in
@@ -305,6 +311,7 @@ read_more before marks old new token mark r step work =
       open_are = subst (λ (s : State). TreeOpen s.tree) p.next_is
           (place_open state.place inside token.text token.line r.open_are);
       work_is = work_is;
+      few = omega (arith, one_mark marks mark, bytes_is, form.some, r.few);
       within = record {
         bytes = omega (arith, bytes_is, form.bytes_fit);
         names = omega (arith, names_few, bytes_is, form.some, r.within.names);

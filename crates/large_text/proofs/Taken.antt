@@ -1,7 +1,8 @@
 -- What the reader answers to a token, and where it begins.
 use Rattle.std.proofs.Common.{◌≡◌, ◌≢◌, ℕ, ◌+◌, ◌≤◌, Bool, true, false, List, [], ◌∷◌, ◌++◌, length}
 use Rattle.std.proofs.Common.{Option, Some, None, Result, Ok, Err, refl, sym, ap, subst, ◌∙◌, arith}
-use Rattle.std.specs.Prelude.{IfOk, IfErr}
+use Rattle.std.specs.Prelude.{IfOk, IfErr, map, reverse}
+use Rattle.std.proofs.lemmas.List.{length-reverse, length-map}
 use Rattle.std.proofs.lemmas.List.Elements.{All-nil}
 use Rattle.program_text.specs.declared.fault.ReadKind.{ReadKind}
 use Rattle.program_text.specs.declared.fault.ReadKind.TheVariants.{OutOfMemory, TooLong, BadByte}
@@ -23,15 +24,18 @@ use Rattle.task_program.proofs.Begun.{Began}
 use Rattle.task_program.proofs.Tallies.{NoItems, tally_of, tally_now, nothing_counted}
 use Rattle.large_text.specs.declared.marks.TextMark.{TextMark}
 use Rattle.large_text.specs.declared.reader.MarkReader.{MarkReader}
+use Rattle.large_text.specs.declared.reader.OpenBlock.{OpenBlock}
 use Rattle.large_text.specs.LargeFaults.{large_form_fault, grammar_fault, large_limit_by}
 use Rattle.large_text.specs.LargeFaults.{is_inside_at, items_coming}
 use Rattle.large_text.specs.LargeReading.{state_of, marks_after, large_step, with_bytes}
-use Rattle.large_text.specs.LargeReading.{IsReadSoFar, IsLargeWithin}
-use Rattle.large_text.specs.LargeReading.AreOpen.{NoneOpen}
-use Rattle.large_text.specs.LargeTrees.{IsLargeWrong}
+use Rattle.large_text.specs.LargeReading.{IsReadSoFar, block_seen}
+use Rattle.large_text.specs.LargeReading.IsReadSoFar.{AtFirst, OneMore}
+use Rattle.large_text.specs.LargeTrees.{IsLargeFirstFault}
 use Rattle.large_text.specs.LargeTrees.AreLargeRight.{Nothing as NoTokens}
+use Rattle.large_text.proofs.Sound.{IsSound}
+use Rattle.large_text.proofs.Sound.AreOpen.{NoneOpen}
 use Rattle.large_text.proofs.SoFar.{read_more}
-use Rattle.large_text.proofs.Refused.{token_wrong, fault_told}
+use Rattle.large_text.proofs.Refused.{first_fault, fault_told}
 
 -- ---- the beginning
 
@@ -64,14 +68,9 @@ not_begun = record {
   bytes_are = refl;
 }
 
-abbrev names_none : List (List ℕ) → ℕ
-names_none names = length names
-
 -- before the first token
-pub starts : (reader : MarkReader)
-    → state_of reader [] ≡ start
-    → reader.work ≡ 0
-    → IsReadSoFar [] [] reader
+starts : (reader : MarkReader) → state_of reader [] ≡ start → reader.work ≡ 0
+    → IsSound [] [] reader
 starts reader state work =
     let bytes : reader.bytes ≡ 0 = ap (λ (s : State). s.bytes) state in
     let names : length reader.names ≡ 0 = ap (λ (s : State). length s.names) state in
@@ -85,6 +84,7 @@ starts reader state work =
       right = NoTokens;
       open_are = rw (ap (λ (s : State). s.tree.blocks) state) (NoneOpen [] NoMarks);
       work_is = work;
+      few = omega arith;
       within = record {
         bytes = omega (arith, bytes);
         names = omega (arith, names);
@@ -92,6 +92,14 @@ starts reader state work =
         work = omega (arith, work);
       };
     }
+
+-- whatever was taken
+pub sound : (before : List Token) (marks : List Mark) (reader : MarkReader)
+    → IsReadSoFar before marks reader
+    → IsSound before marks reader
+sound _ _ _ (AtFirst reader state work) = starts reader state work
+sound _ _ _ (OneMore before marks old new token mark r step work) =
+    read_more before marks old new token mark (sound before marks old r) step work
 
 -- ---- what is answered to a token
 
@@ -104,7 +112,7 @@ pub reads_on : (result : Result (Option TextMark) ReadFault) (old new : MarkRead
     → IsReadSoFar before marks old
     → IsReadSoFar (before ++ token ∷ []) (marks_after marks mark) new)
 reads_on (Ok mark) old new token step work = λ before marks r.
-    read_more before marks old new token mark r (step marks) work
+    OneMore before marks old new token mark r (step marks) work
 reads_on (Err fault) old new token step work = tt
 
 pub is_refused : (result : Result (Option TextMark) ReadFault) (old new : MarkReader)
@@ -113,11 +121,12 @@ pub is_refused : (result : Result (Option TextMark) ReadFault) (old new : MarkRe
     → Gives (λ mark. state_of new (marks_after marks mark)) result
     (large_step old.work (state_of old marks) token))
     → IfErr result (λ fault. fault.kind ≢ OutOfMemory
-    → (before : List Token) (marks : List Mark) → IsReadSoFar before marks old
-    → IsLargeWrong before token.text fault.kind × (fault.line ≡ token.line))
+    → (before later : List Token) (marks : List Mark) (end_line : ℕ)
+    → IsReadSoFar before marks old
+    → IsLargeFirstFault (before ++ token ∷ later) end_line fault)
 is_refused (Ok mark) old new token step = tt
-is_refused (Err fault) old new token step = λ other before marks r.
-    token_wrong before marks old token fault r
+is_refused (Err fault) old new token step = λ other before later marks end_line r.
+    first_fault before later marks old token end_line fault (sound before marks old r)
     (fault_told fault (large_step old.work (state_of old marks) token) other (step marks))
 
 -- ---- the tests, in their order
@@ -185,3 +194,27 @@ pub all_pass : (work : ℕ) (state : State) (token : Token)
     → large_step work state token
     ≡ Ok (after_at state.place (with_bytes state (length token.text)) token.text token.line)
 all_pass work state token form grammar limit = rw (form, grammar, limit) refl
+
+-- ---- the open blocks, as the reader and the state count them
+
+blocks_long : (blocks : List OpenBlock) → length (reverse (map block_seen blocks)) ≡ length blocks
+blocks_long blocks = length-reverse (map block_seen blocks) ∙ length-map blocks block_seen
+
+pub grammar_told : (place : Place) (has_if : Bool) (blocks : List OpenBlock) (depth : ℕ)
+    (text : List ℕ) (found answer : Option ReadKind)
+    → depth ≡ length blocks
+    → found ≡ grammar_fault place has_if depth text
+    → found ≡ answer
+    → grammar_fault place has_if (length (reverse (map block_seen blocks))) text ≡ answer
+grammar_told place has_if blocks depth text found answer depth_is found_is same =
+    ap (λ (n : ℕ). grammar_fault place has_if n text) (blocks_long blocks ∙ sym depth_is)
+    ∙ sym found_is
+    ∙ same
+
+pub limit_told : (inside : Bool) (work items : ℕ) (blocks : List OpenBlock) (text : List ℕ)
+    (found answer : Option ReadKind)
+    → found ≡ large_limit_by inside work items (length blocks) text
+    → found ≡ answer
+    → large_limit_by inside work items (length (reverse (map block_seen blocks))) text ≡ answer
+limit_told inside work items blocks text found answer found_is same =
+    ap (λ (n : ℕ). large_limit_by inside work items n text) (blocks_long blocks) ∙ sym found_is ∙ same

@@ -1,25 +1,20 @@
 -- What a reader of marks holds of the tokens and the marks so far.
-use Rattle.std.specs.Prelude.{◌≡◌, ℕ, ◌+◌, ◌≤◌, Bool, true, List, [], ◌∷◌, ◌++◌, length, drop, map, reverse}
+use Rattle.std.specs.Prelude.{◌≡◌, ℕ, ◌+◌, ◌≤◌, true, List, [], ◌∷◌, ◌++◌, length, map, reverse}
 use Rattle.std.specs.Prelude.{Option, Some, None, Result, Ok, Err}
 use Rattle.program_text.specs.declared.fault.ReadFault.{ReadFault}
-use Rattle.program_text.specs.declared.statement.Item.{Item}
 use Rattle.program_text.specs.declared.limits.TheConstants.{MOST_ITEMS, MOST_WORK}
 use Rattle.program_text.specs.declared.limits.TheConstants.{LARGEST_COST}
 use Rattle.program_text.specs.Limits.{work_of}
 use Rattle.program_text.specs.Marks.{Mark}
 use Rattle.program_text.specs.Marks.Mark.{Begins, Ends, Works, Waits, GroupBegins, GroupEnds}
-use Rattle.program_text.specs.Tokens.{Token, texts}
+use Rattle.program_text.specs.Tokens.{Token}
 use Rattle.program_text.specs.Words.{is_number, is_word, value_of}
 use Rattle.task_program.specs.declared.place.Place.{Place}
 use Rattle.task_program.specs.declared.place.Place.TheVariants.{Statement, WorkNumber, IfNumber}
 use Rattle.task_program.specs.declared.place.Place.TheVariants.{DependName}
-use Rattle.task_program.specs.Faults.{State, after_at, at, no_clauses, unless_fault}
-use Rattle.task_program.specs.Nested.{IsNested}
+use Rattle.task_program.specs.Faults.{State, after_at, at, no_clauses, start, unless_fault}
 use Rattle.task_program.specs.TreeSoFar.{Block, with_block}
 use Rattle.task_program.specs.TreeSoFar.Block.{TaskBlock, GroupBlock}
-use Rattle.task_program.proofs.FoundPlaces.{Explained}
-use Rattle.task_program.proofs.Begun.{Began}
-use Rattle.task_program.proofs.Tallies.{NoItems, tally_of, tally_now}
 use Rattle.large_text.specs.declared.limits.TheConstants.{MOST_LARGE_TOKEN_BYTES}
 use Rattle.large_text.specs.declared.marks.TextMark.{TextMark}
 use Rattle.large_text.specs.declared.marks.TextMark.TheVariants.{TaskBegins, TaskEnds, Work, Wait}
@@ -29,7 +24,6 @@ use Rattle.large_text.specs.declared.reader.OpenBlock.{OpenBlock}
 use Rattle.large_text.specs.declared.reader.OpenBlock.TheVariants.{OpenTask, OpenGroup}
 use Rattle.large_text.specs.LargeFaults.{large_form_fault, grammar_fault, large_limit_by}
 use Rattle.large_text.specs.LargeFaults.{is_inside_at, items_coming}
-use Rattle.large_text.specs.LargeTrees.{AreLargeRight}
 
 abbrev pub mark_seen : TextMark → Mark
 mark_seen (TaskBegins undeferred items) = Begins undeferred items
@@ -104,30 +98,18 @@ pub record IsLargeWithin (reader : MarkReader) : Type 0 where
   pub items : length reader.items ≤ MOST_ITEMS
   pub work : reader.work ≤ MOST_WORK
 
--- marks behind which these blocks are open, the innermost first
-pub data AreOpen : List Block → List Mark → Type 0 where
-  NoneOpen : (marks : List Mark) → IsNested marks → AreOpen [] marks
-  InTask : (line : ℕ) (blocks : List Block) (before : List Mark) (undeferred : Bool)
-      (items : List Item) (inner : List Mark)
-      → AreOpen blocks before
-      → IsNested inner
-      → AreOpen (TaskBlock line ∷ blocks) (before ++ Begins undeferred items ∷ inner)
-  InGroup : (line : ℕ) (blocks : List Block) (before inner : List Mark)
-      → AreOpen blocks before
-      → IsNested inner
-      → AreOpen (GroupBlock line ∷ blocks) (before ++ GroupBegins ∷ inner)
-
--- the reader has read these tokens, none of them wrong, and handed on these marks
-pub record IsReadSoFar (tokens : List Token) (marks : List Mark) (reader : MarkReader) : Type 0
-  where
-    pub explained : Explained (texts tokens) (state_of reader marks)
-    pub began : Began (texts tokens) (state_of reader marks)
-    pub tally_is : tally_of (drop 2 tokens) ≡ tally_now (state_of reader marks)
-    pub no_items : NoItems reader.place reader.items
-    pub right : AreLargeRight tokens
-    pub open_are : AreOpen (state_of reader marks).tree.blocks marks
-    pub work_is : reader.work ≡ work_of marks
-    pub within : IsLargeWithin reader
+-- the reader has taken these tokens, none of them wrong, and handed on these marks
+pub data IsReadSoFar : List Token → List Mark → MarkReader → Type 0 where
+  AtFirst : (reader : MarkReader)
+      → state_of reader [] ≡ start
+      → reader.work ≡ 0
+      → IsReadSoFar [] [] reader
+  OneMore : (before : List Token) (marks : List Mark) (old new : MarkReader) (token : Token)
+      (mark : Option TextMark)
+      → IsReadSoFar before marks old
+      → large_step old.work (state_of old marks) token ≡ Ok (state_of new (marks_after marks mark))
+      → new.work ≡ old.work + work_of (marks_after [] mark)
+      → IsReadSoFar (before ++ token ∷ []) (marks_after marks mark) new
 
 -- the reader has read some tokens, and can go on
 pub record CanGoOn (reader : MarkReader) : Type 0 where

@@ -64,6 +64,11 @@ pub data AreLargeRight : List Token → Type 0 where
       → IsLargeRight before token.text
       → AreLargeRight (before ++ token ∷ [])
 
+-- a text without a fault: a sentence within the limits, each token right
+pub record IsLargeRightWhole (tokens : List Token) : Type 0 where
+  pub sentence : IsSentence (texts tokens)
+  pub right : AreLargeRight tokens
+
 -- the first fault of these tokens, where the text ends on this line
 pub data IsLargeFirstFault : (tokens : List Token) (end_line : ℕ) → ReadFault → Type 0 where
   AtToken : (before later : List Token) (token : Token) (end_line : ℕ) (kind : ReadKind)
@@ -76,3 +81,9 @@ pub data IsLargeFirstFault : (tokens : List Token) (end_line : ℕ) → ReadFaul
       → (IsSentence (texts tokens) → ⊥)
       → EndsEarly tokens end_line fault
       → IsLargeFirstFault tokens end_line fault
+
+-- a text without a fault has no first fault
+abbrev pub HasNoFaultWhereRight : List Token → Type 0
+HasNoFaultWhereRight tokens =
+    IsLargeRightWhole tokens → (end_line : ℕ) (fault : ReadFault)
+    → IsLargeFirstFault tokens end_line fault → ⊥

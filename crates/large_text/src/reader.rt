@@ -14,13 +14,11 @@ ghost use Rattle.task_program.specs.Faults.{after_at, after_statement, after_cla
 ghost use Rattle.task_program.specs.Faults.{line_of_block, start};
 ghost use Rattle.task_program.specs.TokenCounts.{is_value_too_large, is_work_past};
 ghost use Rattle.task_program.specs.TreeSoFar.{without_innermost};
-ghost use Rattle.task_program.specs.FirstFault.{EndsEarly};
-ghost use Rattle.task_program.specs.ViablePrefix.{IsSentence};
 ghost use Rattle.large_text.specs.LargeFaults.{large_limit_by, is_inside_at, items_coming};
 ghost use Rattle.large_text.specs.LargeReading.{state_of, marks_after, large_step, with_task};
 ghost use Rattle.large_text.specs.LargeReading.{IsLargeWithin, IsReadSoFar, CanGoOn, HasValue};
 ghost use Rattle.large_text.specs.LargeReading.{block_seen};
-ghost use Rattle.large_text.specs.LargeTrees.{HasLargeTree, IsLargeWrong};
+ghost use Rattle.large_text.specs.LargeTrees.{HasLargeTree, IsLargeRightWhole, IsLargeFirstFault};
 
 use crate::forms::form_fault;
 use crate::limits::MOST_LARGE_NESTING;
@@ -85,7 +83,8 @@ impl MarkReader {
         }
     }
 
-    /// Takes the next token, and hands on the mark that is whole with it, if one is.
+    /// Takes the next token, and hands on the mark that is whole with it, if one is. The fault is the
+    /// first of every text that begins so, or out of memory; no more tokens can be taken after it.
     pub fn take(&mut self, token: Token<'_>) -> Result<Option<TextMark>, ReadFault>
         requires { CanGoOn self.old }
         ensures reads { IfOk result (λ mark. (before : List tokens.Token) (marks : List Mark)
@@ -93,21 +92,20 @@ impl MarkReader {
             → IsReadSoFar (before ++ token_seen token.entry ∷ []) (marks_after marks mark)
             self.new) }
         ensures refused { IfErr result (λ fault. fault.kind ≢ OutOfMemory
-            → (before : List tokens.Token) (marks : List Mark)
+            → (before later : List tokens.Token) (marks : List Mark) (end_line : ℕ)
             → IsReadSoFar before marks self.old
-            → IsLargeWrong before token.entry.text.now fault.kind × (fault.line
-            ≡ token.entry.line)) }
+            → IsLargeFirstFault (before ++ token_seen token.entry ∷ later) end_line fault) }
     {
         self.take_any(token)
     }
 
-    /// The text ends here, on this line.
+    /// The text ends here, on this line: it is whole, or the fault is its first.
     pub fn finish(&self, line: u32) -> Result<(), ReadFault>
         ensures whole { OnOk result ((before : List tokens.Token) (marks : List Mark)
-            → IsReadSoFar before marks self.now → HasLargeTree (texts before) marks) }
-        ensures early { IfErr result (λ fault. (before : List tokens.Token) (marks : List Mark)
             → IsReadSoFar before marks self.now
-            → EndsEarly before line fault × (IsSentence (texts before) → ⊥)) }
+            → HasLargeTree (texts before) marks × IsLargeRightWhole before) }
+        ensures early { IfErr result (λ fault. (before : List tokens.Token) (marks : List Mark)
+            → IsReadSoFar before marks self.now → IsLargeFirstFault before line fault) }
     {
         match self.end_fault(line) {
             Some(fault) => Err(fault),

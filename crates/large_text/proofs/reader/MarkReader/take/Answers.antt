@@ -1,9 +1,10 @@
 use Rattle.program_text.specs.ScannerSeen.{token_seen}
-use Rattle.large_text.proofs.Taken.{reads_on, is_refused}
+use Rattle.large_text.proofs.Taken.{sound, reads_on, is_refused}
 use Rattle.large_text.proofs.reader.MarkReader.take.Goals as goal
 
 pub take_any-requires : goal.take_any-requires
-take_any-requires c = c.requires.so_far.within
+take_any-requires c =
+    (sound c.requires.tokens c.requires.marks c.args.self.now c.requires.so_far).within
 
 pub returns-clause-reads : goal.returns-clause-reads
 returns-clause-reads c =
