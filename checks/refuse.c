@@ -35,8 +35,8 @@ void *realloc(void *block, size_t size) {
 }
 
 int pthread_create(pthread_t *thread, const pthread_attr_t *attributes, void *(*body)(void *), void *argument) {
-    static int (*real)(pthread_t *, const pthread_attr_t *, void *(*)(void *), void *);
-    if (!real)
-        real = (int (*)(pthread_t *, const pthread_attr_t *, void *(*)(void *), void *))dlsym(RTLD_NEXT, "pthread_create");
+    typedef int creating(pthread_t *, const pthread_attr_t *, void *(*)(void *), void *);
+    static creating *real;
+    if (!real) real = (creating *)dlsym(RTLD_NEXT, "pthread_create");
     return refuses() ? EAGAIN : real(thread, attributes, body, argument);
 }

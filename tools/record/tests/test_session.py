@@ -17,7 +17,8 @@ class Reasons(unittest.TestCase):
         return session.why_nothing(status, Messages(loaded, list(lines)), "/tmp/mine", is_script)
 
     def test_each(self):
-        self.assertEqual(self.why(status=-11, lines=["recording to /tmp/mine.tasks", "/tmp/mine: detach: span too low"]),
+        self.assertEqual(self.why(status=-11, lines=["recording to /tmp/mine.tasks",
+                                                     "/tmp/mine: detach: span too low"]),
                          "the program ended by SIGSEGV, and then nothing is written; mine: detach: span too low")
         self.assertEqual(self.why(lines=["recording to /tmp/mine.tasks", "no parallel region with tasks"]),
                          "no parallel region with tasks")
