@@ -6,6 +6,8 @@ use std::process::Abort;
 use std::test::Fail;
 use task_program::read::read_program;
 
+mod texts;
+
 /// A text, and what is wanted of its program.
 struct Worked {
     text: &'static str,

@@ -41,7 +41,7 @@ closed_depth : (blocks : List Block) (marks : List Mark)
 closed_depth [] marks = refl
 closed_depth (block ∷ blocks) marks = refl
 
-abbrev LeadsSo : State → Place → List ℕ → ℕ → Type 0
+abbrev pub LeadsSo : State → Place → List ℕ → ℕ → Type 0
 LeadsSo state place text line =
     shape_of (after_at place (at state place) text line)
     ≡ lead_at place state.head.has_if (length state.tree.blocks) text
@@ -77,7 +77,7 @@ more_leads state kind text line =
     (λ no_comma. rw no_comma refl)
 
 -- every token leads where the table of places says
-place_leads : (place : Place) (state : State) (text : List ℕ) (line : ℕ)
+pub place_leads : (place : Place) (state : State) (text : List ℕ) (line : ℕ)
     → LeadsSo state place text line
 place_leads Statement state text line = statement_leads state text line
 place_leads Clause state text line = clause_leads state text line
@@ -149,7 +149,7 @@ either_length true one other n h g = h
 either_length false one other n h g = g
 
 -- one token more
-length_goes : (place : Place) (has_if : Bool) (depth : ℕ) (text : List ℕ) (n : ℕ) → LengthAt place n
+pub length_goes : (place : Place) (has_if : Bool) (depth : ℕ) (text : List ℕ) (n : ℕ) → LengthAt place n
     → LengthAt (lead_at place has_if depth text).place (n + 1)
 length_goes Header has_if depth text n h = omega (arith, h)
 length_goes Version has_if depth text n h = omega (arith, h)

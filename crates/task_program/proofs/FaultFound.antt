@@ -61,26 +61,26 @@ record Counts (before : List Token) (state : State) : Type 0 where
   no_items : NoItems state.place state.head.items
   right : AreRight before
 
-texts_long : (before : List Token) → length (texts before) ≡ length before
+pub texts_long : (before : List Token) → length (texts before) ≡ length before
 texts_long before = length-map before (λ (t : Token). t.text)
 
-past_long : (place : Place) (n : ℕ) → LengthAt place n → is_past_header place ≡ true → 2 ≤ n
+pub past_long : (place : Place) (n : ℕ) → LengthAt place n → is_past_header place ≡ true → 2 ≤ n
 past_long Header n h past = absurd cc
 past_long Version n h past = absurd cc
 past_long _ n h past = h
 
-header_short : (place : Place) (n : ℕ) → LengthAt place n → is_past_header place ≡ false → n ≤ 1
+pub header_short : (place : Place) (n : ℕ) → LengthAt place n → is_past_header place ≡ false → n ≤ 1
 header_short Header n h past = omega (arith, h)
 header_short Version n h past = omega (arith, h)
 header_short _ n h past = absurd cc
 
 -- the header has two tokens
-nothing_after : (before : List Token) → length before ≤ 1 → drop 2 before ≡ []
+pub nothing_after : (before : List Token) → length before ≤ 1 → drop 2 before ≡ []
 nothing_after [] h = refl
 nothing_after (first ∷ []) h = refl
 nothing_after (first ∷ second ∷ before) h = absurd (omega (arith, h))
 
-nothing_after_one : (before : List Token) (token : Token)
+pub nothing_after_one : (before : List Token) (token : Token)
     → length before ≤ 1
     → drop 2 (before ++ token ∷ []) ≡ []
 nothing_after_one [] token h = refl
@@ -88,7 +88,7 @@ nothing_after_one (first ∷ []) token h = refl
 nothing_after_one (first ∷ second ∷ before) token h = absurd (omega (arith, h))
 
 -- items stand in the head only where a task is being read
-items_go : (place : Place) (state : State) (text : List ℕ) (line : ℕ)
+pub items_go : (place : Place) (state : State) (text : List ℕ) (line : ℕ)
     → NoItems place state.head.items
     → NoItems (after_at place (at state place) text line).place
     (after_at place (at state place) text line).head.items
@@ -425,7 +425,7 @@ ends_once all end_line one other (Inside _ _ long no_viable) (Inside _ _ again n
 -- ---- the end
 
 -- a text that ends where it may not ends too early, as the definition says
-end_by : (all : List Token) (place : Place) (has_if : Bool) (blocks : List Block) (end_line : ℕ)
+pub end_by : (all : List Token) (place : Place) (has_if : Bool) (blocks : List Block) (end_line : ℕ)
     (fault : ReadFault)
     → LengthAt place (length all) → open_braces (drop 2 all) ≡ map line_of_block blocks
     → (fits_at place has_if (length blocks) (codes "}") ≡ true
@@ -448,7 +448,7 @@ end_by all _ has_if blocks end_line fault long braces can cannot h =
     let same : fault_so BadWord end_line ≡ fault = cc in
     subst (EndsEarly all end_line) same (Inside all end_line long (cannot refl))
 
-whole_ends : (place : Place) (blocks : List Block) (line : ℕ) (fault : ReadFault)
+pub whole_ends : (place : Place) (blocks : List Block) (line : ℕ) (fault : ReadFault)
     → is_whole place (length blocks) ≡ true → end_at place blocks line ≡ Some fault → ⊥
 whole_ends Statement [] line fault h g = absurd cc
 whole_ends Statement (block ∷ blocks) line fault h g = absurd cc
@@ -460,7 +460,7 @@ ended_err : (found : Option ReadFault) (state : State) (fault : ReadFault)
 ended_err (Some other) state fault h = cc
 ended_err None state fault h = absurd cc
 
-ended_ok : (place : Place) (has_if : Bool) (blocks : List Block) (line : ℕ) (state : State)
+pub ended_ok : (place : Place) (has_if : Bool) (blocks : List Block) (line : ℕ) (state : State)
     (program : ProgramMarks)
     → program_or_fault (end_at place blocks line) state ≡ Ok program
     → FollowsAt place has_if (length blocks) []

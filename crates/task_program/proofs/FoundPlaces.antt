@@ -33,7 +33,7 @@ use Rattle.task_program.specs.Grammar.Written.{WorkWritten, TaskWritten, GroupWr
 use Rattle.task_program.specs.Faults.{State, Head, after_at, no_clauses}
 use Rattle.task_program.specs.TreeSoFar.{Block}
 use Rattle.task_program.specs.TreeSoFar.Block.{GroupBlock}
-use Rattle.task_program.proofs.Keeping.{at, Passes}
+use Rattle.task_program.proofs.Keeping.{at, Allows}
 use Rattle.program_text.proofs.Bools.{or_true_right, bool_cases}
 
 -- the whole pieces so far, and of the piece that is being read: its whole clauses, and of the
@@ -298,7 +298,7 @@ piece_done p piece =
 
 abbrev pub Goes : State → Place → List ℕ → ℕ → List (List ℕ) → Parts → Type 0
 Goes state place text line before p =
-    Passes (at state place) text → Explains before (at state place) p
+    Allows (at state place) text → Explains before (at state place) p
     → Explained (before ++ text ∷ []) (after_at place (at state place) text line)
 
 -- the `(` of an `if`, behind what was read

@@ -1,12 +1,14 @@
-//! Calls the libraries: reads a program and prints it, tells what each segment has to wait for, and
-//! replays a log.
+//! Calls the libraries: reads a program and prints it, tells what each segment has to wait for,
+//! replays a log, and measures a text.
 #![tactic(auto)]
 
+mod measuring;
 mod printing;
 mod replaying;
 mod waiting;
 
 use dispatch_core::event::Event;
+use measuring::span_of;
 use printing::reprint;
 use replaying::record_of;
 use std::alloc::Global;
@@ -43,7 +45,8 @@ fn main(rt: HostRuntime) -> io::Result<()> {
     tell_text(&rt, rt.alloc())?;
     tell_waits(&rt, rt.alloc())?;
     tell_record(&rt, rt.alloc(), 2)?;
-    tell_record(&rt, rt.alloc(), 3)
+    tell_record(&rt, rt.alloc(), 3)?;
+    tell_span(&rt, rt.alloc())
 }
 
 fn tell_text(rt: &impl Print, alloc: Global) -> io::Result<()> {
@@ -84,6 +87,13 @@ fn tell_record(rt: &impl Print, alloc: Global, segment: u32) -> io::Result<()> {
     match record_of(alloc, table, &LOG, segment) {
         Ok(Some(preds)) => println!(rt; "{segment} was recorded after {:?}", preds.as_slice()),
         Ok(None) => println!(rt; "{segment} is not open"),
+        Err(fault) => println!(rt; "{fault:?}"),
+    }
+}
+
+fn tell_span(rt: &impl Print, alloc: Global) -> io::Result<()> {
+    match span_of(alloc, PROGRAM) {
+        Ok(span) => println!(rt; "no schedule ends before {span}"),
         Err(fault) => println!(rt; "{fault:?}"),
     }
 }

@@ -1,0 +1,44 @@
+#!/usr/bin/env bash
+# Counts the instructions of the commands beside those of a plain Rust program that prints the same, in millions, on the texts of
+# make_texts.py. valgrind counts them. Other work on the machine changes nothing but how the threads of `curve` and `check` wait.
+#
+#     bench/instructions.sh [TEXT..]      PROGRAM names the program, if it is built
+set -euo pipefail
+# shellcheck source=bench/common.sh
+. "$(dirname "$0")/common.sh"
+build_program
+make_texts
+rustc -O --edition 2024 -o "$scratch/plain" "$top/bench/plain/main.rs"
+
+# count FILE WORD..: how many instructions the words take on this input.
+count() {
+    local input=$1
+    shift
+    valgrind --tool=cachegrind --cache-sim=no --cachegrind-out-file=/dev/null "$@" < "$input" 2>&1 > /dev/null |
+        sed -n 's/.*I *refs: *//p' | tr -d ,
+}
+
+# row TEXT FILE WORD..: the row of a command on a text, whose input is this file.
+row() {
+    local name=$1 input=$2 ours plain
+    shift 2
+    ours=$(count "$input" "$PROGRAM" "$@")
+    plain=$(count "$input" "$scratch/plain" "$@")
+    awk -v name="$name" -v words="$*" -v ours="$ours" -v plain="$plain" \
+        'BEGIN { printf "%-14s %-20s %9.1f %9.1f %6.2f\n", name, words, ours / 1e6, plain / 1e6, ours / plain }'
+}
+
+printf '%-14s %-20s %9s %9s %6s\n' text command spanprof plain times
+names=("$@")
+[ $# -gt 0 ] || mapfile -t names < <(basename -s .tasks "$scratch"/texts/*.tasks)
+for name in "${names[@]}"; do
+    [ "$name" != loops ] || continue # the plain program reads no loops
+    text=$scratch/texts/$name.tasks
+    row "$name" "$text" span
+    row "$name" "$text" slack
+    row "$name" "$text" greedy --threads 64
+    row "$name" "$text" curve --upto 64
+    row "$name" "$text" certify
+    "$scratch/plain" certify < "$text" > "$scratch/certificate"
+    row "$name" "$scratch/certificate" check
+done

@@ -1,0 +1,62 @@
+#!/usr/bin/env python3
+"""Compares the numbers that README.md tells with the table of bench/README.md that they are taken from.
+
+    checks/speed_numbers.py
+"""
+import pathlib
+import re
+import sys
+
+TOP = pathlib.Path(__file__).resolve().parent.parent
+SECTION = re.compile(r"^### How fast it is$(.*?)^##", re.MULTILINE | re.DOTALL)
+COUNTS = re.compile(r"^## Instructions$(.*?)(?:^## |\Z)", re.MULTILINE | re.DOTALL)
+MEASURED = re.compile(r"^(\w+) +(\w[-\w ]*?) {2,}(\d+\.\d) +(\d+\.\d) ", re.MULTILINE)
+
+
+def cells(row):
+    return [cell.strip() for cell in row.strip().strip("|").split("|")]
+
+
+def quoted(readme):
+    """By text and command, the two numbers that the README tells: spanprof's and the plain program's."""
+    section = SECTION.search(readme)
+    head, _, *rows = [cells(line) for line in section[1].splitlines() if line.startswith("|")]
+    numbers = {}
+    for text, *row in rows:
+        name = re.search(r"`(\w+)`", text)[1]
+        for place in range(0, len(row), 2):
+            command = head[1 + place].strip("`")
+            numbers[name, command] = tuple(int(number.replace(",", "")) for number in row[place:place + 2])
+    return numbers
+
+
+def measured(bench):
+    """By text and command, the two numbers of the table in tenths, without what else it tells."""
+    return {(row[1], row[2]): (row[3], row[4]) for row in MEASURED.finditer(COUNTS.search(bench)[1])}
+
+
+def rounded(tenths):
+    whole, tenth = tenths.split(".")
+    return int(whole) + (int(tenth) >= 5)
+
+
+def differences(told, table):
+    """A line for each number that is told otherwise than it was measured."""
+    for (text, command), numbers in told.items():
+        if (text, command) not in table:
+            yield "%s %s: not in the table" % (text, command)
+            continue
+        for who, number, was in zip(("spanprof", "plain"), numbers, table[text, command]):
+            if number != rounded(was):
+                yield "%s %s, %s: %d is told, and %s was measured" % (text, command, who, number, was)
+
+
+def main():
+    told = quoted((TOP / "README.md").read_text(encoding="utf-8"))
+    wrong = list(differences(told, measured((TOP / "bench" / "README.md").read_text(encoding="utf-8"))))
+    print("\n".join([*wrong, "%d texts and commands compared: %d wrong" % (len(told), len(wrong))]))
+    sys.exit(bool(wrong) or not told)
+
+
+if __name__ == "__main__":
+    main()

@@ -1,0 +1,97 @@
+-- Where the text ends: it is whole, or it ends too early.
+use Rattle.std.proofs.Common.{◌≡◌, ℕ, Bool, List, [], ◌∷◌, ◌++◌, length, Some, None, refl, sym, ap}
+use Rattle.std.proofs.Common.{subst, ◌∙◌, codes}
+use Rattle.std.specs.Prelude.{fold, drop}
+use Rattle.std.specs.List.{flat_map}
+use Rattle.std.proofs.lemmas.List.{append-nil}
+use Rattle.program_text.specs.declared.fault.ReadFault.{ReadFault}
+use Rattle.program_text.specs.Marks.{Mark}
+use Rattle.program_text.specs.Tokens.{Token, texts}
+use Rattle.task_program.specs.declared.place.Place.{Place}
+use Rattle.task_program.specs.declared.place.Place.TheVariants.{Header, Version, Statement}
+use Rattle.task_program.specs.Faults.{State, end_at}
+use Rattle.task_program.specs.FirstFault.{EndsEarly}
+use Rattle.task_program.specs.Grammar.{texts_of, names_of_piece}
+use Rattle.task_program.specs.Names.{with_name}
+use Rattle.task_program.specs.TreeSoFar.{Block}
+use Rattle.task_program.specs.ViablePrefix.{IsSentence}
+use Rattle.task_program.proofs.FoundPlaces.{Explained}
+use Rattle.task_program.proofs.Begun.{LengthAt, is_not_viable, viable_next, whole_now}
+use Rattle.task_program.proofs.Tallies.{Tally}
+use Rattle.task_program.proofs.FaultFound.{end_by, whole_ends, texts_long}
+use Rattle.large_text.specs.declared.reader.MarkReader.{MarkReader}
+use Rattle.large_text.specs.LargeReading.{state_of}
+use Rattle.task_program.proofs.Shapes.{FollowsAt, nothing_follows}
+use Rattle.large_text.specs.LargeTrees.{HasLargeTree, IsLargeRightWhole, IsLargeFirstFault}
+use Rattle.large_text.specs.LargeTrees.IsLargeFirstFault.{AtEnd}
+use Rattle.large_text.proofs.Sound.{IsSound, AreOpen}
+use Rattle.large_text.proofs.Open.{none_open}
+
+whole_at : (before : List (List ℕ)) (state : State) (place : Place) (blocks : List Block)
+    (marks : List Mark) (line : ℕ)
+    → Explained before
+    (record state { place = place; tree = record { blocks = blocks; marks = marks } })
+    → AreOpen blocks marks
+    → end_at place blocks line ≡ None
+    → HasLargeTree before marks
+whole_at before state Statement [] marks line e o h =
+    let parts = e.0 in
+    let explains = e.1 in
+    record {
+      version = parts.version;
+      written = parts.written;
+      names = state.names;
+      version_is_one = explains.version;
+      spelled = explains.spelled ∙ ap (λ (ts : List (List ℕ)). codes "omptasks" ∷ parts.version ∷ ts)
+          (append-nil (flat_map texts_of parts.written));
+      means = explains.means;
+      names_are = explains.names_are ∙ ap (λ (ns : List (List ℕ)). fold with_name [] ns)
+          (append-nil (flat_map names_of_piece parts.written));
+      nested = none_open marks o;
+    }
+whole_at before state Statement (block ∷ blocks) marks line e o h = absurd cc
+whole_at before state Header blocks marks line e o h = absurd cc
+whole_at before state Version blocks marks line e o h = absurd cc
+whole_at before state _ blocks marks line e o h = absurd cc
+
+follows_none : (place : Place) (has_if : Bool) (blocks : List Block) (line : ℕ)
+    → end_at place blocks line ≡ None
+    → FollowsAt place has_if (length blocks) []
+follows_none Statement has_if [] line h = nothing_follows has_if
+follows_none Statement has_if (block ∷ blocks) line h = absurd cc
+follows_none Header has_if blocks line h = absurd cc
+follows_none Version has_if blocks line h = absurd cc
+follows_none _ has_if blocks line h = absurd cc
+
+-- a text that may end is whole
+pub is_whole_text : (before : List Token) (marks : List Mark) (reader : MarkReader) (line : ℕ)
+    → IsSound before marks reader
+    → end_at reader.place (state_of reader []).tree.blocks line ≡ None
+    → HasLargeTree (texts before) marks × IsLargeRightWhole before
+is_whole_text before marks reader line r h =
+    let blocks = (state_of reader []).tree.blocks in
+    let follows = r.began.follows [] (follows_none reader.place reader.has_if blocks line h) in (
+      whole_at (texts before) (state_of reader marks) reader.place blocks marks line r.explained
+          r.open_are h,
+      record {
+        sentence = subst IsSentence (append-nil (texts before)) follows;
+        right = r.right;
+      },
+    )
+
+-- a text that may not ends too early
+pub ends_early : (before : List Token) (marks : List Mark) (reader : MarkReader) (line : ℕ)
+    (fault : ReadFault)
+    → IsSound before marks reader
+    → end_at reader.place (state_of reader []).tree.blocks line ≡ Some fault
+    → IsLargeFirstFault before line fault
+ends_early before marks reader line fault r h =
+    let state = state_of reader marks in
+    let early : EndsEarly before line fault =
+    end_by before state.place state.head.has_if state.tree.blocks line fault
+    (subst (λ (n : ℕ). LengthAt state.place n) (texts_long before) r.began.length_is)
+    (ap (λ (t : Tally). t.braces) r.tally_is) (viable_next (texts before) state (codes "}") r.began)
+    (is_not_viable (texts before) state (codes "}") r.began) h in
+    AtEnd before line fault r.right
+    (λ s. whole_ends state.place state.tree.blocks line fault
+    (whole_now (texts before) state r.began s) h) early

@@ -1,0 +1,10 @@
+pub mod Sound
+pub mod Open
+pub mod Steps
+pub mod SoFar
+pub mod Refused
+pub mod Ended
+pub mod Taken
+pub mod Fitting
+pub mod Measuring
+pub mod NoFault

@@ -1,0 +1,321 @@
+-- One token more: what was read keeps its meaning, and nothing is wrong with the token.
+use Rattle.std.proofs.Common.{◌≡◌, ℕ, ◌+◌, ◌≤◌, Bool, true, false, not, ◌&&◌, cond, List, [], ◌∷◌}
+use Rattle.std.proofs.Common.{◌++◌, length, map, append_assoc, Option, Some, None, Result, Ok, Err}
+use Rattle.std.proofs.Common.{refl, sym, ap, subst, ◌∙◌, arith, codes}
+use Rattle.std.specs.Prelude.{sum_by, drop}
+use Rattle.std.proofs.lemmas.Bool.{not-false, ltb-false}
+use Rattle.std.proofs.lemmas.List.{append-nil, length-map, drop-append-le}
+use Rattle.std.proofs.lemmas.List.Sums.{sum_by-append}
+use Rattle.std.proofs.Common.{length-append}
+use Rattle.program_text.specs.declared.fault.ReadKind.{ReadKind}
+use Rattle.program_text.specs.declared.limits.TheConstants.{MOST_ITEMS, MOST_WORK}
+use Rattle.program_text.specs.Limits.{work_of, work_done}
+use Rattle.program_text.specs.Marks.{Mark}
+use Rattle.program_text.specs.Tokens.{Token, texts}
+use Rattle.program_text.specs.Words.{is_text, is_number, value_of}
+use Rattle.program_text.proofs.Bools.{bool_cases}
+use Rattle.task_program.specs.declared.place.Place.{Place}
+use Rattle.task_program.specs.declared.place.Place.TheVariants.{Header, Version}
+use Rattle.task_program.specs.Faults.{State, after_at, is_allowed, line_of_block}
+use Rattle.task_program.specs.TokenCounts.{work_by, is_work_past}
+use Rattle.task_program.specs.ViablePrefix.{IsSentence, IsViable}
+use Rattle.task_program.proofs.Keeping.{Allows, with_one}
+use Rattle.task_program.proofs.FoundPlaces.{Explains, Explained}
+use Rattle.task_program.proofs.Found.{place_goes}
+use Rattle.task_program.proofs.FoundWhole.{bytes_stay}
+use Rattle.task_program.proofs.Shapes.{Shape, Follows, fits, lead, steps_back}
+use Rattle.task_program.proofs.Accepting.{accepts, accepts_next}
+use Rattle.task_program.proofs.Begun.{Began, LengthAt, shape_of, place_leads, length_goes, fits_of}
+use Rattle.task_program.proofs.Begun.{viable_next, closes_same, texts_more}
+use Rattle.task_program.proofs.Tallies.{Tally, tally_of, tally_after, tally_now, tally_at, tally_more}
+use Rattle.task_program.proofs.Tallies.{NoItems, is_past_header, place_tallies, header_tallies}
+use Rattle.task_program.proofs.FaultFound.{items_go, texts_long, past_long, header_short}
+use Rattle.task_program.proofs.FaultFound.{nothing_after, nothing_after_one}
+use Rattle.large_text.specs.declared.marks.TextMark.{TextMark}
+use Rattle.large_text.specs.declared.reader.MarkReader.{MarkReader}
+use Rattle.large_text.specs.declared.limits.TheConstants.{MOST_LARGE_TOKEN_BYTES}
+use Rattle.large_text.specs.LargeFaults.{large_limit_by, large_limit_after, is_inside_at}
+use Rattle.large_text.specs.LargeFaults.{items_coming, large_form_fault}
+use Rattle.large_text.specs.LargeReading.{state_of, with_bytes, marks_after, large_step}
+use Rattle.large_text.specs.LargeReading.{IsLargeWithin, mark_seen}
+use Rattle.large_text.specs.LargeTrees.{IsLargeRight, AreLargeRight}
+use Rattle.large_text.specs.LargeTrees.AreLargeRight.{More}
+use Rattle.large_text.proofs.Sound.{IsSound}
+use Rattle.large_text.proofs.Open.{TreeOpen, place_open}
+use Rattle.large_text.proofs.Steps.{Passed, passed, IsThere, is_there, IsUnder, is_under, closes_so}
+use Rattle.large_text.proofs.Steps.{number_fits, is_formed, names_grow, items_grow}
+
+-- ---- the grammar
+
+-- the grammar has the token there, and its number is not too large
+allows : (work : ℕ) (state : State) (token : Token) (next : State)
+    → Passed work state token next
+    → Allows (with_bytes state (length token.text)) token.text
+allows work state token next p =
+    let text = token.text in
+    let there = is_there state.place state.head.has_if (length state.tree.blocks) text p.grammar in
+    let under = is_under (is_inside_at state.place) work _ _ text p.limit in
+    record {
+      header = there.header;
+      unopened = closes_same state.place state.tree.blocks text
+          ∙ sym (closes_so state.place (length state.tree.blocks) text)
+          ∙ there.unopened;
+      allowed = there.allowed;
+      number = number_fits state.place state.head.has_if text (not-false _ there.allowed)
+          under.value;
+    }
+
+fits_there : (work : ℕ) (state : State) (token : Token) (next : State)
+    → Passed work state token next
+    → fits (shape_of state) token.text ≡ true
+fits_there work state token next p =
+    let a = allows work state token next p in
+    fits_of (with_bytes state (length token.text)) token.text a.header a.unopened a.allowed
+
+-- the bytes go on, and what was read keeps its meaning
+explained_more : (before : List (List ℕ)) (work : ℕ) (state next : State) (token : Token)
+    → Explained before state
+    → Passed work state token next
+    → Explained (before ++ token.text ∷ []) next
+explained_more before work state next token e p =
+    let explains = e.1 in
+    let inside : State = with_bytes state (length token.text) in
+    let still : Explains before inside e.0 = record {
+      spelled = explains.spelled;
+      version = explains.version;
+      means = explains.means;
+      names_are = explains.names_are;
+      items_are = explains.items_are;
+      clauses = explains.clauses;
+      head = explains.head;
+    } in
+    subst (Explained (before ++ token.text ∷ [])) p.next_is
+    (place_goes inside state.place token.text token.line before e.0
+    (allows work state token next p) still)
+
+began_more : (before : List (List ℕ)) (work : ℕ) (state next : State) (token : Token)
+    → Began before state
+    → Passed work state token next
+    → Began (before ++ token.text ∷ []) next
+began_more before work state next token b p =
+    let inside : State = with_bytes state (length token.text) in
+    let fits_so : fits (shape_of state) token.text ≡ true = fits_there work state token next p in
+    let leads : shape_of next ≡ lead (shape_of state) token.text = sym
+    (ap (λ (s : State). shape_of s) p.next_is)
+    ∙ place_leads state.place inside token.text token.line in
+    let sum_is : sum_by length (before ++ token.text ∷ [])
+    ≡ sum_by length before + length token.text =
+    omega (arith, sum_by-append length before (token.text ∷ [])) in
+    let length_more : length (before ++ token.text ∷ []) ≡ length before + 1 =
+    length-append before (token.text ∷ []) in
+    let bytes_is : next.bytes ≡ state.bytes + length token.text =
+    sym (ap (λ (s : State). s.bytes) p.next_is)
+    ∙ bytes_stay state.place inside token.text token.line in
+    record {
+      follows = λ later f.
+          subst IsSentence (sym (append_assoc before (token.text ∷ []) later))
+          (b.follows (token.text ∷ later) (steps_back state.place state.head.has_if
+          (length state.tree.blocks) token.text later fits_so
+          (subst (λ (s : Shape). Follows s later) leads f)));
+      accepted = λ later s.
+          subst (λ (sh : Shape). accepts sh later ≡ true) (sym leads)
+          (accepts_next (shape_of state) token.text later (b.accepted (token.text ∷ later)
+          (subst IsSentence (append_assoc before (token.text ∷ []) later) s))).1;
+      length_is =
+          subst (λ (sh : Shape). LengthAt sh.place (length (before ++ token.text ∷ []))) (sym leads)
+          (subst (λ (n : ℕ). LengthAt (lead (shape_of state) token.text).place n) (sym length_more)
+          (length_goes state.place state.head.has_if (length state.tree.blocks) token.text
+          (length before) b.length_is));
+      bytes_are = omega (arith, sum_is, bytes_is, b.bytes_are);
+    }
+
+-- ---- what is counted on the tokens
+
+-- the tally of the tokens goes on as the state does
+pub tally_goes : (before : List Token) (state next : State) (token : Token)
+    → Began (texts before) state
+    → tally_of (drop 2 before) ≡ tally_now state
+    → NoItems state.place state.head.items
+    → is_allowed state.place state.head.has_if token.text ≡ true
+    → after_at state.place (with_bytes state (length token.text)) token.text token.line ≡ next
+    → tally_of (drop 2 (before ++ token ∷ [])) ≡ tally_now next
+tally_goes before state next token began tally_is none allowed same =
+    let inside : State = with_bytes state (length token.text) in
+    let on : tally_now (after_at state.place inside token.text token.line) ≡ tally_now next =
+    ap (λ (s : State). tally_now s) same in
+    bool_cases (is_past_header state.place)
+    (λ past.
+    let long : 2 ≤ length before = omega
+    (arith, texts_long before, past_long state.place (length (texts before)) began.length_is past)
+    in
+    ap (λ (ts : List Token). tally_of ts) (drop-append-le 2 before (token ∷ []) long)
+    ∙ tally_more (drop 2 before) token
+    ∙ ap (λ (t : Tally). tally_after t token) tally_is
+    ∙ place_tallies state.place inside token.text token.line past none allowed ∙ on)
+    (λ here.
+    let short : length before
+    ≤ 1 = omega (
+      arith,
+      texts_long before,
+      header_short state.place (length (texts before)) began.length_is here,
+    )
+    in
+    ap (λ (ts : List Token). tally_of ts)
+    (nothing_after_one before token short ∙ sym (nothing_after before short))
+    ∙ tally_is
+    ∙ header_tallies state.place inside token.text token.line here
+    ∙ on)
+
+inside_so : (place : Place) (state : State)
+    → (tally_at place state).inside ≡ is_inside_at place
+inside_so _ state = refl
+
+items_so : (place : Place) (state : State)
+    → (tally_at place state).items ≡ length state.head.items + items_coming place
+items_so _ state = refl
+
+same_limit : (inside inside' : Bool) (work work' items items' blocks blocks' : ℕ) (text : List ℕ)
+    → inside ≡ inside'
+    → work ≡ work'
+    → items ≡ items'
+    → blocks ≡ blocks'
+    → large_limit_by inside work items blocks text ≡ large_limit_by inside' work' items' blocks' text
+same_limit inside inside' work work' items items' blocks blocks' text a b c d = rw (a, b, c, d) refl
+
+abbrev limit_told : Tally → List ℕ → Option ReadKind
+limit_told t text = large_limit_by t.inside t.work t.items (length t.braces) text
+
+-- the limits counted on the tokens are those that the reader tests
+pub limits_so : (before : List Token) (state : State) (work : ℕ) (text : List ℕ)
+    → tally_of (drop 2 before) ≡ tally_now state
+    → work ≡ work_of state.tree.marks
+    → large_limit_after (drop 2 before) text
+    ≡ large_limit_by (is_inside_at state.place) work
+    (length state.head.items + items_coming state.place) (length state.tree.blocks) text
+limits_so before state work text tally_is work_is =
+    ap (λ (t : Tally). limit_told t text) tally_is
+    ∙ same_limit _ _ _ _ _ _ _ _ text (inside_so state.place state) (sym work_is)
+    (items_so state.place state) (length-map state.tree.blocks line_of_block)
+
+-- ---- the whole state
+
+work_more : (marks : List Mark) (mark : Option TextMark)
+    → work_of (marks_after marks mark) ≡ work_of marks + work_of (marks_after [] mark)
+work_more marks None = omega arith
+work_more marks (Some mark) =
+    omega (arith, with_one work_done marks (mark_seen mark), with_one work_done [] (mark_seen mark))
+
+-- work outside parentheses is counted, and within the limit
+work_fits : (inside : Bool) (work : ℕ) (text : List ℕ)
+    → work ≤ MOST_WORK
+    → is_work_past inside work text ≡ false
+    → work + cond inside 0 (work_by text) ≤ MOST_WORK
+work_fits true work text le h = omega (arith, le)
+work_fits false work text le h =
+    bool_cases (is_number text)
+    (λ number. rw number (ltb-false MOST_WORK (work + value_of text) (rw number at h)))
+    (λ other. rw other (omega (arith, le)))
+
+-- with this token the work is still within its limit
+work_within : (before : List Token) (state next : State) (token : Token)
+    → Began (texts before) state
+    → tally_of (drop 2 before) ≡ tally_now state
+    → NoItems state.place state.head.items
+    → is_allowed state.place state.head.has_if token.text ≡ true
+    → after_at state.place (with_bytes state (length token.text)) token.text token.line ≡ next
+    → work_of state.tree.marks ≤ MOST_WORK
+    → is_work_past (is_inside_at state.place) (work_of state.tree.marks) token.text ≡ false
+    → work_of next.tree.marks ≤ MOST_WORK
+work_within before state next token began tally_is none allowed same le past_not =
+    let inside : State = with_bytes state (length token.text) in
+    bool_cases (is_past_header state.place)
+    (λ past.
+    let there = place_tallies state.place inside token.text token.line past none allowed in
+    let on : (tally_after (tally_at state.place inside)
+    (record { text = token.text; line = token.line })).work
+    ≡ work_of next.tree.marks =
+    ap (λ (t : Tally). t.work) there ∙ ap (λ (s : State). (tally_now s).work) same in
+    let fits_so = work_fits (is_inside_at state.place) (work_of state.tree.marks) token.text le
+    past_not in
+    let inside_is = ap (λ (b : Bool). work_of state.tree.marks + cond b 0 (work_by token.text))
+    (inside_so state.place inside) in
+    omega (arith, sym on ∙ inside_is, fits_so))
+    (λ here.
+    let there = header_tallies state.place inside token.text token.line here in
+    let on : work_of state.tree.marks ≡ work_of next.tree.marks =
+    ap (λ (t : Tally). t.work) there ∙ ap (λ (s : State). (tally_now s).work) same in
+    omega (arith, sym on, le))
+
+-- nothing is wrong with a token that is taken
+right_more : (before : List Token) (work : ℕ) (state next : State) (token : Token)
+    → Began (texts before) state
+    → tally_of (drop 2 before) ≡ tally_now state
+    → work ≡ work_of state.tree.marks
+    → Passed work state token next
+    → IsLargeRight before token.text
+right_more before work state next token began tally_is work_is p = record {
+  formed = subst (λ (n : ℕ). large_form_fault n token.text ≡ None) began.bytes_are p.formed;
+  viable = viable_next (texts before) state token.text began
+      (fits_there work state token next p);
+  within = limits_so before state work token.text tally_is work_is ∙ p.limit;
+}
+
+one_mark : (marks : List Mark) (mark : Option TextMark)
+    → length (marks_after marks mark) ≤ length marks + 1
+one_mark marks None = omega arith
+one_mark marks (Some mark) = omega (arith, length-append marks (mark_seen mark ∷ []))
+
+-- one token more
+pub read_more : (before : List Token) (marks : List Mark) (old new : MarkReader) (token : Token)
+    (mark : Option TextMark)
+    → IsSound before marks old
+    → large_step old.work (state_of old marks) token ≡ Ok (state_of new (marks_after marks mark))
+    → new.work ≡ old.work + work_of (marks_after [] mark)
+    → IsSound (before ++ token ∷ []) (marks_after marks mark) new
+read_more before marks old new token mark r step work =
+    let state = state_of old marks in
+    let next = state_of new (marks_after marks mark) in
+    let inside : State = with_bytes state (length token.text) in
+    let p = passed old.work state token next step in
+    let there =
+    is_there state.place state.head.has_if (length state.tree.blocks) token.text p.grammar in
+    let under = is_under (is_inside_at state.place) old.work _ _ token.text p.limit in
+    let form = is_formed state.bytes token.text p.formed in
+    let allowed = not-false _ there.allowed in
+    let more = sym (texts_more before token) in
+    let bytes_is : new.bytes ≡ old.bytes + length token.text =
+    sym (ap (λ (s : State). s.bytes) p.next_is)
+    ∙ bytes_stay state.place inside token.text token.line in
+    let names_few : length new.names ≤ length old.names + 1 =
+    subst (λ (s : State). length s.names ≤ length old.names + 1) p.next_is
+    (names_grow state.place inside token.text token.line) in
+    let items_few : length new.items ≤ length old.items + items_coming old.place =
+    subst (λ (s : State). length s.head.items ≤ length old.items + items_coming old.place)
+    p.next_is (items_grow state.place inside token.text token.line) in
+    let work_is : new.work ≡ work_of (marks_after marks mark) =
+    omega (arith, work, r.work_is, work_more marks mark) in
+    let work_few : work_of (marks_after marks mark) ≤ MOST_WORK = work_within before state next token
+    r.began r.tally_is r.no_items allowed p.next_is (omega (arith, r.work_is, r.within.work))
+    (subst (λ (n : ℕ). is_work_past (is_inside_at old.place) n token.text ≡ false) r.work_is
+    under.work_fits) in
+    record {
+      explained = subst (λ (ts : List (List ℕ)). Explained ts next) more
+          (explained_more (texts before) old.work state next token r.explained p);
+      began = subst (λ (ts : List (List ℕ)). Began ts next) more
+          (began_more (texts before) old.work state next token r.began p);
+      tally_is = tally_goes before state next token r.began r.tally_is r.no_items allowed p.next_is;
+      no_items = subst (λ (s : State). NoItems s.place s.head.items) p.next_is
+          (items_go state.place inside token.text token.line r.no_items);
+      right = More before token r.right
+          (right_more before old.work state next token r.began r.tally_is r.work_is p);
+      open_are = subst (λ (s : State). TreeOpen s.tree) p.next_is
+          (place_open state.place inside token.text token.line r.open_are);
+      work_is = work_is;
+      few = omega (arith, one_mark marks mark, bytes_is, form.some, r.few);
+      within = record {
+        bytes = omega (arith, bytes_is, form.bytes_fit);
+        names = omega (arith, names_few, bytes_is, form.some, r.within.names);
+        items = omega (arith, items_few, ltb-false MOST_ITEMS _ under.items_fit);
+        work = omega (arith, work_is, work_few);
+      };
+    }

@@ -1,0 +1,220 @@
+-- What the reader answers to a token, and where it begins.
+use Rattle.std.proofs.Common.{◌≡◌, ◌≢◌, ℕ, ◌+◌, ◌≤◌, Bool, true, false, List, [], ◌∷◌, ◌++◌, length}
+use Rattle.std.proofs.Common.{Option, Some, None, Result, Ok, Err, refl, sym, ap, subst, ◌∙◌, arith}
+use Rattle.std.specs.Prelude.{IfOk, IfErr, map, reverse}
+use Rattle.std.proofs.lemmas.List.{length-reverse, length-map}
+use Rattle.std.proofs.lemmas.List.Elements.{All-nil}
+use Rattle.program_text.specs.declared.fault.ReadKind.{ReadKind}
+use Rattle.program_text.specs.declared.fault.ReadKind.TheVariants.{OutOfMemory, TooLong, BadByte}
+use Rattle.program_text.specs.declared.fault.ReadKind.TheVariants.{BadWord, BadNumber, BadHeader}
+use Rattle.program_text.specs.declared.fault.ReadKind.TheVariants.{Unopened, TooDeep, TooManyItems}
+use Rattle.program_text.specs.declared.fault.ReadKind.TheVariants.{WorkTooLarge}
+use Rattle.program_text.specs.declared.fault.ReadFault.{ReadFault}
+use Rattle.program_text.specs.Answers.{Fails, Gives, is_memory}
+use Rattle.program_text.specs.Limits.{work_of}
+use Rattle.program_text.specs.Marks.{Mark}
+use Rattle.program_text.specs.Tokens.{Token}
+use Rattle.program_text.proofs.FaultRows.{row_no_memory, no_row}
+use Rattle.task_program.specs.declared.place.Place.{Place}
+use Rattle.task_program.specs.Faults.{State, start, after_at}
+use Rattle.task_program.specs.Nested.IsNested.{Nothing as NoMarks}
+use Rattle.task_program.proofs.Accepting.{sentence_accepted}
+use Rattle.task_program.proofs.FoundPlaces.{Explained}
+use Rattle.task_program.proofs.Begun.{Began}
+use Rattle.task_program.proofs.Tallies.{NoItems, tally_of, tally_now, nothing_counted}
+use Rattle.large_text.specs.declared.marks.TextMark.{TextMark}
+use Rattle.large_text.specs.declared.reader.MarkReader.{MarkReader}
+use Rattle.large_text.specs.declared.reader.OpenBlock.{OpenBlock}
+use Rattle.large_text.specs.LargeFaults.{large_form_fault, grammar_fault, large_limit_by}
+use Rattle.large_text.specs.LargeFaults.{is_inside_at, items_coming}
+use Rattle.large_text.specs.LargeReading.{state_of, marks_after, large_step, with_bytes}
+use Rattle.large_text.specs.LargeReading.{IsReadSoFar, block_seen}
+use Rattle.large_text.specs.LargeReading.IsReadSoFar.{AtFirst, OneMore}
+use Rattle.large_text.specs.LargeTrees.{IsLargeFirstFault}
+use Rattle.large_text.specs.LargeTrees.AreLargeRight.{Nothing as NoTokens}
+use Rattle.large_text.proofs.Sound.{IsSound}
+use Rattle.large_text.proofs.Sound.AreOpen.{NoneOpen}
+use Rattle.large_text.proofs.SoFar.{read_more}
+use Rattle.large_text.proofs.Refused.{first_fault, fault_told}
+
+-- ---- the beginning
+
+no_parts : Explained [] start
+no_parts = (
+  record {
+    version = [];
+    written = [];
+    clauses = [];
+    number = [];
+    names = [];
+    last = [];
+  },
+  record {
+    spelled = refl;
+    version = refl;
+    means = tt;
+    names_are = refl;
+    items_are = tt;
+    clauses = All-nil _;
+    head = refl;
+  },
+)
+
+not_begun : Began [] start
+not_begun = record {
+  follows = λ later f. f;
+  accepted = λ later s. sentence_accepted later s;
+  length_is = refl;
+  bytes_are = refl;
+}
+
+-- before the first token
+starts : (reader : MarkReader) → state_of reader [] ≡ start → reader.work ≡ 0
+    → IsSound [] [] reader
+starts reader state work =
+    let bytes : reader.bytes ≡ 0 = ap (λ (s : State). s.bytes) state in
+    let names : length reader.names ≡ 0 = ap (λ (s : State). length s.names) state in
+    let items : length reader.items ≡ 0 = ap (λ (s : State). length s.head.items) state in
+    record {
+      explained = subst (λ (s : State). Explained [] s) (sym state) no_parts;
+      began = subst (λ (s : State). Began [] s) (sym state) not_begun;
+      tally_is =
+          subst (λ (s : State). tally_of [] ≡ tally_now s) (sym state) nothing_counted;
+      no_items = subst (λ (s : State). NoItems s.place s.head.items) (sym state) refl;
+      right = NoTokens;
+      open_are = rw (ap (λ (s : State). s.tree.blocks) state) (NoneOpen [] NoMarks);
+      work_is = work;
+      few = omega arith;
+      within = record {
+        bytes = omega (arith, bytes);
+        names = omega (arith, names);
+        items = omega (arith, items);
+        work = omega (arith, work);
+      };
+    }
+
+-- whatever was taken
+pub sound : (before : List Token) (marks : List Mark) (reader : MarkReader)
+    → IsReadSoFar before marks reader
+    → IsSound before marks reader
+sound _ _ _ (AtFirst reader state work) = starts reader state work
+sound _ _ _ (OneMore before marks old new token mark r step work) =
+    read_more before marks old new token mark (sound before marks old r) step work
+
+-- ---- what is answered to a token
+
+pub reads_on : (result : Result (Option TextMark) ReadFault) (old new : MarkReader) (token : Token)
+    → ((marks : List Mark)
+    → Gives (λ mark. state_of new (marks_after marks mark)) result
+    (large_step old.work (state_of old marks) token))
+    → IfOk result (λ mark. new.work ≡ old.work + work_of (marks_after [] mark))
+    → IfOk result (λ mark. (before : List Token) (marks : List Mark)
+    → IsReadSoFar before marks old
+    → IsReadSoFar (before ++ token ∷ []) (marks_after marks mark) new)
+reads_on (Ok mark) old new token step work = λ before marks r.
+    OneMore before marks old new token mark r (step marks) work
+reads_on (Err fault) old new token step work = tt
+
+pub is_refused : (result : Result (Option TextMark) ReadFault) (old new : MarkReader)
+    (token : Token)
+    → ((marks : List Mark)
+    → Gives (λ mark. state_of new (marks_after marks mark)) result
+    (large_step old.work (state_of old marks) token))
+    → IfErr result (λ fault. fault.kind ≢ OutOfMemory
+    → (before later : List Token) (marks : List Mark) (end_line : ℕ)
+    → IsReadSoFar before marks old
+    → IsLargeFirstFault (before ++ token ∷ later) end_line fault)
+is_refused (Ok mark) old new token step = tt
+is_refused (Err fault) old new token step = λ other before later marks end_line r.
+    first_fault before later marks old token end_line fault (sound before marks old r)
+    (fault_told fault (large_step old.work (state_of old marks) token) other (step marks))
+
+-- ---- the tests, in their order
+
+form_no_memory : (bytes : ℕ) (text : List ℕ) (kind : ReadKind)
+    → large_form_fault bytes text ≡ Some kind
+    → is_memory kind ≡ false
+form_no_memory bytes text kind h =
+    row_no_memory _ BadByte kind _ refl
+    (row_no_memory _ BadNumber kind _ refl
+    (row_no_memory _ BadWord kind _ refl (row_no_memory _ TooLong kind _ refl (no_row kind))))
+    h
+
+grammar_no_memory : (place : Place) (has_if : Bool) (depth : ℕ) (text : List ℕ) (kind : ReadKind)
+    → grammar_fault place has_if depth text ≡ Some kind
+    → is_memory kind ≡ false
+grammar_no_memory place has_if depth text kind h =
+    row_no_memory _ BadHeader kind _ refl
+    (row_no_memory _ Unopened kind _ refl (row_no_memory _ BadWord kind _ refl (no_row kind))) h
+
+limit_no_memory : (inside : Bool) (work items open_blocks : ℕ) (text : List ℕ) (kind : ReadKind)
+    → large_limit_by inside work items open_blocks text ≡ Some kind
+    → is_memory kind ≡ false
+limit_no_memory inside work items open_blocks text kind h =
+    row_no_memory _ BadNumber kind _ refl
+    (row_no_memory _ TooDeep kind _ refl
+    (row_no_memory _ TooManyItems kind _ refl (row_no_memory _ WorkTooLarge kind _ refl
+    (no_row kind))))
+    h
+
+pub form_fails : (work : ℕ) (state : State) (token : Token) (kind : ReadKind) (fault : ReadFault)
+    → large_form_fault state.bytes token.text ≡ Some kind
+    → fault ≡ record { kind = kind; line = token.line }
+    → Fails fault (large_step work state token)
+form_fails work state token kind fault h fault_is =
+    let quiet = form_no_memory state.bytes token.text kind h in rw (fault_is, quiet, h) refl
+
+pub grammar_fails : (work : ℕ) (state : State) (token : Token) (kind : ReadKind) (fault : ReadFault)
+    → large_form_fault state.bytes token.text ≡ None
+    → grammar_fault state.place state.head.has_if (length state.tree.blocks) token.text ≡ Some kind
+    → fault ≡ record { kind = kind; line = token.line }
+    → Fails fault (large_step work state token)
+grammar_fails work state token kind fault form h fault_is =
+    let quiet = grammar_no_memory state.place state.head.has_if (length state.tree.blocks) token.text
+    kind h in rw (fault_is, quiet, form, h) refl
+
+pub limit_fails : (work : ℕ) (state : State) (token : Token) (kind : ReadKind) (fault : ReadFault)
+    → large_form_fault state.bytes token.text ≡ None
+    → grammar_fault state.place state.head.has_if (length state.tree.blocks) token.text ≡ None
+    → large_limit_by (is_inside_at state.place) work
+    (length state.head.items + items_coming state.place) (length state.tree.blocks) token.text
+    ≡ Some kind
+    → fault ≡ record { kind = kind; line = token.line }
+    → Fails fault (large_step work state token)
+limit_fails work state token kind fault form grammar h fault_is =
+    let quiet = limit_no_memory (is_inside_at state.place) work _ _ token.text kind h in
+    rw (fault_is, quiet, form, grammar, h) refl
+
+pub all_pass : (work : ℕ) (state : State) (token : Token)
+    → large_form_fault state.bytes token.text ≡ None
+    → grammar_fault state.place state.head.has_if (length state.tree.blocks) token.text ≡ None
+    → large_limit_by (is_inside_at state.place) work
+    (length state.head.items + items_coming state.place) (length state.tree.blocks) token.text
+    ≡ None
+    → large_step work state token
+    ≡ Ok (after_at state.place (with_bytes state (length token.text)) token.text token.line)
+all_pass work state token form grammar limit = rw (form, grammar, limit) refl
+
+-- ---- the open blocks, as the reader and the state count them
+
+blocks_long : (blocks : List OpenBlock) → length (reverse (map block_seen blocks)) ≡ length blocks
+blocks_long blocks = length-reverse (map block_seen blocks) ∙ length-map blocks block_seen
+
+pub grammar_told : (place : Place) (has_if : Bool) (blocks : List OpenBlock) (depth : ℕ)
+    (text : List ℕ) (found answer : Option ReadKind)
+    → depth ≡ length blocks
+    → found ≡ grammar_fault place has_if depth text
+    → found ≡ answer
+    → grammar_fault place has_if (length (reverse (map block_seen blocks))) text ≡ answer
+grammar_told place has_if blocks depth text found answer depth_is found_is same =
+    ap (λ (n : ℕ). grammar_fault place has_if n text) (blocks_long blocks ∙ sym depth_is)
+    ∙ sym found_is
+    ∙ same
+
+pub limit_told : (inside : Bool) (work items : ℕ) (blocks : List OpenBlock) (text : List ℕ)
+    (found answer : Option ReadKind)
+    → found ≡ large_limit_by inside work items (length blocks) text
+    → found ≡ answer
+    → large_limit_by inside work items (length (reverse (map block_seen blocks))) text ≡ answer
+limit_told inside work items blocks text found answer found_is same =
+    ap (λ (n : ℕ). large_limit_by inside work items n text) (blocks_long blocks) ∙ sym found_is ∙ same

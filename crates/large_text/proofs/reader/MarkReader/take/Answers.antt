@@ -1,0 +1,17 @@
+use Rattle.program_text.specs.ScannerSeen.{token_seen}
+use Rattle.large_text.proofs.Taken.{sound, reads_on, is_refused}
+use Rattle.large_text.proofs.reader.MarkReader.take.Goals as goal
+
+pub take_any-requires : goal.take_any-requires
+take_any-requires c =
+    (sound c.requires.tokens c.requires.marks c.args.self.now c.requires.so_far).within
+
+pub returns-clause-reads : goal.returns-clause-reads
+returns-clause-reads c =
+    reads_on c.take_any.result c.args.self.now c.take_any.new.self (token_seen c.args.token)
+    c.take_any.ensures.step c.take_any.ensures.work
+
+pub returns-clause-refused : goal.returns-clause-refused
+returns-clause-refused c =
+    is_refused c.take_any.result c.args.self.now c.take_any.new.self (token_seen c.args.token)
+    c.take_any.ensures.step

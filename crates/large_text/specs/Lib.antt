@@ -1,0 +1,4 @@
+pub mod LargeFaults
+pub mod LargeTrees
+pub mod LargeReading
+pub mod Measured

@@ -1,0 +1,28 @@
+-- What a meter has taken of a text of any size.
+use Rattle.std.specs.Prelude.{List}
+use Rattle.program_text.specs.Marks.{Mark}
+use Rattle.program_text.specs.Tokens.{Token, texts}
+use Rattle.task_segments.specs.Moments.{last_moment}
+use Rattle.online_span.specs.declared.meter.Meter.{Meter}
+use Rattle.online_span.specs.Measuring.{Measures}
+use Rattle.large_text.specs.declared.reader.MarkReader.{MarkReader}
+use Rattle.large_text.specs.LargeReading.{IsReadSoFar}
+use Rattle.large_text.specs.LargeTrees.{HasLargeTree, IsLargeRightWhole}
+
+-- these tokens are a text without a fault, and the meter has taken all of its marks
+pub record MeasuresText (tokens : List Token) (meter : Meter) : Type 0 where
+  pub marks : List Mark
+  pub tree : HasLargeTree (texts tokens) marks
+  pub right : IsLargeRightWhole tokens
+  pub measures : Measures meter (last_moment marks)
+
+-- the reader has taken these tokens, and the meter the marks that the reader has handed on
+pub record MeasuresSoFar (tokens : List Token) (reader : MarkReader) (meter : Meter) : Type 0 where
+  pub marks : List Mark
+  pub so_far : IsReadSoFar tokens marks reader
+  pub measures : Measures meter (last_moment marks)
+
+-- some tokens were taken so, and more can be
+pub record CanMeasure (reader : MarkReader) (meter : Meter) : Type 0 where
+  pub tokens : List Token
+  pub so_far : MeasuresSoFar tokens reader meter

@@ -1,0 +1,28 @@
+//! What is wrong with a token by itself.
+ghost use Rattle.std.specs.Prelude.{◌≡◌, ◌≤◌};
+ghost use Rattle.large_text.specs.declared.limits.TheConstants.{MOST_LARGE_TOKEN_BYTES};
+ghost use Rattle.large_text.specs.LargeFaults.{large_form_fault};
+
+use crate::limits::MOST_LARGE_TOKEN_BYTES;
+use program_text::fault::ReadKind;
+use program_text::limits::MOST_WORD_BYTES;
+use program_text::scanner::Token;
+use program_text::words::{begins_with_digit, is_sign};
+
+/// What is wrong with a token by itself, after so many bytes of tokens.
+pub(crate) fn form_fault(bytes: u32, token: Token<'_>) -> Option<ReadKind>
+    requires { bytes ≤ MOST_LARGE_TOKEN_BYTES }
+    ensures { result ≡ large_form_fault bytes token.entry.text.now }
+{
+    if !(token.is_run() || is_sign(token)) {
+        Some(ReadKind::BadByte)
+    } else if begins_with_digit(token.text) && !token.is_number() {
+        Some(ReadKind::BadNumber)
+    } else if token.text.len() > MOST_WORD_BYTES && token.is_word() {
+        Some(ReadKind::BadWord)
+    } else if token.text.len() as u64 > u64::from(MOST_LARGE_TOKEN_BYTES - bytes) {
+        Some(ReadKind::TooLong)
+    } else {
+        None
+    }
+}

@@ -1,0 +1,13 @@
+//! Texts of version 1 of any size: their marks, one after another, and their work and span. What is
+//! kept grows with the nesting of tasks and groups and with the names, and not with the text.
+#![tactic(auto)]
+
+mod forms;
+pub mod laws;
+pub mod limits;
+pub mod marks;
+mod measure;
+mod place_tests;
+pub mod reader;
+
+pub use measure::measure_text;

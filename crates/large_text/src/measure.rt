@@ -1,0 +1,81 @@
+//! Work and span of a text of any size.
+ghost use Rattle.std.specs.Prelude.{ℕ, ◌≢◌, ◌+◌, ◌<◌, ◌^◌, [], ◌∷◌, ◌++◌, List, IfOk, IfErr, OnOk};
+ghost use Rattle.std.specs.Prelude.{length};
+ghost use Rattle.program_text.specs.declared.fault.ReadKind.TheVariants.{OutOfMemory};
+ghost use Rattle.program_text.specs.Marks.{Mark};
+ghost use Rattle.program_text.specs.ScannerSeen.{token_seen};
+ghost use Rattle.program_text.specs.Tokens as tokens;
+ghost use Rattle.program_text.specs.Tokens.{tokens_of, line_at_end};
+ghost use Rattle.online_span.specs.Measuring.{Measures, CanTake};
+ghost use Rattle.large_text.specs.LargeReading.{mark_seen};
+ghost use Rattle.large_text.specs.LargeTrees.{IsLargeFirstFault};
+ghost use Rattle.large_text.specs.Measured.{MeasuresText, MeasuresSoFar, CanMeasure};
+
+use crate::marks::TextMark;
+use crate::reader::MarkReader;
+use online_span::Meter;
+use program_text::AllocFault;
+use program_text::fault::ReadFault;
+use program_text::scanner::{Scanner, Token};
+use std::alloc::Global;
+
+/// The meter that has taken all marks of a text of version 1, which is gone through once. The fault
+/// is the text's first, or out of memory.
+pub fn measure_text(alloc: Global, text: &[u8]) -> Result<Meter, ReadFault>
+    requires { length text.now + 1 < 2 ^ 32 }
+    ensures measured { IfOk result (λ meter. MeasuresText (tokens_of text.now) meter) }
+    ensures refused { IfErr result (λ fault. fault.kind ≢ OutOfMemory
+        → IsLargeFirstFault (tokens_of text.now) (line_at_end 1 text.now) fault) }
+{
+    let mut scanner = Scanner::new(text);
+    let mut reader = MarkReader::new(alloc);
+    let mut meter = Meter::new(alloc);
+    'tokens: while let Some(token) = scanner.next_token() {
+        take_token(&mut reader, &mut meter, token)?;
+    }
+    reader.finish(scanner.line)?;
+    Ok(meter)
+}
+
+// Takes the next token, and the mark that is whole with it, if one is.
+fn take_token(reader: &mut MarkReader, meter: &mut Meter, token: Token<'_>) -> Result<(), ReadFault>
+    requires { CanMeasure reader.old meter.old }
+    ensures reads { OnOk result ((before : List tokens.Token)
+        → MeasuresSoFar before reader.old meter.old
+        → MeasuresSoFar (before ++ token_seen token.entry ∷ []) reader.new meter.new) }
+    ensures refused { IfErr result (λ fault. fault.kind ≢ OutOfMemory
+        → (before later : List tokens.Token) (end_line : ℕ)
+        → MeasuresSoFar before reader.old meter.old
+        → IsLargeFirstFault (before ++ token_seen token.entry ∷ later) end_line fault) }
+{
+    if let Some(mark) = reader.take(token)? {
+        take_mark(meter, &mark)?;
+    }
+    Ok(())
+}
+
+fn take_mark(meter: &mut Meter, mark: &TextMark) -> Result<(), AllocFault>
+    requires { CanTake meter.old (mark_seen mark.now) }
+    ensures { OnOk result ((moment : List Mark) → Measures meter.old moment
+        → Measures meter.new (mark_seen mark.now ∷ moment)) }
+{
+    match mark {
+        TextMark::TaskBegins { undeferred, items } => {
+            meter.begin_task(*undeferred, items.as_slice())
+        }
+        TextMark::TaskEnds => meter.end_task(),
+        TextMark::Work(cost) => {
+            meter.work(*cost);
+            Ok(())
+        }
+        TextMark::Wait => {
+            meter.wait();
+            Ok(())
+        }
+        TextMark::GroupOpens => meter.begin_group(),
+        TextMark::GroupCloses => {
+            meter.end_group();
+            Ok(())
+        }
+    }
+}

@@ -1,0 +1,100 @@
+//! Which tokens the grammar has at a place.
+ghost use Rattle.std.specs.Prelude.{◌≡◌};
+ghost use Rattle.program_text.specs.Words.{is_statement_word, is_type};
+ghost use Rattle.task_program.specs.Faults.{is_header, is_allowed};
+ghost use Rattle.large_text.specs.LargeFaults.{closes_no_block, grammar_fault, is_inside_at, items_coming};
+
+use program_text::fault::ReadKind;
+use program_text::scanner::Token;
+use program_text::words::value_within;
+use task_program::place::Place;
+
+/// Why the grammar has not the token at this place, if so.
+pub(crate) fn grammar_fault(
+    place: Place,
+    has_if: bool,
+    depth: usize,
+    token: Token<'_>,
+) -> Option<ReadKind>
+    ensures { result ≡ grammar_fault place has_if depth token.entry.text.now }
+{
+    if !is_header(place, token) {
+        Some(ReadKind::BadHeader)
+    } else if closes_no_block(place, depth, token) {
+        Some(ReadKind::Unopened)
+    } else if !is_allowed(place, has_if, token) {
+        Some(ReadKind::BadWord)
+    } else {
+        None
+    }
+}
+
+fn is_header(place: Place, token: Token<'_>) -> bool
+    ensures { result ≡ is_header place token.entry.text.now }
+{
+    match place {
+        Place::Header => token.is(b"omptasks"),
+        Place::Version => token.is_number() && value_within(token.text, 1) == Some(1),
+        _ => true,
+    }
+}
+
+fn closes_no_block(place: Place, depth: usize, token: Token<'_>) -> bool
+    ensures { result ≡ closes_no_block place depth token.entry.text.now }
+{
+    match place {
+        Place::Statement => depth == 0 && token.is(b"}"),
+        _ => false,
+    }
+}
+
+fn is_allowed(place: Place, has_if: bool, token: Token<'_>) -> bool
+    ensures { result ≡ is_allowed place has_if token.entry.text.now }
+{
+    match place {
+        Place::Header | Place::Version => true,
+        Place::Statement => is_statement_word(token) || token.is(b"}"),
+        Place::WorkNumber | Place::IfNumber => token.is_number(),
+        Place::GroupBrace => token.is(b"{"),
+        Place::Clause => { (token.is(b"{") || token.is(b"depend")) || (token.is(b"if") && !has_if) }
+        Place::IfOpens | Place::DependOpens => token.is(b"("),
+        Place::IfCloses => token.is(b")"),
+        Place::DependType => is_type(token),
+        Place::DependColon(_) => token.is(b":"),
+        Place::DependName(_) => token.is_word(),
+        Place::DependMore(_) => token.is(b",") || token.is(b")"),
+    }
+}
+
+fn is_statement_word(token: Token<'_>) -> bool
+    ensures { result ≡ is_statement_word token.entry.text.now }
+{
+    (token.is(b"work") || token.is(b"task")) || (token.is(b"taskwait") || token.is(b"taskgroup"))
+}
+
+fn is_type(token: Token<'_>) -> bool
+    ensures { result ≡ is_type token.entry.text.now }
+{
+    (token.is(b"in") || token.is(b"out")) || (token.is(b"inout") || token.is(b"inoutset"))
+}
+
+/// Whether a `(` is open at this place.
+pub(crate) fn is_inside(place: Place) -> bool
+    ensures { result ≡ is_inside_at place }
+{
+    match place {
+        Place::IfNumber | Place::IfCloses | Place::DependType => true,
+        Place::DependColon(_) | Place::DependName(_) | Place::DependMore(_) => true,
+        _ => false,
+    }
+}
+
+/// How many depend items come with the next token: one, or none.
+pub(crate) fn items_coming(place: Place) -> usize
+    ensures { result ≡ items_coming place }
+{
+    match place {
+        Place::DependName(_) => 1,
+        _ => 0,
+    }
+}

@@ -1,0 +1,388 @@
+//! Reading a text of version 1 token by token, without keeping its statements.
+ghost use Rattle.std.specs.Prelude.{ℕ, ◌≡◌, ◌≢◌, ◌+◌, ◌<◌, ◌≤◌, ◌^◌, [], ◌∷◌, ◌++◌, List, IfOk, IfErr};
+ghost use Rattle.std.specs.Prelude.{OnOk, true, length};
+ghost use Rattle.program_text.specs.declared.fault.ReadKind.TheVariants.{OutOfMemory};
+ghost use Rattle.program_text.specs.Answers.{Gives};
+ghost use Rattle.program_text.specs.Limits.{work_of};
+ghost use Rattle.program_text.specs.Marks.{Mark};
+ghost use Rattle.program_text.specs.ScannerSeen.{token_seen};
+ghost use Rattle.program_text.specs.Tokens as tokens;
+ghost use Rattle.program_text.specs.Tokens.{texts};
+ghost use Rattle.program_text.specs.Words.{is_number, is_word, value_of, type_of};
+ghost use Rattle.program_text.specs.declared.limits.TheConstants.{LARGEST_COST, MOST_WORK};
+ghost use Rattle.task_program.specs.Faults.{after_at, after_statement, after_clause, end_at, at};
+ghost use Rattle.task_program.specs.Faults.{line_of_block, start};
+ghost use Rattle.task_program.specs.TokenCounts.{is_value_too_large, is_work_past};
+ghost use Rattle.task_program.specs.TreeSoFar.{without_innermost};
+ghost use Rattle.large_text.specs.LargeFaults.{large_limit_by, is_inside_at, items_coming};
+ghost use Rattle.large_text.specs.LargeReading.{state_of, marks_after, large_step, with_task};
+ghost use Rattle.large_text.specs.LargeReading.{IsLargeWithin, IsReadSoFar, CanGoOn, HasValue};
+ghost use Rattle.large_text.specs.LargeReading.{block_seen};
+ghost use Rattle.large_text.specs.LargeTrees.{HasLargeTree, IsLargeRightWhole, IsLargeFirstFault};
+
+use crate::forms::form_fault;
+use crate::limits::MOST_LARGE_NESTING;
+use crate::marks::TextMark;
+use crate::place_tests::{grammar_fault, is_inside, items_coming};
+use program_text::fault::{ReadFault, ReadKind};
+use program_text::limits::{LARGEST_COST, MOST_ITEMS, MOST_WORK};
+use program_text::scanner::Token;
+use program_text::statement::{DependKind, Item, Items};
+use program_text::words::{text_of, value_within};
+use std::alloc::Global;
+use std::mem::replace;
+use task_program::names::Names;
+use task_program::place::Place;
+
+/// An open block, by the line of its `{`.
+#[derive(Clone, Copy, Debug)]
+enum OpenBlock {
+    OpenTask(u32),
+    OpenGroup(u32),
+}
+
+/// Takes the tokens of a text one by one, and hands on its marks. What it keeps are the names, the
+/// open blocks, and the clauses of the task that is being read.
+#[derive(Drop)]
+pub struct MarkReader {
+    alloc: Global,
+    place: Place,
+    /// How many bytes the tokens have.
+    bytes: u32,
+    names: Names,
+    has_if: bool,
+    undeferred: bool,
+    items: Items,
+    /// The innermost last.
+    blocks: Vec<OpenBlock>,
+    work: u64,
+}
+
+impl MarkReader {
+    /// The reader where a text begins.
+    pub fn new(alloc: Global) -> MarkReader
+        ensures { IsReadSoFar [] [] result }
+    {
+        MarkReader::fresh(alloc)
+    }
+
+    fn fresh(alloc: Global) -> MarkReader
+        ensures state { state_of result [] ≡ start }
+        ensures work { result.work ≡ 0 }
+    {
+        MarkReader {
+            alloc,
+            place: Place::Header,
+            bytes: 0,
+            names: Names::new(alloc),
+            has_if: false,
+            undeferred: false,
+            items: Items::new(alloc),
+            blocks: Vec::new(alloc),
+            work: 0,
+        }
+    }
+
+    /// Takes the next token, and hands on the mark that is whole with it, if one is. The fault is the
+    /// first of every text that begins so, or out of memory; no more tokens can be taken after it.
+    pub fn take(&mut self, token: Token<'_>) -> Result<Option<TextMark>, ReadFault>
+        requires { CanGoOn self.old }
+        ensures reads { IfOk result (λ mark. (before : List tokens.Token) (marks : List Mark)
+            → IsReadSoFar before marks self.old
+            → IsReadSoFar (before ++ token_seen token.entry ∷ []) (marks_after marks mark)
+            self.new) }
+        ensures refused { IfErr result (λ fault. fault.kind ≢ OutOfMemory
+            → (before later : List tokens.Token) (marks : List Mark) (end_line : ℕ)
+            → IsReadSoFar before marks self.old
+            → IsLargeFirstFault (before ++ token_seen token.entry ∷ later) end_line fault) }
+    {
+        self.take_any(token)
+    }
+
+    /// The text ends here, on this line: it is whole, or the fault is its first.
+    pub fn finish(&self, line: u32) -> Result<(), ReadFault>
+        ensures whole { OnOk result ((before : List tokens.Token) (marks : List Mark)
+            → IsReadSoFar before marks self.now
+            → HasLargeTree (texts before) marks × IsLargeRightWhole before) }
+        ensures early { IfErr result (λ fault. (before : List tokens.Token) (marks : List Mark)
+            → IsReadSoFar before marks self.now → IsLargeFirstFault before line fault) }
+    {
+        match self.end_fault(line) {
+            Some(fault) => Err(fault),
+            None => Ok(()),
+        }
+    }
+
+    fn take_any(&mut self, token: Token<'_>) -> Result<Option<TextMark>, ReadFault>
+        requires { IsLargeWithin self.old }
+        ensures step { (marks : List Mark)
+            → Gives (λ mark. state_of self.new (marks_after marks mark)) result
+            (large_step self.old.work (state_of self.old marks) (token_seen token.entry)) }
+        ensures work { IfOk result (λ mark. self.new.work
+            ≡ self.old.work + work_of (marks_after [] mark)) }
+    {
+        if let Some(kind) = form_fault(self.bytes, token) {
+            return Err(token.fault(kind));
+        }
+        if let Some(kind) = grammar_fault(self.place, self.has_if, self.blocks.len(), token) {
+            return Err(token.fault(kind));
+        }
+        if let Some(kind) = self.limit_fault(token) {
+            return Err(token.fault(kind));
+        }
+        self.bytes += token.text.len() as u32;
+        self.take_right(token)
+    }
+
+    fn limit_fault(&self, token: Token<'_>) -> Option<ReadKind>
+        requires { IsLargeWithin self.now }
+        ensures { result ≡ large_limit_by (is_inside_at self.now.place) self.now.work
+            (length self.now.items + items_coming self.now.place) (length self.now.blocks.items)
+            token.entry.text.now }
+    {
+        let inside = is_inside(self.place);
+        if is_value_too_large(inside, token) {
+            Some(ReadKind::BadNumber)
+        } else if token.is(b"{") && self.blocks.len() >= MOST_LARGE_NESTING {
+            Some(ReadKind::TooDeep)
+        } else if self.items.len() + items_coming(self.place) > MOST_ITEMS {
+            Some(ReadKind::TooManyItems)
+        } else if is_work_past(inside, self.work, token) {
+            Some(ReadKind::WorkTooLarge)
+        } else {
+            None
+        }
+    }
+
+    // The token is one of the grammar, and passes no limit.
+    fn take_right(&mut self, token: Token<'_>) -> Result<Option<TextMark>, ReadFault>
+        requires names { length self.old.names + 1 < 2 ^ 32 }
+        requires value { HasValue self.old token.text.now }
+        ensures step { (marks : List Mark)
+            → Gives (λ mark. state_of self.new (marks_after marks mark)) result
+            (Ok (after_at self.old.place (state_of self.old marks) token.entry.text.now
+            token.entry.line)) }
+        ensures work { IfOk result (λ mark. self.new.work
+            ≡ self.old.work + work_of (marks_after [] mark)) }
+    {
+        match self.place {
+            Place::Header => Ok(self.go_to(Place::Version)),
+            Place::Version => Ok(self.go_to(Place::Statement)),
+            Place::Statement => Ok(self.statement(token)),
+            Place::WorkNumber => Ok(self.work_number(token)),
+            Place::GroupBrace => self.group_brace(token),
+            Place::Clause => self.clause(token),
+            Place::IfOpens => Ok(self.go_to(Place::IfNumber)),
+            Place::IfNumber => Ok(self.if_number(token)),
+            Place::IfCloses => Ok(self.go_to(Place::Clause)),
+            Place::DependOpens => Ok(self.go_to(Place::DependType)),
+            Place::DependType => Ok(self.go_to(Place::DependColon(type_of(token)))),
+            Place::DependColon(kind) => Ok(self.go_to(Place::DependName(kind))),
+            Place::DependName(kind) => self.depend_name(kind, token),
+            Place::DependMore(kind) => Ok(self.depend_more(kind, token)),
+        }
+    }
+
+    fn go_to(&mut self, place: Place) -> Option<TextMark>
+        ensures none { result ≡ None }
+        ensures there { self.new ≡ record self.old { place = place } }
+    {
+        self.place = place;
+        None
+    }
+
+    fn statement(&mut self, token: Token<'_>) -> Option<TextMark>
+        ensures state { (marks : List Mark) → state_of self.new (marks_after marks result)
+            ≡ after_statement (state_of self.old marks) token.entry.text.now }
+        ensures work { self.new.work ≡ self.old.work + work_of (marks_after [] result) }
+    {
+        if token.is(b"work") {
+            self.go_to(Place::WorkNumber)
+        } else if token.is(b"task") {
+            self.go_to(Place::Clause)
+        } else if token.is(b"taskwait") {
+            self.place = Place::Statement;
+            Some(TextMark::Wait)
+        } else if token.is(b"taskgroup") {
+            self.go_to(Place::GroupBrace)
+        } else {
+            self.close()
+        }
+    }
+
+    // The innermost block ends.
+    fn close(&mut self) -> Option<TextMark>
+        ensures state { (marks : List Mark) → state_of self.new (marks_after marks result)
+            ≡ at (record (state_of self.old marks)
+            { tree = without_innermost (state_of self.old marks).tree }) Place.Statement }
+        ensures work { self.new.work ≡ self.old.work + work_of (marks_after [] result) }
+    {
+        self.place = Place::Statement;
+        match self.blocks.pop() {
+            Some(OpenBlock::OpenTask(_)) => Some(TextMark::TaskEnds),
+            Some(OpenBlock::OpenGroup(_)) => Some(TextMark::GroupCloses),
+            None => None,
+        }
+    }
+
+    fn work_number(&mut self, token: Token<'_>) -> Option<TextMark>
+        requires number { is_number token.text.now ≡ true }
+        requires value { value_of token.text.now ≤ LARGEST_COST }
+        requires work { self.old.work + value_of token.text.now ≤ MOST_WORK }
+        ensures state { (marks : List Mark) → state_of self.new (marks_after marks result)
+            ≡ after_at Place.WorkNumber (state_of self.old marks) token.entry.text.now
+            token.entry.line }
+        ensures work { self.new.work ≡ self.old.work + work_of (marks_after [] result) }
+    {
+        let cost = value_within(token.text, LARGEST_COST).unwrap();
+        self.work += cost;
+        self.place = Place::Statement;
+        Some(TextMark::Work(cost))
+    }
+
+    fn group_brace(&mut self, token: Token<'_>) -> Result<Option<TextMark>, ReadFault>
+        ensures state { (marks : List Mark)
+            → Gives (λ mark. state_of self.new (marks_after marks mark)) result
+            (Ok (after_at Place.GroupBrace (state_of self.old marks) token.entry.text.now
+            token.entry.line)) }
+        ensures work { IfOk result (λ mark. self.new.work
+            ≡ self.old.work + work_of (marks_after [] mark)) }
+    {
+        self.blocks.push(OpenBlock::OpenGroup(token.line))?;
+        self.place = Place::Statement;
+        Ok(Some(TextMark::GroupOpens))
+    }
+
+    fn clause(&mut self, token: Token<'_>) -> Result<Option<TextMark>, ReadFault>
+        ensures state { (marks : List Mark)
+            → Gives (λ mark. state_of self.new (marks_after marks mark)) result
+            (Ok (after_clause (state_of self.old marks) token.entry.text.now token.entry.line)) }
+        ensures work { IfOk result (λ mark. self.new.work
+            ≡ self.old.work + work_of (marks_after [] mark)) }
+    {
+        if token.is(b"{") {
+            self.open_task(token.line)
+        } else if token.is(b"if") {
+            Ok(self.go_to(Place::IfOpens))
+        } else {
+            Ok(self.go_to(Place::DependOpens))
+        }
+    }
+
+    fn open_task(&mut self, line: u32) -> Result<Option<TextMark>, ReadFault>
+        ensures state { (marks : List Mark)
+            → Gives (λ mark. state_of self.new (marks_after marks mark)) result
+            (Ok (with_task (state_of self.old marks) line)) }
+        ensures work { IfOk result (λ mark. self.new.work
+            ≡ self.old.work + work_of (marks_after [] mark)) }
+    {
+        self.blocks.push(OpenBlock::OpenTask(line))?;
+        let undeferred = self.undeferred;
+        let items = replace(&mut self.items, Items::new(self.alloc));
+        self.has_if = false;
+        self.undeferred = false;
+        self.place = Place::Statement;
+        Ok(Some(TextMark::TaskBegins { undeferred, items }))
+    }
+
+    fn if_number(&mut self, token: Token<'_>) -> Option<TextMark>
+        requires number { is_number token.text.now ≡ true }
+        ensures state { (marks : List Mark) → state_of self.new (marks_after marks result)
+            ≡ after_at Place.IfNumber (state_of self.old marks) token.entry.text.now
+            token.entry.line }
+        ensures work { self.new.work ≡ self.old.work + work_of (marks_after [] result) }
+    {
+        self.has_if = true;
+        self.undeferred = value_within(token.text, 0) == Some(0);
+        self.go_to(Place::IfCloses)
+    }
+
+    fn depend_name(
+        &mut self,
+        kind: DependKind,
+        token: Token<'_>,
+    ) -> Result<Option<TextMark>, ReadFault>
+        requires names { length self.old.names + 1 < 2 ^ 32 }
+        requires word { is_word token.text.now ≡ true }
+        ensures state { (marks : List Mark)
+            → Gives (λ mark. state_of self.new (marks_after marks mark)) result
+            (Ok (after_at (Place.DependName kind) (state_of self.old marks) token.entry.text.now
+            token.entry.line)) }
+        ensures work { IfOk result (λ mark. self.new.work
+            ≡ self.old.work + work_of (marks_after [] mark)) }
+    {
+        let name = self.names.number_of(self.alloc, text_of(token.text))?;
+        self.items.push(Item { kind, name })?;
+        Ok(self.go_to(Place::DependMore(kind)))
+    }
+
+    fn depend_more(&mut self, kind: DependKind, token: Token<'_>) -> Option<TextMark>
+        ensures state { (marks : List Mark) → state_of self.new (marks_after marks result)
+            ≡ after_at (Place.DependMore kind) (state_of self.old marks) token.entry.text.now
+            token.entry.line }
+        ensures work { self.new.work ≡ self.old.work + work_of (marks_after [] result) }
+    {
+        if token.is(b",") {
+            self.go_to(Place::DependName(kind))
+        } else {
+            self.go_to(Place::Clause)
+        }
+    }
+
+    // What is wrong where the text ends on this line.
+    fn end_fault(&self, line: u32) -> Option<ReadFault>
+        ensures { result ≡ end_at self.now.place (state_of self.now []).tree.blocks line }
+    {
+        match self.place {
+            Place::Header | Place::Version => Some(ReadFault {
+                kind: ReadKind::BadHeader,
+                line,
+            }),
+            Place::Statement => Some(ReadFault {
+                kind: ReadKind::Unclosed,
+                line: line_of(*self.blocks.last()?),
+            }),
+            _ => Some(ReadFault {
+                kind: ReadKind::BadWord,
+                line,
+            }),
+        }
+    }
+}
+
+fn line_of(block: OpenBlock) -> u32
+    ensures { result ≡ line_of_block (block_seen block) }
+{
+    match block {
+        OpenBlock::OpenTask(line) => line,
+        OpenBlock::OpenGroup(line) => line,
+    }
+}
+
+fn type_of(token: Token<'_>) -> DependKind
+    ensures { result ≡ type_of token.entry.text.now }
+{
+    if token.is(b"in") {
+        DependKind::DependIn
+    } else if token.is(b"out") {
+        DependKind::DependOut
+    } else if token.is(b"inout") {
+        DependKind::DependInOut
+    } else {
+        DependKind::DependInOutSet
+    }
+}
+
+fn is_value_too_large(inside: bool, token: Token<'_>) -> bool
+    ensures { result ≡ is_value_too_large inside token.entry.text.now }
+{
+    let most = if inside { 1 } else { LARGEST_COST };
+    token.is_number() && value_within(token.text, most).is_none()
+}
+
+fn is_work_past(inside: bool, work: u64, token: Token<'_>) -> bool
+    requires { work ≤ MOST_WORK }
+    ensures { result ≡ is_work_past inside work token.entry.text.now }
+{
+    !inside && token.is_number() && value_within(token.text, MOST_WORK - work).is_none()
+}
