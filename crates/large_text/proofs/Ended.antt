@@ -1,7 +1,7 @@
 -- Where the text ends: it is whole, or it ends too early.
-use Rattle.std.proofs.Common.{◌≡◌, ℕ, Bool, List, [], ◌∷◌, ◌++◌, length, Some, None, refl, sym, ap}
+use Rattle.std.proofs.Common.{◌≡◌, ℕ, Bool, List, [], ◌∷◌, length, Some, None, ap}
 use Rattle.std.proofs.Common.{subst, ◌∙◌, codes}
-use Rattle.std.specs.Prelude.{fold, drop}
+use Rattle.std.specs.Prelude.{fold}
 use Rattle.std.specs.List.{flat_map}
 use Rattle.std.proofs.lemmas.List.{append-nil}
 use Rattle.program_text.specs.declared.fault.ReadFault.{ReadFault}

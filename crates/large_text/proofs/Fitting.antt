@@ -1,5 +1,5 @@
 -- A meter can take each mark that the reader hands on.
-use Rattle.std.proofs.Common.{◌≡◌, ℕ, ◌+◌, ◌<◌, ◌≤◌, ◌^◌, false, List, [], ◌∷◌, ◌++◌, length}
+use Rattle.std.proofs.Common.{◌≡◌, ◌<◌, ◌≤◌, ◌^◌, false, List, [], ◌∷◌, ◌++◌, length}
 use Rattle.std.proofs.Common.{append_assoc, length-append, refl, sym, ap, subst, ◌∙◌, arith}
 use Rattle.std.proofs.lemmas.List.{append-nil}
 use Rattle.std.proofs.lemmas.List.Sums.{count_by-le-length, sum_by-cons}
@@ -18,10 +18,9 @@ use Rattle.task_segments.proofs.Programs.{last_of_nested, moment_after-append, c
 use Rattle.task_segments.proofs.Walks.{grows}
 use Rattle.online_span.specs.declared.meter.Meter.{Meter}
 use Rattle.online_span.specs.Measuring.{Measures, Fits, CanTake, groups_ended}
-use Rattle.large_text.specs.declared.limits.TheConstants.{MOST_LARGE_TOKEN_BYTES}
 use Rattle.large_text.specs.declared.reader.MarkReader.{MarkReader}
 use Rattle.large_text.specs.LargeReading.{IsReadSoFar, state_of}
-use Rattle.large_text.proofs.Sound.{IsSound, AreOpen}
+use Rattle.large_text.proofs.Sound.{AreOpen}
 use Rattle.large_text.proofs.Open.{open_ends, none_open}
 use Rattle.large_text.proofs.Taken.{sound}
 

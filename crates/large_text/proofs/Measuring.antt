@@ -1,5 +1,5 @@
 -- Reading a text and measuring its marks, token by token.
-use Rattle.std.proofs.Common.{◌≡◌, ℕ, false, List, [], ◌∷◌, ◌++◌, append_assoc, Some, None, refl, sym}
+use Rattle.std.proofs.Common.{◌≡◌, ℕ, false, List, [], ◌∷◌, ◌++◌, append_assoc, refl, sym}
 use Rattle.std.proofs.Common.{ap, subst, ◌∙◌}
 use Rattle.std.proofs.lemmas.List.{append-nil}
 use Rattle.program_text.specs.declared.fault.ReadFault.{ReadFault}
@@ -14,7 +14,7 @@ use Rattle.online_span.specs.declared.meter.Meter.{Meter}
 use Rattle.online_span.specs.Measuring.{Measures}
 use Rattle.large_text.specs.declared.marks.TextMark.{TextMark}
 use Rattle.large_text.specs.declared.reader.MarkReader.{MarkReader}
-use Rattle.large_text.specs.LargeReading.{IsReadSoFar, marks_after, mark_seen}
+use Rattle.large_text.specs.LargeReading.{IsReadSoFar, mark_seen}
 use Rattle.large_text.specs.LargeTrees.{HasLargeTree, IsLargeRightWhole, IsLargeFirstFault}
 use Rattle.large_text.specs.Measured.{MeasuresText, MeasuresSoFar}
 

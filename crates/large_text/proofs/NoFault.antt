@@ -4,7 +4,7 @@ use Rattle.std.proofs.Common.{subst, ◌∙◌}
 use Rattle.std.proofs.lemmas.List.{append-nil}
 use Rattle.program_text.specs.declared.fault.ReadKind.{ReadKind}
 use Rattle.program_text.specs.declared.fault.ReadFault.{ReadFault}
-use Rattle.program_text.specs.Tokens.{Token, texts}
+use Rattle.program_text.specs.Tokens.{Token}
 use Rattle.large_text.specs.LargeTrees.{IsLargeRight, AreLargeRight, IsLargeRightWhole}
 use Rattle.large_text.specs.LargeTrees.{IsLargeWrong, IsLargeFirstFault}
 use Rattle.large_text.specs.LargeTrees.AreLargeRight.{Nothing, More}

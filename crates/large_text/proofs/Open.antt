@@ -1,6 +1,6 @@
 -- Which blocks are open behind the marks, whatever token comes.
-use Rattle.std.proofs.Common.{◌≡◌, ℕ, Bool, true, false, cond, List, [], ◌∷◌, ◌++◌, append_assoc}
-use Rattle.std.proofs.Common.{refl, sym, ap, subst, ◌∙◌, codes, append-nil}
+use Rattle.std.proofs.Common.{ℕ, Bool, List, [], ◌∷◌, ◌++◌, append_assoc}
+use Rattle.std.proofs.Common.{sym, subst, codes}
 use Rattle.program_text.specs.declared.statement.Item.{Item}
 use Rattle.program_text.specs.declared.statement.DependKind.{DependKind}
 use Rattle.program_text.specs.Marks.{Mark}

@@ -1,8 +1,7 @@
 -- What is wrong with a token at which the reading stops.
 use Rattle.std.proofs.Common.{◌≡◌, ◌≢◌, ℕ, ◌+◌, Bool, true, false, not, List, [], ◌∷◌, ◌++◌, length}
-use Rattle.std.proofs.Common.{Option, Some, None, Result, Ok, Err, refl, sym, ap, subst, ◌∙◌, codes}
-use Rattle.std.specs.Prelude.{drop, sum_by, MatchBool}
-use Rattle.std.proofs.lemmas.Bool.{not-false}
+use Rattle.std.proofs.Common.{Option, Some, None, Result, Err, refl, sym, subst, ◌∙◌, codes}
+use Rattle.std.specs.Prelude.{MatchBool}
 use Rattle.std.proofs.lemmas.List.{append-nil}
 use Rattle.program_text.specs.declared.fault.ReadKind.{ReadKind}
 use Rattle.program_text.specs.declared.fault.ReadKind.TheVariants.{OutOfMemory, BadHeader, BadWord}
@@ -11,8 +10,7 @@ use Rattle.program_text.specs.declared.fault.ReadFault.{ReadFault}
 use Rattle.program_text.specs.Answers.{Fails, is_memory}
 use Rattle.program_text.specs.Marks.{Mark}
 use Rattle.program_text.specs.Tokens.{Token, texts}
-use Rattle.task_program.specs.declared.place.Place.{Place}
-use Rattle.task_program.specs.Faults.{State, after_at, unless_fault, is_header, is_allowed}
+use Rattle.task_program.specs.Faults.{State, unless_fault, is_header, is_allowed}
 use Rattle.task_program.specs.FirstFault.IsMisplaced.{OfHeader, AfterWhole, Elsewhere}
 use Rattle.task_program.specs.ViablePrefix.{IsSentence, IsViable}
 use Rattle.task_program.proofs.Shapes.{closes_none}
@@ -20,7 +18,7 @@ use Rattle.task_program.proofs.Begun.{Began, row_cases, is_not_viable, viable_ne
 use Rattle.task_program.proofs.Begun.{no_close, none_allowed, in_header, after_header, closes_at}
 use Rattle.task_program.proofs.Begun.{whole_closes, whole_now, fits_of, closes_same}
 use Rattle.large_text.specs.declared.reader.MarkReader.{MarkReader}
-use Rattle.large_text.specs.LargeFaults.{grammar_fault, large_limit_by, large_limit_after}
+use Rattle.large_text.specs.LargeFaults.{grammar_fault, large_limit_by}
 use Rattle.large_text.specs.LargeFaults.{closes_no_block, is_inside_at, items_coming}
 use Rattle.large_text.specs.LargeFaults.{large_form_fault}
 use Rattle.large_text.specs.LargeReading.{state_of, large_step}

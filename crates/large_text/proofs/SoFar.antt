@@ -1,10 +1,10 @@
 -- One token more: what was read keeps its meaning, and nothing is wrong with the token.
-use Rattle.std.proofs.Common.{◌≡◌, ℕ, ◌+◌, ◌≤◌, Bool, true, false, not, ◌&&◌, cond, List, [], ◌∷◌}
-use Rattle.std.proofs.Common.{◌++◌, length, map, append_assoc, Option, Some, None, Result, Ok, Err}
-use Rattle.std.proofs.Common.{refl, sym, ap, subst, ◌∙◌, arith, codes}
+use Rattle.std.proofs.Common.{◌≡◌, ℕ, ◌+◌, ◌≤◌, Bool, true, false, cond, List, [], ◌∷◌}
+use Rattle.std.proofs.Common.{◌++◌, length, append_assoc, Option, Some, None, Ok}
+use Rattle.std.proofs.Common.{refl, sym, ap, subst, ◌∙◌, arith}
 use Rattle.std.specs.Prelude.{sum_by, drop}
 use Rattle.std.proofs.lemmas.Bool.{not-false, ltb-false}
-use Rattle.std.proofs.lemmas.List.{append-nil, length-map, drop-append-le}
+use Rattle.std.proofs.lemmas.List.{length-map, drop-append-le}
 use Rattle.std.proofs.lemmas.List.Sums.{sum_by-append}
 use Rattle.std.proofs.Common.{length-append}
 use Rattle.program_text.specs.declared.fault.ReadKind.{ReadKind}
@@ -12,13 +12,12 @@ use Rattle.program_text.specs.declared.limits.TheConstants.{MOST_ITEMS, MOST_WOR
 use Rattle.program_text.specs.Limits.{work_of, work_done}
 use Rattle.program_text.specs.Marks.{Mark}
 use Rattle.program_text.specs.Tokens.{Token, texts}
-use Rattle.program_text.specs.Words.{is_text, is_number, value_of}
+use Rattle.program_text.specs.Words.{is_number, value_of}
 use Rattle.program_text.proofs.Bools.{bool_cases}
 use Rattle.task_program.specs.declared.place.Place.{Place}
-use Rattle.task_program.specs.declared.place.Place.TheVariants.{Header, Version}
 use Rattle.task_program.specs.Faults.{State, after_at, is_allowed, line_of_block}
 use Rattle.task_program.specs.TokenCounts.{work_by, is_work_past}
-use Rattle.task_program.specs.ViablePrefix.{IsSentence, IsViable}
+use Rattle.task_program.specs.ViablePrefix.{IsSentence}
 use Rattle.task_program.proofs.Keeping.{Allows, with_one}
 use Rattle.task_program.proofs.FoundPlaces.{Explains, Explained}
 use Rattle.task_program.proofs.Found.{place_goes}
@@ -33,16 +32,15 @@ use Rattle.task_program.proofs.FaultFound.{items_go, texts_long, past_long, head
 use Rattle.task_program.proofs.FaultFound.{nothing_after, nothing_after_one}
 use Rattle.large_text.specs.declared.marks.TextMark.{TextMark}
 use Rattle.large_text.specs.declared.reader.MarkReader.{MarkReader}
-use Rattle.large_text.specs.declared.limits.TheConstants.{MOST_LARGE_TOKEN_BYTES}
 use Rattle.large_text.specs.LargeFaults.{large_limit_by, large_limit_after, is_inside_at}
 use Rattle.large_text.specs.LargeFaults.{items_coming, large_form_fault}
 use Rattle.large_text.specs.LargeReading.{state_of, with_bytes, marks_after, large_step}
-use Rattle.large_text.specs.LargeReading.{IsLargeWithin, mark_seen}
-use Rattle.large_text.specs.LargeTrees.{IsLargeRight, AreLargeRight}
+use Rattle.large_text.specs.LargeReading.{mark_seen}
+use Rattle.large_text.specs.LargeTrees.{IsLargeRight}
 use Rattle.large_text.specs.LargeTrees.AreLargeRight.{More}
 use Rattle.large_text.proofs.Sound.{IsSound}
 use Rattle.large_text.proofs.Open.{TreeOpen, place_open}
-use Rattle.large_text.proofs.Steps.{Passed, passed, IsThere, is_there, IsUnder, is_under, closes_so}
+use Rattle.large_text.proofs.Steps.{Passed, passed, is_there, is_under, closes_so}
 use Rattle.large_text.proofs.Steps.{number_fits, is_formed, names_grow, items_grow}
 
 -- ---- the grammar

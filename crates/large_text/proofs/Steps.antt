@@ -1,14 +1,12 @@
 -- One token: what is known where it is taken.
 use Rattle.std.proofs.Common.{◌≡◌, ℕ, zero, suc, ◌+◌, ◌≤◌, Bool, true, false, not, ◌&&◌, ◌||◌}
 use Rattle.std.proofs.Common.{cond, List}
-use Rattle.std.proofs.Common.{[], ◌∷◌, ◌++◌, length, length-append, Option, Some, None, Result, Ok}
-use Rattle.std.proofs.Common.{Err, refl, sym, ap, subst, ◌∙◌, arith, codes}
+use Rattle.std.proofs.Common.{[], ◌∷◌, length, length-append, Option, Some, None, Ok}
+use Rattle.std.proofs.Common.{refl, ap, arith, codes}
 use Rattle.std.specs.Prelude.{nat_lt}
 use Rattle.std.proofs.lemmas.Bool.{not-false, ltb-false}
 use Rattle.std.proofs.Math.Dec.{eqb-suc-zero}
 use Rattle.program_text.specs.declared.fault.ReadKind.{ReadKind}
-use Rattle.program_text.specs.declared.fault.ReadFault.{ReadFault}
-use Rattle.program_text.specs.declared.statement.DependKind.{DependKind}
 use Rattle.program_text.specs.declared.limits.TheConstants.{MOST_ITEMS, MOST_WORK, LARGEST_COST}
 use Rattle.program_text.specs.Tokens.{Token}
 use Rattle.program_text.specs.declared.fault.ReadKind.TheVariants.{TooLong, BadByte, BadWord}
@@ -21,17 +19,15 @@ use Rattle.program_text.proofs.FaultRows.{row_passed}
 use Rattle.task_program.specs.declared.place.Place.{Place}
 use Rattle.task_program.specs.declared.place.Place.TheVariants.{Statement, WorkNumber, IfNumber}
 use Rattle.task_program.specs.declared.place.Place.TheVariants.{Clause, DependName, DependMore}
-use Rattle.task_program.specs.Faults.{State, after_at, unless_fault, is_header, is_allowed}
-use Rattle.task_program.specs.Faults.{is_number_too_large, closes_nothing}
-use Rattle.task_program.specs.Names.{with_name, number_of_name}
+use Rattle.task_program.specs.Faults.{State, after_at, is_header, is_allowed}
+use Rattle.task_program.specs.Faults.{is_number_too_large}
+use Rattle.task_program.specs.Names.{number_of_name}
 use Rattle.task_program.specs.TokenCounts.{is_value_too_large, is_work_past}
-use Rattle.task_program.proofs.Keeping.{Allows, unless_ok, ok_is, one_name_more}
+use Rattle.task_program.proofs.Keeping.{unless_ok, ok_is, one_name_more}
 use Rattle.task_program.proofs.Shapes.{closes_none}
-use Rattle.task_program.proofs.Begun.{closes_same}
 use Rattle.large_text.specs.declared.limits.TheConstants.{MOST_LARGE_TOKEN_BYTES}
 use Rattle.large_text.specs.LargeFaults.{large_form_fault, grammar_fault, large_limit_by}
 use Rattle.large_text.specs.LargeFaults.{closes_no_block, is_inside_at, items_coming}
-use Rattle.large_text.specs.LargeFaults.{is_large_too_deep}
 use Rattle.large_text.specs.LargeReading.{large_step, with_bytes, HasValueAt}
 
 -- nothing is wrong with the token, and it leads there

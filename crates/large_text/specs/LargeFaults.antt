@@ -2,7 +2,7 @@
 -- at its place, and which limit it passes. Segments and tasks have no limit of their own: each takes
 -- bytes of tokens.
 use Rattle.std.specs.Prelude.{ℕ, ◌+◌, Bool, true, false, not, ◌&&◌, ◌||◌, ◌==◌, nat_lt, nat_le}
-use Rattle.std.specs.Prelude.{if◌then◌else◌, List, length, drop, Option, Some, None, codes}
+use Rattle.std.specs.Prelude.{if◌then◌else◌, List, length, Option, Some, None, codes}
 use Rattle.program_text.specs.declared.fault.ReadKind.{ReadKind}
 use Rattle.program_text.specs.declared.fault.ReadKind.TheVariants.{TooLong, BadByte, BadHeader}
 use Rattle.program_text.specs.declared.fault.ReadKind.TheVariants.{BadWord, BadNumber, Unopened}

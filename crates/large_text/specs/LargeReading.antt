@@ -1,6 +1,6 @@
 -- What a reader of marks holds of the tokens and the marks so far.
 use Rattle.std.specs.Prelude.{◌≡◌, ℕ, ◌+◌, ◌≤◌, true, List, [], ◌∷◌, ◌++◌, length, map, reverse}
-use Rattle.std.specs.Prelude.{Option, Some, None, Result, Ok, Err}
+use Rattle.std.specs.Prelude.{Option, Some, None, Result, Ok}
 use Rattle.program_text.specs.declared.fault.ReadFault.{ReadFault}
 use Rattle.program_text.specs.declared.limits.TheConstants.{MOST_ITEMS, MOST_WORK}
 use Rattle.program_text.specs.declared.limits.TheConstants.{LARGEST_COST}

@@ -1,4 +1,4 @@
-use Rattle.std.proofs.Common.{List, [], ◌∷◌, ◌++◌, Option, subst}
+use Rattle.std.proofs.Common.{[], ◌∷◌, ◌++◌, Option, subst}
 use Rattle.program_text.specs.ScannerSeen.{token_seen}
 use Rattle.large_text.specs.declared.marks.TextMark.{TextMark}
 use Rattle.large_text.specs.LargeReading.{IsReadSoFar, marks_after, mark_seen}
