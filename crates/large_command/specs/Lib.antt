@@ -1,0 +1,2 @@
+pub mod LargeReports
+pub mod LargeCommand

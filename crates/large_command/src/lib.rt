@@ -1,0 +1,10 @@
+//! The program `spanprof_large`: work and span of a text of any size, from words and bytes to a
+//! text and a status.
+#![tactic(auto)]
+
+mod engine;
+mod entry;
+mod numbers;
+
+pub use engine::{LARGEST_TEXT, command};
+pub use entry::{run_program, start};
