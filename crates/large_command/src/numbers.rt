@@ -1,7 +1,7 @@
 //! What the program answers to a text.
 ghost use Rattle.std.specs.Prelude.{◌≡◌, ◌+◌, ◌<◌, ◌^◌, IfOk, length};
 ghost use Rattle.online_span.specs.declared.meter.Meter.{Meter};
-ghost use Rattle.large_command.specs.LargeReports.{Answers, TellsMeter};
+ghost use Rattle.large_command.specs.LargeReports.{Answers, TellsMeter, numbers_report};
 
 use large_text::measure_text;
 use online_span::Meter;
@@ -25,14 +25,28 @@ pub(crate) fn answer(alloc: Global, text: &[u8]) -> Result<Report, AllocError>
     }
 }
 
-/// How many tasks and segments there are, the work and the span, each on a line of its own.
 fn numbers(alloc: Global, meter: &Meter) -> Result<Report, AllocError>
     ensures { IfOk result (λ report. TellsMeter meter.now report) }
 {
-    let tasks = meter.tasks();
-    let segments = meter.segments();
-    let work = meter.total_work();
-    let span = meter.span();
+    numbers_report(
+        alloc,
+        meter.tasks(),
+        meter.segments(),
+        meter.total_work(),
+        meter.span(),
+    )
+}
+
+/// Each number on a line of its own.
+fn numbers_report(
+    alloc: Global,
+    tasks: u64,
+    segments: u64,
+    work: u64,
+    span: u64,
+) -> Result<Report, AllocError>
+    ensures { IfOk result (λ report. report ≡ numbers_report tasks segments work span) }
+{
     let text = format!(in alloc; "tasks {tasks}\nsegments {segments}\nwork {work}\nspan {span}\n")?;
     Ok(Report::new(text.into_bytes(), Status::Done))
 }

@@ -1,4 +1,5 @@
 //! Commands on large inputs, in memory.
+mod any_size;
 mod edges;
 mod names;
 mod segments;

@@ -1,0 +1,13 @@
+use Rattle.std.proofs.Common.{◌∙◌, ap}
+use Rattle.std.proofs.lemmas.Result.{IfOk-weaker}
+use Rattle.task_segments.specs.Moments.{last_moment}
+use Rattle.large_command.proofs.Told.{tells_meter}
+use Rattle.large_command.proofs.numbers.numbers.Goals as goal
+
+pub returns : goal.returns
+returns c =
+    IfOk-weaker c.numbers_report.result _ _
+    (λ report says. tells_meter c.args.meter.now c.tasks.result c.segments.result
+    c.total_work.result c.span.result report c.tasks.ensures c.segments.ensures
+    c.total_work.ensures.marks c.span.ensures.whole says)
+    c.numbers_report.ensures
