@@ -16,7 +16,9 @@ use Rattle.program_text.specs.Words.{is_number, value_of}
 use Rattle.program_text.proofs.Bools.{bool_cases}
 use Rattle.task_program.specs.declared.place.Place.{Place}
 use Rattle.task_program.specs.Faults.{State, after_at, is_allowed, line_of_block}
-use Rattle.task_program.specs.TokenCounts.{work_by, is_work_past}
+use Rattle.task_program.specs.TokenCounts.{work_by, is_work_past, limit_fault_after}
+use Rattle.task_program.specs.FirstFault.{IsRight}
+use Rattle.task_program.specs.FirstFault.AreRight.{More}
 use Rattle.task_program.specs.ViablePrefix.{IsSentence}
 use Rattle.task_program.proofs.Keeping.{Allows, with_one}
 use Rattle.task_program.proofs.FoundPlaces.{Explains, Explained}
@@ -30,15 +32,15 @@ use Rattle.task_program.proofs.Tallies.{Tally, tally_of, tally_after, tally_now,
 use Rattle.task_program.proofs.Tallies.{NoItems, is_past_header, place_tallies, header_tallies}
 use Rattle.task_program.proofs.FaultFound.{items_go, texts_long, past_long, header_short}
 use Rattle.task_program.proofs.FaultFound.{nothing_after, nothing_after_one}
+use Rattle.large_text.specs.declared.limits.TheConstants.{MOST_LARGE_NESTING}
 use Rattle.large_text.specs.declared.marks.TextMark.{TextMark}
 use Rattle.large_text.specs.declared.reader.MarkReader.{MarkReader}
-use Rattle.large_text.specs.LargeFaults.{large_limit_by, large_limit_after, is_inside_at}
+use Rattle.large_text.specs.LargeFaults.{large_limit_by, is_inside_at}
 use Rattle.large_text.specs.LargeFaults.{items_coming, large_form_fault}
 use Rattle.large_text.specs.LargeReading.{state_of, with_bytes, marks_after, large_step}
 use Rattle.large_text.specs.LargeReading.{mark_seen}
-use Rattle.large_text.specs.LargeTrees.{IsLargeRight}
-use Rattle.large_text.specs.LargeTrees.AreLargeRight.{More}
-use Rattle.large_text.proofs.Sound.{IsSound}
+use Rattle.large_text.specs.LargeTrees.{large_rules}
+use Rattle.large_text.proofs.Sound.{IsBehind, IsSound}
 use Rattle.large_text.proofs.Open.{TreeOpen, place_open}
 use Rattle.large_text.proofs.Steps.{Passed, passed, is_there, is_under, closes_so}
 use Rattle.large_text.proofs.Steps.{number_fits, is_formed, names_grow, items_grow}
@@ -187,7 +189,7 @@ limit_told t text = large_limit_by t.inside t.work t.items (length t.braces) tex
 pub limits_so : (before : List Token) (state : State) (work : ℕ) (text : List ℕ)
     → tally_of (drop 2 before) ≡ tally_now state
     → work ≡ work_of state.tree.marks
-    → large_limit_after (drop 2 before) text
+    → limit_fault_after MOST_LARGE_NESTING None (drop 2 before) text
     ≡ large_limit_by (is_inside_at state.place) work
     (length state.head.items + items_coming state.place) (length state.tree.blocks) text
 limits_so before state work text tally_is work_is =
@@ -245,18 +247,40 @@ work_within before state next token began tally_is none allowed same le past_not
     omega (arith, sym on, le))
 
 -- nothing is wrong with a token that is taken
-right_more : (before : List Token) (work : ℕ) (state next : State) (token : Token)
-    → Began (texts before) state
-    → tally_of (drop 2 before) ≡ tally_now state
+pub right_more : (before : List Token) (work : ℕ) (state next : State) (token : Token)
+    → IsBehind before state
     → work ≡ work_of state.tree.marks
     → Passed work state token next
-    → IsLargeRight before token.text
-right_more before work state next token began tally_is work_is p = record {
-  formed = subst (λ (n : ℕ). large_form_fault n token.text ≡ None) began.bytes_are p.formed;
-  viable = viable_next (texts before) state token.text began
+    → IsRight large_rules before token.text
+right_more before work state next token b work_is p = record {
+  formed = subst (λ (n : ℕ). large_form_fault n token.text ≡ None) b.began.bytes_are p.formed;
+  viable = viable_next (texts before) state token.text b.began
       (fits_there work state token next p);
-  within = limits_so before state work token.text tally_is work_is ∙ p.limit;
+  within = limits_so before state work token.text b.tally_is work_is ∙ p.limit;
 }
+
+-- what is so behind one token more
+pub behind_more : (before : List Token) (work : ℕ) (state next : State) (token : Token)
+    → IsBehind before state
+    → Passed work state token next
+    → IsBehind (before ++ token ∷ []) next
+behind_more before work state next token b p =
+    let inside : State = with_bytes state (length token.text) in
+    let there =
+    is_there state.place state.head.has_if (length state.tree.blocks) token.text p.grammar in
+    let allowed = not-false _ there.allowed in
+    let more = sym (texts_more before token) in
+    record {
+      explained = subst (λ (ts : List (List ℕ)). Explained ts next) more
+          (explained_more (texts before) work state next token b.explained p);
+      began = subst (λ (ts : List (List ℕ)). Began ts next) more
+          (began_more (texts before) work state next token b.began p);
+      tally_is = tally_goes before state next token b.began b.tally_is b.no_items allowed p.next_is;
+      no_items = subst (λ (s : State). NoItems s.place s.head.items) p.next_is
+          (items_go state.place inside token.text token.line b.no_items);
+      open_are = subst (λ (s : State). TreeOpen s.tree) p.next_is
+          (place_open state.place inside token.text token.line b.open_are);
+    }
 
 one_mark : (marks : List Mark) (mark : Option TextMark)
     → length (marks_after marks mark) ≤ length marks + 1
@@ -272,6 +296,7 @@ pub read_more : (before : List Token) (marks : List Mark) (old new : MarkReader)
     → IsSound (before ++ token ∷ []) (marks_after marks mark) new
 read_more before marks old new token mark r step work =
     let state = state_of old marks in
+    let b = r.behind in
     let next = state_of new (marks_after marks mark) in
     let inside : State = with_bytes state (length token.text) in
     let p = passed old.work state token next step in
@@ -280,7 +305,6 @@ read_more before marks old new token mark r step work =
     let under = is_under (is_inside_at state.place) old.work _ _ token.text p.limit in
     let form = is_formed state.bytes token.text p.formed in
     let allowed = not-false _ there.allowed in
-    let more = sym (texts_more before token) in
     let bytes_is : new.bytes ≡ old.bytes + length token.text =
     sym (ap (λ (s : State). s.bytes) p.next_is)
     ∙ bytes_stay state.place inside token.text token.line in
@@ -293,21 +317,13 @@ read_more before marks old new token mark r step work =
     let work_is : new.work ≡ work_of (marks_after marks mark) =
     omega (arith, work, r.work_is, work_more marks mark) in
     let work_few : work_of (marks_after marks mark) ≤ MOST_WORK = work_within before state next token
-    r.began r.tally_is r.no_items allowed p.next_is (omega (arith, r.work_is, r.within.work))
+    b.began b.tally_is b.no_items allowed p.next_is (omega (arith, r.work_is, r.within.work))
     (subst (λ (n : ℕ). is_work_past (is_inside_at old.place) n token.text ≡ false) r.work_is
     under.work_fits) in
     record {
-      explained = subst (λ (ts : List (List ℕ)). Explained ts next) more
-          (explained_more (texts before) old.work state next token r.explained p);
-      began = subst (λ (ts : List (List ℕ)). Began ts next) more
-          (began_more (texts before) old.work state next token r.began p);
-      tally_is = tally_goes before state next token r.began r.tally_is r.no_items allowed p.next_is;
-      no_items = subst (λ (s : State). NoItems s.place s.head.items) p.next_is
-          (items_go state.place inside token.text token.line r.no_items);
+      behind = behind_more before old.work state next token b p;
       right = More before token r.right
-          (right_more before old.work state next token r.began r.tally_is r.work_is p);
-      open_are = subst (λ (s : State). TreeOpen s.tree) p.next_is
-          (place_open state.place inside token.text token.line r.open_are);
+          (right_more before old.work state next token b r.work_is p);
       work_is = work_is;
       few = omega (arith, one_mark marks mark, bytes_is, form.some, r.few);
       within = record {

@@ -17,11 +17,12 @@ use Rattle.program_text.specs.Marks.{Mark}
 use Rattle.program_text.specs.Tokens.{Token, texts}
 use Rattle.program_text.specs.Words.{is_text}
 use Rattle.task_program.specs.Faults.{State, place_fault, is_header}
-use Rattle.task_program.specs.TokenFaults.{form_fault}
+use Rattle.task_program.specs.Faults.{form_fault}
 use Rattle.task_program.specs.TreeSoFar.{Block}
 use Rattle.task_program.specs.Faults.{closes_nothing, is_allowed, step, after_at}
 use Rattle.task_program.specs.TreeSoFar.{after_end_of}
-use Rattle.task_program.specs.ViablePrefix.{IsSentence, IsViable}
+use Rattle.task_program.specs.FirstFault.{IsViable}
+use Rattle.task_program.specs.ViablePrefix.{IsSentence}
 use Rattle.task_program.proofs.Keeping.{at, passes, unless_ok, ok_is}
 use Rattle.task_program.proofs.FoundPlaces.{same_text}
 use Rattle.task_program.proofs.FoundWhole.{bytes_stay}
@@ -180,7 +181,7 @@ pub record Began (before : List (List ℕ)) (state : State) : Type 0 where
 
 -- a token that the grammar does not have
 pub is_not_viable : (before : List (List ℕ)) (state : State) (text : List ℕ) → Began before state
-    → fits (shape_of state) text ≡ false → IsViable (before ++ text ∷ []) → ⊥
+    → fits (shape_of state) text ≡ false → IsViable IsSentence (before ++ text ∷ []) → ⊥
 is_not_viable before state text b wrong_here v =
     let sentence : IsSentence (before ++ text ∷ v.0) =
     subst IsSentence (append_assoc before (text ∷ []) v.0) v.1 in
@@ -190,7 +191,7 @@ is_not_viable before state text b wrong_here v =
 
 -- and one that it has
 pub viable_next : (before : List (List ℕ)) (state : State) (text : List ℕ) → Began before state
-    → fits (shape_of state) text ≡ true → IsViable (before ++ text ∷ [])
+    → fits (shape_of state) text ≡ true → IsViable IsSentence (before ++ text ∷ [])
 viable_next before state text b yes_fits =
     let next = lead (shape_of state) text in
     let continued = may_continue next.place next.has_if next.depth in
