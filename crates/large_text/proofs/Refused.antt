@@ -1,28 +1,25 @@
 -- What is wrong with a token at which the reading stops.
-use Rattle.std.proofs.Common.{◌≡◌, ◌≢◌, ℕ, ◌+◌, Bool, true, false, not, List, [], ◌∷◌, ◌++◌, length}
-use Rattle.std.proofs.Common.{Option, Some, None, Result, Err, refl, sym, subst, ◌∙◌, codes}
+use Rattle.std.proofs.Common.{◌≡◌, ◌≢◌, ℕ, ◌+◌, Bool, true, false, List, [], ◌∷◌, ◌++◌, length}
+use Rattle.std.proofs.Common.{Some, None, Result, Err, refl, sym, subst, ◌∙◌}
 use Rattle.std.specs.Prelude.{MatchBool, sum_by}
-use Rattle.std.proofs.lemmas.List.{append-nil}
 use Rattle.program_text.specs.declared.fault.ReadKind.{ReadKind}
-use Rattle.program_text.specs.declared.fault.ReadKind.TheVariants.{OutOfMemory, BadHeader, BadWord}
-use Rattle.program_text.specs.declared.fault.ReadKind.TheVariants.{Unopened}
+use Rattle.program_text.specs.declared.fault.ReadKind.TheVariants.{OutOfMemory}
 use Rattle.program_text.specs.declared.fault.ReadFault.{ReadFault}
 use Rattle.program_text.specs.Answers.{Fails, is_memory}
 use Rattle.program_text.specs.Limits.{work_of}
 use Rattle.program_text.specs.Marks.{Mark}
 use Rattle.program_text.specs.Tokens.{Token, texts}
-use Rattle.task_program.specs.Faults.{State, unless_fault, is_header, is_allowed}
-use Rattle.task_program.specs.FirstFault.IsMisplaced.{OfHeader, AfterWhole, Elsewhere}
+use Rattle.task_program.specs.Faults.{State}
 use Rattle.task_program.specs.FirstFault.{IsViable, IsWrong}
 use Rattle.task_program.specs.FirstFault.IsFirstFault.{AtToken}
-use Rattle.task_program.specs.FirstFault.IsWrong.{ByItself, Misplaced, PastLimit}
+use Rattle.task_program.specs.FirstFault.IsWrong.{ByItself, PastLimit}
 use Rattle.task_program.specs.ViablePrefix.{IsSentence}
-use Rattle.task_program.proofs.FirstFaults.{fault_so}
 use Rattle.task_program.proofs.Machines.{WrongSo}
-use Rattle.task_program.proofs.Shapes.{closes_none}
-use Rattle.task_program.proofs.Begun.{Began, row_cases, is_not_viable, viable_next, no_header}
-use Rattle.task_program.proofs.Begun.{no_close, none_allowed, in_header, after_header, closes_at}
-use Rattle.task_program.proofs.Begun.{whole_closes, whole_now, fits_of, closes_same}
+use Rattle.task_program.proofs.Begun.{Began, viable_next}
+use Rattle.task_program.proofs.Begun.{fits_of, closes_same}
+use Rattle.task_program.proofs.FaultFound.{misplaced_or, unless_err}
+use Rattle.large_text.specs.declared.limits.TheConstants.{MOST_LARGE_TOKEN_BYTES}
+use Rattle.large_text.specs.declared.limits.TheConstants.{MOST_LARGE_NESTING}
 use Rattle.large_text.specs.declared.reader.MarkReader.{MarkReader}
 use Rattle.large_text.specs.LargeFaults.{grammar_fault, large_limit_by}
 use Rattle.large_text.specs.LargeFaults.{closes_no_block, is_inside_at, items_coming}
@@ -33,14 +30,6 @@ use Rattle.large_text.proofs.Steps.{closes_so, is_there}
 use Rattle.large_text.proofs.Sound.{IsBehind, IsSound}
 use Rattle.large_text.proofs.SoFar.{limits_so}
 
-unless_err : {P : Type 0} (found : Option ReadKind) (line : ℕ) (after : Result State ReadFault)
-    (fault : ReadFault)
-    → unless_fault found line after ≡ Err fault
-    → ((kind : ReadKind) → found ≡ Some kind → fault_so kind line ≡ fault → P)
-    → (found ≡ None → after ≡ Err fault → P) → P
-unless_err (Some kind) line after fault h here later = here kind refl cc
-unless_err None line after fault h here later = later refl h
-
 -- the grammar has not the token there
 misplaced : (before : List Token) (state : State) (text : List ℕ) (kind : ReadKind)
     → Began (texts before) state
@@ -48,42 +37,10 @@ misplaced : (before : List Token) (state : State) (text : List ℕ) (kind : Read
     → grammar_fault state.place state.head.has_if (length state.tree.blocks) text ≡ Some kind
     → IsWrong large_rules before text kind
 misplaced before state text kind began formed h =
-    let place = state.place in
-    let depth = length state.tree.blocks in
-    let header_is = is_header place text in
-    let allowed_is = is_allowed place state.head.has_if text in
-    let closes_is = closes_none place depth text in
-    let closes_same : closes_no_block place depth text ≡ closes_is = closes_so place depth text in
-    row_cases (not header_is) BadHeader kind _ h
-    (λ bad same. subst (IsWrong large_rules before text) same (Misplaced formed
-    (is_not_viable (texts before) state text began (no_header header_is closes_is allowed_is bad))
-    (OfHeader (in_header place text (length (texts before)) began.length_is
-    bad))))
-    (λ header h1. row_cases (closes_no_block place depth text) Unopened kind _ h1
-    (λ closes same.
-    let whole = closes_at place state.head.has_if depth text (sym closes_same ∙ closes) in
-    let sentence : IsSentence (texts before) = subst IsSentence (append-nil (texts before))
-    (began.follows [] whole.1) in
-    subst (IsWrong large_rules before text) same (Misplaced formed
-    (is_not_viable (texts before) state text began
-    (no_close header_is _ closes_is allowed_is closes closes_same))
-    (AfterWhole sentence whole.0)))
-    (λ unopened h2. row_cases (not allowed_is) BadWord kind None h2
-    (λ bad same.
-    let no_whole : IsSentence (texts before) → text ≡ codes "}"
-    → ⊥ = λ s text_is. absurd
-    (let wrong : true
-    ≡ false = sym (whole_closes place depth text (whole_now (texts before) state began s) text_is)
-    ∙ sym closes_same
-    ∙ unopened in cc)
-    in
-    subst (IsWrong large_rules before text) same (Misplaced formed
-    (is_not_viable (texts before) state text began
-    (none_allowed header_is closes_is allowed_is bad))
-    (Elsewhere
-    (after_header place state.head.has_if text (length (texts before)) began.length_is bad)
-    no_whole)))
-    (λ allowed h3. absurd cc)))
+    misplaced_or MOST_LARGE_TOKEN_BYTES MOST_LARGE_NESTING (λ body text. None) before state text
+    kind (closes_no_block state.place (length state.tree.blocks) text) None began formed
+    (closes_so state.place (length state.tree.blocks) text) h
+    (λ header unopened allowed none. absurd cc)
 
 -- the grammar has it, so a sentence begins with it
 viable_there : (before : List Token) (state : State) (text : List ℕ) → Began (texts before) state

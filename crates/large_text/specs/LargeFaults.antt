@@ -1,9 +1,12 @@
 -- What a reader of marks tests of a token at its place: what it is by itself, whether the grammar has
 -- it there, and which limit it passes.
-use Rattle.std.specs.Prelude.{ℕ, Bool, true, false, not, ◌&&◌, ◌==◌}
+use Rattle.std.specs.Prelude.{ℕ, Bool, true, false, not, ◌&&◌, ◌==◌, nat_lt}
 use Rattle.std.specs.Prelude.{if◌then◌else◌, List, Option, Some, None, codes}
 use Rattle.program_text.specs.declared.fault.ReadKind.{ReadKind}
-use Rattle.program_text.specs.declared.fault.ReadKind.TheVariants.{BadHeader, BadWord, Unopened}
+use Rattle.program_text.specs.declared.fault.ReadKind.TheVariants.{BadHeader, BadWord, BadNumber}
+use Rattle.program_text.specs.declared.fault.ReadKind.TheVariants.{Unopened, TooDeep, TooManyItems}
+use Rattle.program_text.specs.declared.fault.ReadKind.TheVariants.{WorkTooLarge}
+use Rattle.program_text.specs.declared.limits.TheConstants.{MOST_ITEMS}
 use Rattle.program_text.specs.TokenFaults.{form_fault_within}
 use Rattle.program_text.specs.Words.{is_text}
 use Rattle.task_program.specs.declared.place.Place.{Place}
@@ -11,7 +14,7 @@ use Rattle.task_program.specs.declared.place.Place.TheVariants.{Statement, IfNum
 use Rattle.task_program.specs.declared.place.Place.TheVariants.{DependType, DependColon}
 use Rattle.task_program.specs.declared.place.Place.TheVariants.{DependName, DependMore}
 use Rattle.task_program.specs.Faults.{is_header, is_allowed}
-use Rattle.task_program.specs.TokenCounts.{limit_by}
+use Rattle.task_program.specs.TokenCounts.{is_value_too_large, is_too_deep, is_work_past}
 use Rattle.large_text.specs.declared.limits.TheConstants.{MOST_LARGE_TOKEN_BYTES}
 use Rattle.large_text.specs.declared.limits.TheConstants.{MOST_LARGE_NESTING}
 
@@ -51,7 +54,11 @@ items_coming _ = 0
 
 -- ---- the limits
 
--- the first limit that is passed with this token; tasks and segments have none
+-- the first limit that is passed with this token
 abbrev pub large_limit_by : (inside : Bool) (work items open_blocks : ℕ) → List ℕ → Option ReadKind
 large_limit_by inside work items open_blocks text =
-    limit_by MOST_LARGE_NESTING None inside work items open_blocks text
+    if is_value_too_large inside text then Some BadNumber
+    else (if is_too_deep MOST_LARGE_NESTING open_blocks text then Some TooDeep
+    else (if nat_lt MOST_ITEMS items then Some TooManyItems
+    else (if is_work_past inside work text then Some WorkTooLarge
+    else None)))

@@ -215,17 +215,15 @@ fits_of state text header unopened allowed =
     header unopened (closes_same state.place state.tree.blocks text) allowed
 
 -- one token more: what was read is still the beginning of a text
-pub step_begins : (before : List (List ℕ)) (state next : State) (token : Token) → Began before state
-    → step state token ≡ Ok next → Began (before ++ token.text ∷ []) next
-unfolding step
-step_begins before state next token b h =
-    let passed = unless_ok (form_fault state.bytes token.text) token.line _ next h in
+pub began_more : (before : List (List ℕ)) (state next : State) (token : Token)
+    → Began before state
+    → fits (shape_of state) token.text ≡ true
+    → after_at state.place (record state { bytes = state.bytes + length token.text }) token.text
+    token.line
+    ≡ next
+    → Began (before ++ token.text ∷ []) next
+began_more before state next token b fits_so same =
     let inside : State = record state { bytes = state.bytes + length token.text } in
-    let placed = unless_ok (place_fault inside token.text) token.line _ next passed.1 in
-    let passed = passes inside token.text placed.0 in
-    let fits_so : fits (shape_of state) token.text ≡ true =
-    fits_of inside token.text passed.header passed.unopened passed.allowed in
-    let same = ok_is (after_at state.place inside token.text token.line) next placed.1 in
     let leads : shape_of next ≡ lead (shape_of state) token.text = sym
     (ap (λ (s : State). shape_of s) same)
     ∙ place_leads state.place inside token.text token.line in
@@ -253,6 +251,18 @@ step_begins before state next token b h =
           (length before) b.length_is));
       bytes_are = omega (arith, sum_is, bytes_is, b.bytes_are);
     }
+
+pub step_begins : (before : List (List ℕ)) (state next : State) (token : Token) → Began before state
+    → step state token ≡ Ok next → Began (before ++ token.text ∷ []) next
+unfolding step
+step_begins before state next token b h =
+    let passed = unless_ok (form_fault state.bytes token.text) token.line _ next h in
+    let inside : State = record state { bytes = state.bytes + length token.text } in
+    let placed = unless_ok (place_fault inside token.text) token.line _ next passed.1 in
+    let passed = passes inside token.text placed.0 in
+    began_more before state next token b
+    (fits_of inside token.text passed.header passed.unopened passed.allowed)
+    (ok_is (after_at state.place inside token.text token.line) next placed.1)
 
 -- ---- the fault of a token
 

@@ -1,5 +1,5 @@
 -- The fault that is told is the first.
-use Rattle.std.proofs.Common.{◌≡◌, ℕ, ◌<◌, ◌+◌, ◌≤◌, Bool, true, false, not, List, [], ◌∷◌, ◌++◌}
+use Rattle.std.proofs.Common.{◌≡◌, ℕ, ◌<◌, ◌+◌, ◌≤◌, Bool, true, false, not, cond, List, [], ◌∷◌, ◌++◌}
 use Rattle.std.proofs.Common.{length, Option, Some, None, Result, Ok, Err, refl, sym}
 use Rattle.std.proofs.Common.{ap, subst, ◌∙◌, arith, codes}
 use Rattle.std.specs.Prelude.{sum_by, nat_lt, drop, map}
@@ -16,6 +16,7 @@ use Rattle.task_program.specs.declared.place.Place.TheVariants.{DependMore}
 use Rattle.program_text.specs.declared.limits.TheConstants.{MOST_TEXT_BYTES, MOST_TOKEN_BYTES}
 use Rattle.program_text.specs.declared.limits.TheConstants.{MOST_NESTING}
 use Rattle.program_text.specs.Tokens.{Token, texts, tokens_of, line_at_end}
+use Rattle.program_text.specs.TokenFaults.{form_fault_within}
 use Rattle.program_text.specs.Words.{is_text}
 use Rattle.task_program.specs.Within.{IsWithin}
 use Rattle.task_program.specs.ProgramMarks.{ProgramMarks}
@@ -145,12 +146,14 @@ limits_so before state text c header allowed =
     ∙ sym (header_limitless state.place state text here))
 
 -- the tally of the tokens goes on as the state does
-tally_goes : (before : List Token) (state : State) (bytes : ℕ) (next : State) (token : Token)
-    → Counts before state
+pub tally_goes : (before : List Token) (state : State) (bytes : ℕ) (next : State) (token : Token)
+    → Began (texts before) state
+    → tally_of (drop 2 before) ≡ tally_now state
+    → NoItems state.place state.head.items
     → is_allowed state.place state.head.has_if token.text ≡ true
     → after_at state.place (record state { bytes = bytes }) token.text token.line ≡ next
     → tally_of (drop 2 (before ++ token ∷ [])) ≡ tally_now next
-tally_goes before state bytes next token c allowed same =
+tally_goes before state bytes next token began tally_is no_items allowed same =
     let inside : State = record state { bytes = bytes } in
     let on : tally_now (after_at state.place inside token.text token.line) ≡ tally_now next =
     ap (λ (s : State). tally_now s) same in
@@ -158,23 +161,23 @@ tally_goes before state bytes next token c allowed same =
     (λ past.
     let long : 2
     ≤ length before = omega
-    (arith, texts_long before, past_long state.place (length (texts before)) c.began.length_is past)
+    (arith, texts_long before, past_long state.place (length (texts before)) began.length_is past)
     in
     ap (λ (ts : List Token). tally_of ts) (drop-append-le 2 before (token ∷ []) long)
     ∙ tally_more (drop 2 before) token
-    ∙ ap (λ (t : Tally). tally_after t token) c.tally_is
-    ∙ place_tallies state.place inside token.text token.line past c.no_items allowed ∙ on)
+    ∙ ap (λ (t : Tally). tally_after t token) tally_is
+    ∙ place_tallies state.place inside token.text token.line past no_items allowed ∙ on)
     (λ here.
     let short : length before
     ≤ 1 = omega (
       arith,
       texts_long before,
-      header_short state.place (length (texts before)) c.began.length_is here,
+      header_short state.place (length (texts before)) began.length_is here,
     )
     in
     ap (λ (ts : List Token). tally_of ts)
     (nothing_after_one before token short ∙ sym (nothing_after before short))
-    ∙ c.tally_is
+    ∙ tally_is
     ∙ header_tallies state.place inside token.text token.line here
     ∙ on)
 
@@ -221,7 +224,8 @@ counts_more before state next token c h =
       began = subst (λ (ts : List (List ℕ)). Began ts next) (sym (texts_more before token))
           (step_begins (texts before) state next token c.began h);
       tally_is =
-          tally_goes before state (state.bytes + length token.text) next token c allowed same;
+          tally_goes before state (state.bytes + length token.text) next token c.began c.tally_is
+          c.no_items allowed same;
       within = step_keeps state token next c.within h;
       no_items = subst (λ (s : State). NoItems s.place s.head.items) same
           (items_go state.place inside token.text token.line c.no_items);
@@ -229,56 +233,74 @@ counts_more before state next token c h =
 
 -- ---- the fault of a token
 
--- the fault of a token that is one by itself
+module _ (token_bytes nesting : ℕ) (too_many : List Token → List ℕ → Option ReadKind) where
+  -- the grammar has not the token there, or the fault is one that is looked for later
+  pub misplaced_or : (before : List Token) (state : State) (text : List ℕ) (kind : ReadKind)
+      (closes : Bool) (later : Option ReadKind)
+      → Began (texts before) state
+      → form_fault_within token_bytes (sum_by length (texts before)) text ≡ None
+      → closes ≡ closes_none state.place (length state.tree.blocks) text
+      → cond (not (is_header state.place text)) (Some BadHeader)
+      (cond closes (Some Unopened)
+      (cond (not (is_allowed state.place state.head.has_if text)) (Some BadWord) later))
+      ≡ Some kind
+      → (not (is_header state.place text) ≡ false
+      → closes ≡ false
+      → not (is_allowed state.place state.head.has_if text) ≡ false
+      → later ≡ Some kind
+      → IsWrong (plain_rules token_bytes nesting too_many) before text kind)
+      → IsWrong (plain_rules token_bytes nesting too_many) before text kind
+  misplaced_or before state text kind closes later began formed closes_so h past =
+      let place = state.place in
+      let depth = length state.tree.blocks in
+      let header_is = is_header place text in
+      let allowed_is = is_allowed place state.head.has_if text in
+      let closes_is = closes_none place depth text in
+      let wrong = IsWrong (plain_rules token_bytes nesting too_many) before text in
+      row_cases (not header_is) BadHeader kind _ h
+      (λ bad same. subst wrong same (Misplaced formed
+      (is_not_viable (texts before) state text began (no_header header_is closes_is allowed_is bad))
+      (OfHeader (in_header place text (length (texts before)) began.length_is bad))))
+      (λ header h1. row_cases closes Unopened kind _ h1
+      (λ closed same.
+      let whole = closes_at place state.head.has_if depth text (sym closes_so ∙ closed) in
+      let sentence : IsSentence (texts before) =
+      subst IsSentence (append-nil (texts before)) (began.follows [] whole.1) in
+      subst wrong same (Misplaced formed
+      (is_not_viable (texts before) state text began
+      (no_close header_is closes closes_is allowed_is closed closes_so))
+      (AfterWhole sentence whole.0)))
+      (λ unopened h2. row_cases (not allowed_is) BadWord kind later h2
+      (λ bad same.
+      let no_whole : IsSentence (texts before) → text ≡ codes "}" → ⊥ = λ s text_is. absurd
+      (let wrong : true ≡ false =
+      sym (whole_closes place depth text (whole_now (texts before) state began s) text_is)
+      ∙ sym closes_so
+      ∙ unopened in cc)
+      in
+      subst wrong same (Misplaced formed
+      (is_not_viable (texts before) state text began
+      (none_allowed header_is closes_is allowed_is bad))
+      (Elsewhere
+      (after_header place state.head.has_if text (length (texts before)) began.length_is bad)
+      no_whole)))
+      (λ allowed h3. past header unopened allowed h3)))
+
+-- the fault of a token that is none by itself
 at_place : (before : List Token) (state : State) (text : List ℕ) (kind : ReadKind)
     → Counts before state
     → form_fault (sum_by length (texts before)) text ≡ None
     → place_fault state text ≡ Some kind
     → IsWrong program_rules before text kind
 at_place before state text kind c formed h =
-    let began = c.began in
-    let place = state.place in
-    let depth = length state.tree.blocks in
-    let header_is = is_header place text in
-    let allowed_is = is_allowed place state.head.has_if text in
-    let closes_is = closes_none place depth text in
-    let closes_so : closes_nothing place state.tree.blocks text ≡ closes_is =
-    closes_same place state.tree.blocks text in
-    row_cases (not header_is) BadHeader kind _ h
-    (λ bad same. subst (IsWrong program_rules before text) same (Misplaced formed
-    (is_not_viable (texts before) state text began (no_header header_is closes_is allowed_is bad))
-    (OfHeader (in_header place text (length (texts before)) began.length_is
-    bad))))
-    (λ header h1. row_cases (closes_nothing place state.tree.blocks text) Unopened kind _ h1
-    (λ closes same.
-    let whole = closes_at place state.head.has_if depth text (sym closes_so ∙ closes) in
-    let sentence : IsSentence (texts before) = subst IsSentence (append-nil (texts before))
-    (began.follows [] whole.1) in
-    subst (IsWrong program_rules before text) same (Misplaced formed
-    (is_not_viable (texts before) state text began
-    (no_close header_is _ closes_is allowed_is closes closes_so))
-    (AfterWhole sentence whole.0)))
-    (λ unopened h2. row_cases (not allowed_is) BadWord kind _ h2
-    (λ bad same.
-    let no_whole : IsSentence (texts before) → text ≡ codes "}"
-    → ⊥ = λ s text_is. absurd
-    (let wrong : true
-    ≡ false = sym (whole_closes place depth text (whole_now (texts before) state began s) text_is)
-    ∙ sym closes_so
-    ∙ unopened in cc)
-    in
-    subst (IsWrong program_rules before text) same (Misplaced formed
-    (is_not_viable (texts before) state text began
-    (none_allowed header_is closes_is allowed_is bad))
-    (Elsewhere
-    (after_header place state.head.has_if text (length (texts before)) began.length_is bad)
-    no_whole)))
-    (λ allowed h3. PastLimit formed
-    (viable_next (texts before) state text began (fits_of state text header unopened allowed))
-    (limits_so before state text c (not-false header_is header) (not-false allowed_is allowed) ∙
-    h3))))
+    misplaced_or MOST_TOKEN_BYTES MOST_NESTING too_many_after before state text kind
+    (closes_nothing state.place state.tree.blocks text) _ c.began formed
+    (closes_same state.place state.tree.blocks text) h
+    (λ header unopened allowed later. PastLimit formed
+    (viable_next (texts before) state text c.began (fits_of state text header unopened allowed))
+    (limits_so before state text c (not-false _ header) (not-false _ allowed) ∙ later))
 
-unless_err : {P : Type 0} (found : Option ReadKind) (line : ℕ) (after : Result State ReadFault)
+pub unless_err : {P : Type 0} (found : Option ReadKind) (line : ℕ) (after : Result State ReadFault)
     (fault : ReadFault)
     → unless_fault found line after ≡ Err fault
     → ((kind : ReadKind) → found ≡ Some kind → fault_so kind line ≡ fault → P)

@@ -43,8 +43,8 @@ use Rattle.task_program.specs.TokenCounts.{inside_after, is_inside, outside_from
 use Rattle.task_program.specs.TokenCounts.{is_waiting, is_value_too_large, is_too_deep}
 use Rattle.task_program.specs.TokenCounts.{is_task_past, is_segment_past, is_work_past, segments_by}
 use Rattle.task_program.specs.TokenCounts.{work_by, tasks_in, segments_in, work_in, items_after}
-use Rattle.task_program.specs.TokenCounts.{items_in, braces_after, open_braces, limit_by}
-use Rattle.task_program.specs.TokenCounts.{too_many_by, too_many_after, or_else, limit_fault_after}
+use Rattle.task_program.specs.TokenCounts.{items_in, braces_after, open_braces}
+use Rattle.task_program.specs.TokenCounts.{too_many_after, or_else, limit_fault_after}
 use Rattle.task_program.proofs.Keeping.{at, with_one}
 use Rattle.task_program.proofs.FoundPlaces.{same_text}
 use Rattle.task_program.proofs.Found.{type_is, is_depend, is_end}
@@ -434,7 +434,7 @@ table number deep task segment item work =
     (cond item (Some TooManyItems) (cond work (Some WorkTooLarge) None)))))
 
 -- those that the definition has
-abbrev told : (number deep task segment item work : Bool) → Option ReadKind
+abbrev pub told : (number deep task segment item work : Bool) → Option ReadKind
 told number deep task segment item work =
     cond number (Some BadNumber) (cond deep (Some TooDeep)
     (or_else (cond task (Some TooManyTasks) (cond segment (Some TooManySegments) None))
@@ -467,8 +467,9 @@ limits state text =
 
 abbrev pub limit_of : Tally → List ℕ → Option ReadKind
 limit_of t text =
-    limit_by MOST_NESTING (too_many_by t.inside t.tasks t.segments text) t.inside t.work t.items
-    (length t.braces) text
+    told (is_value_too_large t.inside text) (is_too_deep MOST_NESTING (length t.braces) text)
+    (is_task_past t.inside t.tasks text) (is_segment_past t.inside t.segments text)
+    (nat_lt MOST_ITEMS t.items) (is_work_past t.inside t.work text)
 
 -- each row by itself
 limit_at : (place : Place) (state : State) (text : List ℕ) (a b c d e f : Bool)

@@ -109,43 +109,26 @@ abbrev pub is_work_past : (inside : Bool) → (work : ℕ) → List ℕ → Bool
 is_work_past inside work text =
     not inside && (is_number text && nat_lt MOST_WORK (work + value_of text))
 
--- of tasks and segments there are too many with this token
-abbrev pub too_many_by : (inside : Bool) → (tasks segments : ℕ) → List ℕ → Option ReadKind
-too_many_by inside tasks segments text =
-    if is_task_past inside tasks text then Some TooManyTasks
-    else (if is_segment_past inside segments text then Some TooManySegments
-    else None)
-
+-- there are too many tasks or segments with this token, after these
 abbrev pub too_many_after : (body : List Token) → List ℕ → Option ReadKind
 too_many_after body text =
     let before = texts body in
-    too_many_by (is_inside before) (tasks_in before) (segments_in before) text
+    if is_task_past (is_inside before) (tasks_in before) text then Some TooManyTasks
+    else (if is_segment_past (is_inside before) (segments_in before) text then Some TooManySegments
+    else None)
 
 abbrev pub or_else : Option ReadKind → Option ReadKind → Option ReadKind
 or_else (Some kind) later = Some kind
 or_else None later = later
 
--- the first limit that is passed with this token, where so many blocks may be open
-abbrev pub limit_by : (nesting : ℕ)
-    → (too_many : Option ReadKind)
-    → (inside : Bool)
-    → (work items open_blocks : ℕ)
-    → List ℕ
-    → Option ReadKind
-limit_by nesting too_many inside work items open_blocks text =
-    if is_value_too_large inside text then Some BadNumber
-    else (if is_too_deep nesting open_blocks text then Some TooDeep
-    else or_else too_many (if nat_lt MOST_ITEMS items then Some TooManyItems
-    else (if is_work_past inside work text then Some WorkTooLarge
-    else None)))
-
--- the limit that this token passes after these
-abbrev pub limit_fault_after : (nesting : ℕ)
-    → (too_many : Option ReadKind)
-    → (body : List Token)
+-- the first limit that this token passes after these, where so many blocks may be open
+abbrev pub limit_fault_after : (nesting : ℕ) (too_many : Option ReadKind) (body : List Token)
     → List ℕ
     → Option ReadKind
 limit_fault_after nesting too_many body text =
     let before = texts body in
-    limit_by nesting too_many (is_inside before) (work_in before) (items_in before)
-    (length (open_braces body)) text
+    if is_value_too_large (is_inside before) text then Some BadNumber
+    else (if is_too_deep nesting (length (open_braces body)) text then Some TooDeep
+    else or_else too_many (if nat_lt MOST_ITEMS (items_in before) then Some TooManyItems
+    else (if is_work_past (is_inside before) (work_in before) text then Some WorkTooLarge
+    else None)))
