@@ -69,5 +69,5 @@ pub fn start<R: Read, W: Write>(
         Ok(words) => command(alloc, words.as_slice(), reader, writer),
         Err(error) => without_words(error.kind(), writer),
     };
-    ExitCode::from(status.exit_status() & 2)
+    ExitCode::from(status.exit_status())
 }

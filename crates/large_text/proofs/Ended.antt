@@ -10,7 +10,7 @@ use Rattle.program_text.specs.Tokens.{Token, texts}
 use Rattle.task_program.specs.declared.place.Place.{Place}
 use Rattle.task_program.specs.declared.place.Place.TheVariants.{Header, Version, Statement}
 use Rattle.task_program.specs.Faults.{State, end_at}
-use Rattle.task_program.specs.FirstFault.{EndsEarly}
+use Rattle.task_program.specs.FirstFault.IsFirstFault.{AtEnd}
 use Rattle.task_program.specs.Grammar.{texts_of, names_of_piece}
 use Rattle.task_program.specs.Names.{with_name}
 use Rattle.task_program.specs.TreeSoFar.{Block}
@@ -19,12 +19,15 @@ use Rattle.task_program.proofs.FoundPlaces.{Explained}
 use Rattle.task_program.proofs.Begun.{LengthAt, is_not_viable, viable_next, whole_now}
 use Rattle.task_program.proofs.Tallies.{Tally}
 use Rattle.task_program.proofs.FaultFound.{end_by, whole_ends, texts_long}
+use Rattle.task_program.proofs.Machines.{EndsSo}
+use Rattle.large_text.specs.declared.limits.TheConstants.{MOST_LARGE_TOKEN_BYTES}
+use Rattle.large_text.specs.declared.limits.TheConstants.{MOST_LARGE_NESTING}
 use Rattle.large_text.specs.declared.reader.MarkReader.{MarkReader}
 use Rattle.large_text.specs.LargeReading.{state_of}
 use Rattle.task_program.proofs.Shapes.{FollowsAt, nothing_follows}
-use Rattle.large_text.specs.LargeTrees.{HasLargeTree, IsLargeRightWhole, IsLargeFirstFault}
-use Rattle.large_text.specs.LargeTrees.IsLargeFirstFault.{AtEnd}
-use Rattle.large_text.proofs.Sound.{IsSound, AreOpen}
+use Rattle.large_text.specs.LargeTrees.{HasLargeTree, large_rules}
+use Rattle.large_text.specs.LargeTrees.{IsLargeRightWhole, IsLargeFirstFault}
+use Rattle.large_text.proofs.Sound.{IsBehind, IsSound, AreOpen}
 use Rattle.large_text.proofs.Open.{none_open}
 
 whole_at : (before : List (List ℕ)) (state : State) (place : Place) (blocks : List Block)
@@ -63,35 +66,47 @@ follows_none Header has_if blocks line h = absurd cc
 follows_none Version has_if blocks line h = absurd cc
 follows_none _ has_if blocks line h = absurd cc
 
--- a text that may end is whole
+-- where the text may end, it is whole
+pub is_whole : (before : List Token) (state : State) (line : ℕ)
+    → IsBehind before state
+    → end_at state.place state.tree.blocks line ≡ None
+    → HasLargeTree (texts before) state.tree.marks × IsSentence (texts before)
+is_whole before state line b h =
+    let follows = b.began.follows []
+    (follows_none state.place state.head.has_if state.tree.blocks line h) in (
+      whole_at (texts before) state state.place state.tree.blocks state.tree.marks line b.explained
+          b.open_are h,
+      subst IsSentence (append-nil (texts before)) follows,
+    )
+
+-- and where it may not, it ends too early
+pub ends_so : (before : List Token) (state : State) (line : ℕ) (fault : ReadFault)
+    → IsBehind before state
+    → end_at state.place state.tree.blocks line ≡ Some fault
+    → EndsSo large_rules before line fault
+ends_so before state line fault b h = (
+  λ s. whole_ends state.place state.tree.blocks line fault (whole_now (texts before) state b.began s)
+      h,
+  end_by MOST_LARGE_TOKEN_BYTES MOST_LARGE_NESTING (λ body text. None) before state.place state.head.has_if state.tree.blocks line fault
+      (subst (λ (n : ℕ). LengthAt state.place n) (texts_long before) b.began.length_is)
+      (ap (λ (t : Tally). t.braces) b.tally_is)
+      (viable_next (texts before) state (codes "}") b.began)
+      (is_not_viable (texts before) state (codes "}") b.began) h,
+)
+
 pub is_whole_text : (before : List Token) (marks : List Mark) (reader : MarkReader) (line : ℕ)
     → IsSound before marks reader
     → end_at reader.place (state_of reader []).tree.blocks line ≡ None
     → HasLargeTree (texts before) marks × IsLargeRightWhole before
 is_whole_text before marks reader line r h =
-    let blocks = (state_of reader []).tree.blocks in
-    let follows = r.began.follows [] (follows_none reader.place reader.has_if blocks line h) in (
-      whole_at (texts before) (state_of reader marks) reader.place blocks marks line r.explained
-          r.open_are h,
-      record {
-        sentence = subst IsSentence (append-nil (texts before)) follows;
-        right = r.right;
-      },
-    )
+    let whole = is_whole before (state_of reader marks) line r.behind h in
+    (whole.0, record { sentence = whole.1; right = r.right })
 
--- a text that may not ends too early
 pub ends_early : (before : List Token) (marks : List Mark) (reader : MarkReader) (line : ℕ)
     (fault : ReadFault)
     → IsSound before marks reader
     → end_at reader.place (state_of reader []).tree.blocks line ≡ Some fault
     → IsLargeFirstFault before line fault
 ends_early before marks reader line fault r h =
-    let state = state_of reader marks in
-    let early : EndsEarly before line fault =
-    end_by before state.place state.head.has_if state.tree.blocks line fault
-    (subst (λ (n : ℕ). LengthAt state.place n) (texts_long before) r.began.length_is)
-    (ap (λ (t : Tally). t.braces) r.tally_is) (viable_next (texts before) state (codes "}") r.began)
-    (is_not_viable (texts before) state (codes "}") r.began) h in
-    AtEnd before line fault r.right
-    (λ s. whole_ends state.place state.tree.blocks line fault
-    (whole_now (texts before) state r.began s) h) early
+    let early = ends_so before (state_of reader marks) line fault r.behind h in
+    AtEnd before line fault r.right early.0 early.1

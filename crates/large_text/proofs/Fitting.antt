@@ -105,6 +105,6 @@ can_take before marks mark reader meter r measures =
     record {
       moment = last_moment marks;
       measures = measures;
-      fits = fits_next marks (closing blocks) mark (closed blocks more s.open_are)
+      fits = fits_next marks (closing blocks) mark (closed blocks more s.behind.open_are)
           (omega (arith, s.work_is, s.within.work)) few;
     }

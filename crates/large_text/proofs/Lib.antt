@@ -7,4 +7,4 @@ pub mod Ended
 pub mod Taken
 pub mod Fitting
 pub mod Measuring
-pub mod NoFault
+pub mod Whole

@@ -1,104 +1,51 @@
 -- What is wrong with a token at which the reading stops.
-use Rattle.std.proofs.Common.{◌≡◌, ◌≢◌, ℕ, ◌+◌, Bool, true, false, not, List, [], ◌∷◌, ◌++◌, length}
-use Rattle.std.proofs.Common.{Option, Some, None, Result, Err, refl, sym, subst, ◌∙◌, codes}
-use Rattle.std.specs.Prelude.{MatchBool}
-use Rattle.std.proofs.lemmas.List.{append-nil}
+use Rattle.std.proofs.Common.{◌≡◌, ◌≢◌, ℕ, ◌+◌, Bool, true, false, List, [], ◌∷◌, ◌++◌, length}
+use Rattle.std.proofs.Common.{Some, None, Result, Err, refl, sym, subst, ◌∙◌}
+use Rattle.std.specs.Prelude.{MatchBool, sum_by}
 use Rattle.program_text.specs.declared.fault.ReadKind.{ReadKind}
-use Rattle.program_text.specs.declared.fault.ReadKind.TheVariants.{OutOfMemory, BadHeader, BadWord}
-use Rattle.program_text.specs.declared.fault.ReadKind.TheVariants.{Unopened}
+use Rattle.program_text.specs.declared.fault.ReadKind.TheVariants.{OutOfMemory}
 use Rattle.program_text.specs.declared.fault.ReadFault.{ReadFault}
 use Rattle.program_text.specs.Answers.{Fails, is_memory}
+use Rattle.program_text.specs.Limits.{work_of}
 use Rattle.program_text.specs.Marks.{Mark}
 use Rattle.program_text.specs.Tokens.{Token, texts}
-use Rattle.task_program.specs.Faults.{State, unless_fault, is_header, is_allowed}
-use Rattle.task_program.specs.FirstFault.IsMisplaced.{OfHeader, AfterWhole, Elsewhere}
-use Rattle.task_program.specs.ViablePrefix.{IsSentence, IsViable}
-use Rattle.task_program.proofs.Shapes.{closes_none}
-use Rattle.task_program.proofs.Begun.{Began, row_cases, is_not_viable, viable_next, no_header}
-use Rattle.task_program.proofs.Begun.{no_close, none_allowed, in_header, after_header, closes_at}
-use Rattle.task_program.proofs.Begun.{whole_closes, whole_now, fits_of, closes_same}
+use Rattle.task_program.specs.Faults.{State}
+use Rattle.task_program.specs.FirstFault.{IsViable, IsWrong}
+use Rattle.task_program.specs.FirstFault.IsFirstFault.{AtToken}
+use Rattle.task_program.specs.FirstFault.IsWrong.{ByItself, PastLimit}
+use Rattle.task_program.specs.ViablePrefix.{IsSentence}
+use Rattle.task_program.proofs.Machines.{WrongSo}
+use Rattle.task_program.proofs.Begun.{Began, viable_next}
+use Rattle.task_program.proofs.Begun.{fits_of, closes_same}
+use Rattle.task_program.proofs.FaultFound.{misplaced_or, unless_err}
+use Rattle.large_text.specs.declared.limits.TheConstants.{MOST_LARGE_TOKEN_BYTES}
+use Rattle.large_text.specs.declared.limits.TheConstants.{MOST_LARGE_NESTING}
 use Rattle.large_text.specs.declared.reader.MarkReader.{MarkReader}
 use Rattle.large_text.specs.LargeFaults.{grammar_fault, large_limit_by}
 use Rattle.large_text.specs.LargeFaults.{closes_no_block, is_inside_at, items_coming}
 use Rattle.large_text.specs.LargeFaults.{large_form_fault}
 use Rattle.large_text.specs.LargeReading.{state_of, large_step}
-use Rattle.large_text.specs.LargeTrees.{IsLargeWrong, IsLargeFirstFault, AreLargeRight}
-use Rattle.large_text.specs.LargeTrees.{large_form_fault_after}
-use Rattle.large_text.specs.LargeTrees.IsLargeFirstFault.{AtToken}
-use Rattle.large_text.specs.LargeTrees.IsLargeWrong.{ByItself, Misplaced, PastLimit}
+use Rattle.large_text.specs.LargeTrees.{large_rules, IsLargeFirstFault}
 use Rattle.large_text.proofs.Steps.{closes_so, is_there}
-use Rattle.large_text.proofs.Sound.{IsSound}
+use Rattle.large_text.proofs.Sound.{IsBehind, IsSound}
 use Rattle.large_text.proofs.SoFar.{limits_so}
-
-abbrev fault_so : ReadKind → ℕ → ReadFault
-fault_so kind line = record { kind = kind; line = line }
-
-unless_err : {P : Type 0} (found : Option ReadKind) (line : ℕ) (after : Result State ReadFault)
-    (fault : ReadFault)
-    → unless_fault found line after ≡ Err fault
-    → ((kind : ReadKind) → found ≡ Some kind → fault_so kind line ≡ fault → P)
-    → (found ≡ None → after ≡ Err fault → P) → P
-unless_err (Some kind) line after fault h here later = here kind refl cc
-unless_err None line after fault h here later = later refl h
-
-first_so : (before later : List Token) (token : Token) (end_line : ℕ) (kind : ReadKind)
-    (fault : ReadFault)
-    → AreLargeRight before
-    → fault_so kind token.line ≡ fault
-    → IsLargeWrong before token.text kind
-    → IsLargeFirstFault (before ++ token ∷ later) end_line fault
-first_so before later token end_line kind fault right same wrong =
-    subst (IsLargeFirstFault (before ++ token ∷ later) end_line) same
-    (AtToken before later token end_line kind right wrong)
 
 -- the grammar has not the token there
 misplaced : (before : List Token) (state : State) (text : List ℕ) (kind : ReadKind)
     → Began (texts before) state
-    → large_form_fault_after (texts before) text ≡ None
+    → large_form_fault (sum_by length (texts before)) text ≡ None
     → grammar_fault state.place state.head.has_if (length state.tree.blocks) text ≡ Some kind
-    → IsLargeWrong before text kind
+    → IsWrong large_rules before text kind
 misplaced before state text kind began formed h =
-    let place = state.place in
-    let depth = length state.tree.blocks in
-    let header_is = is_header place text in
-    let allowed_is = is_allowed place state.head.has_if text in
-    let closes_is = closes_none place depth text in
-    let closes_same : closes_no_block place depth text ≡ closes_is = closes_so place depth text in
-    row_cases (not header_is) BadHeader kind _ h
-    (λ bad same. subst (IsLargeWrong before text) same (Misplaced before text BadHeader formed
-    (is_not_viable (texts before) state text began (no_header header_is closes_is allowed_is bad))
-    (OfHeader (texts before) text (in_header place text (length (texts before)) began.length_is
-    bad))))
-    (λ header h1. row_cases (closes_no_block place depth text) Unopened kind _ h1
-    (λ closes same.
-    let whole = closes_at place state.head.has_if depth text (sym closes_same ∙ closes) in
-    let sentence : IsSentence (texts before) = subst IsSentence (append-nil (texts before))
-    (began.follows [] whole.1) in
-    subst (IsLargeWrong before text) same (Misplaced before text Unopened formed
-    (is_not_viable (texts before) state text began
-    (no_close header_is _ closes_is allowed_is closes closes_same))
-    (AfterWhole (texts before) text sentence whole.0)))
-    (λ unopened h2. row_cases (not allowed_is) BadWord kind None h2
-    (λ bad same.
-    let no_whole : IsSentence (texts before) → text ≡ codes "}"
-    → ⊥ = λ s text_is. absurd
-    (let wrong : true
-    ≡ false = sym (whole_closes place depth text (whole_now (texts before) state began s) text_is)
-    ∙ sym closes_same
-    ∙ unopened in cc)
-    in
-    subst (IsLargeWrong before text) same (Misplaced before text BadWord formed
-    (is_not_viable (texts before) state text began
-    (none_allowed header_is closes_is allowed_is bad))
-    (Elsewhere (texts before) text
-    (after_header place state.head.has_if text (length (texts before)) began.length_is bad)
-    no_whole)))
-    (λ allowed h3. absurd cc)))
+    misplaced_or MOST_LARGE_TOKEN_BYTES MOST_LARGE_NESTING (λ body text. None) before state text
+    kind (closes_no_block state.place (length state.tree.blocks) text) None began formed
+    (closes_so state.place (length state.tree.blocks) text) h
+    (λ header unopened allowed none. absurd cc)
 
 -- the grammar has it, so a sentence begins with it
 viable_there : (before : List Token) (state : State) (text : List ℕ) → Began (texts before) state
     → grammar_fault state.place state.head.has_if (length state.tree.blocks) text ≡ None
-    → IsViable (texts before ++ text ∷ [])
+    → IsViable IsSentence (texts before ++ text ∷ [])
 viable_there before state text began h =
     let there = is_there state.place state.head.has_if (length state.tree.blocks) text h in
     viable_next (texts before) state text began (fits_of state text there.header
@@ -107,32 +54,48 @@ viable_there before state text began h =
     ∙ there.unopened)
     there.allowed)
 
--- a token that is refused is the first fault
+-- a token that is refused is wrong
+pub token_wrong : (before : List Token) (work : ℕ) (state : State) (token : Token)
+    (fault : ReadFault)
+    → IsBehind before state
+    → work ≡ work_of state.tree.marks
+    → large_step work state token ≡ Err fault
+    → WrongSo large_rules before token fault
+token_wrong before work state token fault b work_is h =
+    let text = token.text in
+    unless_err (large_form_fault state.bytes text) token.line _ fault h
+    (λ kind form same. (
+      kind,
+      ByItself (subst (λ (n : ℕ). large_form_fault n text ≡ Some kind) b.began.bytes_are form),
+      same,
+    ))
+    (λ form h1.
+    let formed = subst (λ (n : ℕ). large_form_fault n text ≡ None) b.began.bytes_are form in
+    unless_err (grammar_fault state.place state.head.has_if (length state.tree.blocks) text)
+    token.line _ fault h1
+    (λ kind wrong same. (kind, misplaced before state text kind b.began formed wrong, same))
+    (λ grammar h2. unless_err (large_limit_by (is_inside_at state.place) work
+    (length state.head.items + items_coming state.place) (length state.tree.blocks) text)
+    token.line _ fault h2
+    (λ kind limit same. (
+      kind,
+      PastLimit formed (viable_there before state text b.began grammar)
+          (limits_so before state work text b.tally_is work_is ∙ limit),
+      same,
+    ))
+    (λ none wrong. absurd cc)))
+
+-- so its fault is the first
 pub first_fault : (before later : List Token) (marks : List Mark) (reader : MarkReader)
     (token : Token) (end_line : ℕ) (fault : ReadFault)
     → IsSound before marks reader
     → large_step reader.work (state_of reader marks) token ≡ Err fault
     → IsLargeFirstFault (before ++ token ∷ later) end_line fault
 first_fault before later marks reader token end_line fault r h =
-    let state = state_of reader marks in
-    let text = token.text in
-    unless_err (large_form_fault state.bytes text) token.line _ fault h
-    (λ kind form same. let told : IsLargeWrong before text kind = ByItself before text kind
-    (subst (λ (n : ℕ). large_form_fault n text ≡ Some kind) r.began.bytes_are form) in
-    first_so before later token end_line kind fault r.right same told)
-    (λ form h1.
-    let formed = subst (λ (n : ℕ). large_form_fault n text ≡ None) r.began.bytes_are form in
-    unless_err (grammar_fault state.place state.head.has_if (length state.tree.blocks) text)
-    token.line _ fault h1
-    (λ kind wrong same. first_so before later token end_line kind fault r.right same
-    (misplaced before state text kind r.began formed wrong))
-    (λ grammar h2. unless_err (large_limit_by (is_inside_at state.place) reader.work
-    (length state.head.items + items_coming state.place) (length state.tree.blocks) text)
-    token.line _ fault h2
-    (λ kind limit same. first_so before later token end_line kind fault r.right same
-    (PastLimit before text kind formed (viable_there before state text r.began grammar)
-    (limits_so before state reader.work text r.tally_is r.work_is ∙ limit)))
-    (λ none wrong. absurd cc)))
+    let told = token_wrong before reader.work (state_of reader marks) token fault r.behind r.work_is
+    h in
+    subst (IsLargeFirstFault (before ++ token ∷ later) end_line) told.2
+    (AtToken before later token end_line told.0 r.right told.1)
 
 no_memory : (kind : ReadKind) → kind ≢ OutOfMemory → is_memory kind ≡ false
 no_memory OutOfMemory h = absurd (h refl)

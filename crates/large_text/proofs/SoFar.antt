@@ -1,11 +1,10 @@
 -- One token more: what was read keeps its meaning, and nothing is wrong with the token.
 use Rattle.std.proofs.Common.{◌≡◌, ℕ, ◌+◌, ◌≤◌, Bool, true, false, cond, List, [], ◌∷◌}
-use Rattle.std.proofs.Common.{◌++◌, length, append_assoc, Option, Some, None, Ok}
+use Rattle.std.proofs.Common.{◌++◌, length, Option, Some, None, Ok}
 use Rattle.std.proofs.Common.{refl, sym, ap, subst, ◌∙◌, arith}
-use Rattle.std.specs.Prelude.{sum_by, drop}
+use Rattle.std.specs.Prelude.{drop}
 use Rattle.std.proofs.lemmas.Bool.{not-false, ltb-false}
-use Rattle.std.proofs.lemmas.List.{length-map, drop-append-le}
-use Rattle.std.proofs.lemmas.List.Sums.{sum_by-append}
+use Rattle.std.proofs.lemmas.List.{length-map}
 use Rattle.std.proofs.Common.{length-append}
 use Rattle.program_text.specs.declared.fault.ReadKind.{ReadKind}
 use Rattle.program_text.specs.declared.limits.TheConstants.{MOST_ITEMS, MOST_WORK}
@@ -16,29 +15,28 @@ use Rattle.program_text.specs.Words.{is_number, value_of}
 use Rattle.program_text.proofs.Bools.{bool_cases}
 use Rattle.task_program.specs.declared.place.Place.{Place}
 use Rattle.task_program.specs.Faults.{State, after_at, is_allowed, line_of_block}
-use Rattle.task_program.specs.TokenCounts.{work_by, is_work_past}
-use Rattle.task_program.specs.ViablePrefix.{IsSentence}
+use Rattle.task_program.specs.TokenCounts.{work_by, is_work_past, limit_fault_after}
+use Rattle.task_program.specs.FirstFault.{IsRight}
+use Rattle.task_program.specs.FirstFault.AreRight.{More}
 use Rattle.task_program.proofs.Keeping.{Allows, with_one}
 use Rattle.task_program.proofs.FoundPlaces.{Explains, Explained}
 use Rattle.task_program.proofs.Found.{place_goes}
 use Rattle.task_program.proofs.FoundWhole.{bytes_stay}
-use Rattle.task_program.proofs.Shapes.{Shape, Follows, fits, lead, steps_back}
-use Rattle.task_program.proofs.Accepting.{accepts, accepts_next}
-use Rattle.task_program.proofs.Begun.{Began, LengthAt, shape_of, place_leads, length_goes, fits_of}
+use Rattle.task_program.proofs.Shapes.{fits}
+use Rattle.task_program.proofs.Begun.{Began, began_more, shape_of, fits_of}
 use Rattle.task_program.proofs.Begun.{viable_next, closes_same, texts_more}
-use Rattle.task_program.proofs.Tallies.{Tally, tally_of, tally_after, tally_now, tally_at, tally_more}
+use Rattle.task_program.proofs.Tallies.{Tally, tally_of, tally_after, tally_now, tally_at}
 use Rattle.task_program.proofs.Tallies.{NoItems, is_past_header, place_tallies, header_tallies}
-use Rattle.task_program.proofs.FaultFound.{items_go, texts_long, past_long, header_short}
-use Rattle.task_program.proofs.FaultFound.{nothing_after, nothing_after_one}
+use Rattle.task_program.proofs.FaultFound.{items_go, tally_goes}
+use Rattle.large_text.specs.declared.limits.TheConstants.{MOST_LARGE_NESTING}
 use Rattle.large_text.specs.declared.marks.TextMark.{TextMark}
 use Rattle.large_text.specs.declared.reader.MarkReader.{MarkReader}
-use Rattle.large_text.specs.LargeFaults.{large_limit_by, large_limit_after, is_inside_at}
+use Rattle.large_text.specs.LargeFaults.{large_limit_by, is_inside_at}
 use Rattle.large_text.specs.LargeFaults.{items_coming, large_form_fault}
 use Rattle.large_text.specs.LargeReading.{state_of, with_bytes, marks_after, large_step}
 use Rattle.large_text.specs.LargeReading.{mark_seen}
-use Rattle.large_text.specs.LargeTrees.{IsLargeRight}
-use Rattle.large_text.specs.LargeTrees.AreLargeRight.{More}
-use Rattle.large_text.proofs.Sound.{IsSound}
+use Rattle.large_text.specs.LargeTrees.{large_rules}
+use Rattle.large_text.proofs.Sound.{IsBehind, IsSound}
 use Rattle.large_text.proofs.Open.{TreeOpen, place_open}
 use Rattle.large_text.proofs.Steps.{Passed, passed, is_there, is_under, closes_so}
 use Rattle.large_text.proofs.Steps.{number_fits, is_formed, names_grow, items_grow}
@@ -91,78 +89,7 @@ explained_more before work state next token e p =
     (place_goes inside state.place token.text token.line before e.0
     (allows work state token next p) still)
 
-began_more : (before : List (List ℕ)) (work : ℕ) (state next : State) (token : Token)
-    → Began before state
-    → Passed work state token next
-    → Began (before ++ token.text ∷ []) next
-began_more before work state next token b p =
-    let inside : State = with_bytes state (length token.text) in
-    let fits_so : fits (shape_of state) token.text ≡ true = fits_there work state token next p in
-    let leads : shape_of next ≡ lead (shape_of state) token.text = sym
-    (ap (λ (s : State). shape_of s) p.next_is)
-    ∙ place_leads state.place inside token.text token.line in
-    let sum_is : sum_by length (before ++ token.text ∷ [])
-    ≡ sum_by length before + length token.text =
-    omega (arith, sum_by-append length before (token.text ∷ [])) in
-    let length_more : length (before ++ token.text ∷ []) ≡ length before + 1 =
-    length-append before (token.text ∷ []) in
-    let bytes_is : next.bytes ≡ state.bytes + length token.text =
-    sym (ap (λ (s : State). s.bytes) p.next_is)
-    ∙ bytes_stay state.place inside token.text token.line in
-    record {
-      follows = λ later f.
-          subst IsSentence (sym (append_assoc before (token.text ∷ []) later))
-          (b.follows (token.text ∷ later) (steps_back state.place state.head.has_if
-          (length state.tree.blocks) token.text later fits_so
-          (subst (λ (s : Shape). Follows s later) leads f)));
-      accepted = λ later s.
-          subst (λ (sh : Shape). accepts sh later ≡ true) (sym leads)
-          (accepts_next (shape_of state) token.text later (b.accepted (token.text ∷ later)
-          (subst IsSentence (append_assoc before (token.text ∷ []) later) s))).1;
-      length_is =
-          subst (λ (sh : Shape). LengthAt sh.place (length (before ++ token.text ∷ []))) (sym leads)
-          (subst (λ (n : ℕ). LengthAt (lead (shape_of state) token.text).place n) (sym length_more)
-          (length_goes state.place state.head.has_if (length state.tree.blocks) token.text
-          (length before) b.length_is));
-      bytes_are = omega (arith, sum_is, bytes_is, b.bytes_are);
-    }
-
 -- ---- what is counted on the tokens
-
--- the tally of the tokens goes on as the state does
-pub tally_goes : (before : List Token) (state next : State) (token : Token)
-    → Began (texts before) state
-    → tally_of (drop 2 before) ≡ tally_now state
-    → NoItems state.place state.head.items
-    → is_allowed state.place state.head.has_if token.text ≡ true
-    → after_at state.place (with_bytes state (length token.text)) token.text token.line ≡ next
-    → tally_of (drop 2 (before ++ token ∷ [])) ≡ tally_now next
-tally_goes before state next token began tally_is none allowed same =
-    let inside : State = with_bytes state (length token.text) in
-    let on : tally_now (after_at state.place inside token.text token.line) ≡ tally_now next =
-    ap (λ (s : State). tally_now s) same in
-    bool_cases (is_past_header state.place)
-    (λ past.
-    let long : 2 ≤ length before = omega
-    (arith, texts_long before, past_long state.place (length (texts before)) began.length_is past)
-    in
-    ap (λ (ts : List Token). tally_of ts) (drop-append-le 2 before (token ∷ []) long)
-    ∙ tally_more (drop 2 before) token
-    ∙ ap (λ (t : Tally). tally_after t token) tally_is
-    ∙ place_tallies state.place inside token.text token.line past none allowed ∙ on)
-    (λ here.
-    let short : length before
-    ≤ 1 = omega (
-      arith,
-      texts_long before,
-      header_short state.place (length (texts before)) began.length_is here,
-    )
-    in
-    ap (λ (ts : List Token). tally_of ts)
-    (nothing_after_one before token short ∙ sym (nothing_after before short))
-    ∙ tally_is
-    ∙ header_tallies state.place inside token.text token.line here
-    ∙ on)
 
 inside_so : (place : Place) (state : State)
     → (tally_at place state).inside ≡ is_inside_at place
@@ -187,7 +114,7 @@ limit_told t text = large_limit_by t.inside t.work t.items (length t.braces) tex
 pub limits_so : (before : List Token) (state : State) (work : ℕ) (text : List ℕ)
     → tally_of (drop 2 before) ≡ tally_now state
     → work ≡ work_of state.tree.marks
-    → large_limit_after (drop 2 before) text
+    → limit_fault_after MOST_LARGE_NESTING None (drop 2 before) text
     ≡ large_limit_by (is_inside_at state.place) work
     (length state.head.items + items_coming state.place) (length state.tree.blocks) text
 limits_so before state work text tally_is work_is =
@@ -245,18 +172,42 @@ work_within before state next token began tally_is none allowed same le past_not
     omega (arith, sym on, le))
 
 -- nothing is wrong with a token that is taken
-right_more : (before : List Token) (work : ℕ) (state next : State) (token : Token)
-    → Began (texts before) state
-    → tally_of (drop 2 before) ≡ tally_now state
+pub right_more : (before : List Token) (work : ℕ) (state next : State) (token : Token)
+    → IsBehind before state
     → work ≡ work_of state.tree.marks
     → Passed work state token next
-    → IsLargeRight before token.text
-right_more before work state next token began tally_is work_is p = record {
-  formed = subst (λ (n : ℕ). large_form_fault n token.text ≡ None) began.bytes_are p.formed;
-  viable = viable_next (texts before) state token.text began
+    → IsRight large_rules before token.text
+right_more before work state next token b work_is p = record {
+  formed = subst (λ (n : ℕ). large_form_fault n token.text ≡ None) b.began.bytes_are p.formed;
+  viable = viable_next (texts before) state token.text b.began
       (fits_there work state token next p);
-  within = limits_so before state work token.text tally_is work_is ∙ p.limit;
+  within = limits_so before state work token.text b.tally_is work_is ∙ p.limit;
 }
+
+-- what is so behind one token more
+pub behind_more : (before : List Token) (work : ℕ) (state next : State) (token : Token)
+    → IsBehind before state
+    → Passed work state token next
+    → IsBehind (before ++ token ∷ []) next
+behind_more before work state next token b p =
+    let inside : State = with_bytes state (length token.text) in
+    let there =
+    is_there state.place state.head.has_if (length state.tree.blocks) token.text p.grammar in
+    let allowed = not-false _ there.allowed in
+    let more = sym (texts_more before token) in
+    record {
+      explained = subst (λ (ts : List (List ℕ)). Explained ts next) more
+          (explained_more (texts before) work state next token b.explained p);
+      began = subst (λ (ts : List (List ℕ)). Began ts next) more
+          (began_more (texts before) state next token b.began
+          (fits_there work state token next p) p.next_is);
+      tally_is = tally_goes before state (state.bytes + length token.text) next token b.began b.tally_is
+          b.no_items allowed p.next_is;
+      no_items = subst (λ (s : State). NoItems s.place s.head.items) p.next_is
+          (items_go state.place inside token.text token.line b.no_items);
+      open_are = subst (λ (s : State). TreeOpen s.tree) p.next_is
+          (place_open state.place inside token.text token.line b.open_are);
+    }
 
 one_mark : (marks : List Mark) (mark : Option TextMark)
     → length (marks_after marks mark) ≤ length marks + 1
@@ -272,6 +223,7 @@ pub read_more : (before : List Token) (marks : List Mark) (old new : MarkReader)
     → IsSound (before ++ token ∷ []) (marks_after marks mark) new
 read_more before marks old new token mark r step work =
     let state = state_of old marks in
+    let b = r.behind in
     let next = state_of new (marks_after marks mark) in
     let inside : State = with_bytes state (length token.text) in
     let p = passed old.work state token next step in
@@ -280,7 +232,6 @@ read_more before marks old new token mark r step work =
     let under = is_under (is_inside_at state.place) old.work _ _ token.text p.limit in
     let form = is_formed state.bytes token.text p.formed in
     let allowed = not-false _ there.allowed in
-    let more = sym (texts_more before token) in
     let bytes_is : new.bytes ≡ old.bytes + length token.text =
     sym (ap (λ (s : State). s.bytes) p.next_is)
     ∙ bytes_stay state.place inside token.text token.line in
@@ -293,21 +244,13 @@ read_more before marks old new token mark r step work =
     let work_is : new.work ≡ work_of (marks_after marks mark) =
     omega (arith, work, r.work_is, work_more marks mark) in
     let work_few : work_of (marks_after marks mark) ≤ MOST_WORK = work_within before state next token
-    r.began r.tally_is r.no_items allowed p.next_is (omega (arith, r.work_is, r.within.work))
+    b.began b.tally_is b.no_items allowed p.next_is (omega (arith, r.work_is, r.within.work))
     (subst (λ (n : ℕ). is_work_past (is_inside_at old.place) n token.text ≡ false) r.work_is
     under.work_fits) in
     record {
-      explained = subst (λ (ts : List (List ℕ)). Explained ts next) more
-          (explained_more (texts before) old.work state next token r.explained p);
-      began = subst (λ (ts : List (List ℕ)). Began ts next) more
-          (began_more (texts before) old.work state next token r.began p);
-      tally_is = tally_goes before state next token r.began r.tally_is r.no_items allowed p.next_is;
-      no_items = subst (λ (s : State). NoItems s.place s.head.items) p.next_is
-          (items_go state.place inside token.text token.line r.no_items);
+      behind = behind_more before old.work state next token b p;
       right = More before token r.right
-          (right_more before old.work state next token r.began r.tally_is r.work_is p);
-      open_are = subst (λ (s : State). TreeOpen s.tree) p.next_is
-          (place_open state.place inside token.text token.line r.open_are);
+          (right_more before old.work state next token b r.work_is p);
       work_is = work_is;
       few = omega (arith, one_mark marks mark, bytes_is, form.some, r.few);
       within = record {

@@ -6,6 +6,8 @@ use Rattle.program_text.specs.Limits.{work_of}
 use Rattle.program_text.specs.Marks.{Mark}
 use Rattle.program_text.specs.Marks.Mark.{Begins, GroupBegins}
 use Rattle.program_text.specs.Tokens.{Token, texts}
+use Rattle.task_program.specs.FirstFault.{AreRight}
+use Rattle.task_program.specs.Faults.{State}
 use Rattle.task_program.specs.Nested.{IsNested}
 use Rattle.task_program.specs.TreeSoFar.{Block}
 use Rattle.task_program.specs.TreeSoFar.Block.{TaskBlock, GroupBlock}
@@ -14,7 +16,7 @@ use Rattle.task_program.proofs.Begun.{Began}
 use Rattle.task_program.proofs.Tallies.{NoItems, tally_of, tally_now}
 use Rattle.large_text.specs.declared.reader.MarkReader.{MarkReader}
 use Rattle.large_text.specs.LargeReading.{state_of, IsLargeWithin}
-use Rattle.large_text.specs.LargeTrees.{AreLargeRight}
+use Rattle.large_text.specs.LargeTrees.{large_rules}
 
 -- marks behind which these blocks are open, the innermost first
 pub data AreOpen : List Block → List Mark → Type 0 where
@@ -29,14 +31,18 @@ pub data AreOpen : List Block → List Mark → Type 0 where
       → IsNested inner
       → AreOpen (GroupBlock line ∷ blocks) (before ++ GroupBegins ∷ inner)
 
+-- what is so of a state of the reading behind these tokens
+pub record IsBehind (tokens : List Token) (state : State) : Type 0 where
+  pub explained : Explained (texts tokens) state
+  pub began : Began (texts tokens) state
+  pub tally_is : tally_of (drop 2 tokens) ≡ tally_now state
+  pub no_items : NoItems state.place state.head.items
+  pub open_are : AreOpen state.tree.blocks state.tree.marks
+
 -- what is so of a reader that has taken these tokens and handed on these marks
 pub record IsSound (tokens : List Token) (marks : List Mark) (reader : MarkReader) : Type 0 where
-  pub explained : Explained (texts tokens) (state_of reader marks)
-  pub began : Began (texts tokens) (state_of reader marks)
-  pub tally_is : tally_of (drop 2 tokens) ≡ tally_now (state_of reader marks)
-  pub no_items : NoItems reader.place reader.items
-  pub right : AreLargeRight tokens
-  pub open_are : AreOpen (state_of reader marks).tree.blocks marks
+  pub behind : IsBehind tokens (state_of reader marks)
+  pub right : AreRight large_rules tokens
   pub work_is : reader.work ≡ work_of marks
   pub few : length marks ≤ reader.bytes
   pub within : IsLargeWithin reader

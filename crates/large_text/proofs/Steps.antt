@@ -10,7 +10,8 @@ use Rattle.program_text.specs.declared.fault.ReadKind.{ReadKind}
 use Rattle.program_text.specs.declared.limits.TheConstants.{MOST_ITEMS, MOST_WORK, LARGEST_COST}
 use Rattle.program_text.specs.Tokens.{Token}
 use Rattle.program_text.specs.declared.fault.ReadKind.TheVariants.{TooLong, BadByte, BadWord}
-use Rattle.program_text.specs.declared.fault.ReadKind.TheVariants.{BadNumber}
+use Rattle.program_text.specs.declared.fault.ReadKind.TheVariants.{BadNumber, TooDeep, TooManyItems}
+use Rattle.program_text.specs.declared.fault.ReadKind.TheVariants.{WorkTooLarge}
 use Rattle.program_text.specs.declared.limits.TheConstants.{MOST_WORD_BYTES}
 use Rattle.program_text.specs.Words.{is_text, is_number, is_word, value_of, is_run, is_sign}
 use Rattle.program_text.specs.Words.{begins_with_digit}
@@ -22,10 +23,11 @@ use Rattle.task_program.specs.declared.place.Place.TheVariants.{Clause, DependNa
 use Rattle.task_program.specs.Faults.{State, after_at, is_header, is_allowed}
 use Rattle.task_program.specs.Faults.{is_number_too_large}
 use Rattle.task_program.specs.Names.{number_of_name}
-use Rattle.task_program.specs.TokenCounts.{is_value_too_large, is_work_past}
+use Rattle.task_program.specs.TokenCounts.{is_value_too_large, is_too_deep, is_work_past}
 use Rattle.task_program.proofs.Keeping.{unless_ok, ok_is, one_name_more}
 use Rattle.task_program.proofs.Shapes.{closes_none}
 use Rattle.large_text.specs.declared.limits.TheConstants.{MOST_LARGE_TOKEN_BYTES}
+use Rattle.large_text.specs.declared.limits.TheConstants.{MOST_LARGE_NESTING}
 use Rattle.large_text.specs.LargeFaults.{large_form_fault, grammar_fault, large_limit_by}
 use Rattle.large_text.specs.LargeFaults.{closes_no_block, is_inside_at, items_coming}
 use Rattle.large_text.specs.LargeReading.{large_step, with_bytes, HasValueAt}
@@ -94,10 +96,15 @@ pub is_under : (inside : Bool) (work items open_blocks : ℕ) (text : List ℕ)
     → large_limit_by inside work items open_blocks text ≡ None
     → IsUnder inside work items open_blocks text
 is_under inside work items open_blocks text h =
+    let work_row : Option ReadKind =
+    cond (is_work_past inside work text) (Some WorkTooLarge) None in
+    let items_row : Option ReadKind =
+    cond (nat_lt MOST_ITEMS items) (Some TooManyItems) work_row in
     let first = row_passed _ _ _ h in
-    let second = row_passed _ _ _ first.1 in
-    let third = row_passed _ _ _ second.1 in
-    let fourth = row_passed _ _ _ third.1 in
+    let second = row_passed (is_too_deep MOST_LARGE_NESTING open_blocks text) TooDeep items_row
+    first.1 in
+    let third = row_passed (nat_lt MOST_ITEMS items) TooManyItems work_row second.1 in
+    let fourth = row_passed (is_work_past inside work text) WorkTooLarge None third.1 in
     record { value = first.0; items_fit = third.0; work_fits = fourth.0 }
 
 pub number_fits : (place : Place) (has_if : Bool) (text : List ℕ)

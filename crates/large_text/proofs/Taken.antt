@@ -17,11 +17,12 @@ use Rattle.program_text.specs.Tokens.{Token}
 use Rattle.program_text.proofs.FaultRows.{row_no_memory, no_row}
 use Rattle.task_program.specs.declared.place.Place.{Place}
 use Rattle.task_program.specs.Faults.{State, start, after_at}
+use Rattle.task_program.specs.FirstFault.AreRight.{Nothing as NoTokens}
 use Rattle.task_program.specs.Nested.IsNested.{Nothing as NoMarks}
 use Rattle.task_program.proofs.Accepting.{sentence_accepted}
 use Rattle.task_program.proofs.FoundPlaces.{Explained}
 use Rattle.task_program.proofs.Begun.{Began}
-use Rattle.task_program.proofs.Tallies.{NoItems, tally_of, tally_now, nothing_counted}
+use Rattle.task_program.proofs.Tallies.{nothing_counted}
 use Rattle.large_text.specs.declared.marks.TextMark.{TextMark}
 use Rattle.large_text.specs.declared.reader.MarkReader.{MarkReader}
 use Rattle.large_text.specs.declared.reader.OpenBlock.{OpenBlock}
@@ -31,8 +32,7 @@ use Rattle.large_text.specs.LargeReading.{state_of, marks_after, large_step, wit
 use Rattle.large_text.specs.LargeReading.{IsReadSoFar, block_seen}
 use Rattle.large_text.specs.LargeReading.IsReadSoFar.{AtFirst, OneMore}
 use Rattle.large_text.specs.LargeTrees.{IsLargeFirstFault}
-use Rattle.large_text.specs.LargeTrees.AreLargeRight.{Nothing as NoTokens}
-use Rattle.large_text.proofs.Sound.{IsSound}
+use Rattle.large_text.proofs.Sound.{IsBehind, IsSound}
 use Rattle.large_text.proofs.Sound.AreOpen.{NoneOpen}
 use Rattle.large_text.proofs.SoFar.{read_more}
 use Rattle.large_text.proofs.Refused.{first_fault, fault_told}
@@ -69,6 +69,15 @@ not_begun = record {
 }
 
 -- before the first token
+pub behind_start : IsBehind [] start
+behind_start = record {
+  explained = no_parts;
+  began = not_begun;
+  tally_is = nothing_counted;
+  no_items = refl;
+  open_are = NoneOpen [] NoMarks;
+}
+
 starts : (reader : MarkReader) → state_of reader [] ≡ start → reader.work ≡ 0
     → IsSound [] [] reader
 starts reader state work =
@@ -76,13 +85,8 @@ starts reader state work =
     let names : length reader.names ≡ 0 = ap (λ (s : State). length s.names) state in
     let items : length reader.items ≡ 0 = ap (λ (s : State). length s.head.items) state in
     record {
-      explained = subst (λ (s : State). Explained [] s) (sym state) no_parts;
-      began = subst (λ (s : State). Began [] s) (sym state) not_begun;
-      tally_is =
-          subst (λ (s : State). tally_of [] ≡ tally_now s) (sym state) nothing_counted;
-      no_items = subst (λ (s : State). NoItems s.place s.head.items) (sym state) refl;
+      behind = subst (IsBehind []) (sym state) behind_start;
       right = NoTokens;
-      open_are = rw (ap (λ (s : State). s.tree.blocks) state) (NoneOpen [] NoMarks);
       work_is = work;
       few = omega arith;
       within = record {

@@ -1,34 +1,26 @@
--- What is wrong with a token of a text of any size: of which form it is, whether the grammar has it
--- at its place, and which limit it passes. Segments and tasks have no limit of their own: each takes
--- bytes of tokens.
-use Rattle.std.specs.Prelude.{ℕ, ◌+◌, Bool, true, false, not, ◌&&◌, ◌||◌, ◌==◌, nat_lt, nat_le}
-use Rattle.std.specs.Prelude.{if◌then◌else◌, List, length, Option, Some, None, codes}
+-- What a reader of marks tests of a token at its place: what it is by itself, whether the grammar has
+-- it there, and which limit it passes.
+use Rattle.std.specs.Prelude.{ℕ, Bool, true, false, not, ◌&&◌, ◌==◌, nat_lt}
+use Rattle.std.specs.Prelude.{if◌then◌else◌, List, Option, Some, None, codes}
 use Rattle.program_text.specs.declared.fault.ReadKind.{ReadKind}
-use Rattle.program_text.specs.declared.fault.ReadKind.TheVariants.{TooLong, BadByte, BadHeader}
-use Rattle.program_text.specs.declared.fault.ReadKind.TheVariants.{BadWord, BadNumber, Unopened}
-use Rattle.program_text.specs.declared.fault.ReadKind.TheVariants.{TooDeep, TooManyItems}
+use Rattle.program_text.specs.declared.fault.ReadKind.TheVariants.{BadHeader, BadWord, BadNumber}
+use Rattle.program_text.specs.declared.fault.ReadKind.TheVariants.{Unopened, TooDeep, TooManyItems}
 use Rattle.program_text.specs.declared.fault.ReadKind.TheVariants.{WorkTooLarge}
-use Rattle.program_text.specs.declared.limits.TheConstants.{MOST_WORD_BYTES, MOST_ITEMS}
-use Rattle.program_text.specs.Tokens.{Token, texts}
-use Rattle.program_text.specs.Words.{is_sign, is_run, begins_with_digit, is_word, is_number, is_text}
+use Rattle.program_text.specs.declared.limits.TheConstants.{MOST_ITEMS}
+use Rattle.program_text.specs.TokenFaults.{form_fault_within}
+use Rattle.program_text.specs.Words.{is_text}
 use Rattle.task_program.specs.declared.place.Place.{Place}
 use Rattle.task_program.specs.declared.place.Place.TheVariants.{Statement, IfNumber, IfCloses}
 use Rattle.task_program.specs.declared.place.Place.TheVariants.{DependType, DependColon}
 use Rattle.task_program.specs.declared.place.Place.TheVariants.{DependName, DependMore}
 use Rattle.task_program.specs.Faults.{is_header, is_allowed}
-use Rattle.task_program.specs.TokenCounts.{is_value_too_large, is_work_past, is_inside, work_in}
-use Rattle.task_program.specs.TokenCounts.{items_in, open_braces}
+use Rattle.task_program.specs.TokenCounts.{is_value_too_large, is_too_deep, is_work_past}
 use Rattle.large_text.specs.declared.limits.TheConstants.{MOST_LARGE_TOKEN_BYTES}
 use Rattle.large_text.specs.declared.limits.TheConstants.{MOST_LARGE_NESTING}
 
 -- what is wrong with the token by itself, after so many bytes of tokens
 abbrev pub large_form_fault : ℕ → List ℕ → Option ReadKind
-large_form_fault bytes text =
-    if not (is_run text || is_sign text) then Some BadByte
-    else (if begins_with_digit text && not (is_number text) then Some BadNumber
-    else (if is_word text && nat_lt MOST_WORD_BYTES (length text) then Some BadWord
-    else (if nat_lt MOST_LARGE_TOKEN_BYTES (bytes + length text) then Some TooLong
-    else None)))
+large_form_fault bytes text = form_fault_within MOST_LARGE_TOKEN_BYTES bytes text
 
 -- ---- the grammar at a place
 
@@ -62,22 +54,11 @@ items_coming _ = 0
 
 -- ---- the limits
 
-abbrev pub is_large_too_deep : (open_blocks : ℕ) → List ℕ → Bool
-is_large_too_deep open_blocks text =
-    is_text text (codes "{") && nat_le MOST_LARGE_NESTING open_blocks
-
 -- the first limit that is passed with this token
 abbrev pub large_limit_by : (inside : Bool) (work items open_blocks : ℕ) → List ℕ → Option ReadKind
 large_limit_by inside work items open_blocks text =
     if is_value_too_large inside text then Some BadNumber
-    else (if is_large_too_deep open_blocks text then Some TooDeep
+    else (if is_too_deep MOST_LARGE_NESTING open_blocks text then Some TooDeep
     else (if nat_lt MOST_ITEMS items then Some TooManyItems
     else (if is_work_past inside work text then Some WorkTooLarge
     else None)))
-
--- the limit that this token passes after these, which are those behind the header
-abbrev pub large_limit_after : (body : List Token) → List ℕ → Option ReadKind
-large_limit_after body text =
-    let before = texts body in
-    large_limit_by (is_inside before) (work_in before) (items_in before)
-    (length (open_braces body)) text

@@ -1,4 +1,4 @@
-pub mod LargeFaults
 pub mod LargeTrees
+pub mod LargeFaults
 pub mod LargeReading
 pub mod Measured

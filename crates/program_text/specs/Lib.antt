@@ -6,6 +6,7 @@ pub mod Shrinking
 pub mod Tokens
 pub mod ScannerSeen
 pub mod Words
+pub mod TokenFaults
 pub mod Limits
 pub mod Answers
 pub mod Document

@@ -17,11 +17,12 @@ use Rattle.program_text.specs.Marks.{Mark}
 use Rattle.program_text.specs.Tokens.{Token, texts}
 use Rattle.program_text.specs.Words.{is_text}
 use Rattle.task_program.specs.Faults.{State, place_fault, is_header}
-use Rattle.task_program.specs.TokenFaults.{form_fault}
+use Rattle.task_program.specs.Faults.{form_fault}
 use Rattle.task_program.specs.TreeSoFar.{Block}
 use Rattle.task_program.specs.Faults.{closes_nothing, is_allowed, step, after_at}
 use Rattle.task_program.specs.TreeSoFar.{after_end_of}
-use Rattle.task_program.specs.ViablePrefix.{IsSentence, IsViable}
+use Rattle.task_program.specs.FirstFault.{IsViable}
+use Rattle.task_program.specs.ViablePrefix.{IsSentence}
 use Rattle.task_program.proofs.Keeping.{at, passes, unless_ok, ok_is}
 use Rattle.task_program.proofs.FoundPlaces.{same_text}
 use Rattle.task_program.proofs.FoundWhole.{bytes_stay}
@@ -180,7 +181,7 @@ pub record Began (before : List (List ℕ)) (state : State) : Type 0 where
 
 -- a token that the grammar does not have
 pub is_not_viable : (before : List (List ℕ)) (state : State) (text : List ℕ) → Began before state
-    → fits (shape_of state) text ≡ false → IsViable (before ++ text ∷ []) → ⊥
+    → fits (shape_of state) text ≡ false → IsViable IsSentence (before ++ text ∷ []) → ⊥
 is_not_viable before state text b wrong_here v =
     let sentence : IsSentence (before ++ text ∷ v.0) =
     subst IsSentence (append_assoc before (text ∷ []) v.0) v.1 in
@@ -190,7 +191,7 @@ is_not_viable before state text b wrong_here v =
 
 -- and one that it has
 pub viable_next : (before : List (List ℕ)) (state : State) (text : List ℕ) → Began before state
-    → fits (shape_of state) text ≡ true → IsViable (before ++ text ∷ [])
+    → fits (shape_of state) text ≡ true → IsViable IsSentence (before ++ text ∷ [])
 viable_next before state text b yes_fits =
     let next = lead (shape_of state) text in
     let continued = may_continue next.place next.has_if next.depth in
@@ -214,17 +215,15 @@ fits_of state text header unopened allowed =
     header unopened (closes_same state.place state.tree.blocks text) allowed
 
 -- one token more: what was read is still the beginning of a text
-pub step_begins : (before : List (List ℕ)) (state next : State) (token : Token) → Began before state
-    → step state token ≡ Ok next → Began (before ++ token.text ∷ []) next
-unfolding step
-step_begins before state next token b h =
-    let passed = unless_ok (form_fault state.bytes token.text) token.line _ next h in
+pub began_more : (before : List (List ℕ)) (state next : State) (token : Token)
+    → Began before state
+    → fits (shape_of state) token.text ≡ true
+    → after_at state.place (record state { bytes = state.bytes + length token.text }) token.text
+    token.line
+    ≡ next
+    → Began (before ++ token.text ∷ []) next
+began_more before state next token b fits_so same =
     let inside : State = record state { bytes = state.bytes + length token.text } in
-    let placed = unless_ok (place_fault inside token.text) token.line _ next passed.1 in
-    let passed = passes inside token.text placed.0 in
-    let fits_so : fits (shape_of state) token.text ≡ true =
-    fits_of inside token.text passed.header passed.unopened passed.allowed in
-    let same = ok_is (after_at state.place inside token.text token.line) next placed.1 in
     let leads : shape_of next ≡ lead (shape_of state) token.text = sym
     (ap (λ (s : State). shape_of s) same)
     ∙ place_leads state.place inside token.text token.line in
@@ -252,6 +251,18 @@ step_begins before state next token b h =
           (length before) b.length_is));
       bytes_are = omega (arith, sum_is, bytes_is, b.bytes_are);
     }
+
+pub step_begins : (before : List (List ℕ)) (state next : State) (token : Token) → Began before state
+    → step state token ≡ Ok next → Began (before ++ token.text ∷ []) next
+unfolding step
+step_begins before state next token b h =
+    let passed = unless_ok (form_fault state.bytes token.text) token.line _ next h in
+    let inside : State = record state { bytes = state.bytes + length token.text } in
+    let placed = unless_ok (place_fault inside token.text) token.line _ next passed.1 in
+    let passed = passes inside token.text placed.0 in
+    began_more before state next token b
+    (fits_of inside token.text passed.header passed.unopened passed.allowed)
+    (ok_is (after_at state.place inside token.text token.line) next placed.1)
 
 -- ---- the fault of a token
 

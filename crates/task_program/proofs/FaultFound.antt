@@ -1,6 +1,6 @@
 -- The fault that is told is the first.
-use Rattle.std.proofs.Common.{◌≡◌, ℕ, ◌<◌, ◌+◌, ◌≤◌, Bool, true, false, not, List, [], ◌∷◌, ◌++◌}
-use Rattle.std.proofs.Common.{length, append_assoc, Option, Some, None, Result, Ok, Err, refl, sym}
+use Rattle.std.proofs.Common.{◌≡◌, ℕ, ◌<◌, ◌+◌, ◌≤◌, Bool, true, false, not, cond, List, [], ◌∷◌, ◌++◌}
+use Rattle.std.proofs.Common.{length, Option, Some, None, Result, Ok, Err, refl, sym}
 use Rattle.std.proofs.Common.{ap, subst, ◌∙◌, arith, codes}
 use Rattle.std.specs.Prelude.{sum_by, nat_lt, drop, map}
 use Rattle.std.proofs.lemmas.Bool.{ltb-false, ltb-true, not-false}
@@ -13,33 +13,34 @@ use Rattle.task_program.specs.declared.place.Place.{Place}
 use Rattle.task_program.specs.declared.place.Place.TheVariants.{Header, Version, Statement}
 use Rattle.task_program.specs.declared.place.Place.TheVariants.{WorkNumber, GroupBrace, Clause}
 use Rattle.task_program.specs.declared.place.Place.TheVariants.{DependMore}
-use Rattle.program_text.specs.declared.limits.TheConstants.{MOST_TEXT_BYTES}
+use Rattle.program_text.specs.declared.limits.TheConstants.{MOST_TEXT_BYTES, MOST_TOKEN_BYTES}
+use Rattle.program_text.specs.declared.limits.TheConstants.{MOST_NESTING}
 use Rattle.program_text.specs.Tokens.{Token, texts, tokens_of, line_at_end}
-use Rattle.task_program.specs.TokenCounts.{open_braces, limit_fault_after}
+use Rattle.program_text.specs.TokenFaults.{form_fault_within}
 use Rattle.program_text.specs.Words.{is_text}
 use Rattle.task_program.specs.Within.{IsWithin}
 use Rattle.task_program.specs.ProgramMarks.{ProgramMarks}
 use Rattle.task_program.specs.Faults.{State, place_fault, is_header}
-use Rattle.task_program.specs.TokenFaults.{form_fault}
+use Rattle.task_program.specs.Faults.{form_fault}
 use Rattle.task_program.specs.TreeSoFar.{Block}
 use Rattle.task_program.specs.Faults.{closes_nothing, is_allowed, unless_fault, step, after_at}
-use Rattle.task_program.specs.Faults.{line_of_block, end_at, program_or_fault, go_on, read_tokens}
+use Rattle.task_program.specs.Faults.{line_of_block, end_at, program_or_fault, read_tokens}
 use Rattle.task_program.specs.Faults.{start, one_pass}
 use Rattle.task_program.specs.ReadInVersion.{program_of}
 use Rattle.task_program.specs.Versions.{begins_version_two}
-use Rattle.task_program.specs.ViablePrefix.{IsSentence, IsViable}
-use Rattle.task_program.specs.FirstFault.{IsMisplaced, IsWrong, IsRight, AreRight, EndsEarly}
-use Rattle.task_program.specs.FirstFault.{IsFirstFault, HasFault}
+use Rattle.task_program.specs.TokenCounts.{open_braces, too_many_after, limit_fault_after}
+use Rattle.task_program.specs.ViablePrefix.{IsSentence}
+use Rattle.task_program.specs.FirstFault.{Rules, IsViable, IsWrong, IsRight, EndsEarly}
+use Rattle.task_program.specs.FirstPlainFault.{plain_rules, program_rules, HasFault}
 use Rattle.task_program.proofs.MachineFaults.{IsToldApart, FaultIsFirst}
 use Rattle.task_program.specs.FirstFault.IsMisplaced.{OfHeader, AfterWhole, Elsewhere}
 use Rattle.task_program.specs.FirstFault.IsWrong.{ByItself, Misplaced, PastLimit}
-use Rattle.task_program.specs.FirstFault.AreRight.{Nothing, More}
 use Rattle.task_program.specs.FirstFault.EndsEarly.{InHeader, BlockOpen, Inside}
-use Rattle.task_program.specs.FirstFault.IsFirstFault.{AtToken, AtEnd}
-use Rattle.task_program.specs.FirstFault.HasFault.{TextTooLong, OfTokens}
+use Rattle.task_program.specs.FirstPlainFault.HasFault.{TextTooLong, OfTokens}
+use Rattle.task_program.proofs.FirstFaults.{fault_so}
+use Rattle.task_program.proofs.Machines.{Machine, WrongSo, EndsSo, refused, whole_read, read_whole}
 use Rattle.task_program.proofs.Keeping.{at, passes, unless_ok, ok_is, step_keeps}
-use Rattle.task_program.proofs.FoundWhole.{step_went}
-use Rattle.task_program.proofs.ReadWhole.{of_one, too_long, same_fault, fault_so}
+use Rattle.task_program.proofs.ReadWhole.{of_one, too_long, same_fault}
 use Rattle.task_program.proofs.Shapes.{closes_none, fits_at, FollowsAt, nothing_follows}
 use Rattle.task_program.proofs.Accepting.{is_whole, sentence_accepted}
 use Rattle.task_program.proofs.Tallies.{Tally, tally_of, tally_after, tally_now, limit_of, limits}
@@ -59,7 +60,6 @@ record Counts (before : List Token) (state : State) : Type 0 where
   tally_is : tally_of (drop 2 before) ≡ tally_now state
   within : IsWithin state
   no_items : NoItems state.place state.head.items
-  right : AreRight before
 
 pub texts_long : (before : List Token) → length (texts before) ≡ length before
 texts_long before = length-map before (λ (t : Token). t.text)
@@ -127,7 +127,8 @@ header_limitless _ state text here = absurd cc
 -- the limits counted on the tokens are those that the reading tests
 limits_so : (before : List Token) (state : State) (text : List ℕ) → Counts before state
     → is_header state.place text ≡ true → is_allowed state.place state.head.has_if text ≡ true
-    → limit_fault_after (drop 2 before) text ≡ limits state text
+    → limit_fault_after MOST_NESTING (too_many_after (drop 2 before) text) (drop 2 before) text
+    ≡ limits state text
 limits_so before state text c header allowed =
     bool_cases (is_past_header state.place)
     (λ past. ap (λ (t : Tally). limit_of t text) c.tally_is
@@ -140,17 +141,19 @@ limits_so before state text c header allowed =
       header_short state.place (length (texts before)) c.began.length_is here,
     )
     in
-    ap (λ (ts : List Token). limit_fault_after ts text) (nothing_after before short)
+    ap (λ (ts : List Token). limit_fault_after MOST_NESTING (too_many_after ts text) ts text) (nothing_after before short)
     ∙ header_limits state.place text here header
     ∙ sym (header_limitless state.place state text here))
 
 -- the tally of the tokens goes on as the state does
-tally_goes : (before : List Token) (state : State) (bytes : ℕ) (next : State) (token : Token)
-    → Counts before state
+pub tally_goes : (before : List Token) (state : State) (bytes : ℕ) (next : State) (token : Token)
+    → Began (texts before) state
+    → tally_of (drop 2 before) ≡ tally_now state
+    → NoItems state.place state.head.items
     → is_allowed state.place state.head.has_if token.text ≡ true
     → after_at state.place (record state { bytes = bytes }) token.text token.line ≡ next
     → tally_of (drop 2 (before ++ token ∷ [])) ≡ tally_now next
-tally_goes before state bytes next token c allowed same =
+tally_goes before state bytes next token began tally_is no_items allowed same =
     let inside : State = record state { bytes = bytes } in
     let on : tally_now (after_at state.place inside token.text token.line) ≡ tally_now next =
     ap (λ (s : State). tally_now s) same in
@@ -158,29 +161,29 @@ tally_goes before state bytes next token c allowed same =
     (λ past.
     let long : 2
     ≤ length before = omega
-    (arith, texts_long before, past_long state.place (length (texts before)) c.began.length_is past)
+    (arith, texts_long before, past_long state.place (length (texts before)) began.length_is past)
     in
     ap (λ (ts : List Token). tally_of ts) (drop-append-le 2 before (token ∷ []) long)
     ∙ tally_more (drop 2 before) token
-    ∙ ap (λ (t : Tally). tally_after t token) c.tally_is
-    ∙ place_tallies state.place inside token.text token.line past c.no_items allowed ∙ on)
+    ∙ ap (λ (t : Tally). tally_after t token) tally_is
+    ∙ place_tallies state.place inside token.text token.line past no_items allowed ∙ on)
     (λ here.
     let short : length before
     ≤ 1 = omega (
       arith,
       texts_long before,
-      header_short state.place (length (texts before)) c.began.length_is here,
+      header_short state.place (length (texts before)) began.length_is here,
     )
     in
     ap (λ (ts : List Token). tally_of ts)
     (nothing_after_one before token short ∙ sym (nothing_after before short))
-    ∙ c.tally_is
+    ∙ tally_is
     ∙ header_tallies state.place inside token.text token.line here
     ∙ on)
 
 -- nothing is wrong with a token after which the reading goes on
 token_right : (before : List Token) (state next : State) (token : Token) → Counts before state
-    → step state token ≡ Ok next → IsRight before token.text
+    → step state token ≡ Ok next → IsRight program_rules before token.text
 unfolding step
 token_right before state next token c h =
     let passed = unless_ok (form_fault state.bytes token.text) token.line _ next h in
@@ -221,65 +224,83 @@ counts_more before state next token c h =
       began = subst (λ (ts : List (List ℕ)). Began ts next) (sym (texts_more before token))
           (step_begins (texts before) state next token c.began h);
       tally_is =
-          tally_goes before state (state.bytes + length token.text) next token c allowed same;
+          tally_goes before state (state.bytes + length token.text) next token c.began c.tally_is
+          c.no_items allowed same;
       within = step_keeps state token next c.within h;
       no_items = subst (λ (s : State). NoItems s.place s.head.items) same
           (items_go state.place inside token.text token.line c.no_items);
-      right = More before token c.right (token_right before state next token c h);
     }
 
 -- ---- the fault of a token
 
--- the fault of a token that is one by itself
+module _ (token_bytes nesting : ℕ) (too_many : List Token → List ℕ → Option ReadKind) where
+  -- the grammar has not the token there, or the fault is one that is looked for later
+  pub misplaced_or : (before : List Token) (state : State) (text : List ℕ) (kind : ReadKind)
+      (closes : Bool) (later : Option ReadKind)
+      → Began (texts before) state
+      → form_fault_within token_bytes (sum_by length (texts before)) text ≡ None
+      → closes ≡ closes_none state.place (length state.tree.blocks) text
+      → cond (not (is_header state.place text)) (Some BadHeader)
+      (cond closes (Some Unopened)
+      (cond (not (is_allowed state.place state.head.has_if text)) (Some BadWord) later))
+      ≡ Some kind
+      → (not (is_header state.place text) ≡ false
+      → closes ≡ false
+      → not (is_allowed state.place state.head.has_if text) ≡ false
+      → later ≡ Some kind
+      → IsWrong (plain_rules token_bytes nesting too_many) before text kind)
+      → IsWrong (plain_rules token_bytes nesting too_many) before text kind
+  misplaced_or before state text kind closes later began formed closes_so h past =
+      let place = state.place in
+      let depth = length state.tree.blocks in
+      let header_is = is_header place text in
+      let allowed_is = is_allowed place state.head.has_if text in
+      let closes_is = closes_none place depth text in
+      let wrong = IsWrong (plain_rules token_bytes nesting too_many) before text in
+      row_cases (not header_is) BadHeader kind _ h
+      (λ bad same. subst wrong same (Misplaced formed
+      (is_not_viable (texts before) state text began (no_header header_is closes_is allowed_is bad))
+      (OfHeader (in_header place text (length (texts before)) began.length_is bad))))
+      (λ header h1. row_cases closes Unopened kind _ h1
+      (λ closed same.
+      let whole = closes_at place state.head.has_if depth text (sym closes_so ∙ closed) in
+      let sentence : IsSentence (texts before) =
+      subst IsSentence (append-nil (texts before)) (began.follows [] whole.1) in
+      subst wrong same (Misplaced formed
+      (is_not_viable (texts before) state text began
+      (no_close header_is closes closes_is allowed_is closed closes_so))
+      (AfterWhole sentence whole.0)))
+      (λ unopened h2. row_cases (not allowed_is) BadWord kind later h2
+      (λ bad same.
+      let no_whole : IsSentence (texts before) → text ≡ codes "}" → ⊥ = λ s text_is. absurd
+      (let wrong : true ≡ false =
+      sym (whole_closes place depth text (whole_now (texts before) state began s) text_is)
+      ∙ sym closes_so
+      ∙ unopened in cc)
+      in
+      subst wrong same (Misplaced formed
+      (is_not_viable (texts before) state text began
+      (none_allowed header_is closes_is allowed_is bad))
+      (Elsewhere
+      (after_header place state.head.has_if text (length (texts before)) began.length_is bad)
+      no_whole)))
+      (λ allowed h3. past header unopened allowed h3)))
+
+-- the fault of a token that is none by itself
 at_place : (before : List Token) (state : State) (text : List ℕ) (kind : ReadKind)
     → Counts before state
     → form_fault (sum_by length (texts before)) text ≡ None
     → place_fault state text ≡ Some kind
-    → IsWrong before text kind
+    → IsWrong program_rules before text kind
 at_place before state text kind c formed h =
-    let began = c.began in
-    let place = state.place in
-    let depth = length state.tree.blocks in
-    let header_is = is_header place text in
-    let allowed_is = is_allowed place state.head.has_if text in
-    let closes_is = closes_none place depth text in
-    let closes_so : closes_nothing place state.tree.blocks text ≡ closes_is =
-    closes_same place state.tree.blocks text in
-    row_cases (not header_is) BadHeader kind _ h
-    (λ bad same. subst (IsWrong before text) same (Misplaced before text BadHeader formed
-    (is_not_viable (texts before) state text began (no_header header_is closes_is allowed_is bad))
-    (OfHeader (texts before) text (in_header place text (length (texts before)) began.length_is
-    bad))))
-    (λ header h1. row_cases (closes_nothing place state.tree.blocks text) Unopened kind _ h1
-    (λ closes same.
-    let whole = closes_at place state.head.has_if depth text (sym closes_so ∙ closes) in
-    let sentence : IsSentence (texts before) = subst IsSentence (append-nil (texts before))
-    (began.follows [] whole.1) in
-    subst (IsWrong before text) same (Misplaced before text Unopened formed
-    (is_not_viable (texts before) state text began
-    (no_close header_is _ closes_is allowed_is closes closes_so))
-    (AfterWhole (texts before) text sentence whole.0)))
-    (λ unopened h2. row_cases (not allowed_is) BadWord kind _ h2
-    (λ bad same.
-    let no_whole : IsSentence (texts before) → text ≡ codes "}"
-    → ⊥ = λ s text_is. absurd
-    (let wrong : true
-    ≡ false = sym (whole_closes place depth text (whole_now (texts before) state began s) text_is)
-    ∙ sym closes_so
-    ∙ unopened in cc)
-    in
-    subst (IsWrong before text) same (Misplaced before text BadWord formed
-    (is_not_viable (texts before) state text began
-    (none_allowed header_is closes_is allowed_is bad))
-    (Elsewhere (texts before) text
-    (after_header place state.head.has_if text (length (texts before)) began.length_is bad)
-    no_whole)))
-    (λ allowed h3. PastLimit before text kind formed
-    (viable_next (texts before) state text began (fits_of state text header unopened allowed))
-    (limits_so before state text c (not-false header_is header) (not-false allowed_is allowed) ∙
-    h3))))
+    misplaced_or MOST_TOKEN_BYTES MOST_NESTING too_many_after before state text kind
+    (closes_nothing state.place state.tree.blocks text) _ c.began formed
+    (closes_same state.place state.tree.blocks text) h
+    (λ header unopened allowed later. PastLimit formed
+    (viable_next (texts before) state text c.began (fits_of state text header unopened allowed))
+    (limits_so before state text c (not-false _ header) (not-false _ allowed) ∙ later))
 
-unless_err : {P : Type 0} (found : Option ReadKind) (line : ℕ) (after : Result State ReadFault)
+pub unless_err : {P : Type 0} (found : Option ReadKind) (line : ℕ) (after : Result State ReadFault)
     (fault : ReadFault)
     → unless_fault found line after ≡ Err fault
     → ((kind : ReadKind) → found ≡ Some kind → fault_so kind line ≡ fault → P)
@@ -291,14 +312,14 @@ unless_err None line after fault h here later = later refl h
 token_wrong : (before : List Token) (state : State) (token : Token) (fault : ReadFault)
     → Counts before state
     → step state token ≡ Err fault
-    → (kind : ReadKind) × IsWrong before token.text kind × (fault_so kind token.line ≡ fault)
+    → WrongSo program_rules before token fault
 unfolding step
 token_wrong before state token fault c h =
     let inside : State = record state { bytes = state.bytes + length token.text } in
     unless_err (form_fault state.bytes token.text) token.line _ fault h
     (λ kind form same. (
       kind,
-      ByItself before token.text kind
+      ByItself
           (subst (λ (n : ℕ). form_fault n token.text ≡ Some kind) c.began.bytes_are form),
       same,
     ))
@@ -311,142 +332,37 @@ token_wrong before state token fault c h =
     ))
     (λ none wrong. absurd cc))
 
-token_fault : (before later : List Token) (state : State) (token : Token) (end_line : ℕ)
-    (fault : ReadFault)
-    → Counts before state
-    → step state token ≡ Err fault
-    → IsFirstFault (before ++ token ∷ later) end_line fault
-token_fault before later state token end_line fault c h =
-    let told = token_wrong before state token fault c h in
-    subst (IsFirstFault (before ++ token ∷ later) end_line) told.2
-    (AtToken before later token end_line told.0 c.right told.1)
-
--- ---- one fault at most
-
-sentence_long : (before : List (List ℕ)) → IsSentence before → 2 ≤ length before
-sentence_long before s = omega (arith, ap (λ (ts : List (List ℕ)). length ts) s.spelled)
-
-pub two_kinds : (one other : ReadKind) (found : Option ReadKind)
-    → found ≡ Some one
-    → found ≡ Some other
-    → one ≡ other
-two_kinds one other found h g = cc
-
-pub some_none : (kind : ReadKind) (found : Option ReadKind) → found ≡ Some kind → found ≡ None → ⊥
-some_none kind found h g = absurd cc
-
-right_not_wrong : (before : List Token) (text : List ℕ) (kind : ReadKind) → IsRight before text
-    → IsWrong before text kind → ⊥
-right_not_wrong before text kind r (ByItself _ _ _ form) = some_none kind _ form r.formed
-right_not_wrong before text kind r (Misplaced _ _ _ form no_viable misplaced) = no_viable r.viable
-right_not_wrong before text kind r (PastLimit _ _ _ form viable_so limit) =
-    some_none kind _ limit r.within
-
--- a token is misplaced in one way only
-misplaced_once : (before : List (List ℕ)) (text : List ℕ) (one other : ReadKind)
-    → IsMisplaced before text one
-    → IsMisplaced before text other
-    → one ≡ other
-misplaced_once before text one other (OfHeader _ _ short) (OfHeader _ _ again) = refl
-misplaced_once before text one other (OfHeader _ _ short) (AfterWhole _ _ s text_is) =
-    absurd (let long = sentence_long before s in omega (arith, short, long))
-misplaced_once before text one other (OfHeader _ _ short) (Elsewhere _ _ long no_whole) =
-    absurd (omega (arith, short, long))
-misplaced_once before text one other (AfterWhole _ _ s text_is) (OfHeader _ _ short) =
-    absurd (let long = sentence_long before s in omega (arith, short, long))
-misplaced_once before text one other (AfterWhole _ _ s text_is) (AfterWhole _ _ again text_so) =
-    refl
-misplaced_once before text one other (AfterWhole _ _ s text_is) (Elsewhere _ _ long no_whole) =
-    absurd (no_whole s text_is)
-misplaced_once before text one other (Elsewhere _ _ long no_whole) (OfHeader _ _ short) =
-    absurd (omega (arith, short, long))
-misplaced_once before text one other (Elsewhere _ _ long no_whole) (AfterWhole _ _ s text_is) =
-    absurd (no_whole s text_is)
-misplaced_once before text one other (Elsewhere _ _ long no_whole) (Elsewhere _ _ again none) = refl
-
--- a token is wrong in one way only
-wrong_once : (before : List Token) (text : List ℕ) (one other : ReadKind) → IsWrong before text one
-    → IsWrong before text other → one ≡ other
-wrong_once before text one other (ByItself _ _ _ form) (ByItself _ _ _ again) =
-    two_kinds one other _ form again
-wrong_once before text one other (ByItself _ _ _ form) (Misplaced _ _ _ none no_viable misplaced) =
-    absurd (some_none one _ form none)
-wrong_once before text one other (ByItself _ _ _ form) (PastLimit _ _ _ none viable_so limit) =
-    absurd (some_none one _ form none)
-wrong_once before text one other (Misplaced _ _ _ none no_viable misplaced) (ByItself _ _ _ form) =
-    absurd (some_none other _ form none)
-wrong_once before text one other (Misplaced _ _ _ none no_viable misplaced)
-    (Misplaced _ _ _ again no_more misplaced_so) =
-    misplaced_once (texts before) text one other misplaced misplaced_so
-wrong_once before text one other (Misplaced _ _ _ none no_viable misplaced)
-    (PastLimit _ _ _ again viable_so limit) =
-    absurd (no_viable viable_so)
-wrong_once before text one other (PastLimit _ _ _ none viable_so limit) (ByItself _ _ _ form) =
-    absurd (some_none other _ form none)
-wrong_once before text one other (PastLimit _ _ _ none viable_so limit)
-    (Misplaced _ _ _ again no_viable misplaced) =
-    absurd (no_viable viable_so)
-wrong_once before text one other (PastLimit _ _ _ none viable_so limit)
-    (PastLimit _ _ _ again viable_too limit_too) =
-    two_kinds one other _ limit limit_too
-
-no_braces : (all : List Token) (line : ℕ) (others : List ℕ) → length all < 2
-    → open_braces (drop 2 all) ≡ line ∷ others → ⊥
-no_braces all line others short braces =
-    let none : open_braces (drop 2 all) ≡ [] =
-    ap (λ (ts : List Token). open_braces ts) (nothing_after all (omega (arith, short))) in
-    absurd (let wrong : line ∷ others ≡ [] = sym braces ∙ none in cc)
-
--- a text ends too early in one way only
-ends_once : (all : List Token) (end_line : ℕ) (one other : ReadFault) → EndsEarly all end_line one
-    → EndsEarly all end_line other → one ≡ other
-ends_once all end_line one other (InHeader _ _ short) (InHeader _ _ again) = refl
-ends_once all end_line one other (InHeader _ _ short) (BlockOpen _ _ line others viable_so braces) =
-    absurd (no_braces all line others short braces)
-ends_once all end_line one other (InHeader _ _ short) (Inside _ _ long no_viable) =
-    absurd (omega (arith, short, long))
-ends_once all end_line one other (BlockOpen _ _ line others viable_so braces) (InHeader _ _ short) =
-    absurd (no_braces all line others short braces)
-ends_once all end_line one other (BlockOpen _ _ line others viable_so braces)
-    (BlockOpen _ _ line_too others_too again braces_too) =
-    let same : line ∷ others ≡ line_too ∷ others_too = sym braces ∙ braces_too in
-    let same_line : line ≡ line_too = cc in
-    ap (λ (n : ℕ). fault_so Unclosed n) same_line
-ends_once all end_line one other (BlockOpen _ _ line others viable_so braces)
-    (Inside _ _ long no_viable) =
-    absurd (no_viable viable_so)
-ends_once all end_line one other (Inside _ _ long no_viable) (InHeader _ _ short) =
-    absurd (omega (arith, short, long))
-ends_once all end_line one other (Inside _ _ long no_viable)
-    (BlockOpen _ _ line others viable_so braces) =
-    absurd (no_viable viable_so)
-ends_once all end_line one other (Inside _ _ long no_viable) (Inside _ _ again none) = refl
-
 -- ---- the end
 
--- a text that ends where it may not ends too early, as the definition says
-pub end_by : (all : List Token) (place : Place) (has_if : Bool) (blocks : List Block) (end_line : ℕ)
-    (fault : ReadFault)
-    → LengthAt place (length all) → open_braces (drop 2 all) ≡ map line_of_block blocks
-    → (fits_at place has_if (length blocks) (codes "}") ≡ true
-    → IsViable (texts all ++ codes "}" ∷ []))
-    → (fits_at place has_if (length blocks) (codes "}") ≡ false
-    → IsViable (texts all ++ codes "}" ∷ []) → ⊥)
-    → end_at place blocks end_line ≡ Some fault → EndsEarly all end_line fault
-end_by all Header has_if blocks end_line fault long braces can cannot h =
-    let same : fault_so BadHeader end_line ≡ fault = cc in
-    subst (EndsEarly all end_line) same (InHeader all end_line (omega (arith, long)))
-end_by all Version has_if blocks end_line fault long braces can cannot h =
-    let same : fault_so BadHeader end_line ≡ fault = cc in
-    subst (EndsEarly all end_line) same (InHeader all end_line (omega (arith, long)))
-end_by all Statement has_if [] end_line fault long braces can cannot h = absurd cc
-end_by all Statement has_if (block ∷ blocks) end_line fault long braces can cannot h =
-    let same : fault_so Unclosed (line_of_block block) ≡ fault = cc in
-    subst (EndsEarly all end_line) same
-    (BlockOpen all end_line (line_of_block block) (map line_of_block blocks) (can refl) braces)
-end_by all _ has_if blocks end_line fault long braces can cannot h =
-    let same : fault_so BadWord end_line ≡ fault = cc in
-    subst (EndsEarly all end_line) same (Inside all end_line long (cannot refl))
+module _ (token_bytes nesting : ℕ) (too_many : List Token → List ℕ → Option ReadKind) where
+  abbrev rules : Rules
+  rules = plain_rules token_bytes nesting too_many
+
+  -- a text that ends where it may not ends too early, as the definition says
+  pub end_by : (all : List Token) (place : Place) (has_if : Bool) (blocks : List Block)
+      (end_line : ℕ) (fault : ReadFault)
+      → LengthAt place (length all)
+      → open_braces (drop 2 all) ≡ map line_of_block blocks
+      → (fits_at place has_if (length blocks) (codes "}") ≡ true
+      → IsViable IsSentence (texts all ++ codes "}" ∷ []))
+      → (fits_at place has_if (length blocks) (codes "}") ≡ false
+      → IsViable IsSentence (texts all ++ codes "}" ∷ []) → ⊥)
+      → end_at place blocks end_line ≡ Some fault
+      → EndsEarly (plain_rules token_bytes nesting too_many) all end_line fault
+  end_by all Header has_if blocks end_line fault long braces can cannot h =
+      let same : fault_so BadHeader end_line ≡ fault = cc in
+      subst (EndsEarly rules all end_line) same (InHeader (omega (arith, long)))
+  end_by all Version has_if blocks end_line fault long braces can cannot h =
+      let same : fault_so BadHeader end_line ≡ fault = cc in
+      subst (EndsEarly rules all end_line) same (InHeader (omega (arith, long)))
+  end_by all Statement has_if [] end_line fault long braces can cannot h = absurd cc
+  end_by all Statement has_if (block ∷ blocks) end_line fault long braces can cannot h =
+      let same : fault_so Unclosed (line_of_block block) ≡ fault = cc in
+      subst (EndsEarly rules all end_line) same
+      (BlockOpen (line_of_block block) (map line_of_block blocks) (can refl) braces)
+  end_by all _ has_if blocks end_line fault long braces can cannot h =
+      let same : fault_so BadWord end_line ≡ fault = cc in
+      subst (EndsEarly rules all end_line) same (Inside long (cannot refl))
 
 pub whole_ends : (place : Place) (blocks : List Block) (line : ℕ) (fault : ReadFault)
     → is_whole place (length blocks) ≡ true → end_at place blocks line ≡ Some fault → ⊥
@@ -469,10 +385,10 @@ ended_ok Statement has_if (block ∷ blocks) line state program h = absurd cc
 ended_ok _ has_if blocks line state program h = absurd cc
 
 early_at : (all : List Token) (state : State) (end_line : ℕ) (fault : ReadFault) → Counts all state
-    → end_at state.place state.tree.blocks end_line ≡ Some fault → EndsEarly all end_line fault
+    → end_at state.place state.tree.blocks end_line ≡ Some fault → EndsEarly program_rules all end_line fault
 early_at all state end_line fault c h =
     let began = c.began in
-    end_by all state.place state.head.has_if state.tree.blocks end_line fault
+    end_by MOST_TOKEN_BYTES MOST_NESTING too_many_after all state.place state.head.has_if state.tree.blocks end_line fault
     (subst (λ (n : ℕ). LengthAt state.place n) (texts_long all) began.length_is)
     (ap (λ (t : Tally). t.braces) c.tally_is) (viable_next (texts all) state (codes "}") began)
     (is_not_viable (texts all) state (codes "}") began) h
@@ -482,60 +398,8 @@ end_is : (state : State) (line : ℕ) (fault : ReadFault) → read_tokens [] lin
 unfolding read_tokens
 end_is state line fault h = ended_err (end_at state.place state.tree.blocks line) state fault h
 
-end_fault : (all : List Token) (state : State) (end_line : ℕ) (fault : ReadFault) → Counts all state
-    → end_at state.place state.tree.blocks end_line ≡ Some fault → IsFirstFault all end_line fault
-end_fault all state end_line fault c h =
-    AtEnd all end_line fault c.right
-    (λ s. whole_ends state.place state.tree.blocks end_line fault
-    (whole_now (texts all) state c.began s) h)
-    (early_at all state end_line fault c h)
-
--- ---- the whole
-
-by_next_or_fault : {P : Type 0} (read : Result State ReadFault)
-    (later : State → Result ProgramMarks ReadFault) (fault : ReadFault)
-    → go_on read later ≡ Err fault
-    → ((next : State) → read ≡ Ok next → later next ≡ Err fault → P) → (read ≡ Err fault → P) → P
-by_next_or_fault (Ok next) later fault h on stops = on next refl h
-by_next_or_fault (Err other) later fault h on stops = stops cc
-
--- the fault of the tokens that are left is the first fault of all of them
-fault_from : (tokens before : List Token) (state : State) (end_line : ℕ) (fault : ReadFault)
-    → Counts before state
-    → read_tokens tokens end_line state ≡ Err fault
-    → IsFirstFault (before ++ tokens) end_line fault
-unfolding read_tokens
-fault_from [] before state end_line fault c h =
-    subst (λ (ts : List Token). IsFirstFault ts end_line fault) (sym (append-nil before))
-    (end_fault before state end_line fault c
-    (ended_err (end_at state.place state.tree.blocks end_line) state fault h))
-fault_from (token ∷ tokens) before state end_line fault c h =
-    by_next_or_fault (step state token) (λ next. read_tokens tokens end_line next) fault h
-    (λ next one later. subst (λ (ts : List Token). IsFirstFault ts end_line fault)
-    (append_assoc before (token ∷ []) tokens)
-    (fault_from tokens (before ++ token ∷ []) next end_line fault
-    (counts_more before state next token c one) later))
-    (λ stops. token_fault before tokens state token end_line fault c stops)
-
-abbrev Whole : List Token → Type 0
-Whole all = IsSentence (texts all) × AreRight all
-
--- where the tokens that are left are read to the end, all of them are a text
-whole_from : (tokens before : List Token) (state : State) (end_line : ℕ) (program : ProgramMarks)
-    → Counts before state
-    → read_tokens tokens end_line state ≡ Ok program
-    → Whole (before ++ tokens)
-unfolding read_tokens
-whole_from [] before state end_line program c h =
-    let whole = c.began.follows []
-    (ended_ok state.place state.head.has_if state.tree.blocks end_line state program h) in
-    subst Whole (sym (append-nil before))
-    (subst IsSentence (append-nil (texts before)) whole, c.right)
-whole_from (token ∷ tokens) before state end_line program c h =
-    let went = step_went (step state token) (λ next. read_tokens tokens end_line next) program h in
-    subst Whole (append_assoc before (token ∷ []) tokens)
-    (whole_from tokens (before ++ token ∷ []) went.0 end_line program
-    (counts_more before state went.0 token c went.1) went.2)
+sentence_long : (texts : List (List ℕ)) → IsSentence texts → 2 ≤ length texts
+sentence_long texts s = omega (arith, ap (λ (ts : List (List ℕ)). length ts) s.spelled)
 
 -- before the first token nothing is counted
 at_start : Counts [] start
@@ -557,22 +421,9 @@ at_start = record {
     bytes = omega arith;
   };
   no_items = refl;
-  right = Nothing;
 }
 
--- ---- and whatever has the fault is refused with it
-
--- where right tokens were read
-record ReadSo (before : List Token) : Type 0 where
-  state : State
-  counts : Counts before state
-  goes_on : (later : List Token) (line : ℕ)
-      → read_tokens (before ++ later) line start ≡ read_tokens later line state
-
-step_cases : {P : Type 0} (read : Result State ReadFault) → ((next : State) → read ≡ Ok next → P)
-    → ((fault : ReadFault) → read ≡ Err fault → P) → P
-step_cases (Ok next) on stops = on next refl
-step_cases (Err fault) on stops = stops fault refl
+-- ---- the whole
 
 one_on : (token : Token) (later : List Token) (line : ℕ) (state next : State)
     → step state token ≡ Ok next
@@ -585,103 +436,41 @@ one_stops : (token : Token) (later : List Token) (line : ℕ) (state : State) (f
 unfolding read_tokens
 one_stops token later line state fault h = rw h refl
 
--- tokens of which none is wrong are read
-right_read : (before : List Token) → AreRight before → ReadSo before
-right_read before
-    Nothing = record { state = start; counts = at_start; goes_on = λ later line. refl }
-right_read before (More others token rights right) =
-    let read_on = right_read others rights in
-    step_cases (step read_on.state token)
-    (λ next one. record {
-      state = next;
-      counts = counts_more others read_on.state next token read_on.counts one;
-      goes_on = λ later line.
-          ap (λ (ts : List Token). read_tokens ts line start)
-          (append_assoc others (token ∷ []) later)
-          ∙ read_on.goes_on (token ∷ later) line
-          ∙ one_on token later line read_on.state next one;
-    })
-    (λ fault stops. let wrong = token_wrong others read_on.state token fault read_on.counts stops in
-    absurd (right_not_wrong others token.text wrong.0 right wrong.1))
+whole_at : (all : List Token) (line : ℕ) (state : State) (program : ProgramMarks)
+    → Counts all state
+    → read_tokens [] line state ≡ Ok program
+    → IsSentence (texts all)
+unfolding read_tokens
+whole_at all line state program c h =
+    subst IsSentence (append-nil (texts all)) (c.began.follows []
+    (ended_ok state.place state.head.has_if state.tree.blocks line state program h))
 
-abbrev fault_of_program : ReadFault → Result ProgramMarks ReadFault
-fault_of_program fault = Err fault
+ends_so : (all : List Token) (line : ℕ) (state : State) (fault : ReadFault)
+    → Counts all state
+    → read_tokens [] line state ≡ Err fault
+    → EndsSo program_rules all line fault
+ends_so all line state fault c h =
+    let ended = end_is state line fault h in (
+      λ s. whole_ends state.place state.tree.blocks line fault
+          (whole_now (texts all) state c.began s) ended,
+      early_at all state line fault c ended,
+    )
 
--- a wrong token behind right ones is where the reading stops, with its fault
-refused_at : (before later : List Token) (token : Token) (line : ℕ) (kind : ReadKind)
-    → AreRight before
-    → IsWrong before token.text kind
-    → read_tokens (before ++ token ∷ later) line start ≡ Err (fault_so kind token.line)
-refused_at before later token line kind rights wrong =
-    let read_on = right_read before rights in
-    step_cases (step read_on.state token)
-    (λ next one. absurd (right_not_wrong before token.text kind
-    (token_right before read_on.state next token read_on.counts one) wrong))
-    (λ fault stops.
-    let told = token_wrong before read_on.state token fault read_on.counts stops in
-    let same : fault
-    ≡ fault_so kind token.line = sym told.2
-    ∙ ap (λ (k : ReadKind). fault_so k token.line)
-    (wrong_once before token.text told.0 kind told.1 wrong) in
-    read_on.goes_on (token ∷ later) line
-    ∙ one_stops token later line read_on.state fault stops
-    ∙ ap (λ (f : ReadFault). fault_of_program f) same)
-
-read_cases : {P : Type 0} (read : Result ProgramMarks ReadFault)
-    → ((program : ProgramMarks) → read ≡ Ok program → P)
-    → ((fault : ReadFault) → read ≡ Err fault → P)
-    → P
-read_cases (Ok program) on stops = on program refl
-read_cases (Err fault) on stops = stops fault refl
-
--- a text of right tokens that ends too early is refused for that alone
-early_once : (all : List Token) (line : ℕ) (one other : ReadFault)
-    → AreRight all
-    → EndsEarly all line one
-    → read_tokens all line start ≡ Err other
-    → one ≡ other
-early_once all line one other rights early h =
-    let read_on = right_read all rights in
-    let ended_so : read_tokens [] line read_on.state ≡ Err other = sym (read_on.goes_on [] line)
-    ∙ ap (λ (ts : List Token). read_tokens ts line start) (append-nil all)
-    ∙ h in
-    ends_once all line one other early
-    (early_at all read_on.state line other read_on.counts
-    (end_is read_on.state line other ended_so))
-
-refused_end : (all : List Token) (line : ℕ) (fault : ReadFault)
-    → AreRight all
-    → (IsSentence (texts all) → ⊥)
-    → EndsEarly all line fault
-    → read_tokens all line start ≡ Err fault
-refused_end all line fault rights no_sentence early =
-    read_cases (read_tokens all line start)
-    (λ program h. absurd (no_sentence (whole_from all [] start line program at_start h).0))
-    (λ other h. h
-    ∙ ap (λ (f : ReadFault). fault_of_program f)
-    (sym (early_once all line fault other rights early h)))
-
-refused_first : (tokens : List Token) (line : ℕ) (fault : ReadFault)
-    → IsFirstFault tokens line fault
-    → read_tokens tokens line start ≡ Err fault
-refused_first tokens line fault (AtToken before later token _ kind rights wrong) =
-    refused_at before later token line kind rights wrong
-refused_first tokens line fault (AtEnd _ _ _ rights no_sentence early) =
-    refused_end tokens line fault rights no_sentence early
-
--- a sentence of right tokens has no first fault
-whole_read : (all : List Token) (line : ℕ) → IsSentence (texts all) → AreRight all
-    → (program : ProgramMarks) × (read_tokens all line start ≡ Ok program)
-whole_read all line s rights =
-    let read_on = right_read all rights in
-    let to_end : read_tokens all line start ≡ read_tokens [] line read_on.state = ap
-    (λ (ts : List Token). read_tokens ts line start) (sym (append-nil all))
-    ∙ read_on.goes_on [] line in
-    read_cases (read_tokens all line start)
-    (λ program h. (program, h))
-    (λ fault h. absurd (whole_ends read_on.state.place read_on.state.tree.blocks line fault
-    (whole_now (texts all) read_on.state read_on.counts.began s)
-    (end_is read_on.state line fault (sym to_end ∙ h))))
+abbrev reading : Machine program_rules State ProgramMarks
+reading = record {
+  start = start;
+  step = step;
+  read = read_tokens;
+  goes_on = one_on;
+  stops = one_stops;
+  Known = Counts;
+  at_start = at_start;
+  after = counts_more;
+  right = token_right;
+  wrong = token_wrong;
+  whole = whole_at;
+  early = ends_so;
+}
 
 short_refused : (text : List ℕ) (fault : ReadFault)
     → length text ≤ MOST_TEXT_BYTES
@@ -690,7 +479,8 @@ short_refused : (text : List ℕ) (fault : ReadFault)
     → program_of text ≡ Err fault
 short_refused text fault fits so (TextTooLong _ long) = absurd (omega (arith, fits, long))
 short_refused text fault fits so (OfTokens _ _ short first) =
-    so ∙ refused_first (tokens_of text) (line_at_end 1 text) fault first
+    so
+    ∙ (refused program_rules reading sentence_long (tokens_of text) (line_at_end 1 text) fault).1 first
 
 -- a text of version 1 is read or has a first fault, and never both
 told_apart : (text : List ℕ)
@@ -703,14 +493,17 @@ told_apart text one short =
     let line = line_at_end 1 text in
     record {
       read = (
-        λ r. let whole = whole_from (tokens_of text) [] start line r.0 at_start (sym so ∙ r.1) in
-            record { text_fits = fits; sentence = whole.0; right = whole.1 },
-        λ w. let read_whole = whole_read (tokens_of text) line w.sentence w.right in
-            (read_whole.0, so ∙ read_whole.1),
+        λ r. record {
+          text_fits = fits;
+          whole = whole_read program_rules reading (tokens_of text) line r.0 (sym so ∙ r.1);
+        },
+        λ w. let read = read_whole program_rules reading (tokens_of text) line w.whole in
+            (read.0, so ∙ read.1),
       );
       refused = λ fault. (
         λ h. OfTokens text fault fits
-            (fault_from (tokens_of text) [] start line fault at_start (sym so ∙ h)),
+            ((refused program_rules reading sentence_long (tokens_of text) line fault).0
+            (sym so ∙ h)),
         λ h. short_refused text fault fits so h,
       );
     }

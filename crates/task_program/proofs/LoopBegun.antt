@@ -31,7 +31,8 @@ use Rattle.loop_text.specs.FirstPass.{State, is_allowed, closes_nothing, place_f
 use Rattle.loop_text.specs.LoopTokens.{form_fault}
 use Rattle.loop_text.specs.FirstPass.{unless_fault, step, after_at, is_number_too_large}
 use Rattle.loop_text.specs.FirstPass.{nests_too_deep}
-use Rattle.task_program.specs.LoopViablePrefix.{IsLoopSentence, IsLoopViable}
+use Rattle.task_program.specs.FirstFault.{IsViable}
+use Rattle.task_program.specs.LoopViablePrefix.{IsLoopSentence}
 use Rattle.task_program.proofs.FoundPlaces.{same_text}
 use Rattle.task_program.proofs.Tallies.{other_text}
 use Rattle.task_program.proofs.LoopContinued.{steps_back, may_continue}
@@ -259,7 +260,7 @@ pub record LoopBegan (before : List Token) (state : State) : Type 0 where
 
 -- a token that the grammar does not have
 pub is_not_viable : (before : List Token) (state : State) (text : List ℕ) → LoopBegan before state
-    → fits (shape_of state) text ≡ false → IsLoopViable (texts before ++ text ∷ []) → ⊥
+    → fits (shape_of state) text ≡ false → IsViable IsLoopSentence (texts before ++ text ∷ []) → ⊥
 is_not_viable before state text b wrong_here v =
     let sentence : IsLoopSentence (texts before ++ text ∷ v.0) =
     subst IsLoopSentence (append_assoc (texts before) (text ∷ []) v.0) v.1 in
@@ -269,7 +270,7 @@ is_not_viable before state text b wrong_here v =
 
 -- and one that it has
 pub viable_next : (before : List Token) (state : State) (text : List ℕ) → LoopBegan before state
-    → fits (shape_of state) text ≡ true → IsLoopViable (texts before ++ text ∷ [])
+    → fits (shape_of state) text ≡ true → IsViable IsLoopSentence (texts before ++ text ∷ [])
 viable_next before state text b fits_so =
     let shape = shape_of state in
     let next = lead shape text in

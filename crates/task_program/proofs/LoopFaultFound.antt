@@ -1,9 +1,9 @@
 -- The fault of a text of version 2 for which the first pass stops is the first of its tokens.
 use Rattle.std.proofs.Common.{◌≡◌, ℕ, ◌<◌, ◌≤◌, Bool, true, false, not, List, [], ◌∷◌, ◌++◌, length}
-use Rattle.std.proofs.Common.{append_assoc, Option, Some, None, Result, Ok, Err, refl, sym, ap}
+use Rattle.std.proofs.Common.{Option, Some, None, Result, Ok, Err, refl, sym, ap}
 use Rattle.std.proofs.Common.{subst, ◌∙◌, arith, codes}
-use Rattle.std.specs.Prelude.{nat_le, reverse}
-use Rattle.std.proofs.lemmas.Bool.{leb-true, leb-false, and_parts, not-false}
+use Rattle.std.specs.Prelude.{◌↔◌, nat_le, reverse}
+use Rattle.std.proofs.lemmas.Bool.{leb-true, leb-false, le-leb, lt-ltb, ltb-true, and_parts, not-false}
 use Rattle.std.proofs.lemmas.List.{append-nil, length-map}
 use Rattle.program_text.specs.declared.fault.ReadKind.{ReadKind}
 use Rattle.program_text.specs.declared.fault.ReadKind.TheVariants.{BadWord, BadNumber}
@@ -16,25 +16,24 @@ use Rattle.loop_text.specs.declared.loop_reader.LoopHead.{LoopHead}
 use Rattle.loop_text.specs.declared.open_loops.LoopBlock.{LoopBlock}
 use Rattle.program_text.specs.declared.limits.TheConstants.{MOST_NESTING}
 use Rattle.program_text.specs.Tokens.{Token, texts}
-use Rattle.task_program.specs.TokenCounts.{open_braces}
-use Rattle.program_text.specs.Words.{is_text}
+use Rattle.task_program.specs.TokenCounts.{is_too_deep, open_braces}
+use Rattle.program_text.specs.Words.{is_text, is_number, value_of}
 use Rattle.loop_text.specs.Loops.{Tree}
 use Rattle.loop_text.specs.OpenBlocks.{variables_of, brace_of}
 use Rattle.loop_text.specs.FirstPass.{State, is_allowed, closes_nothing, is_number_too_large}
 use Rattle.loop_text.specs.FirstPass.{nests_too_deep, place_fault, unless_fault, step}
 use Rattle.loop_text.specs.LoopTokens.{form_fault}
-use Rattle.loop_text.specs.FirstPass.{end_at, tree_or_fault, go_on, first_pass, after_header}
-use Rattle.task_program.specs.LoopViablePrefix.{IsLoopSentence, IsLoopViable}
-use Rattle.task_program.specs.FirstLoopFault.{IsLoopWrong, AreLoopRight, EndsInLoops}
-use Rattle.task_program.specs.FirstLoopFault.{IsFirstLoopFault, IsPastLoopLimit, IsLoopRight}
-use Rattle.task_program.specs.FirstLoopFault.IsLoopMisplaced.{AfterWhole, Elsewhere}
-use Rattle.task_program.specs.FirstLoopFault.IsPastLoopLimit.{LargeNumber, DeepBlock}
-use Rattle.task_program.specs.FirstLoopFault.IsLoopWrong.{ByItself, Misplaced, PastLimit}
-use Rattle.task_program.specs.FirstLoopFault.AreLoopRight.{Nothing, More}
-use Rattle.task_program.specs.FirstLoopFault.EndsInLoops.{BlockOpen, Inside}
-use Rattle.task_program.specs.FirstLoopFault.IsFirstLoopFault.{AtToken, AtEnd}
+use Rattle.loop_text.specs.FirstPass.{end_at, tree_or_fault, first_pass, after_header}
+use Rattle.task_program.specs.LoopViablePrefix.{IsLoopSentence}
+use Rattle.task_program.specs.FirstFault.{IsViable, IsWrong, IsRight, EndsEarly, AreRightWhole}
+use Rattle.task_program.specs.FirstFault.{IsFirstFault}
+use Rattle.task_program.specs.FirstFault.IsMisplaced.{AfterWhole, Elsewhere}
+use Rattle.task_program.specs.FirstFault.IsWrong.{ByItself, Misplaced, PastLimit}
+use Rattle.task_program.specs.FirstFault.EndsEarly.{BlockOpen, Inside}
+use Rattle.task_program.specs.FirstLoopFault.{loop_rules, is_above, most_after}
+use Rattle.task_program.proofs.Machines.{Machine, WrongSo, EndsSo, refused, whole_read, read_whole}
 use Rattle.task_program.proofs.FoundPlaces.{same_text}
-use Rattle.task_program.proofs.ReadWhole.{fault_so}
+use Rattle.task_program.proofs.FirstFaults.{fault_so}
 use Rattle.task_program.proofs.Begun.{row_cases}
 use Rattle.task_program.proofs.LoopContinued.{nothing_follows}
 use Rattle.task_program.proofs.LoopShapes.{closes_none, fits_at, FollowsAt}
@@ -44,7 +43,7 @@ use Rattle.task_program.proofs.LoopBegun.{closes_same, fits_of, unfit_close, unf
 use Rattle.task_program.proofs.LoopBegun.{is_not_viable, viable_next, step_passes, step_begins}
 use Rattle.task_program.proofs.LoopBegun.{Passed}
 use Rattle.task_program.proofs.LoopMost.{LastNow, last_more, large_at, small_at}
-use Rattle.task_program.proofs.LoopFound.{step_went}
+use Rattle.program_text.proofs.Bools.{bool_cases}
 
 -- ---- what is known where right tokens were read
 
@@ -71,44 +70,65 @@ shallow_at ForBrace head open_now shallow allowed deep = room_left (length open_
 shallow_at Clause head open_now shallow allowed deep = room_left (length open_now) shallow deep
 shallow_at _ head open_now shallow allowed deep = absurd cc
 
--- what the grammar has there, what the last tokens tell of a number, and that none is wrong
-pub record Counts (before : List Token) (state : State) : Type 0 where
-  pub began : LoopBegan before state
-  pub last : LastNow before state
-  pub right : AreLoopRight before
+-- what the grammar has there, and what the last tokens tell of a number
+record Counts (before : List Token) (state : State) : Type 0 where
+  began : LoopBegan before state
+  last : LastNow before state
 
--- a token that passes no limit of its place passes none by the definition
-nothing_past : (before : List Token) (state next : State) (token : Token) (kind : ReadKind)
+is_above_so : (most : Option ℕ) (text : List ℕ)
+    → is_above most text ≡ true
+    → (n : ℕ) × (is_number text ≡ true) × (most ≡ Some n) × (n < value_of text)
+is_above_so None text h = absurd cc
+is_above_so (Some most) text h =
+    let parts = and_parts (is_number text) _ h in
+    (most, parts.0, refl, ltb-true most (value_of text) parts.1)
+
+-- a number that is not too large for its place is none by the last tokens
+not_large : (before : List Token) (state next : State) (token : Token)
     → Counts before state
     → Passed state next token
-    → IsPastLoopLimit before token.text kind
-    → ⊥
-nothing_past before state next token kind c p (LargeNumber _ _ most number most_so above) =
-    small_at state.place (reverse (texts before)) state.head state.tree.blocks token.text c.last
-    p.allowed p.small (most, number, most_so, above)
-nothing_past before state next token kind c p (DeepBlock _ _ text_is deep) =
-    shallow_at state.place state.head state.tree.blocks
+    → is_above (most_after (texts before)) token.text ≡ false
+not_large before state next token c p =
+    bool_cases (is_above (most_after (texts before)) token.text)
+    (λ large. absurd (small_at state.place (reverse (texts before)) state.head state.tree.blocks
+    token.text c.last p.allowed p.small (is_above_so (most_after (texts before)) token.text large)))
+    (λ small. small)
+
+not_deep : (before : List Token) (state next : State) (token : Token)
+    → Counts before state
+    → Passed state next token
+    → is_too_deep MOST_NESTING (length (open_braces before)) token.text ≡ false
+not_deep before state next token c p =
+    bool_cases (is_too_deep MOST_NESTING (length (open_braces before)) token.text)
+    (λ deep.
+    let parts = and_parts (is_text token.text (codes "{")) _ deep in
+    let text_is : token.text ≡ codes "{" = same_text token.text (codes "{") parts.0 in
+    let many = leb-true MOST_NESTING (length (open_braces before)) parts.1 in
+    absurd (shallow_at state.place state.head state.tree.blocks
     (subst (λ (t : List ℕ). nests_too_deep state.place state.tree.blocks t ≡ false) text_is
     p.shallow)
     (subst (λ (t : List ℕ). is_allowed state.place state.head state.tree.blocks t ≡ true) text_is
     p.allowed)
-    (omega (arith, deep, blocks_open before state c.began))
+    (omega (arith, many, blocks_open before state c.began))))
+    (λ shallow. shallow)
 
 -- a token that is read is right
-pub step_right : (before : List Token) (state next : State) (token : Token)
+step_right : (before : List Token) (state next : State) (token : Token)
     → Counts before state
     → step state token ≡ Ok next
-    → IsLoopRight before token.text
+    → IsRight loop_rules before token.text
 step_right before state next token c h =
     let passed = step_passes state next token h in
     record {
       formed = passed.formed;
       viable = viable_next before state token.text c.began
           (fits_of state token.text passed.unopened passed.allowed);
-      within = λ kind past. nothing_past before state next token kind c passed past;
+      within = rw
+          (not_large before state next token c passed, not_deep before state next token c passed)
+          refl;
     }
 
-pub counts_more : (before : List Token) (state next : State) (token : Token)
+counts_more : (before : List Token) (state next : State) (token : Token)
     → Counts before state
     → step state token ≡ Ok next
     → Counts (before ++ token ∷ []) next
@@ -117,7 +137,6 @@ counts_more before state next token c h =
     record {
       began = step_begins before state next token c.began h;
       last = last_more before state token next c.last passed.allowed passed.next_is;
-      right = More before token c.right (step_right before state next token c h);
     }
 
 -- ---- the fault of a token
@@ -165,12 +184,32 @@ deep_block Clause head open_now text deep allowed = (
 )
 deep_block _ head open_now text deep allowed = absurd cc
 
+is_large : (most : Option ℕ) (text : List ℕ)
+    → (n : ℕ) × (is_number text ≡ true) × (most ≡ Some n) × (n < value_of text)
+    → is_above most text ≡ true
+is_large most text past = rw (past.2, past.1) (lt-ltb past.0 (value_of text) past.3)
+
+is_no_number : (most : Option ℕ) (text : List ℕ)
+    → is_number text ≡ false
+    → is_above most text ≡ false
+is_no_number None text number = refl
+is_no_number (Some most) text number = rw number refl
+
+is_deep : (before : List Token) (state : State) (text : List ℕ)
+    → Counts before state
+    → DeepHere state.tree.blocks text
+    → is_too_deep MOST_NESTING (length (open_braces before)) text ≡ true
+is_deep before state text c block =
+    let many : MOST_NESTING ≤ length (open_braces before) =
+    omega (arith, block.1, blocks_open before state c.began) in
+    rw block.0 (le-leb MOST_NESTING (length (open_braces before)) many)
+
 -- the fault of a token that is one by itself
 at_place : (before : List Token) (state : State) (text : List ℕ) (kind : ReadKind)
     → Counts before state
     → form_fault text ≡ None
     → place_fault state text ≡ Some kind
-    → IsLoopWrong before text kind
+    → IsWrong loop_rules before text kind
 at_place before state text kind c formed h =
     let began = c.began in
     let shape = shape_of state in
@@ -184,9 +223,9 @@ at_place before state text kind c formed h =
     (sym closes_so ∙ closes) in
     let sentence : IsLoopSentence (texts before) = subst IsLoopSentence (append-nil (texts before))
     (began.follows [] whole.1) in
-    subst (IsLoopWrong before text) same (Misplaced before text Unopened formed
+    subst (IsWrong loop_rules before text) same (Misplaced formed
     (is_not_viable before state text began (unfit_close state text closes))
-    (AfterWhole (texts before) text sentence whole.0)))
+    (AfterWhole sentence whole.0)))
     (λ unopened h1.
     row_cases (not (is_allowed state.place state.head state.tree.blocks text)) BadWord kind _ h1
     (λ bad same.
@@ -198,26 +237,29 @@ at_place before state text kind c formed h =
     ∙ sym closes_so
     ∙ unopened in cc)
     in
-    subst (IsLoopWrong before text) same (Misplaced before text BadWord formed
+    subst (IsWrong loop_rules before text) same (Misplaced formed
     (is_not_viable before state text began (unfit_word state text bad))
-    (Elsewhere (texts before) text no_whole)))
+    (Elsewhere (omega arith) no_whole)))
     (λ allowed h2.
     let allowed_so : is_allowed state.place state.head state.tree.blocks text
     ≡ true = not-false _ allowed in
-    let viable : IsLoopViable (texts before ++ text ∷ []) =
+    let viable : IsViable IsLoopSentence (texts before ++ text ∷ []) =
     viable_next before state text began (fits_of state text unopened allowed_so) in
     row_cases (is_number_too_large state.place text) BadNumber kind _ h2
     (λ large same.
     let past = large_at state.place (reverse (texts before)) state.head state.tree.blocks text
     c.last allowed_so large in
-    subst (IsLoopWrong before text) same (PastLimit before text BadNumber formed viable
-    (LargeNumber before text past.0 past.1 past.2 past.3)))
+    subst (IsWrong loop_rules before text) same (PastLimit formed viable
+    (rw (is_large (most_after (texts before)) text past) refl)))
     (λ small h3. row_cases (nests_too_deep state.place state.tree.blocks text) TooDeep kind _ h3
     (λ deep same.
     let block = deep_block state.place state.head state.tree.blocks text deep allowed_so in
-    let braces = blocks_open before state began in
-    subst (IsLoopWrong before text) same (PastLimit before text TooDeep formed viable
-    (DeepBlock before text block.0 (omega (arith, block.1, braces)))))
+    let no_number : is_number text ≡ false = rw block.0 refl in
+    subst (IsWrong loop_rules before text) same (PastLimit formed viable
+    (rw (
+      is_no_number (most_after (texts before)) text no_number,
+      is_deep before state text c block,
+    ) refl)))
     (λ shallow none. absurd cc))))
 
 unless_err : {P : Type 0} (found : Option ReadKind) (line : ℕ) (after : Result State ReadFault)
@@ -228,33 +270,18 @@ unless_err : {P : Type 0} (found : Option ReadKind) (line : ℕ) (after : Result
 unless_err (Some kind) line after fault h here later = here kind refl cc
 unless_err None line after fault h here later = later refl h
 
-abbrev pub WrongSo : List Token → Token → ReadFault → Type 0
-WrongSo before token fault =
-    (kind : ReadKind) × IsLoopWrong before token.text kind × (fault_so kind token.line ≡ fault)
-
 -- what a token is refused for is wrong with it
-pub token_wrong : (before : List Token) (state : State) (token : Token) (fault : ReadFault)
+token_wrong : (before : List Token) (state : State) (token : Token) (fault : ReadFault)
     → Counts before state
     → step state token ≡ Err fault
-    → WrongSo before token fault
+    → WrongSo loop_rules before token fault
 unfolding step
 token_wrong before state token fault c h =
     unless_err (form_fault token.text) token.line _ fault h
-    (λ kind form same. (kind, ByItself before token.text kind form, same))
+    (λ kind form same. (kind, ByItself form, same))
     (λ form h1. unless_err (place_fault state token.text) token.line _ fault h1
     (λ kind place same. (kind, at_place before state token.text kind c form place, same))
     (λ none wrong. absurd cc))
-
--- so its fault is the first of the text
-token_fault : (before later : List Token) (state : State) (token : Token) (end_line : ℕ)
-    (fault : ReadFault)
-    → Counts before state
-    → step state token ≡ Err fault
-    → IsFirstLoopFault (before ++ token ∷ later) end_line fault
-token_fault before later state token end_line fault c h =
-    let told = token_wrong before state token fault c h in
-    subst (IsFirstLoopFault (before ++ token ∷ later) end_line) told.2
-    (AtToken before later token end_line told.0 c.right told.1)
 
 -- ---- the end
 
@@ -264,19 +291,19 @@ end_by : (all : List Token) (place : LoopPlace) (has_if has_final : Bool)
     (open_now : List LoopBlock) (end_line : ℕ) (fault : ReadFault)
     → open_braces all ≡ brace_lines open_now
     → (fits_at place has_if has_final variables (variables_of_each open_now) (codes "}") ≡ true
-    → IsLoopViable (texts all ++ codes "}" ∷ []))
+    → IsViable IsLoopSentence (texts all ++ codes "}" ∷ []))
     → (fits_at place has_if has_final variables (variables_of_each open_now) (codes "}") ≡ false
-    → IsLoopViable (texts all ++ codes "}" ∷ []) → ⊥)
-    → end_at place open_now end_line ≡ Some fault → EndsInLoops all end_line fault
+    → IsViable IsLoopSentence (texts all ++ codes "}" ∷ []) → ⊥)
+    → end_at place open_now end_line ≡ Some fault → EndsEarly loop_rules all end_line fault
 end_by all Statement has_if has_final variables [] end_line fault braces can cannot h = absurd cc
 end_by all Statement has_if has_final variables (block ∷ others) end_line fault braces can cannot h
     =
     let same : fault_so Unclosed (brace_of block.opening) ≡ fault = cc in
-    subst (EndsInLoops all end_line) same
-    (BlockOpen all end_line (brace_of block.opening) (brace_lines others) (can refl) braces)
+    subst (EndsEarly loop_rules all end_line) same
+    (BlockOpen (brace_of block.opening) (brace_lines others) (can refl) braces)
 end_by all _ has_if has_final variables open_now end_line fault braces can cannot h =
     let same : fault_so BadWord end_line ≡ fault = cc in
-    subst (EndsInLoops all end_line) same (Inside all end_line (cannot refl))
+    subst (EndsEarly loop_rules all end_line) same (Inside (omega arith) (cannot refl))
 
 whole_ends : (place : LoopPlace) (open_now : List LoopBlock) (line : ℕ) (fault : ReadFault)
     → is_whole place (variables_of_each open_now) ≡ true
@@ -301,10 +328,10 @@ ended_ok Statement has_if has_final x variables [] line state tree h = nothing_f
 ended_ok Statement has_if has_final x variables (block ∷ others) line state tree h = absurd cc
 ended_ok _ has_if has_final x variables open_now line state tree h = absurd cc
 
-pub early_at : (all : List Token) (state : State) (end_line : ℕ) (fault : ReadFault)
+early_at : (all : List Token) (state : State) (end_line : ℕ) (fault : ReadFault)
     → Counts all state
     → end_at state.place state.tree.blocks end_line ≡ Some fault
-    → EndsInLoops all end_line fault
+    → EndsEarly loop_rules all end_line fault
 early_at all state end_line fault c h =
     let shape = shape_of state in
     end_by all state.place shape.has_if shape.has_final shape.variables state.tree.blocks end_line
@@ -313,7 +340,7 @@ early_at all state end_line fault c h =
     (is_not_viable all state (codes "}") c.began) h
 
 -- a text that ends at a place where it may not is no sentence
-pub no_sentence_at : (all : List Token) (state : State) (end_line : ℕ) (fault : ReadFault)
+no_sentence_at : (all : List Token) (state : State) (end_line : ℕ) (fault : ReadFault)
     → Counts all state
     → end_at state.place state.tree.blocks end_line ≡ Some fault
     → IsLoopSentence (texts all)
@@ -321,69 +348,11 @@ pub no_sentence_at : (all : List Token) (state : State) (end_line : ℕ) (fault 
 no_sentence_at all state end_line fault c h sentence =
     whole_ends state.place state.tree.blocks end_line fault (whole_now all state c.began sentence) h
 
-pub end_is : (state : State) (line : ℕ) (fault : ReadFault)
+end_is : (state : State) (line : ℕ) (fault : ReadFault)
     → first_pass [] line state ≡ Err fault
     → end_at state.place state.tree.blocks line ≡ Some fault
 unfolding first_pass
 end_is state line fault h = ended_err (end_at state.place state.tree.blocks line) state fault h
-
-end_fault : (all : List Token) (state : State) (end_line : ℕ) (fault : ReadFault)
-    → Counts all state
-    → end_at state.place state.tree.blocks end_line ≡ Some fault
-    → IsFirstLoopFault all end_line fault
-end_fault all state end_line fault c h =
-    AtEnd all end_line fault c.right
-    (λ sentence. no_sentence_at all state end_line fault c h sentence)
-    (early_at all state end_line fault c h)
-
--- ---- the whole
-
-by_next_or_fault : {P : Type 0} (read : Result State ReadFault)
-    (later : State → Result Tree ReadFault) (fault : ReadFault)
-    → go_on read later ≡ Err fault
-    → ((next : State) → read ≡ Ok next → later next ≡ Err fault → P) → (read ≡ Err fault → P) → P
-by_next_or_fault (Ok next) later fault h on stops = on next refl h
-by_next_or_fault (Err other) later fault h on stops = stops cc
-
--- the fault of the tokens that are left is the first fault of all of them
-pub fault_from : (tokens before : List Token) (state : State) (end_line : ℕ) (fault : ReadFault)
-    → Counts before state
-    → first_pass tokens end_line state ≡ Err fault
-    → IsFirstLoopFault (before ++ tokens) end_line fault
-unfolding first_pass
-fault_from [] before state end_line fault c h =
-    subst (λ (ts : List Token). IsFirstLoopFault ts end_line fault) (sym (append-nil before))
-    (end_fault before state end_line fault c
-    (ended_err (end_at state.place state.tree.blocks end_line) state fault h))
-fault_from (token ∷ tokens) before state end_line fault c h =
-    by_next_or_fault (step state token) (λ next. first_pass tokens end_line next) fault h
-    (λ next one later. subst (λ (ts : List Token). IsFirstLoopFault ts end_line fault)
-    (append_assoc before (token ∷ []) tokens)
-    (fault_from tokens (before ++ token ∷ []) next end_line fault
-    (counts_more before state next token c one) later))
-    (λ stops. token_fault before tokens state token end_line fault c stops)
-
-abbrev pub Whole : List Token → Type 0
-Whole all = IsLoopSentence (texts all) × AreLoopRight all
-
--- where the tokens that are left are read to the end, all of them are a text
-pub whole_from : (tokens before : List Token) (state : State) (end_line : ℕ) (tree : Tree)
-    → Counts before state
-    → first_pass tokens end_line state ≡ Ok tree
-    → Whole (before ++ tokens)
-unfolding first_pass
-whole_from [] before state end_line tree c h =
-    let shape = shape_of state in
-    let whole = c.began.follows [] (ended_ok shape.place shape.has_if shape.has_final shape.variable
-    shape.variables
-    state.tree.blocks end_line state tree h) in
-    subst Whole (sym (append-nil before))
-    (subst IsLoopSentence (append-nil (texts before)) whole, c.right)
-whole_from (token ∷ tokens) before state end_line tree c h =
-    let went = step_went (step state token) (λ next. first_pass tokens end_line next) tree h in
-    subst Whole (append_assoc before (token ∷ []) tokens)
-    (whole_from tokens (before ++ token ∷ []) went.0 end_line tree
-    (counts_more before state went.0 token c went.1) went.2)
 
 sentence_of : (later : List (List ℕ))
     → FollowsAt Statement false false [] [] [] later
@@ -391,7 +360,7 @@ sentence_of : (later : List (List ℕ))
 sentence_of later f = record { pieces = f.pieces; spelled = f.texts_are; forms = f.forms }
 
 -- before the first token
-pub at_start : Counts [] after_header
+at_start : Counts [] after_header
 unfolding variables_of
 at_start = record {
   began = record {
@@ -400,5 +369,76 @@ at_start = record {
     braces_are = refl;
   };
   last = refl;
-  right = Nothing;
 }
+
+-- ---- the whole
+
+one_on : (token : Token) (later : List Token) (line : ℕ) (state next : State)
+    → step state token ≡ Ok next
+    → first_pass (token ∷ later) line state ≡ first_pass later line next
+unfolding first_pass
+one_on token later line state next h = rw h refl
+
+one_stops : (token : Token) (later : List Token) (line : ℕ) (state : State) (fault : ReadFault)
+    → step state token ≡ Err fault
+    → first_pass (token ∷ later) line state ≡ Err fault
+unfolding first_pass
+one_stops token later line state fault h = rw h refl
+
+whole_at : (all : List Token) (line : ℕ) (state : State) (tree : Tree)
+    → Counts all state
+    → first_pass [] line state ≡ Ok tree
+    → IsLoopSentence (texts all)
+unfolding first_pass
+whole_at all line state tree c h =
+    let shape = shape_of state in
+    subst IsLoopSentence (append-nil (texts all)) (c.began.follows [] (ended_ok shape.place
+    shape.has_if shape.has_final shape.variable shape.variables state.tree.blocks line state tree
+    h))
+
+ends_so : (all : List Token) (line : ℕ) (state : State) (fault : ReadFault)
+    → Counts all state
+    → first_pass [] line state ≡ Err fault
+    → EndsSo loop_rules all line fault
+ends_so all line state fault c h =
+    let ended = end_is state line fault h in (
+      λ sentence. no_sentence_at all state line fault c ended sentence,
+      early_at all state line fault c ended,
+    )
+
+abbrev reading : Machine loop_rules State Tree
+reading = record {
+  start = after_header;
+  step = step;
+  read = first_pass;
+  goes_on = one_on;
+  stops = one_stops;
+  Known = Counts;
+  at_start = at_start;
+  after = counts_more;
+  right = step_right;
+  wrong = token_wrong;
+  whole = whole_at;
+  early = ends_so;
+}
+
+-- after the header a sentence has no header
+no_header : (texts : List (List ℕ)) → IsLoopSentence texts → 0 ≤ length texts
+no_header texts s = omega arith
+
+-- what the first pass refuses has this first fault, and no other
+pub refused_so : (tokens : List Token) (line : ℕ) (fault : ReadFault)
+    → (first_pass tokens line after_header ≡ Err fault) ↔ IsFirstFault loop_rules tokens line fault
+refused_so tokens line fault = refused loop_rules reading no_header tokens line fault
+
+-- what it reads is a sentence of right tokens
+pub read_right : (tokens : List Token) (line : ℕ) (tree : Tree)
+    → first_pass tokens line after_header ≡ Ok tree
+    → AreRightWhole loop_rules tokens
+read_right tokens line tree h = whole_read loop_rules reading tokens line tree h
+
+-- and each such is read
+pub right_read : (tokens : List Token) (line : ℕ)
+    → AreRightWhole loop_rules tokens
+    → (tree : Tree) × (first_pass tokens line after_header ≡ Ok tree)
+right_read tokens line whole = read_whole loop_rules reading tokens line whole

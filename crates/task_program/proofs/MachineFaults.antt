@@ -1,14 +1,14 @@
 -- What the machines of reading read and refuse, told without them.
 use Rattle.std.specs.Prelude.{◌≡◌, ℕ, ◌↔◌, true, false, List, Ok, Err}
 use Rattle.program_text.specs.declared.fault.ReadFault.{ReadFault}
-use Rattle.program_text.specs.Tokens.{texts, tokens_of}
+use Rattle.program_text.specs.Tokens.{tokens_of}
 use Rattle.task_program.specs.ProgramMarks.{ProgramMarks}
 use Rattle.task_program.specs.ReadInVersion.{program_of}
 use Rattle.task_program.specs.Versions.{begins_version_two}
 use Rattle.loop_text.specs.Loops.{Tree}
-use Rattle.task_program.specs.LoopViablePrefix.{IsLoopSentence}
-use Rattle.task_program.specs.FirstFault.{HasFault}
-use Rattle.task_program.specs.FirstLoopFault.{HasLoopFault, IsTreeOf, AreLoopRight, body_of}
+use Rattle.task_program.specs.FirstFault.{AreRightWhole}
+use Rattle.task_program.specs.FirstPlainFault.{HasFault}
+use Rattle.task_program.specs.FirstLoopFault.{loop_rules, HasLoopFault, IsTreeOf, body_of}
 use Rattle.task_program.specs.RightTexts.{IsRightWhole, IsRightLoopText}
 
 -- What is read is a sentence within the limits, each token right, and each such text is read. What
@@ -28,8 +28,7 @@ pub record IsToldInLoops (text : List ℕ) : Type 0 where
       → (program_of text ≡ Ok program) ↔ IsRightLoopText text program
   pub refused : (fault : ReadFault) → (program_of text ≡ Err fault) ↔ HasLoopFault text fault
   -- and a sentence of right tokens has a tree
-  pub has_tree : IsLoopSentence (texts (body_of text))
-      → AreLoopRight (body_of text)
+  pub has_tree : AreRightWhole loop_rules (body_of text)
       → (tree : Tree) × IsTreeOf (body_of text) tree
 
 -- the header is that of version 2

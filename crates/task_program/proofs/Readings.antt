@@ -10,7 +10,7 @@ use Rattle.program_text.proofs.Bools.{bool_cases}
 use Rattle.task_program.specs.ProgramMarks.{ProgramMarks}
 use Rattle.task_program.specs.ReadInVersion.{program_of}
 use Rattle.task_program.specs.Versions.{begins_version_two}
-use Rattle.task_program.specs.FirstFault.{HasFault}
+use Rattle.task_program.specs.FirstPlainFault.{HasFault}
 use Rattle.task_program.specs.FirstLoopFault.{HasLoopFault}
 use Rattle.task_program.specs.Readings.{HasFirstFault, IsReading, HasOneReading}
 use Rattle.task_program.proofs.FaultFound.{fault_is_first}

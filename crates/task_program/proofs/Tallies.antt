@@ -43,8 +43,8 @@ use Rattle.task_program.specs.TokenCounts.{inside_after, is_inside, outside_from
 use Rattle.task_program.specs.TokenCounts.{is_waiting, is_value_too_large, is_too_deep}
 use Rattle.task_program.specs.TokenCounts.{is_task_past, is_segment_past, is_work_past, segments_by}
 use Rattle.task_program.specs.TokenCounts.{work_by, tasks_in, segments_in, work_in, items_after}
-use Rattle.task_program.specs.TokenCounts.{items_in, braces_after, open_braces, limit_by}
-use Rattle.task_program.specs.TokenCounts.{limit_fault_after}
+use Rattle.task_program.specs.TokenCounts.{items_in, braces_after, open_braces}
+use Rattle.task_program.specs.TokenCounts.{too_many_after, or_else, limit_fault_after}
 use Rattle.task_program.proofs.Keeping.{at, with_one}
 use Rattle.task_program.proofs.FoundPlaces.{same_text}
 use Rattle.task_program.proofs.Found.{type_is, is_depend, is_end}
@@ -433,6 +433,18 @@ table number deep task segment item work =
     (cond segment (Some TooManySegments)
     (cond item (Some TooManyItems) (cond work (Some WorkTooLarge) None)))))
 
+-- those that the definition has
+abbrev pub told : (number deep task segment item work : Bool) → Option ReadKind
+told number deep task segment item work =
+    cond number (Some BadNumber) (cond deep (Some TooDeep)
+    (or_else (cond task (Some TooManyTasks) (cond segment (Some TooManySegments) None))
+    (cond item (Some TooManyItems) (cond work (Some WorkTooLarge) None))))
+
+same_rows : (a b c d e f : Bool) → told a b c d e f ≡ table a b c d e f
+same_rows a b true d e f = refl
+same_rows a b false true e f = refl
+same_rows a b false false e f = refl
+
 same_table : (a b c d e f a' b' c' d' e' f' : Bool)
     → a ≡ a'
     → b ≡ b'
@@ -440,8 +452,9 @@ same_table : (a b c d e f a' b' c' d' e' f' : Bool)
     → d ≡ d'
     → e ≡ e'
     → f ≡ f'
-    → table a b c d e f ≡ table a' b' c' d' e' f'
-same_table a b c d e f a' b' c' d' e' f' h1 h2 h3 h4 h5 h6 = rw (h1, h2, h3, h4, h5, h6) refl
+    → told a b c d e f ≡ table a' b' c' d' e' f'
+same_table a b c d e f a' b' c' d' e' f' h1 h2 h3 h4 h5 h6 =
+    rw (h1, h2, h3, h4, h5, h6) (same_rows a' b' c' d' e' f')
 
 -- what the reading tests at its place
 abbrev pub limits : State → List ℕ → Option ReadKind
@@ -453,12 +466,15 @@ limits state text =
     (is_work_too_large state.place state.tree.marks text)
 
 abbrev pub limit_of : Tally → List ℕ → Option ReadKind
-limit_of t text = limit_by t.inside t.tasks t.segments t.work t.items (length t.braces) text
+limit_of t text =
+    told (is_value_too_large t.inside text) (is_too_deep MOST_NESTING (length t.braces) text)
+    (is_task_past t.inside t.tasks text) (is_segment_past t.inside t.segments text)
+    (nat_lt MOST_ITEMS t.items) (is_work_past t.inside t.work text)
 
 -- each row by itself
 limit_at : (place : Place) (state : State) (text : List ℕ) (a b c d e f : Bool)
     → is_value_too_large (is_inside_at place) text ≡ a
-    → is_too_deep (length (map line_of_block state.tree.blocks)) text ≡ b
+    → is_too_deep MOST_NESTING (length (map line_of_block state.tree.blocks)) text ≡ b
     → is_task_past (is_inside_at place) (tasks_of state.tree.marks + pending_tasks place) text ≡ c
     → is_segment_past (is_inside_at place) (segments_of state.tree.marks + pending_segments place)
     text
@@ -468,7 +484,7 @@ limit_at : (place : Place) (state : State) (text : List ℕ) (a b c d e f : Bool
     → limit_of (tally_at place state) text ≡ table a b c d e f
 limit_at place state text a b c d e f h1 h2 h3 h4 h5 h6 =
     same_table (is_value_too_large (is_inside_at place) text)
-    (is_too_deep (length (map line_of_block state.tree.blocks)) text)
+    (is_too_deep MOST_NESTING (length (map line_of_block state.tree.blocks)) text)
     (is_task_past (is_inside_at place) (tasks_of state.tree.marks + pending_tasks place) text)
     (is_segment_past (is_inside_at place) (segments_of state.tree.marks + pending_segments place)
     text)
@@ -483,7 +499,7 @@ value_off inside text number = rw number refl
 
 deep_off : (depth : ℕ) (text : List ℕ)
     → is_text text (codes "{") ≡ false
-    → is_too_deep depth text ≡ false
+    → is_too_deep MOST_NESTING depth text ≡ false
 deep_off depth text brace = rw brace refl
 
 and_off : (a b : Bool) → (a && (false && b)) ≡ false
@@ -709,7 +725,7 @@ version_limits text number value =
     let task = other_text is_number text (codes "task") number refl in
     let wait = other_text is_number text (codes "taskwait") number refl in
     let group = other_text is_number text (codes "taskgroup") number refl in
-    same_table (is_value_too_large false text) (is_too_deep 0 text) (is_task_past false 0 text)
+    same_table (is_value_too_large false text) (is_too_deep MOST_NESTING 0 text) (is_task_past false 0 text)
     (is_segment_past false 1 text) (nat_lt MOST_ITEMS 0) (is_work_past false 0 text)
     false false false false false false
     (rw (number, value) refl) (deep_off 0 text (other_text is_number text (codes "{") number refl))
@@ -719,7 +735,7 @@ version_limits text number value =
 pub header_limits : (place : Place) (text : List ℕ)
     → is_past_header place ≡ false
     → is_header place text ≡ true
-    → limit_fault_after [] text ≡ None
+    → limit_fault_after MOST_NESTING (too_many_after [] text) [] text ≡ None
 header_limits Header text past header =
     ap (λ (t : Tally). limit_of t text) nothing_counted
     ∙ rw (same_text text (codes "omptasks") header) refl

@@ -1,102 +1,97 @@
--- The fault of a text of version 1, apart from any reading: the first token at which something is
--- wrong, and what it is.
-use Rattle.std.specs.Prelude.{◌≡◌, ℕ, ◌<◌, ◌≤◌, List, [], ◌∷◌, ◌++◌, length, drop}
-use Rattle.std.specs.Prelude.{sum_by, Option, Some, None, codes}
+-- The first fault of the tokens of a text, apart from any reading: the first token at which
+-- something is wrong, and what it is. What is asked of a token are the rules of the text.
+use Rattle.std.specs.Prelude.{◌≡◌, ℕ, ◌<◌, ◌≤◌, List, [], ◌∷◌, ◌++◌, length, drop, Option}
+use Rattle.std.specs.Prelude.{Some, None, codes}
 use Rattle.program_text.specs.declared.fault.ReadKind.{ReadKind}
-use Rattle.program_text.specs.declared.fault.ReadKind.TheVariants.{TooLong, BadHeader, BadWord}
-use Rattle.program_text.specs.declared.fault.ReadKind.TheVariants.{Unclosed, Unopened}
+use Rattle.program_text.specs.declared.fault.ReadKind.TheVariants.{BadHeader, BadWord, Unclosed}
+use Rattle.program_text.specs.declared.fault.ReadKind.TheVariants.{Unopened}
 use Rattle.program_text.specs.declared.fault.ReadFault.{ReadFault}
-use Rattle.program_text.specs.declared.limits.TheConstants.{MOST_TEXT_BYTES}
-use Rattle.program_text.specs.Tokens.{Token, texts, tokens_of, line_at_end}
-use Rattle.task_program.specs.TokenCounts.{open_braces, limit_fault_after}
-use Rattle.task_program.specs.TokenFaults.{form_fault}
-use Rattle.task_program.specs.ViablePrefix.{IsSentence, IsViable}
+use Rattle.program_text.specs.Tokens.{Token, texts}
+use Rattle.task_program.specs.TokenCounts.{open_braces}
 
--- what is wrong with the token by itself after these: a byte of no token, a run of digits and
--- others, a word that is too long, or more bytes of tokens than there may be
-abbrev pub form_fault_after : List (List ℕ) → List ℕ → Option ReadKind
-form_fault_after before text = form_fault (sum_by length before) text
+-- what is asked of tokens, of which so many are the header
+pub record Rules : Type 1 where
+  pub header : ℕ
+  -- what is wrong with a token by itself, after these
+  pub form_fault : List (List ℕ) → List ℕ → Option ReadKind
+  -- the grammar, limits aside, derives these
+  pub IsSentence : List (List ℕ) → Type 0
+  -- which limit a token passes, after these, which come after the header
+  pub limit_fault : List Token → List ℕ → Option ReadKind
+
+-- some sentence of the grammar begins with these
+abbrev pub IsViable : (IsSentence : List (List ℕ) → Type 0) → List (List ℕ) → Type 0
+IsViable IsSentence texts = (later : List (List ℕ)) × IsSentence (texts ++ later)
 
 -- the fault of a token that the grammar does not have after these
-pub data IsMisplaced : (before : List (List ℕ)) (text : List ℕ) → ReadKind → Type 0 where
-  OfHeader : (before : List (List ℕ)) (text : List ℕ)
-      → length before < 2
-      → IsMisplaced before text BadHeader
+pub data IsMisplaced (rules : Rules) (before : List (List ℕ)) (text : List ℕ)
+    : ReadKind → Type 0 where
+  OfHeader : length before < rules.header → IsMisplaced rules before text BadHeader
   -- what stands before is whole, so no block is open
-  AfterWhole : (before : List (List ℕ)) (text : List ℕ)
-      → IsSentence before
+  AfterWhole : rules.IsSentence before
       → text ≡ codes "}"
-      → IsMisplaced before text Unopened
-  Elsewhere : (before : List (List ℕ)) (text : List ℕ)
-      → 2 ≤ length before
-      → (IsSentence before → text ≡ codes "}" → ⊥)
-      → IsMisplaced before text BadWord
+      → IsMisplaced rules before text Unopened
+  Elsewhere : rules.header ≤ length before
+      → (rules.IsSentence before → text ≡ codes "}" → ⊥)
+      → IsMisplaced rules before text BadWord
 
 -- what is wrong with this token after these: what it is by itself; or else that the grammar does
 -- not have it there; or else that it passes a limit
-pub data IsWrong : (before : List Token) (text : List ℕ) → ReadKind → Type 0 where
-  ByItself : (before : List Token) (text : List ℕ) (kind : ReadKind)
-      → form_fault_after (texts before) text ≡ Some kind
-      → IsWrong before text kind
-  Misplaced : (before : List Token) (text : List ℕ) (kind : ReadKind)
-      → form_fault_after (texts before) text ≡ None
-      → (IsViable (texts before ++ text ∷ []) → ⊥)
-      → IsMisplaced (texts before) text kind
-      → IsWrong before text kind
-  PastLimit : (before : List Token) (text : List ℕ) (kind : ReadKind)
-      → form_fault_after (texts before) text ≡ None
-      → IsViable (texts before ++ text ∷ [])
-      → limit_fault_after (drop 2 before) text ≡ Some kind
-      → IsWrong before text kind
+pub data IsWrong (rules : Rules) (before : List Token) (text : List ℕ) (kind : ReadKind)
+    : Type 0 where
+  ByItself : rules.form_fault (texts before) text ≡ Some kind → IsWrong rules before text kind
+  Misplaced : rules.form_fault (texts before) text ≡ None
+      → (IsViable rules.IsSentence (texts before ++ text ∷ []) → ⊥)
+      → IsMisplaced rules (texts before) text kind
+      → IsWrong rules before text kind
+  PastLimit : rules.form_fault (texts before) text ≡ None
+      → IsViable rules.IsSentence (texts before ++ text ∷ [])
+      → rules.limit_fault (drop rules.header before) text ≡ Some kind
+      → IsWrong rules before text kind
 
 -- nothing is wrong with this token after these
-pub record IsRight (before : List Token) (text : List ℕ) : Type 0 where
-  pub formed : form_fault_after (texts before) text ≡ None
-  pub viable : IsViable (texts before ++ text ∷ [])
-  pub within : limit_fault_after (drop 2 before) text ≡ None
+pub record IsRight (rules : Rules) (before : List Token) (text : List ℕ) : Type 0 where
+  pub formed : rules.form_fault (texts before) text ≡ None
+  pub viable : IsViable rules.IsSentence (texts before ++ text ∷ [])
+  pub within : rules.limit_fault (drop rules.header before) text ≡ None
 
 -- nothing is wrong with any of these after those before it
-pub data AreRight : List Token → Type 0 where
-  Nothing : AreRight []
+pub data AreRight (rules : Rules) : List Token → Type 0 where
+  Nothing : AreRight rules []
   More : (before : List Token) (token : Token)
-      → AreRight before
-      → IsRight before token.text
-      → AreRight (before ++ token ∷ [])
+      → AreRight rules before
+      → IsRight rules before token.text
+      → AreRight rules (before ++ token ∷ [])
+
+-- these are a sentence, each of them right
+pub record AreRightWhole (rules : Rules) (tokens : List Token) : Type 0 where
+  pub sentence : rules.IsSentence (texts tokens)
+  pub right : AreRight rules tokens
 
 -- what is wrong where these are all tokens of the text, which ends on this line
-pub data EndsEarly : (all : List Token) (end_line : ℕ) → ReadFault → Type 0 where
-  InHeader : (all : List Token) (end_line : ℕ)
-      → length all < 2
-      → EndsEarly all end_line (record { kind = BadHeader; line = end_line })
+pub data EndsEarly (rules : Rules) (all : List Token) (end_line : ℕ) : ReadFault → Type 0 where
+  InHeader : length all < rules.header
+      → EndsEarly rules all end_line (record { kind = BadHeader; line = end_line })
   -- a `}` could still come, for the innermost `{` that is open
-  BlockOpen : (all : List Token) (end_line line : ℕ) (others : List ℕ)
-      → IsViable (texts all ++ codes "}" ∷ [])
-      → open_braces (drop 2 all) ≡ line ∷ others
-      → EndsEarly all end_line (record { kind = Unclosed; line = line })
+  BlockOpen : (line : ℕ) (others : List ℕ)
+      → IsViable rules.IsSentence (texts all ++ codes "}" ∷ [])
+      → open_braces (drop rules.header all) ≡ line ∷ others
+      → EndsEarly rules all end_line (record { kind = Unclosed; line = line })
   -- inside a statement or clause
-  Inside : (all : List Token) (end_line : ℕ)
-      → 2 ≤ length all
-      → (IsViable (texts all ++ codes "}" ∷ []) → ⊥)
-      → EndsEarly all end_line (record { kind = BadWord; line = end_line })
+  Inside : rules.header ≤ length all
+      → (IsViable rules.IsSentence (texts all ++ codes "}" ∷ []) → ⊥)
+      → EndsEarly rules all end_line (record { kind = BadWord; line = end_line })
 
 -- the first fault of these tokens, where the text ends on this line
-pub data IsFirstFault : (tokens : List Token) (end_line : ℕ) → ReadFault → Type 0 where
-  AtToken : (before later : List Token) (token : Token) (end_line : ℕ) (kind : ReadKind)
-      → AreRight before
-      → IsWrong before token.text kind
-      → IsFirstFault (before ++ token ∷ later) end_line (record { kind = kind; line = token.line })
-  AtEnd : (tokens : List Token) (end_line : ℕ) (fault : ReadFault)
-      → AreRight tokens
-      → (IsSentence (texts tokens) → ⊥)
-      → EndsEarly tokens end_line fault
-      → IsFirstFault tokens end_line fault
-
--- the fault of a text of version 1: it is too long, or else the first fault of its tokens
-pub data HasFault : List ℕ → ReadFault → Type 0 where
-  TextTooLong : (text : List ℕ)
-      → MOST_TEXT_BYTES < length text
-      → HasFault text (record { kind = TooLong; line = 1 })
-  OfTokens : (text : List ℕ) (fault : ReadFault)
-      → length text ≤ MOST_TEXT_BYTES
-      → IsFirstFault (tokens_of text) (line_at_end 1 text) fault
-      → HasFault text fault
+pub data IsFirstFault (rules : Rules) : (tokens : List Token) (end_line : ℕ) → ReadFault → Type 0
+  where
+    AtToken : (before later : List Token) (token : Token) (end_line : ℕ) (kind : ReadKind)
+        → AreRight rules before
+        → IsWrong rules before token.text kind
+        → IsFirstFault rules (before ++ token ∷ later) end_line
+        (record { kind = kind; line = token.line })
+    AtEnd : (tokens : List Token) (end_line : ℕ) (fault : ReadFault)
+        → AreRight rules tokens
+        → (rules.IsSentence (texts tokens) → ⊥)
+        → EndsEarly rules tokens end_line fault
+        → IsFirstFault rules tokens end_line fault

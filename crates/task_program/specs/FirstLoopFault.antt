@@ -1,21 +1,21 @@
 -- The fault of a text of version 2, apart from any reading of its tokens: the first of them at
 -- which something is wrong, and what it is; or else the fault of its expansion.
-use Rattle.std.specs.Prelude.{◌≡◌, ℕ, ◌<◌, ◌≤◌, Bool, true, false, ◌&&◌, ◌||◌}
-use Rattle.std.specs.Prelude.{if◌then◌else◌, List, [], ◌∷◌, ◌++◌, length, drop, reverse, Option}
+use Rattle.std.specs.Prelude.{ℕ, ◌<◌, ◌≤◌, Bool, false, ◌&&◌, ◌||◌, nat_lt}
+use Rattle.std.specs.Prelude.{if◌then◌else◌, List, [], ◌∷◌, length, drop, reverse, Option}
 use Rattle.std.specs.Prelude.{Some, None, codes}
 use Rattle.program_text.specs.declared.fault.ReadKind.{ReadKind}
-use Rattle.program_text.specs.declared.fault.ReadKind.TheVariants.{TooLong, BadWord, BadNumber}
-use Rattle.program_text.specs.declared.fault.ReadKind.TheVariants.{Unclosed, Unopened, TooDeep}
+use Rattle.program_text.specs.declared.fault.ReadKind.TheVariants.{TooLong, BadNumber, TooDeep}
 use Rattle.program_text.specs.declared.fault.ReadFault.{ReadFault}
 use Rattle.program_text.specs.declared.limits.TheConstants.{MOST_TEXT_BYTES, MOST_NESTING}
 use Rattle.program_text.specs.declared.limits.TheConstants.{LARGEST_COST, LARGEST_BOUND}
 use Rattle.program_text.specs.Tokens.{Token, texts, tokens_of, line_at_end}
 use Rattle.program_text.specs.Words.{is_text, is_word, is_number, value_of}
-use Rattle.task_program.specs.TokenCounts.{open_braces}
+use Rattle.task_program.specs.TokenCounts.{is_too_deep, open_braces}
 use Rattle.loop_text.specs.Loops.{Tree}
 use Rattle.loop_text.specs.LoopTokens.{form_fault}
 use Rattle.task_program.specs.LoopGrammar.{Spelled}
-use Rattle.task_program.specs.LoopViablePrefix.{IsLoopSentence, IsLoopViable}
+use Rattle.task_program.specs.LoopViablePrefix.{IsLoopSentence}
+use Rattle.task_program.specs.FirstFault.{Rules, AreRightWhole, IsFirstFault}
 use Rattle.task_program.specs.ExpansionFault.{HasExpansionFault}
 
 -- ---- how large a number may be, by the tokens before it, of which the last comes first here
@@ -49,94 +49,34 @@ most_by_last before =
 abbrev pub most_after : List (List ℕ) → Option ℕ
 most_after before = most_by_last (reverse before)
 
--- ---- what is wrong with a token
+-- ---- what is asked of a token
 
--- the fault of a token that the grammar does not have after these
-pub data IsLoopMisplaced : (before : List (List ℕ)) (text : List ℕ) → ReadKind → Type 0 where
-  -- what stands before is whole, so no block is open
-  AfterWhole : (before : List (List ℕ)) (text : List ℕ)
-      → IsLoopSentence before
-      → text ≡ codes "}"
-      → IsLoopMisplaced before text Unopened
-  Elsewhere : (before : List (List ℕ)) (text : List ℕ)
-      → (IsLoopSentence before → text ≡ codes "}" → ⊥)
-      → IsLoopMisplaced before text BadWord
+abbrev pub is_above : Option ℕ → List ℕ → Bool
+is_above None text = false
+is_above (Some most) text = is_number text && nat_lt most (value_of text)
 
--- a limit that a token passes: it is a number, and more than may stand there; or it opens one block
--- more than may be open
-pub data IsPastLoopLimit : (before : List Token) (text : List ℕ) → ReadKind → Type 0 where
-  LargeNumber : (before : List Token) (text : List ℕ) (most : ℕ)
-      → is_number text ≡ true
-      → most_after (texts before) ≡ Some most
-      → most < value_of text
-      → IsPastLoopLimit before text BadNumber
-  DeepBlock : (before : List Token) (text : List ℕ)
-      → text ≡ codes "{"
-      → MOST_NESTING ≤ length (open_braces before)
-      → IsPastLoopLimit before text TooDeep
+-- the limit that this token passes after these: it is a number, and more than may stand there; or it
+-- opens one block more than may be open
+abbrev pub loop_limit_after : List Token → List ℕ → Option ReadKind
+loop_limit_after before text =
+    if is_above (most_after (texts before)) text then Some BadNumber
+    else (if is_too_deep MOST_NESTING (length (open_braces before)) text then Some TooDeep
+    else None)
 
--- what is wrong with this token after these: what it is by itself; or else that the grammar does
--- not have it there; or else that it passes a limit
-pub data IsLoopWrong : (before : List Token) (text : List ℕ) → ReadKind → Type 0 where
-  ByItself : (before : List Token) (text : List ℕ) (kind : ReadKind)
-      → form_fault text ≡ Some kind
-      → IsLoopWrong before text kind
-  Misplaced : (before : List Token) (text : List ℕ) (kind : ReadKind)
-      → form_fault text ≡ None
-      → (IsLoopViable (texts before ++ text ∷ []) → ⊥)
-      → IsLoopMisplaced (texts before) text kind
-      → IsLoopWrong before text kind
-  PastLimit : (before : List Token) (text : List ℕ) (kind : ReadKind)
-      → form_fault text ≡ None
-      → IsLoopViable (texts before ++ text ∷ [])
-      → IsPastLoopLimit before text kind
-      → IsLoopWrong before text kind
-
--- nothing is wrong with this token after these
-pub record IsLoopRight (before : List Token) (text : List ℕ) : Type 0 where
-  pub formed : form_fault text ≡ None
-  pub viable : IsLoopViable (texts before ++ text ∷ [])
-  pub within : (kind : ReadKind) → IsPastLoopLimit before text kind → ⊥
-
--- nothing is wrong with any of these after those before it
-pub data AreLoopRight : List Token → Type 0 where
-  Nothing : AreLoopRight []
-  More : (before : List Token) (token : Token)
-      → AreLoopRight before
-      → IsLoopRight before token.text
-      → AreLoopRight (before ++ token ∷ [])
+-- the rules of the tokens after the header
+abbrev pub loop_rules : Rules
+loop_rules = record {
+  header = 0;
+  form_fault = λ before text. form_fault text;
+  IsSentence = IsLoopSentence;
+  limit_fault = loop_limit_after;
+}
 
 -- ---- what is wrong with a text
 
--- what is wrong where these are all tokens after the header of a text, which ends on this line
-pub data EndsInLoops : (all : List Token) (end_line : ℕ) → ReadFault → Type 0 where
-  -- a `}` could still come, for the innermost `{` that is open
-  BlockOpen : (all : List Token) (end_line line : ℕ) (others : List ℕ)
-      → IsLoopViable (texts all ++ codes "}" ∷ [])
-      → open_braces all ≡ line ∷ others
-      → EndsInLoops all end_line (record { kind = Unclosed; line = line })
-  -- inside a statement or clause
-  Inside : (all : List Token) (end_line : ℕ)
-      → (IsLoopViable (texts all ++ codes "}" ∷ []) → ⊥)
-      → EndsInLoops all end_line (record { kind = BadWord; line = end_line })
-
--- the first fault of these tokens, where the text ends on this line
-pub data IsFirstLoopFault : (tokens : List Token) (end_line : ℕ) → ReadFault → Type 0 where
-  AtToken : (before later : List Token) (token : Token) (end_line : ℕ) (kind : ReadKind)
-      → AreLoopRight before
-      → IsLoopWrong before token.text kind
-      → IsFirstLoopFault (before ++ token ∷ later) end_line
-      (record { kind = kind; line = token.line })
-  AtEnd : (tokens : List Token) (end_line : ℕ) (fault : ReadFault)
-      → AreLoopRight tokens
-      → (IsLoopSentence (texts tokens) → ⊥)
-      → EndsInLoops tokens end_line fault
-      → IsFirstLoopFault tokens end_line fault
-
 -- these are a sentence, each token right, and spell this tree
 pub record IsTreeOf (tokens : List Token) (tree : Tree) : Type 0 where
-  pub sentence : IsLoopSentence (texts tokens)
-  pub right : AreLoopRight tokens
+  pub whole : AreRightWhole loop_rules tokens
   pub spelled : Spelled [] MOST_NESTING tokens tree
 
 abbrev pub body_of : List ℕ → List Token
@@ -150,7 +90,7 @@ pub data HasLoopFault : List ℕ → ReadFault → Type 0 where
       → HasLoopFault text (record { kind = TooLong; line = 1 })
   OfTokens : (text : List ℕ) (fault : ReadFault)
       → length text ≤ MOST_TEXT_BYTES
-      → IsFirstLoopFault (body_of text) (line_at_end 1 text) fault
+      → IsFirstFault loop_rules (body_of text) (line_at_end 1 text) fault
       → HasLoopFault text fault
   OfExpansion : (text : List ℕ) (fault : ReadFault)
       → length text ≤ MOST_TEXT_BYTES

@@ -141,7 +141,3 @@ pub record IsLoopSentence (texts : List (List ℕ)) : Type 0 where
   pub pieces : List LoopPiece
   pub spelled : texts ≡ flat_map piece_texts pieces
   pub forms : HaveLoopForms pieces [] []
-
--- some sentence begins with these
-abbrev pub IsLoopViable : List (List ℕ) → Type 0
-IsLoopViable texts = (later : List (List ℕ)) × IsLoopSentence (texts ++ later)

@@ -5,7 +5,7 @@ use Rattle.program_text.specs.Tokens.{tokens_of}
 use Rattle.task_program.specs.ProgramMarks.{ProgramMarks}
 use Rattle.task_program.specs.Versions.{begins_version_two}
 use Rattle.task_program.specs.Trees.{HasTree}
-use Rattle.task_program.specs.FirstFault.{HasFault}
+use Rattle.task_program.specs.FirstPlainFault.{HasFault}
 use Rattle.task_program.specs.FirstLoopFault.{HasLoopFault}
 
 -- the first fault of a text, in the version that its header tells

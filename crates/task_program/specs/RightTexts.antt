@@ -1,22 +1,20 @@
 -- A text has a tree exactly where nothing is wrong with it.
 use Rattle.std.specs.Prelude.{◌≡◌, ℕ, ◌≤◌, ◌↔◌, true, false, List, length}
 use Rattle.program_text.specs.declared.limits.TheConstants.{MOST_TEXT_BYTES}
-use Rattle.program_text.specs.Tokens.{texts, tokens_of}
+use Rattle.program_text.specs.Tokens.{tokens_of}
 use Rattle.task_program.specs.ProgramMarks.{ProgramMarks}
 use Rattle.task_program.specs.Versions.{begins_version_two}
 use Rattle.task_program.specs.Trees.{HasTree}
-use Rattle.task_program.specs.ViablePrefix.{IsSentence}
 use Rattle.loop_text.specs.Loops.{Tree}
-use Rattle.task_program.specs.LoopViablePrefix.{IsLoopSentence}
 use Rattle.task_program.specs.ExpandsTo.{ExpandsTo}
-use Rattle.task_program.specs.FirstFault.{AreRight}
-use Rattle.task_program.specs.FirstLoopFault.{IsTreeOf, AreLoopRight, body_of}
+use Rattle.task_program.specs.FirstFault.{AreRightWhole}
+use Rattle.task_program.specs.FirstPlainFault.{program_rules}
+use Rattle.task_program.specs.FirstLoopFault.{loop_rules, IsTreeOf, body_of}
 
 -- a text of version 1 without a fault: a sentence within the limits, each token right
 pub record IsRightWhole (text : List ℕ) : Type 0 where
   pub text_fits : length text ≤ MOST_TEXT_BYTES
-  pub sentence : IsSentence (texts (tokens_of text))
-  pub right : AreRight (tokens_of text)
+  pub whole : AreRightWhole program_rules (tokens_of text)
 
 -- a text of version 1 has a tree exactly where it has no fault
 abbrev pub IsReadWhereRight : List ℕ → Type 0
@@ -36,8 +34,7 @@ pub record IsRightLoopText (text : List ℕ) (program : ProgramMarks) : Type 0 w
 -- has a tree.
 pub record AreLoopsReadWhereRight (text : List ℕ) : Type 0 where
   pub read : (program : ProgramMarks) → HasTree text program ↔ IsRightLoopText text program
-  pub has_tree : IsLoopSentence (texts (body_of text))
-      → AreLoopRight (body_of text)
+  pub has_tree : AreRightWhole loop_rules (body_of text)
       → (tree : Tree) × IsTreeOf (body_of text) tree
 
 abbrev pub IsReadWhereRightInLoops : List ℕ → Type 0

@@ -8,7 +8,7 @@ use Rattle.program_text.specs.declared.fault.ReadKind.{ReadKind}
 use Rattle.program_text.specs.declared.fault.ReadKind.TheVariants.{BadNumber, TooDeep, TooManyTasks}
 use Rattle.program_text.specs.declared.fault.ReadKind.TheVariants.{TooManySegments, TooManyItems}
 use Rattle.program_text.specs.declared.fault.ReadKind.TheVariants.{WorkTooLarge}
-use Rattle.program_text.specs.declared.limits.TheConstants.{MOST_TASKS, MOST_SEGMENTS, MOST_NESTING}
+use Rattle.program_text.specs.declared.limits.TheConstants.{MOST_TASKS, MOST_SEGMENTS}
 use Rattle.program_text.specs.declared.limits.TheConstants.{MOST_ITEMS, LARGEST_COST, MOST_WORK}
 use Rattle.program_text.specs.Tokens.{Token, texts}
 use Rattle.program_text.specs.Words.{is_text, is_number, value_of}
@@ -92,8 +92,8 @@ is_value_too_large inside text =
     is_number text
     && (if inside then nat_lt 1 (value_of text) else nat_lt LARGEST_COST (value_of text))
 
-abbrev pub is_too_deep : (open_blocks : ℕ) → List ℕ → Bool
-is_too_deep open_blocks text = is_text text (codes "{") && nat_le MOST_NESTING open_blocks
+abbrev pub is_too_deep : (most open_blocks : ℕ) → List ℕ → Bool
+is_too_deep most open_blocks text = is_text text (codes "{") && nat_le most open_blocks
 
 abbrev pub is_task_past : (inside : Bool) → (tasks : ℕ) → List ℕ → Bool
 is_task_past inside tasks text =
@@ -109,23 +109,26 @@ abbrev pub is_work_past : (inside : Bool) → (work : ℕ) → List ℕ → Bool
 is_work_past inside work text =
     not inside && (is_number text && nat_lt MOST_WORK (work + value_of text))
 
--- the first limit that is passed with this token
-abbrev pub limit_by : (inside : Bool)
-    → (tasks segments work items open_blocks : ℕ)
+-- there are too many tasks or segments with this token, after these
+abbrev pub too_many_after : (body : List Token) → List ℕ → Option ReadKind
+too_many_after body text =
+    let before = texts body in
+    if is_task_past (is_inside before) (tasks_in before) text then Some TooManyTasks
+    else (if is_segment_past (is_inside before) (segments_in before) text then Some TooManySegments
+    else None)
+
+abbrev pub or_else : Option ReadKind → Option ReadKind → Option ReadKind
+or_else (Some kind) later = Some kind
+or_else None later = later
+
+-- the first limit that this token passes after these, where so many blocks may be open
+abbrev pub limit_fault_after : (nesting : ℕ) (too_many : Option ReadKind) (body : List Token)
     → List ℕ
     → Option ReadKind
-limit_by inside tasks segments work items open_blocks text =
-    if is_value_too_large inside text then Some BadNumber
-    else (if is_too_deep open_blocks text then Some TooDeep
-    else (if is_task_past inside tasks text then Some TooManyTasks
-    else (if is_segment_past inside segments text then Some TooManySegments
-    else (if nat_lt MOST_ITEMS items then Some TooManyItems
-    else (if is_work_past inside work text then Some WorkTooLarge
-    else None)))))
-
--- the limit that this token passes after these
-abbrev pub limit_fault_after : (body : List Token) → List ℕ → Option ReadKind
-limit_fault_after body text =
+limit_fault_after nesting too_many body text =
     let before = texts body in
-    limit_by (is_inside before) (tasks_in before) (segments_in before) (work_in before)
-    (items_in before) (length (open_braces body)) text
+    if is_value_too_large (is_inside before) text then Some BadNumber
+    else (if is_too_deep nesting (length (open_braces body)) text then Some TooDeep
+    else or_else too_many (if nat_lt MOST_ITEMS (items_in before) then Some TooManyItems
+    else (if is_work_past (is_inside before) (work_in before) text then Some WorkTooLarge
+    else None)))

@@ -1,6 +1,6 @@
 -- The grammar of version 1 without its limits, and the tokens with which a text of that grammar can
 -- begin.
-use Rattle.std.specs.Prelude.{◌≡◌, ℕ, zero, suc, ◌≤◌, true, List, [], ◌∷◌, ◌++◌, All, count_by}
+use Rattle.std.specs.Prelude.{◌≡◌, ℕ, zero, suc, ◌≤◌, true, List, [], ◌∷◌, All, count_by}
 use Rattle.std.specs.Prelude.{codes}
 use Rattle.std.specs.List.{flat_map}
 use Rattle.task_program.specs.Grammar.{Clause, Written, texts_of, is_if}
@@ -43,7 +43,3 @@ pub record IsSentence (texts : List (List ℕ)) : Type 0 where
   pub spelled : texts ≡ codes "omptasks" ∷ version ∷ flat_map texts_of written
   pub forms : All HasForm written
   pub nested : EndBlocks written 0
-
--- some sentence begins with these
-abbrev pub IsViable : List (List ℕ) → Type 0
-IsViable texts = (later : List (List ℕ)) × IsSentence (texts ++ later)

@@ -1,7 +1,7 @@
 //! What is wrong with a token of version 1 by itself.
 ghost use Rattle.std.specs.Prelude.{◌≡◌, ◌≤◌};
 ghost use Rattle.program_text.specs.declared.limits.TheConstants.{MOST_TOKEN_BYTES};
-ghost use Rattle.task_program.specs.TokenFaults.{form_fault};
+ghost use Rattle.task_program.specs.Faults.{form_fault};
 
 use program_text::fault::ReadKind;
 use program_text::limits::{MOST_TOKEN_BYTES, MOST_WORD_BYTES};
