@@ -26,12 +26,12 @@ def percent(part, whole):
 
 def rounded_down(above, below):
     """A quotient that is never told greater than it is."""
-    return "%.2f" % (100 * above // below / 100) if below else "1.00"
+    return "%d.%02d" % divmod(100 * above // below, 100) if below else "1.00"
 
 
 def rounded_up(above, below):
     """A quotient that is never told less than it is."""
-    return "%.2f" % (-(-100 * above // below) / 100) if below else "1.00"
+    return "%d.%02d" % divmod(-(-100 * above // below), 100) if below else "1.00"
 
 
 class Figures:
