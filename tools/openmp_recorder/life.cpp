@@ -54,7 +54,7 @@ int64_t time_of_day() {
   return int64_t{t.tv_sec} * 1000000000 + t.tv_nsec;
 }
 
-// Whether the process goes on after this signal where nobody handles it, or cannot handle it.
+// Whether this signal ends no process by itself, or cannot be handled.
 bool is_left_alone(int signal) {
   for (int other : {SIGKILL, SIGSTOP, SIGTSTP, SIGTTIN, SIGTTOU, SIGCONT, SIGCHLD, SIGURG, SIGWINCH})
     if (signal == other) return true;
