@@ -54,9 +54,16 @@ int64_t time_of_day() {
   return int64_t{t.tv_sec} * 1000000000 + t.tv_nsec;
 }
 
+// Whether this signal ends no process by itself, or cannot be handled.
+bool is_left_alone(int signal) {
+  for (int other : {SIGKILL, SIGSTOP, SIGTSTP, SIGTTIN, SIGTTOU, SIGCONT, SIGCHLD, SIGURG, SIGWINCH})
+    if (signal == other) return true;
+  return false;
+}
+
 void watch_signals() {
-  for (int signal : {SIGABRT, SIGSEGV, SIGBUS, SIGFPE, SIGILL, SIGTERM, SIGINT, SIGHUP, SIGQUIT, SIGPIPE, SIGALRM,
-                     SIGUSR1, SIGUSR2, SIGXCPU, SIGXFSZ, SIGVTALRM, SIGPROF, SIGSYS, SIGTRAP}) {
+  for (int signal = 1; signal <= SIGRTMAX; signal++) {
+    if (is_left_alone(signal)) continue;
     struct sigaction old {}, ours {};
     if (sigaction(signal, nullptr, &old) || (old.sa_flags & SA_SIGINFO) || old.sa_handler != SIG_DFL) continue;
     ours.sa_handler = on_fatal_signal;

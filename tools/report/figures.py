@@ -26,12 +26,12 @@ def percent(part, whole):
 
 def rounded_down(above, below):
     """A quotient that is never told greater than it is."""
-    return "%.2f" % (100 * above // below / 100) if below else "1.00"
+    return "%d.%02d" % divmod(100 * above // below, 100) if below else "1.00"
 
 
 def rounded_up(above, below):
     """A quotient that is never told less than it is."""
-    return "%.2f" % (-(-100 * above // below) / 100) if below else "1.00"
+    return "%d.%02d" % divmod(-(-100 * above // below), 100) if below else "1.00"
 
 
 class Figures:
@@ -63,7 +63,7 @@ class Figures:
         return self.data(rounded_up(above, below), above / below if below else 1.0, source, kind, "up")
 
     def times_at_least(self, above, below, source, kind):
-        """A quotient that is reached, rounded down."""
+        """A quotient that is always reached, rounded down."""
         return self.data(rounded_down(above, below), above / below if below else 1.0, source, kind, "down")
 
     def told(self, name, words, sources, **attributes):

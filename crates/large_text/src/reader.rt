@@ -66,6 +66,7 @@ impl MarkReader {
         MarkReader::fresh(alloc)
     }
 
+    // What `new` makes. It stands apart for the prover's sake: the proof of `new` cites its clauses.
     fn fresh(alloc: Global) -> MarkReader
         ensures state { state_of result [] ≡ start }
         ensures work { result.work ≡ 0 }
@@ -113,6 +114,8 @@ impl MarkReader {
         }
     }
 
+    // What `take` does, told of the one token. It stands apart for the prover's sake: the proof of
+    // `take` cites its clauses.
     fn take_any(&mut self, token: Token<'_>) -> Result<Option<TextMark>, ReadFault>
         requires { IsLargeWithin self.old }
         ensures step { (marks : List Mark)

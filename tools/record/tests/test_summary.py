@@ -52,6 +52,8 @@ class Lines(unittest.TestCase):
         self.assertEqual((rounded_down(1999, 1000), rounded_up(1999, 1000)), ("1.99", "2.00"))
         self.assertEqual((rounded_down(200, 100), rounded_up(200, 100)), ("2.00", "2.00"))
         self.assertEqual((rounded_down(0, 0), rounded_up(0, 0)), ("1.00", "1.00"))
+        self.assertEqual((rounded_down(10 ** 15 - 1, 7), rounded_up(10 ** 15, 3)),
+                         ("142857142857142.71", "333333333333333.34"))
 
 
 class Verdicts(unittest.TestCase):
