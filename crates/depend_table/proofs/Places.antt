@@ -231,7 +231,7 @@ predecessors_in_order names calls name sharing table =
     by_join true = (table.in_order name).previous
     by_join false = (table.in_order name).current
 
--- the same entries under other growths
+-- the same entries in lists of other capacities
 pub table_same : (names later : Names) (calls : List Call) → IsTableOf names calls
     → ((name : ℕ) → entry_at later name ≡ entry_at names name) → IsTableOf later calls
 table_same names later calls table same = record {

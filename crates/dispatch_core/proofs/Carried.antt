@@ -12,7 +12,8 @@ use Rattle.open_segments.specs.Facts.{IsSoundTable}
 use Rattle.dispatch_core.specs.Graph.{IsGraphOf}
 use Rattle.dispatch_core.specs.RecordedGraph.{RecordedGraph, Precedes}
 use Rattle.dispatch_core.specs.Run.{Runs, IsLegalRun, IsOpen, MayRun}
-use Rattle.dispatch_core.proofs.Ends.{no_more, precedes_of}
+use Rattle.dispatch_core.proofs.Ends.{no_more}
+use Rattle.dispatch_core.proofs.KeptEnough.{precedes_of}
 use Rattle.dispatch_core.proofs.FinishStep.{started_known, started_after_preds}
 
 pub graph_edges : (table : Table) (graph : RecordedGraph) (s t : ℕ)

@@ -28,7 +28,7 @@ use Rattle.depend_table.specs.Kept.{IsKeptEdge}
 use Rattle.open_segments.specs.KeptLists.{AreFirstLists}
 use Rattle.open_segments.specs.NumberLists.{items_of}
 use Rattle.open_segments.specs.UpToDate.{IsUpToDate}
-use Rattle.dispatch_core.proofs.KeptEnough.{kept_at, open_after}
+use Rattle.dispatch_core.proofs.KeptEnough.{kept_at, open_after, precedes_of}
 use Rattle.dispatch_core.specs.RecordedGraph.{RecordedGraph, IsGraph, Precedes, predecessors_of}
 use Rattle.dispatch_core.specs.Graph.{IsGraphOf}
 use Rattle.open_segments.proofs.AtFirst.{entry-replicate, get-replicate}
@@ -112,12 +112,6 @@ sound_first value_of table capacity history started running values counters cost
     (replicate MOST_WORKERS None) (replicate (length table.segments) None) counters x)
     (sym c)
     (sound_at_start value_of table capacity counters sound room state)))))
-
-pub precedes_of : (table : Table) (p s : ℕ)
-    → Continues table p s ⊎ Creation table p s
-    → MustPrecede table p s
-precedes_of table p s (inl next) = inl next
-precedes_of table p s (inr created) = inr (inl created)
 
 pub open_known : (table : Table) (history : List Event) (s : ℕ) → IsSoundTable table
     → IsOpen table history s → s < length table.segments

@@ -197,11 +197,11 @@ open_by_values table history values t tell (inl first) = inl first
 open_by_values table history values t tell (inr (p, by, done)) =
     inr (p, by, has_value (length table.segments) history values p tell done)
 
-precedes : (table : Table) (p t : ℕ)
+pub precedes_of : (table : Table) (p t : ℕ)
     → Continues table p t ⊎ Creation table p t
     → MustPrecede table p t
-precedes table p t (inl follows) = inl follows
-precedes table p t (inr creation) = inr (inl creation)
+precedes_of table p t (inl follows) = inl follows
+precedes_of table p t (inr creation) = inr (inl creation)
 
 -- a segment is open where all that must precede it is finished
 pub open_after : (table : Table) (history : List Event) (values : List (Option ℕ)) (t : ℕ)
@@ -218,7 +218,7 @@ open_after table history values t up tell known all = elim (cases_eq t 0) [
         by.0,
         by.1,
         has_value (length table.segments) history values by.0 tell
-            (all by.0 (precedes table by.0 t by.1)),
+            (all by.0 (precedes_of table by.0 t by.1)),
       )
 ]
 
@@ -230,7 +230,7 @@ pub opened_after : (table : Table) (history : List Event) (t : ℕ)
 opened_after table history t up known all = elim (cases_eq t 0) [
   | inl first ↦ inl first
   | inr later ↦ let by = up.reached t (omega (arith, later)) known in
-      inr (by.0, by.1, all by.0 (precedes table by.0 t by.1))
+      inr (by.0, by.1, all by.0 (precedes_of table by.0 t by.1))
 ]
 
 -- what has s among its recorded predecessors and none that is counted becomes ready by the finish

@@ -398,7 +398,7 @@ impl<K: Kernel> Core<K> {
         Ok(())
     }
 
-    /// Enters a finish, and answers the segments that become ready by it. All growths come before
+    /// Enters a finish, and answers the segments that become ready by it. All allocations come before
     /// the first change.
     fn enter_finish(&mut self, worker: u32, outcome: &SegResult<K>) -> Result<Vec<u32>, AllocFault>
         requires { MayFinish self.old.table self.old.history K.value_of worker outcome.now }

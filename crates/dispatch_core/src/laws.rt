@@ -14,6 +14,8 @@ ghost use Rattle.dispatch_core.specs.Replays.{IsFirstRefused};
 ghost use Rattle.dispatch_core.specs.Values.{IsValue, IsInput};
 ghost use Rattle.dispatch_core.specs.declared.replay.ReplayRefusal.{ReplayRefusal};
 
+use crate::dispatch::Core;
+use crate::kernel::Kernel;
 use open_segments::laws::serves_runs;
 use task_segments::table::SegTable;
 
@@ -59,6 +61,13 @@ pub fn what_runs(table: &SegTable)
         → Runs history worker s → MayRun table.now history worker s }
 {
     serves_runs(table);
+}
+
+/// The history of a core is legal.
+pub fn legal_history<K: Kernel>(core: &Core<K>)
+    ensures { IsLegalRun core.now.table core.now.history }
+{
+    core.history();
 }
 
 /// In a legal history each segment is started at most once and finished at most once.

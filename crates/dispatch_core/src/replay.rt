@@ -11,6 +11,7 @@ use crate::dispatch::{Core, NewFault};
 use crate::event::{Event, FinishKind, StartRefusal};
 use crate::graph::{Graph, graph_of};
 use crate::kernel::{Kernel, MixKernel, SegResult};
+use crate::laws::legal_history;
 use std::alloc::{AllocError, Global};
 use task_program::AllocFault;
 use task_segments::table::SegTable;
@@ -120,13 +121,13 @@ pub fn replay(
         Err(fault) => return Err((ReplayFault::OutOfMemory, fault.table)),
     };
     for index in 0..events.len() {
-        let _ = core.history();
+        legal_history(&core);
         match make_event(&mut core, events[index]) {
             Ok(()) => {}
             Err(fault) => return Err((replay_fault(index, fault), core.into_table())),
         }
     }
-    let _ = core.history();
+    legal_history(&core);
     Ok(core)
 }
 

@@ -16,7 +16,7 @@ use Rattle.depend_table.specs.Lists.{Lists}
 use Rattle.open_segments.specs.Entry.{entry}
 use Rattle.open_segments.specs.Counters.{unfinished_count, AreCounts, IsCounted, AreLowered}
 use Rattle.open_segments.specs.NumberLists.{IsListed}
-use Rattle.open_segments.proofs.PlaceLemmas.{get-set_same, get-set_other}
+use Rattle.open_segments.proofs.PlaceLemmas.{get-set_same, get-set_other, entry-set_same}
 
 tail_has : (x n : ℕ) (xs : List ℕ) (k : ℕ)
     → k < length (x ∷ xs)
@@ -52,12 +52,6 @@ pub same_entry : (values : List (Option ℕ)) (s x v : ℕ)
 same_entry values s x v apart =
     ap (λ (o : Option (Option ℕ)). option_flatten o) (get-set_other values s x (Some v) apart)
 
-pub new_entry : (values : List (Option ℕ)) (s v : ℕ)
-    → s < length values
-    → entry (slice_set values s (Some v)) s ≡ Some v
-new_entry values s v within =
-    ap (λ (o : Option (Option ℕ)). option_flatten o) (get-set_same values s (Some v) within)
-
 pub count_stays : (values : List (Option ℕ)) (s v : ℕ) (list : List ℕ)
     → ¬ Contains list s
     → unfinished_count (slice_set values s (Some v)) list ≡ unfinished_count values list
@@ -90,7 +84,7 @@ count_falls values s v (x ∷ xs) within none once has = elim (cases_eq x s) [
       let rest = count_stays values s v xs (subst (λ (n : ℕ). ¬ Contains xs n) same once.0) in
       let now : cond {A = ℕ} (is_none (entry (slice_set values s (Some v)) x)) 1 0 ≡ 0 =
       ap (λ (n : ℕ). cond {A = ℕ} (is_none (entry (slice_set values s (Some v)) n)) 1 0) same
-      ∙ ap (λ (o : Option ℕ). cond {A = ℕ} (is_none o) 1 0) (new_entry values s v within) in
+      ∙ ap (λ (o : Option ℕ). cond {A = ℕ} (is_none o) 1 0) (entry-set_same values s v within) in
       let was : cond {A = ℕ} (is_none (entry values x)) 1 0 ≡ 1 =
       ap (λ (n : ℕ). cond {A = ℕ} (is_none (entry values n)) 1 0) same
       ∙ ap (λ (o : Option ℕ). cond {A = ℕ} (is_none o) 1 0) none in

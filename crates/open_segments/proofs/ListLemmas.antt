@@ -10,6 +10,7 @@ use Rattle.std.proofs.Math.ListN.{get_or-append}
 use Rattle.std.proofs.lemmas.List.Elements.{Contains-append_left, Contains-push}
 use Rattle.std.proofs.lemmas.List.Elements.{Contains-push_cases, Contains-get_or}
 use Rattle.depend_table.specs.Lists.{Lists}
+use Rattle.depend_table.proofs.Lists.{increasing_push}
 
 pub Lists-none : (P : ℕ → Type 0) → ((n : ℕ) → ¬ P n) → Lists P []
 Lists-none P none = record {
@@ -52,36 +53,12 @@ Lists-skip P i list not_here lists =
     let same : n ≡ i = omega (arith, above, below) in not_here (subst P same here))
     lists
 
-get_or-push_last : (xs : List ℕ) (i : ℕ) → get_or (xs ++ i ∷ []) (length xs) 0 ≡ i
-get_or-push_last [] i = refl
-get_or-push_last (x ∷ xs) i = get_or-push_last xs i
-
-pub ascending_push : (xs : List ℕ) (i : ℕ)
-    → IsStrictlyIncreasing xs
-    → ((n : ℕ) → Contains xs n → n < i)
-    → IsStrictlyIncreasing (xs ++ i ∷ [])
-ascending_push xs i up below k h =
-    elim (cases_lt (k + 1) (length xs)) [
-      | inl within ↦
-          let here = get_or-append xs (i ∷ []) 0 k (omega arith) in
-          let next = get_or-append xs (i ∷ []) 0 (k + 1) within in
-          let less = up k within in
-          rw (here, next) less
-      | inr last ↦
-          let at : k + 1 ≡ length xs = omega (arith, h, length_push xs i) in
-          let here = get_or-append xs (i ∷ []) 0 k (omega arith) in
-          let next : get_or (xs ++ i ∷ []) (k + 1) 0 ≡ i =
-          ap (λ n. get_or (xs ++ i ∷ []) n 0) at ∙ get_or-push_last xs i in
-          let less = below (get_or xs k 0) (Contains-get_or xs k 0 (omega arith)) in
-          rw (here, next) less
-    ]
-
 pub Lists-push : (P : ℕ → Type 0) (i : ℕ) (list : List ℕ)
     → P i
     → Lists (Below P i) list
     → Lists (Below P (i + 1)) (list ++ i ∷ [])
 Lists-push P i list here lists = record {
-  ascending = ascending_push list i lists.ascending (λ n h. ((lists.each n).0 h).0);
+  ascending = increasing_push list i lists.ascending (λ n h. ((lists.each n).0 h).0);
   each = λ n. (
     λ h. elim (Contains-push_cases list i n h) [
       | inl was ↦ let below = (lists.each n).0 was in (omega (arith, below.0), below.1)
@@ -109,7 +86,7 @@ pub Lists-end : (P Q : ℕ → Type 0) (i : ℕ) (list : List ℕ)
     → ((n : ℕ) → Q n → P n ⊎ (n ≡ i))
     → Lists Q (list ++ i ∷ [])
 Lists-end P Q i list lists below there here back = record {
-  ascending = ascending_push list i lists.ascending (λ n h. below n ((lists.each n).0 h));
+  ascending = increasing_push list i lists.ascending (λ n h. below n ((lists.each n).0 h));
   each = λ n. (
     λ h. elim (Contains-push_cases list i n h) [
       | inl was ↦ there n ((lists.each n).0 was)

@@ -16,8 +16,8 @@ use Rattle.open_segments.specs.Entry.{entry}
 use Rattle.open_segments.specs.Counters.{unfinished_count, HasValue, AreKeptOf, AreKept, AreCounts}
 use Rattle.open_segments.specs.Counters.{AreSuccessors, AreLowered, IsCounted}
 use Rattle.open_segments.specs.NumberLists.{IsListed, ArePushed}
-use Rattle.open_segments.proofs.PlaceLemmas.{get-set_same, get-set_other}
-use Rattle.open_segments.proofs.Falls.{IsOnce, has_or_not, once_listed, same_entry, new_entry}
+use Rattle.open_segments.proofs.PlaceLemmas.{get-set_same, get-set_other, entry-set_same}
+use Rattle.open_segments.proofs.Falls.{IsOnce, has_or_not, once_listed, same_entry}
 use Rattle.open_segments.proofs.Falls.{counts_after, counted_above}
 
 -- one more number that was not in the list
@@ -94,7 +94,7 @@ pub had_no_value : (values : List (Option ℕ)) (s v p : ℕ)
 had_no_value values s v p within none =
     let apart : p ≢ s = λ same. none-some v (sym none
     ∙ ap (λ (n : ℕ). entry (slice_set values s (Some v)) n) same
-    ∙ new_entry values s v within) in
+    ∙ entry-set_same values s v within) in
     (apart, sym (same_entry values s p v apart) ∙ none)
 
 pub has_more : (values : List (Option ℕ)) (s v p : ℕ)
@@ -104,7 +104,7 @@ pub has_more : (values : List (Option ℕ)) (s v p : ℕ)
 has_more values s v p within has = elim (cases_eq p s) [
   | inl same ↦ record {
     value = v;
-    is = ap (λ (n : ℕ). entry (slice_set values s (Some v)) n) same ∙ new_entry values s v within;
+    is = ap (λ (n : ℕ). entry (slice_set values s (Some v)) n) same ∙ entry-set_same values s v within;
   }
   | inr apart ↦ record { value = has.value; is = same_entry values s p v apart ∙ has.is }
 ]
@@ -112,7 +112,7 @@ has_more values s v p within has = elim (cases_eq p s) [
 pub has_new : (values : List (Option ℕ)) (s v : ℕ)
     → s < length values
     → HasValue (slice_set values s (Some v)) s
-has_new values s v within = record { value = v; is = new_entry values s v within }
+has_new values s v within = record { value = v; is = entry-set_same values s v within }
 
 pub had_value : (values : List (Option ℕ)) (s v p : ℕ)
     → HasValue (slice_set values s (Some v)) p

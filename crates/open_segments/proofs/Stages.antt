@@ -23,7 +23,7 @@ use Rattle.depend_table.specs.Lists.{Lists}
 use Rattle.open_segments.specs.declared.opening.Opening.{Opening}
 use Rattle.depend_table.specs.Siblings.{Sibling}
 use Rattle.open_segments.specs.declared.counters.Counters.{Counters}
-use Rattle.open_segments.specs.declared.counters.Growths.{Growths}
+use Rattle.open_segments.specs.declared.counters.Allocations.{Allocations}
 use Rattle.open_segments.specs.Entry.{entry}
 use Rattle.open_segments.specs.Facts.{IsSoundTable}
 use Rattle.open_segments.specs.Counters.{unfinished_count, AreLowered, IsCounted, IsOpenBy, AreKept}
@@ -31,7 +31,7 @@ use Rattle.open_segments.specs.Counters.{AreCounts, AreSuccessors, AreSiblings}
 use Rattle.open_segments.specs.UpToDate.{IsUpToDate}
 use Rattle.open_segments.specs.NumberLists.{items_of, IsListed}
 use Rattle.open_segments.specs.Rooms.{HasRoom, IsRoomier}
-use Rattle.open_segments.specs.Openings.{IsGrown, IsOpening, IsRoomFor, IsRoomToOpen, IsOpened}
+use Rattle.open_segments.specs.Openings.{AreMade, IsOpening, IsRoomFor, IsRoomToOpen, IsOpened}
 use Rattle.open_segments.specs.Openings.{AreReady}
 use Rattle.open_segments.proofs.Falls.{counted_above, differ_from_once}
 use Rattle.open_segments.proofs.Openers.{created_apart}
@@ -414,52 +414,52 @@ stage_begun table values s v before after ready known within none state lowered 
 
 -- all stages of a finish
 pub record IsFinishing (table : Table) (values : List (Option ℕ)) (s v : ℕ)
-    (before lowered : Counters) (growths : Growths)
+    (before lowered : Counters) (allocations : Allocations)
     : Type 0 where
   pub sound : IsSoundTable table
   pub known : IsSegment table s
   pub within : s < length values
   pub none : entry values s ≡ None
   pub state : AreRecorded table values before
-  pub grown : IsGrown table values s before growths
+  pub made : AreMade table values s before allocations
   pub lowers : (list : List ℕ)
       → slice_get (items_of before.successors.items) s ≡ Some list
       → AreLowered before.counts.items (Contains list) lowered.counts.items
   pub same : lowered ≡ record before { counts = lowered.counts }
 
 pub stage_next : (table : Table) (values : List (Option ℕ)) (s v : ℕ)
-    (before lowered next : Counters) (growths : Growths) (later : Vec ℕ Global)
-    → IsFinishing table values s v before lowered growths
-    → IsOpened (slice_set values s (Some v)) growths.next lowered next
-    → AreReady (slice_set values s (Some v)) growths.next growths.ready later
+    (before lowered next : Counters) (allocations : Allocations) (later : Vec ℕ Global)
+    → IsFinishing table values s v before lowered allocations
+    → IsOpened (slice_set values s (Some v)) allocations.next lowered next
+    → AreReady (slice_set values s (Some v)) allocations.next allocations.ready later
     → AtStage table (λ t. IsOpenBy table values t ⊎ Continues table s t)
     (slice_set values s (Some v)) s next later
-stage_next table values s v before lowered next growths later here opened lists =
-    let begun = stage_begun table values s v before lowered growths.ready.items here.known
-    here.within here.none here.state here.lowers here.same here.grown.ready here.grown.once in
+stage_next table values s v before lowered next allocations later here opened lists =
+    let begun = stage_begun table values s v before lowered allocations.ready.items here.known
+    here.within here.none here.state here.lowers here.same here.made.ready here.made.once in
     stage_then table (IsOpenBy table values) (Continues table s) (slice_set values s (Some v)) s
-    growths.next lowered next growths.ready later begun here.grown.next opened lists
+    allocations.next lowered next allocations.ready later begun here.made.next opened lists
     (λ t follows. follows.is_to)
     (λ t follows. closed_before table values s t here.sound.in_place here.none (inl follows))
     (λ t follows. inl follows)
 
 pub stage_first : (table : Table) (values : List (Option ℕ)) (s v : ℕ)
-    (before lowered next first : Counters) (growths : Growths) (later last : Vec ℕ Global)
-    → IsFinishing table values s v before lowered growths
-    → IsOpened (slice_set values s (Some v)) growths.next lowered next
-    → AreReady (slice_set values s (Some v)) growths.next growths.ready later
-    → IsOpened (slice_set values s (Some v)) growths.first next first
-    → AreReady (slice_set values s (Some v)) growths.first later last
+    (before lowered next first : Counters) (allocations : Allocations) (later last : Vec ℕ Global)
+    → IsFinishing table values s v before lowered allocations
+    → IsOpened (slice_set values s (Some v)) allocations.next lowered next
+    → AreReady (slice_set values s (Some v)) allocations.next allocations.ready later
+    → IsOpened (slice_set values s (Some v)) allocations.first next first
+    → AreReady (slice_set values s (Some v)) allocations.first later last
     → AtStage table (IsOpenBy table (slice_set values s (Some v))) (slice_set values s (Some v)) s
     first last
-stage_first table values s v before lowered next first growths later last here opened lists
+stage_first table values s v before lowered next first allocations later last here opened lists
     opened_first lists_first =
     let values_now : List (Option ℕ) = slice_set values s (Some v) in
-    let stage = stage_next table values s v before lowered next growths later here opened lists in
+    let stage = stage_next table values s v before lowered next allocations later here opened lists in
     let Then : ℕ → Type 0 = λ t.
     (IsOpenBy table values t ⊎ Continues table s t) ⊎ Creation table s t in
     let end = stage_then table (λ t. IsOpenBy table values t ⊎ Continues table s t)
-    (Creation table s) values_now s growths.first next first later last stage here.grown.first
+    (Creation table s) values_now s allocations.first next first later last stage here.made.first
     opened_first lists_first
     (λ t creation. creation_known table s t here.sound.in_place creation)
     (λ t creation. created_after table values s t here.sound.in_place here.none creation)
@@ -469,67 +469,67 @@ stage_first table values s v before lowered next first growths later last here o
     (λ t h. open_now table values s v t here.within h) (λ t h. open_then table values s v t h) end
 
 long_lowered : (table : Table) (values : List (Option ℕ)) (s v : ℕ) (before lowered : Counters)
-    (growths : Growths)
-    → IsFinishing table values s v before lowered growths
+    (allocations : Allocations)
+    → IsFinishing table values s v before lowered allocations
     → (length lowered.preds.items ≡ length table.segments)
     × (length lowered.counts.items ≡ length table.segments)
-long_lowered table values s v before lowered growths here =
-    let begun = stage_begun table values s v before lowered growths.ready.items here.known
-    here.within here.none here.state here.lowers here.same here.grown.ready here.grown.once in
+long_lowered table values s v before lowered allocations here =
+    let begun = stage_begun table values s v before lowered allocations.ready.items here.known
+    here.within here.none here.state here.lowers here.same here.made.ready here.made.once in
     (sym (length-items lowered.preds.items) ∙ begun.kept.each, begun.counted.each ∙ begun.kept.each)
 
 lowered_room : (table : Table) (values : List (Option ℕ)) (s v : ℕ) (before lowered : Counters)
-    (growths : Growths)
-    → IsFinishing table values s v before lowered growths
+    (allocations : Allocations)
+    → IsFinishing table values s v before lowered allocations
     → (p : ℕ)
     → HasRoom before.successors.items 2 p
     → HasRoom lowered.successors.items 2 p
-lowered_room table values s v before lowered growths here p room =
+lowered_room table values s v before lowered allocations here p room =
     subst (λ (c : Counters). HasRoom c.successors.items 2 p) (sym here.same) room
 
 pub can_open_next : (table : Table) (values : List (Option ℕ)) (s v : ℕ) (before lowered : Counters)
-    (growths : Growths)
-    → IsFinishing table values s v before lowered growths
-    → IsRoomToOpen (slice_set values s (Some v)) lowered growths.next growths.ready
-can_open_next table values s v before lowered growths here =
-    let long = long_lowered table values s v before lowered growths here in
-    let enough = here.grown.ready_room in
-    can_open table (Continues table s) values s v growths.next lowered growths.ready here.sound
-    here.within here.grown.next (λ t follows. follows.is_to)
+    (allocations : Allocations)
+    → IsFinishing table values s v before lowered allocations
+    → IsRoomToOpen (slice_set values s (Some v)) lowered allocations.next allocations.ready
+can_open_next table values s v before lowered allocations here =
+    let long = long_lowered table values s v before lowered allocations here in
+    let enough = here.made.ready_room in
+    can_open table (Continues table s) values s v allocations.next lowered allocations.ready here.sound
+    here.within here.made.next (λ t follows. follows.is_to)
     (λ one is p has apart none. less_room lowered.successors.items 2 1 p (omega arith)
-    (lowered_room table values s v before lowered growths here p (room_from values s
-    before.successors.items growths.next here.grown.next_room one is p has apart none)))
+    (lowered_room table values s v before lowered allocations here p (room_from values s
+    before.successors.items allocations.next here.made.next_room one is p has apart none)))
     long.0 long.1 (omega (arith, enough))
 
 pub can_open_first : (table : Table) (values : List (Option ℕ)) (s v : ℕ)
-    (before lowered next : Counters) (growths : Growths) (later : Vec ℕ Global)
-    → IsFinishing table values s v before lowered growths
-    → IsOpened (slice_set values s (Some v)) growths.next lowered next
-    → AreReady (slice_set values s (Some v)) growths.next growths.ready later
-    → IsRoomToOpen (slice_set values s (Some v)) next growths.first later
-can_open_first table values s v before lowered next growths later here opened lists =
+    (before lowered next : Counters) (allocations : Allocations) (later : Vec ℕ Global)
+    → IsFinishing table values s v before lowered allocations
+    → IsOpened (slice_set values s (Some v)) allocations.next lowered next
+    → AreReady (slice_set values s (Some v)) allocations.next allocations.ready later
+    → IsRoomToOpen (slice_set values s (Some v)) next allocations.first later
+can_open_first table values s v before lowered next allocations later here opened lists =
     let values_now : List (Option ℕ) = slice_set values s (Some v) in
-    let long = long_lowered table values s v before lowered growths here in
-    let longer = preds_long values_now growths.next lowered next opened in
+    let long = long_lowered table values s v before lowered allocations here in
+    let longer = preds_long values_now allocations.next lowered next opened in
     let enough =
-    ready_left values_now growths.next growths.ready later 1 lists here.grown.ready_room in
-    can_open table (Creation table s) values s v growths.first next later here.sound here.within
-    here.grown.first (λ t creation. creation_known table s t here.sound.in_place creation)
-    (λ one is p has apart none. room_left values_now growths.next lowered next 1 p opened
-    (lowered_room table values s v before lowered growths here p (room_from values s
-    before.successors.items growths.first here.grown.first_room one is p has apart none)))
+    ready_left values_now allocations.next allocations.ready later 1 lists here.made.ready_room in
+    can_open table (Creation table s) values s v allocations.first next later here.sound here.within
+    here.made.first (λ t creation. creation_known table s t here.sound.in_place creation)
+    (λ one is p has apart none. room_left values_now allocations.next lowered next 1 p opened
+    (lowered_room table values s v before lowered allocations here p (room_from values s
+    before.successors.items allocations.first here.made.first_room one is p has apart none)))
     (longer.0 ∙ long.0) (longer.1 ∙ long.1) (omega (arith, enough))
 
 pub siblings_end : (table : Table) (values : List (Option ℕ)) (s v : ℕ)
-    (before lowered next first : Counters) (growths : Growths)
-    → IsFinishing table values s v before lowered growths
-    → IsOpened (slice_set values s (Some v)) growths.next lowered next
-    → IsOpened (slice_set values s (Some v)) growths.first next first
+    (before lowered next first : Counters) (allocations : Allocations)
+    → IsFinishing table values s v before lowered allocations
+    → IsOpened (slice_set values s (Some v)) allocations.next lowered next
+    → IsOpened (slice_set values s (Some v)) allocations.first next first
     → AreSiblings table (slice_set values s (Some v)) first.siblings.items
-siblings_end table values s v before lowered next first growths here opened opened_first =
+siblings_end table values s v before lowered next first allocations here opened opened_first =
     let values_now : List (Option ℕ) = slice_set values s (Some v) in
-    let same = siblings_kept values_now growths.first next first opened_first
-    ∙ siblings_kept values_now growths.next lowered next opened
+    let same = siblings_kept values_now allocations.first next first opened_first
+    ∙ siblings_kept values_now allocations.next lowered next opened
     ∙ ap (λ (c : Counters). c.siblings) here.same in
     subst (λ (t : Vec (List Sibling) Global). AreSiblings table values_now t.items) (sym same)
-    (here.grown.siblings v)
+    (here.made.siblings v)

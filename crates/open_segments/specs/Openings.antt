@@ -10,7 +10,7 @@ use Rattle.depend_table.specs.Kept.{IsKeptEdge}
 use Rattle.depend_table.specs.Lists.{Lists}
 use Rattle.open_segments.specs.declared.opening.Opening.{Opening}
 use Rattle.open_segments.specs.declared.counters.Counters.{Counters}
-use Rattle.open_segments.specs.declared.counters.Growths.{Growths}
+use Rattle.open_segments.specs.declared.counters.Allocations.{Allocations}
 use Rattle.open_segments.specs.Counters.{AreSiblings, unfinished_count}
 use Rattle.open_segments.specs.Entry.{entry}
 use Rattle.open_segments.specs.NumberLists.{IsListed, ArePushed, items_of}
@@ -34,22 +34,22 @@ IsRoomFor values s successors (Some opening) =
     (p : ℕ) → Contains opening.preds.items p → p ≢ s → entry values p ≡ None
     → HasRoom successors 2 p
 
--- all growths of the finish of s are made
-pub record IsGrown (table : Table) (values : List (Option ℕ)) (s : ℕ) (counters : Counters)
-    (growths : Growths)
+-- all allocations of the finish of s are made
+pub record AreMade (table : Table) (values : List (Option ℕ)) (s : ℕ) (counters : Counters)
+    (allocations : Allocations)
     : Type 0 where
-  pub next : IsOpening table (Continues table s) growths.next
-  pub first : IsOpening table (Creation table s) growths.first
-  pub next_room : IsRoomFor values s counters.successors.items growths.next
-  pub first_room : IsRoomFor values s counters.successors.items growths.first
+  pub next : IsOpening table (Continues table s) allocations.next
+  pub first : IsOpening table (Creation table s) allocations.first
+  pub next_room : IsRoomFor values s counters.successors.items allocations.next
+  pub first_room : IsRoomFor values s counters.successors.items allocations.first
   pub siblings : (value : ℕ)
       → AreSiblings table (slice_set values s (Some value)) counters.siblings.items
   pub ready : (t : ℕ)
-      → Contains growths.ready.items t
+      → Contains allocations.ready.items t
       ↔ (IsListed (items_of counters.preds.items) t s
       × (slice_get counters.counts.items t ≡ Some 1))
-  pub once : AllPairs (λ x y. x ≢ y) growths.ready.items
-  pub ready_room : vec_len growths.ready + 2 ≤ vec_capacity growths.ready
+  pub once : AllPairs (λ x y. x ≢ y) allocations.ready.items
+  pub ready_room : vec_len allocations.ready + 2 ≤ vec_capacity allocations.ready
 
 -- a segment can be opened without memory
 pub record CanOpen (values : List (Option ℕ)) (counters : Counters) (ready : Vec ℕ Global)

@@ -13,7 +13,7 @@ ghost use Rattle.open_segments.specs.Counters.{AreLowered, HasValue, IsCounted, 
 ghost use Rattle.open_segments.specs.Entry.{entry};
 ghost use Rattle.open_segments.specs.UpToDate.{IsUpToDate, IsFreed};
 ghost use Rattle.open_segments.specs.NumberLists.{items_of};
-ghost use Rattle.open_segments.specs.Openings.{IsGrown, IsOpened, IsRoomToOpen, AreReady};
+ghost use Rattle.open_segments.specs.Openings.{AreMade, IsOpened, IsRoomToOpen, AreReady};
 
 use crate::entries::{copies_of, push_if, value_entry};
 use crate::laws::serves_runs;
@@ -40,7 +40,7 @@ pub struct Counters {
 /// All that a finish takes memory for: what it opens, and the list of what becomes ready, with room
 /// for that.
 #[derive(Drop)]
-struct Growths {
+struct Allocations {
     ready: Vec<u32>,
     next: Option<Opening>,
     first: Option<Opening>,
@@ -109,24 +109,24 @@ impl Counters {
         ensures ready { IfOk result (λ ready. Lists (IsFreed finished self.new) ready.items) }
     {
         serves_runs(table);
-        let growths = self.grow(alloc, table, values.as_slice(), finished)?;
-        let mut ready = growths.ready;
+        let allocations = self.allocate(alloc, table, values.as_slice(), finished)?;
+        let mut ready = allocations.ready;
         values[finished as usize] = Some(value);
         self.lower(finished);
-        self.open(values.as_slice(), growths.next, &mut ready);
-        self.open(values.as_slice(), growths.first, &mut ready);
+        self.open(values.as_slice(), allocations.next, &mut ready);
+        self.open(values.as_slice(), allocations.first, &mut ready);
         ready.sort_unstable();
         Ok(ready)
     }
 
-    /// Makes all growths of a finish.
-    fn grow(
+    /// Makes all allocations of a finish.
+    fn allocate(
         &mut self,
         alloc: Global,
         table: &SegTable,
         values: &[Option<u64>],
         finished: u32,
-    ) -> Result<Growths, AllocFault>
+    ) -> Result<Allocations, AllocFault>
         requires known { IsSegment table.now finished }
         requires each { length values.now ≡ length table.now.segments }
         requires unfinished { entry values.now finished ≡ None }
@@ -138,7 +138,7 @@ impl Counters {
         ensures successors { items_of self.new.successors.items
             ≡ items_of self.old.successors.items }
         ensures refused { OnErr result (self.new.siblings.items ≡ self.old.siblings.items) }
-        ensures grown { IfOk result (IsGrown table.now values.now finished self.new) }
+        ensures made { IfOk result (AreMade table.now values.now finished self.new) }
     {
         let mut ready = with_one(
             alloc,
@@ -154,7 +154,7 @@ impl Counters {
             values,
             finished,
         )?;
-        Ok(Growths { ready, next, first })
+        Ok(Allocations { ready, next, first })
     }
 
     /// Counts a segment as finished at each that it is kept before.

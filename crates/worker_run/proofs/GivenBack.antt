@@ -31,13 +31,6 @@ given_none place thieves lane none =
     ap (λ (l : List ThiefView). record lane { back = l })
     (sym (append-nil lane.back) ∙ ap (λ (l : List ThiefView). lane.back ++ l) (sym none))
 
--- no thief is given yet
-pub nothing_given : (lanes : List Lane) → AreGiven lanes [] lanes
-nothing_given lanes = record {
-  count = refl;
-  each = λ place less. given_none place [] (get_or lanes place no_lane) refl;
-}
-
 pub given_more : (was mid now : List Lane) (ts us : List Numbered) → AreGiven was ts mid → AreGiven mid us now
     → AreGiven was (ts ++ us) now
 given_more was mid now ts us first second = record {
@@ -88,18 +81,6 @@ pub written_back : {C : Type 0} (n : ℕ) (new old : List C) → length new ≡ 
 written_back n new old long same =
     ap (λ l. take n (new ++ l)) (drop_all (length new) old (omega arith))
     ∙ ap (take n) (append-nil new) ∙ take_all n new (omega arith)
-
--- a thief of no lane that is there
-pub given_past : (lanes : List Lane) (t : Numbered) → length lanes ≤ t.0 → AreGiven lanes (t ∷ []) lanes
-given_past lanes t past = record {
-  count = refl;
-  each = λ place below. elim (eqb_tells t.0 place) [
-    | inl same ↦ absurd (let e = same.1 in omega arith)
-    | inr other ↦
-        given_none place (t ∷ []) (get_or lanes place no_lane)
-        (not_back place (get_or lanes place no_lane).number t other.0)
-  ];
-}
 
 -- one lane more, and what is told of it
 pub told_more : (lanes : List Lane) (told : List (Option ℕ)) (lane : Lane) (its : Option ℕ)

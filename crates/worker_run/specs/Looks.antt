@@ -1,5 +1,5 @@
 -- Looks at lanes, one after another.
-use Rattle.std.specs.Prelude.{ℕ, ◌≡◌, ◌++◌, List, [], ◌∷◌, take, drop, ◌⊎◌}
+use Rattle.std.specs.Prelude.{ℕ, ◌≡◌, ◌++◌, List, [], ◌∷◌, take, drop, ◌⊎◌, Option, Some, None}
 use Rattle.worker_run.specs.declared.look.Found.{Found}
 use Rattle.worker_run.specs.declared.look.Found.TheVariants.{Token, Nothing, Unsure}
 use Rattle.worker_run.specs.declared.signal.Turn.{Turn}
@@ -36,6 +36,13 @@ abbrev pub MatchFound : Found → Type 0 → (ℕ → Type 0) → Type 0
 MatchFound (Token token) none some = some token
 MatchFound Nothing none some = none
 MatchFound Unsure none some = none
+
+-- What a worker does next: it runs the token that it took, or else what came of the look at the others.
+abbrev pub IsNext : Option ℕ → (Found → Type 0) → Next → Type 0
+IsNext (Some token) others next = next ≡ Run token
+IsNext None others (Run token) = others (Token token)
+IsNext None others (Wait idle) = others Nothing
+IsNext None others Again = others Unsure
 
 -- what holds of the turn with which a worker waits
 abbrev pub IfWaits : Next → (Turn → Type 0) → Type 0

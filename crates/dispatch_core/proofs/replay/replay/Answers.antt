@@ -14,4 +14,4 @@ returns-in-Err-make_event-clause-refused c =
     c.loop-index.index _ _ c.loop-index.invariant.0 c.loop-index.invariant.1
     (slice_get-get_or c.args.events.now c.loop-index.index (Start 0 0)
     (omega (arith, c.loop-index-test.true, c.loop-index.auto.index-end)))
-    c.history.ensures.legal c.in-Err-make_event.ensures.refused)
+    c.legal_history.ensures c.in-Err-make_event.ensures.refused)

@@ -1,5 +1,8 @@
-use Rattle.std.proofs.Common.{◌≡◌, length}
+use Rattle.std.proofs.Common.{◌≡◌, ◌+◌, All, length}
 use Rattle.worker_run.proofs.crew.new_lanes.Given as goal
 
 abbrev pub invariant-loop : goal.invariant-loop
-invariant-loop l = length l.lanes.items ≡ l.counter
+invariant-loop l = record {
+  count : length l.lanes.items ≡ l.counter;
+  thieves : All (λ lane. length lane.thieves.items + 1 ≡ l.fn.workers) l.lanes.items;
+}

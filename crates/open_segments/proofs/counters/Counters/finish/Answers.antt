@@ -1,5 +1,5 @@
 use Rattle.std.proofs.Common.{ℕ, List, Option, sym, subst, arith, rules}
-use Rattle.open_segments.specs.Openings.{IsGrown, IsOpened, IsRoomToOpen, AreReady}
+use Rattle.open_segments.specs.Openings.{AreMade, IsOpened, IsRoomToOpen, AreReady}
 use Rattle.open_segments.specs.UpToDate.{IsFreed}
 use Rattle.open_segments.proofs.Stages.{IsFinishing, recorded_still, has_successors, can_open_next}
 use Rattle.open_segments.proofs.Stages.{can_open_first, stage_first, siblings_end, sorted_lists}
@@ -11,16 +11,16 @@ lower-requires c =
     let each = c.requires.each in
     let known = c.requires.known in
     let state = recorded_still c.args.table.now c.args.values.now.items c.args.self.now
-    c.grow.new.self c.requires.up_to_date c.in_ok-growths.ensures.preds
-    c.in_ok-growths.ensures.counts c.in_ok-growths.ensures.successors in
-    let has = has_successors c.args.table.now c.args.values.now.items c.grow.new.self
+    c.allocate.new.self c.requires.up_to_date c.in_ok-allocations.ensures.preds
+    c.in_ok-allocations.ensures.counts c.in_ok-allocations.ensures.successors in
+    let has = has_successors c.args.table.now c.args.values.now.items c.allocate.new.self
     c.args.finished state known (omega (arith, known, each)) c.requires.unfinished in
     record { known = has.within; once = has.once; counted = has.counted }
 
 -- what is so once the successors are lowered
 finishing : (c : After-lower)
     → IsFinishing c.args.table.now c.args.values.now.items c.args.finished c.args.value
-    c.grow.new.self c.lower.new.self c.in_ok-growths.growths
+    c.allocate.new.self c.lower.new.self c.in_ok-allocations.allocations
 finishing c =
     let each = c.requires.each in
     let known = c.requires.known in
@@ -30,37 +30,37 @@ finishing c =
       within = omega (arith, known, each);
       none = c.requires.unfinished;
       state = recorded_still c.args.table.now c.args.values.now.items c.args.self.now
-          c.grow.new.self c.requires.up_to_date c.in_ok-growths.ensures.preds
-          c.in_ok-growths.ensures.counts c.in_ok-growths.ensures.successors;
-      grown = subst (λ (v : List (Option ℕ)). IsGrown c.args.table.now v c.args.finished
-          c.grow.new.self c.in_ok-growths.growths)
-          c.as_slice.ensures.value c.in_ok-growths.ensures.grown;
+          c.allocate.new.self c.requires.up_to_date c.in_ok-allocations.ensures.preds
+          c.in_ok-allocations.ensures.counts c.in_ok-allocations.ensures.successors;
+      made = subst (λ (v : List (Option ℕ)). AreMade c.args.table.now v c.args.finished
+          c.allocate.new.self c.in_ok-allocations.allocations)
+          c.as_slice.ensures.value c.in_ok-allocations.ensures.made;
       lowers = c.lower.ensures.lowered;
       same = c.lower.ensures.others;
     }
 
 pub open-requires : goal.open-requires
 open-requires c =
-    let growths = c.in_ok-growths.growths in
+    let allocations = c.in_ok-allocations.allocations in
     record {
       room = subst
-          (λ (v : List (Option ℕ)). IsRoomToOpen v c.lower.new.self growths.next growths.ready)
+          (λ (v : List (Option ℕ)). IsRoomToOpen v c.lower.new.self allocations.next allocations.ready)
           (sym c.as_slice-2.ensures.value)
           (can_open_next _ _ _ _ _ _ _ (finishing (goal.at.open-requires c).After-lower));
     }
 
 pub open-requires-2 : goal.open-requires-2
 open-requires-2 c =
-    let growths = c.in_ok-growths.growths in
+    let allocations = c.in_ok-allocations.allocations in
     let opened = subst
-    (λ (v : List (Option ℕ)). IsOpened v growths.next c.lower.new.self c.open.new.self)
+    (λ (v : List (Option ℕ)). IsOpened v allocations.next c.lower.new.self c.open.new.self)
     c.as_slice-2.ensures.value c.open.ensures.opened in
     let ready = subst
-    (λ (v : List (Option ℕ)). AreReady v growths.next growths.ready c.open.new.ready)
+    (λ (v : List (Option ℕ)). AreReady v allocations.next allocations.ready c.open.new.ready)
     c.as_slice-2.ensures.value c.open.ensures.ready in
     record {
       room = subst
-          (λ (v : List (Option ℕ)). IsRoomToOpen v c.open.new.self growths.first c.open.new.ready)
+          (λ (v : List (Option ℕ)). IsRoomToOpen v c.open.new.self allocations.first c.open.new.ready)
           (sym c.as_slice-3.ensures.value)
           (can_open_first _ _ _ _ _ _ c.open.new.self _ c.open.new.ready
           (finishing (goal.at.open-requires-2 c).After-lower) opened ready);
@@ -68,19 +68,19 @@ open-requires-2 c =
 
 pub returns : goal.returns
 returns c =
-    let growths = c.in_ok-growths.growths in
+    let allocations = c.in_ok-allocations.allocations in
     let here = finishing (goal.at.returns c).After-lower in
     let opened = subst
-    (λ (v : List (Option ℕ)). IsOpened v growths.next c.lower.new.self c.open.new.self)
+    (λ (v : List (Option ℕ)). IsOpened v allocations.next c.lower.new.self c.open.new.self)
     c.as_slice-2.ensures.value c.open.ensures.opened in
     let ready = subst
-    (λ (v : List (Option ℕ)). AreReady v growths.next growths.ready c.open.new.ready)
+    (λ (v : List (Option ℕ)). AreReady v allocations.next allocations.ready c.open.new.ready)
     c.as_slice-2.ensures.value c.open.ensures.ready in
     let opened_first = subst
-    (λ (v : List (Option ℕ)). IsOpened v growths.first c.open.new.self c.open-2.new.self)
+    (λ (v : List (Option ℕ)). IsOpened v allocations.first c.open.new.self c.open-2.new.self)
     c.as_slice-3.ensures.value c.open-2.ensures.opened in
     let ready_first = subst
-    (λ (v : List (Option ℕ)). AreReady v growths.first c.open.new.ready c.open-2.new.ready)
+    (λ (v : List (Option ℕ)). AreReady v allocations.first c.open.new.ready c.open-2.new.ready)
     c.as_slice-3.ensures.value c.open-2.ensures.ready in
     let stage = stage_first _ _ _ _ _ _ c.open.new.self c.open-2.new.self _ c.open.new.ready
     c.open-2.new.ready here opened ready opened_first ready_first in

@@ -1,7 +1,7 @@
 use Rattle.std.proofs.Common.{ℕ, ◌≡◌, ◌≢◌, ◌<◌, List, Some, length, sym, subst}
 use Rattle.std.specs.Prelude.{slice_get, Contains, AllPairs}
 use Rattle.open_segments.proofs.Stages.{successors_at, successor_counted, room_for_still}
-use Rattle.open_segments.proofs.counters.Counters.grow.Goals as goal
+use Rattle.open_segments.proofs.counters.Counters.allocate.Goals as goal
 
 pub with_one-requires-clause-known : goal.with_one-requires-clause-known
 with_one-requires-clause-known c t has =
@@ -21,8 +21,8 @@ with_one-requires-clause-once c =
     subst (λ (l : List ℕ). AllPairs (λ x y. x ≢ y) l) (sym c.as_slice-2.ensures.value)
     (state.successors.once c.args.finished c.index.result.now.items there c.requires.unfinished)
 
-pub returns-clause-grown : goal.returns-clause-grown
-returns-clause-grown c =
+pub returns-clause-made : goal.returns-clause-made
+returns-clause-made c =
     let state = c.requires.up_to_date in
     let there = successors_at c.args.table.now c.args.values.now c.args.self.now c.args.finished
     c.index.result.now state c.requires.known c.index.ensures in
