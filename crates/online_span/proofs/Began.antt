@@ -1,9 +1,9 @@
 -- What the table at a later moment tells of a task that has begun.
-use Rattle.std.proofs.Common.{◌≡◌, ◌≢◌, ◌⊎◌, ℕ, ◌+◌, ◌<◌, ◌≤◌, Bool, cond, eqb}
+use Rattle.std.proofs.Common.{true, ◌+◌, ◌≡◌, ◌≢◌, ◌⊎◌, ℕ, ◌<◌, ◌≤◌, Bool, cond, eqb}
 use Rattle.std.proofs.Common.{List, [], ◌∷◌, get_or, drop, refl, sym, ap, subst, ◌∙◌}
 use Rattle.std.proofs.Common.{inl, inr, arith, slice_get}
 use Rattle.std.specs.List.{All}
-use Rattle.std.proofs.lemmas.Bool.{cases_lt, cases_Bool, cases_eq}
+use Rattle.std.proofs.lemmas.Bool.{cases_lt, cases_Bool, cases_eq, cond-true, cond-false}
 use Rattle.std.proofs.lemmas.List.Elements.{All-nil, All-cons, All-tail}
 use Rattle.program_text.specs.declared.statement.Item.{Item}
 use Rattle.task_program.specs.Marks.{Mark}
@@ -79,26 +79,26 @@ pub later_grouped : (b e : List Mark) → Later b e → IsGrouped e → IsGroupe
 later_grouped b _ Now h = h
 later_grouped b _ (More m e k) h = later_grouped b e k h.2
 
+-- the task that has begun by a mark, and had not before, is the one that it begins
+begins_now : (m : Mark) (e : List Mark) (u : ℕ) → u < tasks_so_far (m ∷ e) → tasks_so_far e ≤ u
+    → (begins_task m ≡ true) × (tasks_so_far e ≡ u)
+begins_now m e u l late = elim (cases_Bool (begins_task m)) [
+  | inl o ↦ (o, omega (arith, count-cons begins_task m e, cond-true {A = ℕ} (begins_task m) 1 0 o))
+  | inr o ↦
+      absurd (omega (arith, count-cons begins_task m e, cond-false {A = ℕ} (begins_task m) 1 0 o))
+]
+
 pub beginning_later : (e : List Mark) (u : ℕ) → u < tasks_so_far e → Later (beginning_of u e) e
 beginning_later [] u l = absurd (omega arith)
 beginning_later (m ∷ e) u l = elim (cases_lt u (tasks_so_far e)) [
   | inl x ↦
       subst (λ (xs : List Mark). Later xs (m ∷ e)) (sym (beginning_of-old m e u x))
       (More m e (beginning_later e u x))
-  | inr x ↦ elim (cases_Bool (begins_task m)) [
-    | inl o ↦ (
-        let counted : tasks_so_far (m ∷ e) ≡ cond (begins_task m) 1 0 + tasks_so_far e =
-        count-cons begins_task m e in
-        let one : ◌≡◌ {A = ℕ} (cond (begins_task m) 1 0) 1 = rw o refl in
-        let is : tasks_so_far e ≡ u = omega arith in
-        let P : ℕ → Type 0 = λ u. Later (beginning_of u (m ∷ e)) (m ∷ e) in
-        subst P is (subst (λ (xs : List Mark). Later xs (m ∷ e)) (sym (beginning_of-new m e o)) Now))
-    | inr o ↦ (
-        let counted : tasks_so_far (m ∷ e) ≡ cond (begins_task m) 1 0 + tasks_so_far e =
-        count-cons begins_task m e in
-        let none : ◌≡◌ {A = ℕ} (cond (begins_task m) 1 0) 0 = rw o refl in
-        absurd (omega arith))
-  ]
+  | inr x ↦
+      let (begins, is) = begins_now m e u l x in
+      let P : ℕ → Type 0 = λ u. Later (beginning_of u (m ∷ e)) (m ∷ e) in
+      subst P is
+      (subst (λ (xs : List Mark). Later xs (m ∷ e)) (sym (beginning_of-new m e begins)) Now)
 ]
 
 -- a task whose first segment has opened has begun
@@ -111,22 +111,12 @@ begun_before b _ (More m e k) u l s = elim (cases_lt u (tasks_so_far e)) [
       let same : segments_so_far (before_task u (m ∷ e)) ≡ segments_so_far (before_task u e) =
       ap (λ (xs : List Mark). segments_so_far (drop 1 xs)) (beginning_of-old m e u x) in
       begun_before b e k u x (omega arith))
-  | inr x ↦ elim (cases_Bool (begins_task m)) [
-    | inl o ↦ (
-        let counted : tasks_so_far (m ∷ e) ≡ cond (begins_task m) 1 0 + tasks_so_far e =
-        count-cons begins_task m e in
-        let one : ◌≡◌ {A = ℕ} (cond (begins_task m) 1 0) 1 = rw o refl in
-        let is : tasks_so_far e ≡ u = omega arith in
-        let here : segments_so_far (before_task u (m ∷ e)) ≡ segments_so_far e =
-        ap (λ (n : ℕ). segments_so_far (before_task n (m ∷ e))) (sym is)
-        ∙ ap (λ (xs : List Mark). segments_so_far (drop 1 xs)) (beginning_of-new m e o) in
-        absurd (omega (arith, segments_grow b e k)))
-    | inr o ↦ (
-        let counted : tasks_so_far (m ∷ e) ≡ cond (begins_task m) 1 0 + tasks_so_far e =
-        count-cons begins_task m e in
-        let none : ◌≡◌ {A = ℕ} (cond (begins_task m) 1 0) 0 = rw o refl in
-        absurd (omega arith))
-  ]
+  | inr x ↦
+      let (begins, is) = begins_now m e u l x in
+      let here : segments_so_far (before_task u (m ∷ e)) ≡ segments_so_far e =
+      ap (λ (n : ℕ). segments_so_far (before_task n (m ∷ e))) (sym is)
+      ∙ ap (λ (xs : List Mark). segments_so_far (drop 1 xs)) (beginning_of-new m e begins) in
+      absurd (omega (arith, segments_grow b e k))
 ]
 
 items_begun : (d k : Bool) (i j : List Item) (x y : List Mark)

@@ -1,9 +1,9 @@
 -- From the moment at which a segment opened to a later one: what stays, and that the segment
 -- continues the one that its task had before.
-use Rattle.std.proofs.Common.{◌≡◌, ◌≢◌, ℕ, ◌+◌, ◌<◌, ◌≤◌, false, cond, ◌&&◌}
+use Rattle.std.proofs.Common.{true, ◌≡◌, ◌≢◌, ℕ, ◌+◌, ◌<◌, ◌≤◌, false, cond, ◌&&◌}
 use Rattle.std.proofs.Common.{List, [], ◌∷◌, refl, sym, ap, subst, ◌∙◌, inl, inr, arith}
 use Rattle.std.specs.List.{All}
-use Rattle.std.proofs.lemmas.Bool.{cases_lt, cases_Bool}
+use Rattle.std.proofs.lemmas.Bool.{cases_lt, cases_Bool, cond-false}
 use Rattle.task_program.specs.Marks.{Mark}
 use Rattle.task_segments.specs.Moments.{opens, begins_task, segments_so_far, tasks_so_far, open_tasks}
 use Rattle.task_segments.specs.Moments.{running_task, runs, is_innermost, opening_of, beginning_of}
@@ -21,23 +21,26 @@ pub data Later (before : List Mark) : List Mark → Type 0 where
   Now : Later before before
   More : (m : Mark) (e : List Mark) → Later before e → Later before (m ∷ e)
 
+-- the segment that has opened by a mark, and had not before, is the one that it opens
+pub opens_now : (m : Mark) (e : List Mark) (t : ℕ) → t < segments_so_far (m ∷ e)
+    → segments_so_far e ≤ t
+    → (opens m ≡ true) × (segments_so_far e ≡ t)
+opens_now m e t l late = elim (cases_Bool (opens m)) [
+  | inl o ↦ (o, omega (arith, segments_opens m e o))
+  | inr o ↦ absurd (omega (arith, count-cons opens m e, cond-false {A = ℕ} (opens m) 1 0 o))
+]
+
 pub opening_later : (e : List Mark) (t : ℕ) → t < segments_so_far e → Later (opening_of t e) e
 opening_later [] t l = absurd (omega arith)
 opening_later (m ∷ e) t l = elim (cases_lt t (segments_so_far e)) [
   | inl x ↦
       subst (λ (xs : List Mark). Later xs (m ∷ e)) (sym (opening_of-old m e t x))
       (More m e (opening_later e t x))
-  | inr x ↦ elim (cases_Bool (opens m)) [
-    | inl o ↦ (
-        let is : segments_so_far e ≡ t = omega (arith, segments_opens m e o) in
-        let P : ℕ → Type 0 = λ t. Later (opening_of t (m ∷ e)) (m ∷ e) in
-        subst P is (subst (λ (xs : List Mark). Later xs (m ∷ e)) (sym (opening_of-new m e o)) Now))
-    | inr o ↦ (
-        let counted : segments_so_far (m ∷ e) ≡ cond (opens m) 1 0 + segments_so_far e =
-        count-cons opens m e in
-        let none : ◌≡◌ {A = ℕ} (cond (opens m) 1 0) 0 = rw o refl in
-        absurd (omega arith))
-  ]
+  | inr x ↦
+      let (opened, is) = opens_now m e t l x in
+      let P : ℕ → Type 0 = λ t. Later (opening_of t (m ∷ e)) (m ∷ e) in
+      subst P is
+      (subst (λ (xs : List Mark). Later xs (m ∷ e)) (sym (opening_of-new m e opened)) Now)
 ]
 
 pub segments_grow : (b e : List Mark) → Later b e → segments_so_far b ≤ segments_so_far e

@@ -1,10 +1,10 @@
 -- At the last moment of a program a segment awaits exactly those that must precede it.
-use Rattle.std.proofs.Common.{◌≡◌, ◌≢◌, ℕ, ◌+◌, ◌-◌, ◌<◌, Bool, true, false, cond}
+use Rattle.std.proofs.Common.{◌≡◌, ◌≢◌, ℕ, ◌+◌, ◌-◌, ◌<◌, Bool, true, false}
 use Rattle.std.proofs.Common.{List, [], ◌∷◌, length, length-drop, refl, sym, ap, subst}
 use Rattle.std.proofs.Common.{◌∙◌, inl, inr, arith, Some, slice_get}
 use Rattle.std.specs.List.{All}
 use Rattle.std.proofs.lemmas.Bool.Decides.{nat_tests}
-use Rattle.std.proofs.lemmas.Bool.{cases_lt, cases_Bool}
+use Rattle.std.proofs.lemmas.Bool.{cases_lt}
 use Rattle.std.proofs.lemmas.Option.{slice_get-get_or, get_or_from_slice_get}
 use Rattle.program_text.specs.declared.statement.Item.{Item}
 use Rattle.task_program.specs.Conflict.{items_conflict}
@@ -24,8 +24,8 @@ use Rattle.task_segments.specs.Precedence.{GroupEnd, MustPrecede}
 use Rattle.task_segments.specs.Nesting.{IsNestedTable}
 use Rattle.task_segments.specs.InPlace.{IsReadInPlace}
 use Rattle.task_segments.proofs.Steps.{owner, running_below, beginning_of-new, opening_of-old}
-use Rattle.task_segments.proofs.Steps.{opening_of-new, tasks_begins, segments_opens, latest_owner}
-use Rattle.task_segments.proofs.Steps.{task_has_begun, count-cons}
+use Rattle.task_segments.proofs.Steps.{opening_of-new, tasks_begins, latest_owner}
+use Rattle.task_segments.proofs.Steps.{task_has_begun}
 use Rattle.task_segments.proofs.Places.{open_tasks_descend}
 use Rattle.task_segments.proofs.Rows.{closing_stays}
 use Rattle.task_segments.proofs.Facts.{IsLast, nested, segment-at, segments-at, task-at, tasks-at}
@@ -43,7 +43,7 @@ use Rattle.online_span.proofs.Held.{outer_below}
 use Rattle.online_span.proofs.Stays.{some_segment}
 use Rattle.online_span.proofs.Last.{last_running}
 use Rattle.online_span.proofs.Earliest.{Opened, has_opened, opening_of-none}
-use Rattle.online_span.proofs.Later.{Later, opening_later, beginnings_stay, continues_last}
+use Rattle.online_span.proofs.Later.{opens_now, Later, opening_later, beginnings_stay, continues_last}
 use Rattle.online_span.proofs.Later.{ended_stays, tasks_grow, openings_stay, idle}
 use Rattle.online_span.proofs.Later.Later.{Now}
 use Rattle.online_span.proofs.Children.{listed_is_child, child_is_listed}
@@ -120,19 +120,12 @@ closes_so (k ∷ e) t m b a l o = elim (cases_lt t (segments_so_far e)) [
       let not_latest : is_latest (t - 1) e ≡ false = grind (arith, nat_tests) in
       closing_stays k e (t - 1) not_latest
       ∙ closes_so e t m b a y (sym (opening_of-old k e t y) ∙ o))
-  | inr y ↦ elim (cases_Bool (opens k)) [
-    | inl r ↦ (
-        let is : t ≡ segments_so_far e = omega (arith, segments_opens k e r) in
-        let same : k ∷ e ≡ m ∷ b =
-        sym (opening_of-new k e r) ∙ ap (λ t. opening_of t (k ∷ e)) (sym is) ∙ o in
-        let now : is_latest (t - 1) e ≡ true = grind (arith, nat_tests) in
-        closes_now k e (t - 1) r now ∙ ap closing_from same)
-    | inr r ↦ (
-        let counted : segments_so_far (k ∷ e) ≡ cond (opens k) 1 0 + segments_so_far e =
-        count-cons opens k e in
-        let none : ◌≡◌ {A = ℕ} (cond (opens k) 1 0) 0 = rw r refl in
-        absurd (omega arith))
-  ]
+  | inr y ↦
+      let (r, is) = opens_now k e t l y in
+      let same : k ∷ e ≡ m ∷ b =
+      sym (opening_of-new k e r) ∙ ap (λ t. opening_of t (k ∷ e)) is ∙ o in
+      let now : is_latest (t - 1) e ≡ true = grind (arith, nat_tests) in
+      closes_now k e (t - 1) r now ∙ ap closing_from same
 ]
 
 -- and so it is in the table

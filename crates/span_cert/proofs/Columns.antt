@@ -1,5 +1,5 @@
 -- The first broken pair of each column, and of all.
-use Rattle.std.proofs.Common.{Bool, true, false, if◌then◌else◌, ◌≡◌, ◌<◌, ◌≤◌, ◌+◌, ◌/◌, ◌%◌, ℕ}
+use Rattle.std.proofs.Common.{◌≡◌, ◌<◌, ◌≤◌, ◌+◌, ◌/◌, ◌%◌, ℕ}
 use Rattle.std.proofs.Common.{List, length, Option, Some, None, MatchOption, arith, inl, inr, subst}
 use Rattle.std.proofs.Common.{sym, get_or, zero, suc, [], ◌∷◌, refl, ap, ◌∙◌}
 use Rattle.std.proofs.Math.Nat.{mod-add-div', mod-lt}
@@ -53,36 +53,6 @@ pub none_in_column : (table : Table) (starts : List ℕ) (column t : ℕ)
     → IsColumn table starts column None
 none_in_column table starts column t all none r u there b =
     let inside = b.is_segment in none r u there (omega (arith, inside, all)) b
-
--- ---- the earliest pair
-
--- of the earliest so far and the pair that comes next, the one that a comparison tells
-of_two : (pairs : List (Option (ℕ × ℕ))) (n : ℕ) (one two : ℕ × ℕ) (less : Bool)
-    → (less ≡ true → two.1 < one.1)
-    → (less ≡ false → one.1 ≤ two.1)
-    → IsEarliestPair pairs n (Some one)
-    → slice_get pairs n ≡ Some (Some two)
-    → IsEarliestPair pairs (n + 1) (if less then Some two else Some one)
-of_two pairs n one two true lesser greater first is = (
-  (n, is),
-  λ k pair before at. elim (cases_eq k n) [
-    | inl same ↦ let same_pair : two ≡ pair = cc in
-        let P : ℕ × ℕ → Type 0 = λ p. two.1 ≤ p.1 in
-        subst P same_pair (omega arith)
-    | inr other ↦ let first_to = first.1 k pair (omega (arith, other)) at in
-        let less = lesser refl in
-        omega (arith, first_to, less)
-  ],
-)
-of_two pairs n one two false lesser greater first is = (
-  first.0,
-  λ k pair before at. elim (cases_eq k n) [
-    | inl same ↦ let same_pair : two ≡ pair = cc in
-        let P : ℕ × ℕ → Type 0 = λ p. one.1 ≤ p.1 in
-        subst P same_pair (greater refl)
-    | inr other ↦ first.1 k pair (omega (arith, other)) at
-  ],
-)
 
 -- ---- all columns
 
