@@ -9,6 +9,7 @@ use crate::tests::spans::examples::EXAMPLES;
 use dispatch_core::graph::Graph;
 use span_analysis::analysis::{Analysis, analyse};
 use span_analysis::legal::is_legal;
+use span_analysis::span::span_of;
 use std::alloc::Global;
 use std::fmt::Write;
 use std::process::Abort;
@@ -193,7 +194,20 @@ fn assert_slacks(
     Ok(())
 }
 
-/// Asserts that the analysis of a program finds what is wanted.
+/// Asserts that the span by itself is this one.
+fn assert_span(
+    rt: &impl Abort,
+    alloc: Global,
+    graph: &Graph,
+    wanted: u64,
+    name: &str,
+) -> Result<(), Fail> {
+    assert_eq!(rt; span_of(alloc, graph)?, wanted, "of {name}");
+    Ok(())
+}
+
+/// Asserts that the analysis of a program finds what is wanted, and that its span by itself is the
+/// same.
 fn assert_found(rt: &impl Abort, alloc: Global, worked: &Worked) -> Result<(), Fail> {
     let name = worked.name;
     let graph = graph_of(alloc, worked.text)?;
@@ -203,6 +217,7 @@ fn assert_found(rt: &impl Abort, alloc: Global, worked: &Worked) -> Result<(), F
         (worked.work, worked.span),
         "of {name}"
     );
+    assert_span(rt, alloc, &graph, worked.span, name)?;
     assert_list(rt, alloc, found.starts(), worked.starts)?;
     assert_list(rt, alloc, found.chain(), worked.chain)?;
     assert_slacks(rt, alloc, &graph, &found, worked.slacks)?;

@@ -50,6 +50,11 @@ fn analyses(rt: HostRuntime) -> Result<(), Fail> {
 }
 
 #[test]
+fn spans(rt: HostRuntime) -> Result<(), Fail> {
+    refuse_each(&rt, Calls::Span)
+}
+
+#[test]
 fn greedy_runs(rt: HostRuntime) -> Result<(), Fail> {
     refuse_each(&rt, Calls::Greedy)
 }

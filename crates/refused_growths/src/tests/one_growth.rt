@@ -63,6 +63,11 @@ fn analyses(rt: HostRuntime) -> Result<(), Fail> {
 }
 
 #[test]
+fn spans(rt: HostRuntime) -> Result<(), Fail> {
+    make_once(&rt, Calls::Span)
+}
+
+#[test]
 fn greedy_runs(rt: HostRuntime) -> Result<(), Fail> {
     make_once(&rt, Calls::Greedy)
 }

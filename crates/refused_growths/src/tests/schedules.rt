@@ -1,4 +1,4 @@
-//! Analyses, greedy runs, and trials of costs.
+//! Analyses, spans, greedy runs, and trials of costs.
 use super::made_again;
 use super::programs::{assert_worked, graph_of};
 use super::supply::Supply;
@@ -6,6 +6,7 @@ use dispatch_core::graph::Graph;
 use greedy_sim::curve::curve;
 use greedy_sim::greedy::{GreedyFault, GreedyRun, greedy};
 use span_analysis::analysis::{Analysis, analyse};
+use span_analysis::span::span_of;
 use std::alloc::{AllocGlobal, Global};
 use std::process::Abort;
 use std::test::Fail;
@@ -38,6 +39,26 @@ pub(super) fn analysis<H: AllocGlobal + Abort>(rt: &H, supply: &mut Supply) -> R
     assert_eq!(rt; (found.work(), found.span()), (11, 9));
     assert_eq!(rt; found.starts(), [0, 5, 5, 8].as_slice());
     assert_eq!(rt; found.chain(), [0, 1, 3].as_slice());
+    Ok(())
+}
+
+fn measured(alloc: Global, graph: &Graph) -> Result<u64, AllocFault> {
+    span_of(alloc, graph)
+}
+
+/// The span of the worked program, without its slacks.
+pub(super) fn span<H: AllocGlobal + Abort>(rt: &H, supply: &mut Supply) -> Result<(), Fail> {
+    let graph = graph_of(rt, supply)?;
+    supply.before_call();
+    let span = match measured(rt.alloc(), &graph) {
+        Ok(span) => span,
+        Err(_) => {
+            supply.refused();
+            assert_worked(rt, &graph);
+            measured(rt.alloc(), &graph)?
+        }
+    };
+    assert_eq!(rt; span, 9);
     Ok(())
 }
 
