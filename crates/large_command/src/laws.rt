@@ -1,7 +1,8 @@
 //! Laws of the definitions.
-ghost use Rattle.std.specs.Prelude.{ℕ, ◌<◌, ◌≤◌, List, sum};
+ghost use Rattle.std.specs.Prelude.{ℕ, ◌<◌, ◌≤◌, ◌≡◌, List, sum};
 ghost use Rattle.greedy_sim.specs.Greedy.{IsGreedy, IsLegalOn};
-ghost use Rattle.large_command.specs.Bounds.{bound_of, least_of};
+ghost use Rattle.large_command.specs.Bounds.{TellsBounds, bound_of, least_of};
+ghost use Rattle.large_command.specs.WorkedBounds.{AreWorkedRows};
 ghost use Rattle.online_span.specs.Spans.{IsSpanOf};
 ghost use Rattle.task_program.specs.Marks.{Mark};
 ghost use Rattle.task_program.specs.Nested.{IsNested};
@@ -27,4 +28,15 @@ pub fn bounds_hold()
 pub fn span_within_work()
     ensures { (body : List Mark) (span : ℕ) → IsNested body → IsSpanOf body span
         → span ≤ sum (costs_of (table_of body)) }
+{}
+
+/// There is one table of bounds of a program, for a number of threads.
+pub fn one_table()
+    ensures { (upto : ℕ) (body : List Mark) (text other : List ℕ) → TellsBounds upto body text
+        → TellsBounds upto body other → text ≡ other }
+{}
+
+/// Some rows of bounds, as they are worked by hand.
+pub fn worked_rows()
+    ensures { AreWorkedRows }
 {}
