@@ -3,25 +3,32 @@ use Rattle.std.proofs.Common.{◌≡◌, ◌≤◌, ◌<◌, ◌+◌, ◌-◌, �
 use Rattle.std.proofs.Common.{subst, zero, suc, ap, add-zero}
 use Rattle.std.proofs.Math.Nat.{div-lt_iff_lt-mul, le-div_iff_mul-le, max-le}
 use Rattle.std.proofs.lemmas.List.Sums.{sum_by-take-le, sum_by_more}
+use Rattle.task_program.specs.Limits.{work_of}
 use Rattle.task_program.specs.Marks.{Mark}
 use Rattle.task_program.specs.Nested.{IsNested}
 use Rattle.task_segments.specs.Moments.{last_moment}
 use Rattle.task_segments.specs.Precedence.{MustPrecede}
 use Rattle.task_segments.specs.Schedule.{IsLegal, IsSpan, at, end_of}
 use Rattle.task_segments.specs.StartsAndTails.{IsAscending}
-use Rattle.task_segments.specs.Table.{table_of}
+use Rattle.task_segments.specs.Table.{costs_of, table_of}
 use Rattle.task_segments.proofs.Facts.{nested}
 use Rattle.task_segments.proofs.Order.{goes_up}
 use Rattle.task_segments.proofs.Programs.{last_of_nested}
 use Rattle.task_segments.proofs.Schedules.{IsLegal-by_rule, by_rule, end_of-by_rule}
+use Rattle.task_segments.proofs.Work.{all_work_at}
 use Rattle.greedy_sim.proofs.EverySchedule.{span-le}
-use Rattle.large_command.specs.Bounds.{bound_of, least_of}
+use Rattle.spanprof_command.specs.GreedyRuns.{bound_of, least_of}
 
 -- what must precede a segment has a smaller number, in the table of any nested marks
 pub must_ascend : (body : List Mark) → IsNested body → IsAscending (MustPrecede (table_of body))
 must_ascend body h = record {
   up = goes_up (table_of body) (nested (last_moment body) (last_of_nested body h));
 }
+
+-- the costs of its segments add up to the work of the marks
+pub all_work_of : (body : List Mark) → IsNested body
+    → sum (costs_of (table_of body)) ≡ work_of (last_moment body)
+all_work_of body h = all_work_at (last_moment body) (last_of_nested body h).proper
 
 -- what takes the work of p threads and reaches the span takes what a row calls the least
 pub least_below : (work span p end : ℕ) → 0 < p → work ≤ p * end → span ≤ end

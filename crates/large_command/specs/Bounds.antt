@@ -1,24 +1,17 @@
 -- The rows of bounds: before which moment no schedule on so many threads ends, and after which no
 -- greedy one. They are numbers of work and span alone.
-use Rattle.std.specs.Prelude.{ℕ, ◌+◌, ◌-◌, ◌*◌, ◌/◌, ◌≡◌, ◌++◌, List, [], ◌∷◌, max, sum, codes}
-use Rattle.std.specs.Prelude.{Option, Some, flat_map}
-use Rattle.std.specs.List.{range_with_len}
-use Rattle.csv_table.specs.Row.{line_of, row_line}
+use Rattle.std.specs.Prelude.{ℕ, ◌≡◌, ◌⊎◌, List, [], ◌∷◌, codes, Option, Some}
 use Rattle.online_span.specs.Spans.{IsSpanOf}
+use Rattle.task_program.specs.Limits.{work_of}
 use Rattle.task_program.specs.Marks.{Mark}
-use Rattle.task_segments.specs.Table.{costs_of, table_of}
+use Rattle.task_segments.specs.Moments.{last_moment}
+use Rattle.spanprof_command.specs.GreedyRuns.{IsThreadCount, RefusesThreads, bound_of, least_of}
+use Rattle.spanprof_command.specs.Report.{Report}
+use Rattle.spanprof_command.specs.Tables.{numbered_table}
+use Rattle.spanprof_command.specs.declared.report.Status.TheVariants.{Done}
 
 abbrev pub bounds_header : List (List ℕ)
 bounds_header = codes "threads" ∷ codes "least" ∷ codes "bound" ∷ []
-
--- No schedule on p threads ends sooner: the greater of the span, and of the work on each thread,
--- rounded up. It may be that none ends so soon.
-abbrev pub least_of : ℕ → ℕ → ℕ → ℕ
-least_of work span p = max span ((work + (p - 1)) / p)
-
--- the greatest T with p * T <= work + (p - 1) * span: no greedy schedule on p threads ends later
-abbrev pub bound_of : ℕ → ℕ → ℕ → ℕ
-bound_of work span p = (work + (p - 1) * span) / p
 
 -- a number of threads, and the two bounds
 abbrev pub bounds_row : ℕ → ℕ → ℕ → List (Option ℕ)
@@ -26,12 +19,15 @@ bounds_row work span p = Some p ∷ Some (least_of work span p) ∷ Some (bound_
 
 -- a header, and a row for each of 1, 2, .. threads
 abbrev pub bounds_table : ℕ → ℕ → ℕ → List ℕ
-bounds_table work span upto =
-    line_of (λ name. name) bounds_header
-    ++ flat_map (λ p. row_line (bounds_row work span p)) (range_with_len 1 upto)
+bounds_table work span upto = numbered_table bounds_header (bounds_row work span) 1 upto
 
--- the text tells the bounds of the table of these marks, on 1, 2, .. threads
-pub record TellsBounds (upto : ℕ) (body : List Mark) (text : List ℕ) : Type 0 where
+-- the bounds of a program with these marks, on 1, 2, .. threads
+pub record TellsBounds (upto : ℕ) (marks : List Mark) (output : Report) : Type 0 where
+  pub within : IsThreadCount upto
   pub span : ℕ
-  pub is_span : IsSpanOf body span
-  pub says : text ≡ bounds_table (sum (costs_of (table_of body))) span upto
+  pub is_span : IsSpanOf marks span
+  pub says : output
+      ≡ record { text = bounds_table (work_of (last_moment marks)) span upto; status = Done }
+
+abbrev pub SaysBounds : ℕ → List Mark → Report → Type 0
+SaysBounds upto marks output = RefusesThreads upto output ⊎ TellsBounds upto marks output

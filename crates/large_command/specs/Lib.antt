@@ -1,2 +1,4 @@
+pub mod LargeReports
+pub mod LargeCommand
 pub mod Bounds
 pub mod WorkedBounds

@@ -1,4 +1,11 @@
-//! Work, span and bounds of a text of any size.
+//! The program `spanprof_large`: work and span of a text of any size, from words and bytes to a
+//! text and a status.
 #![tactic(auto)]
 
+mod engine;
+mod entry;
 pub mod laws;
+mod numbers;
+
+pub use engine::{LARGEST_TEXT, command};
+pub use entry::{run_program, start};

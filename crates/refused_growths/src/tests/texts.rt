@@ -1,7 +1,7 @@
 //! Texts: programs, words, inputs and rows.
 use super::made_again;
 use super::supply::Supply;
-use command_io::{InputFault, read_input};
+use command_io::{InputFault, LARGEST_INPUT, read_input};
 use command_words::request::{Request, WordsFault, read_words};
 use counted_io::Counted;
 use csv_table::Table;
@@ -208,7 +208,7 @@ const LONG: &[u8] = &[b' '; 10_000];
 /// What a read of the input answers, and how many of its calls were faults.
 fn read_long(alloc: Global) -> (Result<Vec<u8>, InputFault>, u64) {
     let mut reader = Counted::new(LONG);
-    let answer = read_input(alloc, &mut reader, &mut 0);
+    let answer = read_input(alloc, &mut reader, LARGEST_INPUT, &mut 0);
     (answer, reader.faults())
 }
 

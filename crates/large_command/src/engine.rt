@@ -1,0 +1,131 @@
+//! Words, text, report and status, in that order.
+ghost use Rattle.std.specs.Prelude.{◌≡◌, ◌≢◌, ◌+◌, ◌-◌, ◌^◌, ◌<◌, ◌≤◌, List, ℕ, Err, map};
+ghost use Rattle.std.specs.Prelude.{string_bytes, IfOk, length, true};
+ghost use Rattle.counted_io.specs.Counted.{inner_of, faults_of, flushes_of, is_flushed};
+ghost use Rattle.command_io.specs.Input.{ConsumesAtMost};
+ghost use Rattle.spanprof_command.specs.Command.{EndsWith, HadFaults};
+ghost use Rattle.spanprof_command.specs.Report.{out_of_memory, read_fault};
+ghost use Rattle.spanprof_command.specs.declared.engine.TheConstants.{MOST_RETRIES};
+ghost use Rattle.large_command.specs.LargeCommand.{AnswersText, IsReport};
+ghost use Rattle.large_command.specs.declared.engine.NoReport.TheVariants.{OutOfMemory};
+
+use crate::numbers::answer;
+use command_io::{InputFault, read_input};
+use counted_io::Counted;
+use spanprof_command::{MOST_RETRIES, Report, Status, send};
+use std::alloc::{AllocError, Global};
+use std::io::{Read, Write};
+
+/// A longer text is refused: lines and bytes are counted in 32 bits.
+pub const LARGEST_TEXT: usize = 4_294_967_294;
+
+/// Reads a text of version 1 of any size to its end, and writes how many tasks and segments it has,
+/// its work and its span, each on a line of its own. There are no words beside the program's name.
+///
+/// A text of more than [`LARGEST_TEXT`] bytes is refused. Reads and writes that are interrupted are
+/// tried again, together at most [`MOST_RETRIES`] times. Out of memory and a reader that fails have
+/// lines of their own. Where the writer fails, takes no byte or is interrupted too often, what went
+/// out is a prefix of the text, and the status is `Fault`.
+pub fn command<R: Read, W: Write>(
+    alloc: Global,
+    words: &[String],
+    reader: &mut Counted<R>,
+    writer: &mut Counted<W>,
+) -> Status
+    requires reader { faults_of reader.old < 2 ^ 63 }
+    requires writer { faults_of writer.old < 2 ^ 63 }
+
+    ensures answers { EndsWith (IsReport (map string_bytes words.now)
+        (R.remaining (inner_of reader.old)) (R.remaining (inner_of reader.new)))
+        (HadFaults (faults_of reader.old) (faults_of reader.new))
+        (W.contents (inner_of writer.old)) (W.contents (inner_of writer.new))
+        (HadFaults (faults_of writer.old) (faults_of writer.new)) result }
+    ensures flushed { result ≢ Status.Fault → is_flushed writer.new ≡ true }
+
+    // In every case.
+    ensures reads_nothing { 1 < length words.now → reader.new ≡ reader.old }
+    ensures reads_so_much { ConsumesAtMost (LARGEST_TEXT + 1) (R.remaining (inner_of reader.old))
+        (R.remaining (inner_of reader.new)) }
+    ensures flushes { flushes_of writer.new ≤ flushes_of writer.old + 1 }
+{
+    let mut retries = MOST_RETRIES;
+    match prepare(alloc, words, reader, &mut retries) {
+        Ok(report) => send(writer, report.text(), report.status(), &mut retries),
+        Err(NoReport::OutOfMemory) => {
+            let line = b"error: out of memory\n";
+            send(writer, line, Status::Fault, &mut retries)
+        }
+        Err(NoReport::ReadFault) => {
+            let line = b"error: read fault\n";
+            send(writer, line, Status::Fault, &mut retries)
+        }
+    }
+}
+
+/// Why there is no report.
+#[derive(Clone, Copy, Debug, PartialEq, Eq)]
+enum NoReport {
+    OutOfMemory,
+    ReadFault,
+}
+
+impl From<AllocError> for NoReport {
+    ghost from_gives = { λ _ fault. fault ≡ OutOfMemory };
+
+    fn from(_error: AllocError) -> NoReport {
+        NoReport::OutOfMemory
+    }
+}
+
+/// Makes the report of the words and the text.
+fn prepare<R: Read>(
+    alloc: Global,
+    words: &[String],
+    reader: &mut Counted<R>,
+    retries: &mut u32,
+) -> Result<Report, NoReport>
+    requires { faults_of reader.old + retries.old < 2 ^ 64 - 1 }
+    ensures report { IfOk result (λ report. IsReport (map string_bytes words.now)
+        (R.remaining (inner_of reader.old)) (R.remaining (inner_of reader.new)) report) }
+    ensures reads_nothing { 1 < length words.now → reader.new ≡ reader.old }
+
+    ensures reads_so_much { ConsumesAtMost (LARGEST_TEXT + 1) (R.remaining (inner_of reader.old))
+        (R.remaining (inner_of reader.new)) }
+    ensures retried { retries.new ≤ retries.old }
+    ensures paid { result ≢ Err NoReport.ReadFault
+        → faults_of reader.new + retries.new ≡ faults_of reader.old + retries.old }
+    ensures failed { result ≡ Err NoReport.ReadFault
+        → faults_of reader.new + retries.new ≡ faults_of reader.old + retries.old + 1 }
+{
+    if words.len() > 1 {
+        return Ok(Report::of_line(alloc, b"error: wrong words\n", Status::Usage)?);
+    }
+    answer_text(alloc, reader, retries)
+}
+
+fn answer_text<R: Read>(
+    alloc: Global,
+    reader: &mut Counted<R>,
+    retries: &mut u32,
+) -> Result<Report, NoReport>
+    requires { faults_of reader.old + retries.old < 2 ^ 64 - 1 }
+    ensures report { IfOk result (λ report. AnswersText (R.remaining (inner_of reader.old))
+        (R.remaining (inner_of reader.new)) report) }
+
+    ensures reads_so_much { ConsumesAtMost (LARGEST_TEXT + 1) (R.remaining (inner_of reader.old))
+        (R.remaining (inner_of reader.new)) }
+    ensures retried { retries.new ≤ retries.old }
+    ensures paid { result ≢ Err NoReport.ReadFault
+        → faults_of reader.new + retries.new ≡ faults_of reader.old + retries.old }
+    ensures failed { result ≡ Err NoReport.ReadFault
+        → faults_of reader.new + retries.new ≡ faults_of reader.old + retries.old + 1 }
+{
+    match read_input(alloc, reader, LARGEST_TEXT, retries) {
+        Ok(text) => Ok(answer(alloc, text.as_slice())?),
+        Err(InputFault::TooLong) => {
+            Ok(Report::of_line(alloc, b"error: input too long\n", Status::Refused)?)
+        }
+        Err(InputFault::ReadFailed) => Err(NoReport::ReadFault),
+        Err(InputFault::OutOfMemory) => Err(NoReport::OutOfMemory),
+    }
+}
