@@ -4,6 +4,7 @@
 
 mod engine;
 mod entry;
+pub mod laws;
 mod numbers;
 
 pub use engine::{LARGEST_TEXT, command};

@@ -1,0 +1,33 @@
+//! Laws of the definitions.
+ghost use Rattle.std.specs.Prelude.{ℕ, ◌<◌, ◌≤◌, List};
+ghost use Rattle.greedy_sim.specs.Greedy.{IsGreedy, IsLegalOn};
+ghost use Rattle.online_span.specs.Spans.{IsSpanOf};
+ghost use Rattle.spanprof_command.specs.GreedyRuns.{bound_of, least_of};
+ghost use Rattle.task_program.specs.Limits.{work_of};
+ghost use Rattle.task_program.specs.Marks.{Mark};
+ghost use Rattle.task_program.specs.Nested.{IsNested};
+ghost use Rattle.task_segments.specs.Moments.{last_moment};
+ghost use Rattle.task_segments.specs.Precedence.{MustPrecede};
+ghost use Rattle.task_segments.specs.Schedule.{end_of};
+ghost use Rattle.task_segments.specs.Table.{costs_of, table_of};
+
+/// What work and span say of p threads, for nested marks of any number. No legal schedule ends
+/// before the greater of the span and of work / p rounded up (`least`). No greedy one ends after
+/// (work + (p - 1) * span) / p rounded down, in whatever order it takes what is ready (`bound`):
+/// Graham 1969, Brent 1974.
+pub fn bounds_hold()
+    ensures least { (body : List Mark) (p span : ℕ) (starts : List ℕ) → IsNested body → 0 < p
+        → IsSpanOf body span
+        → IsLegalOn (costs_of (table_of body)) (MustPrecede (table_of body)) p starts
+        → least_of (work_of (last_moment body)) span p ≤ end_of (costs_of (table_of body)) starts }
+    ensures bound { (body : List Mark) (p span : ℕ) (starts : List ℕ) → IsNested body → 0 < p
+        → IsSpanOf body span
+        → IsGreedy (costs_of (table_of body)) (MustPrecede (table_of body)) p starts
+        → end_of (costs_of (table_of body)) starts ≤ bound_of (work_of (last_moment body)) span p }
+{}
+
+/// The span is no more than the work.
+pub fn span_within_work()
+    ensures { (body : List Mark) (span : ℕ) → IsNested body → IsSpanOf body span
+        → span ≤ work_of (last_moment body) }
+{}
