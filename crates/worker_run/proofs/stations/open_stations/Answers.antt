@@ -1,4 +1,4 @@
-use Rattle.std.proofs.Common.{ℕ, IfOk, All, map, length, subst}
+use Rattle.std.proofs.Common.{ℕ, IfOk, All, map, subst}
 use Rattle.depend_table.specs.Lists.{Lists}
 use Rattle.worker_run.specs.Sharing.{IsOtherLane}
 use Rattle.worker_run.proofs.stations.open_stations.Goals as goal

@@ -1,8 +1,8 @@
-use Rattle.std.proofs.Common.{ℕ, ◌≡◌, ◌≢◌, ◌<◌, ◌+◌, All, take, map, get_or, length, sym, ap, subst, arith}
+use Rattle.std.proofs.Common.{ℕ, ◌≡◌, ◌≢◌, ◌<◌, All, map, get_or, length, ap, subst, arith}
 use Rattle.std.proofs.lemmas.List.{get_or-map, length_push}
 use Rattle.std.proofs.lemmas.List.Elements.{All-take}
 use Rattle.depend_table.specs.Lists.{Lists}
-use Rattle.worker_run.specs.Sharing.{IsOtherLane, GaveOne}
+use Rattle.worker_run.specs.Sharing.{IsOtherLane}
 use Rattle.worker_run.proofs.Sharing.{each_set_at, last_so, one_given, next_listed, own_gives_none, own_not_listed}
 use Rattle.worker_run.proofs.stations.others_of.Goals as goal
 use Rattle.worker_run.proofs.stations.others_of.Goals.{then-lane-number+in-Some+in_ok-push}
