@@ -3,6 +3,7 @@
 ghost use Rattle.std.specs.Prelude.{◌≡◌, length};
 
 mod examples;
+mod measured;
 
 use crate::tests::graph_of;
 use crate::tests::spans::examples::EXAMPLES;
