@@ -50,7 +50,7 @@ record Clauses (names : List (List ℕ)) (tokens : List Token) (head : LoopHead)
   more : List LoopItem
   all : List LoopItem
   all_are : all ≡ head.items ++ (first ++ more)
-  spelled : ClausesSpelled [] tokens (record head { items = all })
+  spelled : ClausesSpelled true [] tokens (record head { items = all })
   stand : AllZip (IsItemOf names) items more
 
 abbrev depend_front : DependKind → (a b c d : ℕ) → List Token → List Token
@@ -60,9 +60,9 @@ depend_front kind a b c d inside = record { text = codes "depend"; line = a }
 
 closed_clause : (kind : DependKind) (before inside : List Token) (a b c d e : ℕ) (head : LoopHead)
     (items : List LoopItem)
-    → ClausesSpelled [] before head
+    → ClausesSpelled true [] before head
     → ItemsSpelled [] (type_of (type_word kind)) inside items
-    → ClausesSpelled []
+    → ClausesSpelled true []
     (before ++ depend_front kind a b c d (inside ++ record { text = codes ")"; line = e } ∷ []))
     (record head { items = head.items ++ items })
 closed_clause kind before inside a b c d e head items clauses all =
@@ -75,7 +75,7 @@ closed_clause kind before inside a b c d e head items clauses all =
 items_spelled : (names : List (List ℕ)) (kind : DependKind) (items : List Item)
     (before inside : List Token) (a b c d : ℕ) (head : LoopHead) (first : List LoopItem)
     (lines : ℕ → ℕ)
-    → ClausesSpelled [] before head
+    → ClausesSpelled true [] before head
     → ItemsSpelled [] (type_of (type_word kind)) inside first
     → All (IsLocated names) items
     → Clauses names
@@ -136,7 +136,7 @@ items_spelled names kind (item ∷ items) before inside a b c d head first lines
       all_are = items_so.all_are
           ∙ ap (λ (is : List LoopItem). head.items ++ is)
           (append_assoc first (one.item ∷ []) items_so.more);
-      spelled = subst (λ (ts : List Token). ClausesSpelled [] ts (record head {
+      spelled = subst (λ (ts : List Token). ClausesSpelled true [] ts (record head {
         items = items_so.all;
       }))
           tokens_are items_so.spelled;
@@ -151,7 +151,7 @@ items_spelled names kind (item ∷ items) before inside a b c d head first lines
     let closes : Token = record { text = codes ")"; line = lines 0 } in
     let before_next : List Token = before ++ depend_front kind a b c d (inside ++ closes ∷ []) in
     let head_next : LoopHead = record head { items = head.items ++ first } in
-    let clauses_next : ClausesSpelled [] before_next head_next =
+    let clauses_next : ClausesSpelled true [] before_next head_next =
     closed_clause kind before inside a b c d (lines 0) head first clauses begun in
     let begun_next : ItemsSpelled [] (type_of (type_word item.kind)) (with_lines name lines_five)
     (one.item ∷ []) = grammar.ItemsSpelled.First
@@ -180,7 +180,7 @@ items_spelled names kind (item ∷ items) before inside a b c d head first lines
       more = one.item ∷ items_so.more;
       all = items_so.all;
       all_are = items_so.all_are ∙ append_assoc head.items first (one.item ∷ items_so.more);
-      spelled = subst (λ (ts : List Token). ClausesSpelled [] ts (record head {
+      spelled = subst (λ (ts : List Token). ClausesSpelled true [] ts (record head {
         items = items_so.all;
       }))
           tokens_are items_so.spelled;
@@ -192,7 +192,7 @@ items_spelled names kind (item ∷ items) before inside a b c d head first lines
 record IsHead (names : List (List ℕ)) (undeferred : Bool) (items : List Item) (tokens : List Token)
     : Type 0 where
   head : LoopHead
-  spelled : ClausesSpelled [] tokens head
+  spelled : ClausesSpelled true [] tokens head
   undeferred_is : head.undeferred ≡ undeferred
   not_final : head.is_final ≡ false
   stand : AllZip (IsItemOf names) items head.items
@@ -200,7 +200,7 @@ record IsHead (names : List (List ℕ)) (undeferred : Bool) (items : List Item) 
 -- the clauses, after these
 depends_spelled : (names : List (List ℕ)) (items : List Item) (before : List Token)
     (head : LoopHead) (lines : ℕ → ℕ)
-    → ClausesSpelled [] before head
+    → ClausesSpelled true [] before head
     → head.is_final ≡ false
     → head.items ≡ []
     → All (IsLocated names) items
@@ -210,7 +210,7 @@ unfolding with_lines
 depends_spelled names [] before head lines clauses not_final none all = record {
   head = head;
   spelled =
-      subst (λ (ts : List Token). ClausesSpelled [] ts head) (sym (append-nil before)) clauses;
+      subst (λ (ts : List Token). ClausesSpelled true [] ts head) (sym (append-nil before)) clauses;
   undeferred_is = refl;
   not_final = not_final;
   stand = subst (λ (is : List LoopItem). AllZip (IsItemOf names) [] is) (sym none) tt;
@@ -237,7 +237,7 @@ depends_spelled names (item ∷ items) before head lines clauses not_final none 
     record {
       head = record head { items = items_so.all };
       spelled = subst
-          (λ (ts : List Token). ClausesSpelled []
+          (λ (ts : List Token). ClausesSpelled true []
           (before ++ depend_front item.kind (lines 0) (lines 1) (lines 2) (lines 3) ts)
           (record head { items = items_so.all }))
           (sym apart.1) items_so.spelled;
@@ -261,8 +261,8 @@ clauses_spelled names false items lines all =
     all
 clauses_spelled names true items lines all =
     let head : LoopHead = record no_clauses { has_if = true; undeferred = true } in
-    let number : grammar.IsNumber (codes "0") 1 = record { is_number = refl; fits = zero_is } in
-    let first : ClausesSpelled []
+    let number : grammar.IsNumber true (codes "0") 1 = record { is_number = refl; fits = λ h. zero_is } in
+    let first : ClausesSpelled true []
     (record { text = codes "if"; line = lines 0 } ∷ record { text = codes "("; line = lines 1 }
     ∷ record { text = codes "0"; line = lines 2 } ∷ record { text = codes ")"; line = lines 3 }
     ∷ [])
@@ -279,7 +279,7 @@ record IsOpening (names : List (List ℕ)) (undeferred : Bool) (items : List Ite
     (tokens : List Token)
     : Type 0 where
   task : LoopTask
-  spelled : OpeningSpelled [] tokens (TaskOpening task)
+  spelled : OpeningSpelled true [] tokens (TaskOpening task)
   undeferred_is : task.undeferred ≡ undeferred
   not_final : task.is_final ≡ false
   stand : AllZip (IsItemOf names) items task.items
@@ -312,7 +312,7 @@ opening_spelled names undeferred items lines all =
       task = task_of clauses_so.head (lines 0) (apart.0 0);
       spelled = subst
           (λ (ts : List Token).
-          OpeningSpelled [] ts (TaskOpening (task_of clauses_so.head (lines 0) (apart.0 0))))
+          OpeningSpelled true [] ts (TaskOpening (task_of clauses_so.head (lines 0) (apart.0 0))))
           tokens_are
           (grammar.OpeningSpelled.Task [] (with_lines clauses (λ i. lines (suc i))) word brace
           clauses_so.head refl clauses_so.spelled refl);
@@ -350,7 +350,7 @@ pub data Stands : (names : List (List ℕ)) → List Mark → Tree → Type 0 wh
 pub record HasMarks (names : List (List ℕ)) (room : ℕ) (tokens : List Token) (marks : List Mark)
     : Type 0 where
   pub tree : Tree
-  pub spelled : Spelled [] room tokens tree
+  pub spelled : Spelled true [] room tokens tree
   pub stands : Stands names marks tree
 
 abbrev pub HasLocations : List (List ℕ) → Mark → Type 0
@@ -369,7 +369,7 @@ has_marks_of_same : (names : List (List ℕ)) (room : ℕ) (tokens other : List 
     → HasMarks names room other more
 has_marks_of_same names room tokens other marks more same equal h = record {
   tree = h.tree;
-  spelled = subst (λ (ts : List Token). Spelled [] room ts h.tree) same h.spelled;
+  spelled = subst (λ (ts : List Token). Spelled true [] room ts h.tree) same h.spelled;
   stands = subst (λ (ms : List Mark). Stands names ms h.tree) equal h.stands;
 }
 
@@ -385,14 +385,14 @@ work_added names room cost a b before done fits h =
     let word : Token = record { text = codes "work"; line = a } in
     let number : Token = record { text = decimal cost; line = b } in
     let is : value_of (decimal cost) ≡ cost = decimal_value cost fits in
-    let within : grammar.IsNumber (decimal cost) LARGEST_COST = record {
+    let within : grammar.IsNumber true (decimal cost) LARGEST_COST = record {
       is_number = decimal_number cost fits;
-      fits = omega (arith, is, fits);
+      fits = λ h. omega (arith, is, fits);
     } in
     record {
       tree = ThenWork h.tree cost b;
       spelled = subst
-          (λ (n : ℕ). Spelled [] room (before ++ word ∷ number ∷ []) (ThenWork h.tree n b)) is
+          (λ (n : ℕ). Spelled true [] room (before ++ word ∷ number ∷ []) (ThenWork h.tree n b)) is
           (grammar.Spelled.Work [] room before word number h.tree h.spelled refl within);
       stands = Work names done h.tree cost b h.stands;
     }

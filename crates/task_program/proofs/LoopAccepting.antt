@@ -24,22 +24,24 @@ use Rattle.program_text.specs.Words.{is_text, is_run, begins_with_digit, is_word
 use Rattle.program_text.specs.Words.{type_word, is_statement_word}
 use Rattle.loop_text.specs.FirstPass.{ends_item}
 use Rattle.loop_text.specs.LoopTokens.{is_plus_or_minus}
-use Rattle.task_program.specs.LoopViablePrefix.{IndexWritten, ItemWritten, LoopClause, LoopPiece}
-use Rattle.task_program.specs.LoopViablePrefix.{index_texts, item_texts, item_and_comma}
-use Rattle.task_program.specs.LoopViablePrefix.{clause_texts, piece_texts, IsNumber, IsVariable}
-use Rattle.task_program.specs.LoopViablePrefix.{HasIndexForm, HasItemForm, HasLoopClauseForm, is_if}
-use Rattle.task_program.specs.LoopViablePrefix.{is_final, HaveLoopForms, IsLoopSentence}
-use Rattle.task_program.specs.LoopViablePrefix.IndexWritten.{NumberIndex, MinusIndex, VariableIndex}
-use Rattle.task_program.specs.LoopViablePrefix.IndexWritten.{SignIndex}
-use Rattle.task_program.specs.LoopViablePrefix.ItemWritten.{PlainItem, IndexedItem}
-use Rattle.task_program.specs.LoopViablePrefix.LoopClause.{IfClause, FinalClause, DependClause}
-use Rattle.task_program.specs.LoopViablePrefix.LoopPiece.{WorkPiece, TaskPiece, WaitPiece}
-use Rattle.task_program.specs.LoopViablePrefix.LoopPiece.{GroupPiece, ForPiece, EndPiece}
+use Rattle.task_program.proofs.LoopPieces.{IndexWritten, ItemWritten, LoopClause, LoopPiece}
+use Rattle.task_program.proofs.LoopPieces.{index_texts, item_texts, item_and_comma}
+use Rattle.task_program.proofs.LoopPieces.{clause_texts, piece_texts, IsNumber, IsVariable}
+use Rattle.task_program.proofs.LoopPieces.{HasIndexForm, HasItemForm, HasLoopClauseForm, is_if}
+use Rattle.task_program.proofs.LoopPieces.{is_final, HaveLoopForms}
+use Rattle.task_program.proofs.LoopPieces.IndexWritten.{NumberIndex, MinusIndex, VariableIndex}
+use Rattle.task_program.proofs.LoopPieces.IndexWritten.{SignIndex}
+use Rattle.task_program.proofs.LoopPieces.ItemWritten.{PlainItem, IndexedItem}
+use Rattle.task_program.proofs.LoopPieces.LoopClause.{IfClause, FinalClause, DependClause}
+use Rattle.task_program.proofs.LoopPieces.LoopPiece.{WorkPiece, TaskPiece, WaitPiece}
+use Rattle.task_program.proofs.LoopPieces.LoopPiece.{GroupPiece, ForPiece, EndPiece}
+use Rattle.task_program.specs.FirstLoopFault.{IsLoopSentence}
 use Rattle.task_program.proofs.ReadPieces.{is_type_word, type_of_word}
 use Rattle.task_program.proofs.Tallies.{other_text, no_digit}
 use Rattle.task_program.proofs.LoopContinued.{depend_texts}
 use Rattle.task_program.proofs.LoopShapes.{LoopShape, shape_at, fits_at, fits, lead_at, lead}
 use Rattle.task_program.proofs.LoopShapes.{lead_item}
+use Rattle.task_program.proofs.LoopSpelledPieces.{pieces_of_sentence}
 use Rattle.task_program.proofs.Accepting.{word_fits}
 
 abbrev pub is_whole : LoopPlace → List (List (List ℕ)) → Bool
@@ -397,5 +399,6 @@ pub sentence_accepted : (texts : List (List ℕ))
     → IsLoopSentence texts
     → Accepted Statement false false [] [] [] texts
 sentence_accepted texts s =
-    subst (λ (ts : List (List ℕ)). Accepted Statement false false [] [] [] ts) (sym s.spelled)
-    (pieces_accepted s.pieces [] [] [] s.forms)
+    let all = pieces_of_sentence texts s in
+    subst (λ (ts : List (List ℕ)). Accepted Statement false false [] [] [] ts) (sym all.texts_are)
+    (pieces_accepted all.pieces [] [] [] all.forms)

@@ -32,7 +32,7 @@ use Rattle.loop_text.specs.LoopTokens.{form_fault}
 use Rattle.loop_text.specs.FirstPass.{unless_fault, step, after_at, is_number_too_large}
 use Rattle.loop_text.specs.FirstPass.{nests_too_deep}
 use Rattle.task_program.specs.FirstFault.{IsViable}
-use Rattle.task_program.specs.LoopViablePrefix.{IsLoopSentence}
+use Rattle.task_program.specs.FirstLoopFault.{IsLoopSentence}
 use Rattle.task_program.proofs.FoundPlaces.{same_text}
 use Rattle.task_program.proofs.Tallies.{other_text}
 use Rattle.task_program.proofs.LoopContinued.{steps_back, may_continue}

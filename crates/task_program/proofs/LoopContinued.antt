@@ -25,15 +25,15 @@ use Rattle.program_text.specs.declared.statement.DependKind.TheVariants.{DependI
 use Rattle.program_text.specs.Words.{is_text, is_word, is_number, type_word}
 use Rattle.loop_text.specs.FirstPass.{ends_item}
 use Rattle.loop_text.specs.LoopTokens.{is_plus_or_minus}
-use Rattle.task_program.specs.LoopViablePrefix.{ItemWritten, LoopClause, index_texts, item_texts}
-use Rattle.task_program.specs.LoopViablePrefix.{item_and_comma, clause_texts, IsNumber, IsWord}
-use Rattle.task_program.specs.LoopViablePrefix.{IsVariable, IsNewVariable, HasItemForm}
-use Rattle.task_program.specs.LoopViablePrefix.{HasLoopClauseForm, is_if, is_final}
-use Rattle.task_program.specs.LoopViablePrefix.IndexWritten.{NumberIndex, MinusIndex, VariableIndex}
-use Rattle.task_program.specs.LoopViablePrefix.IndexWritten.{SignIndex}
-use Rattle.task_program.specs.LoopViablePrefix.ItemWritten.{PlainItem, IndexedItem}
-use Rattle.task_program.specs.LoopViablePrefix.LoopClause.{DependClause}
-use Rattle.task_program.specs.LoopViablePrefix.LoopPiece.{WorkPiece, GroupPiece, ForPiece, EndPiece}
+use Rattle.task_program.proofs.LoopPieces.{ItemWritten, LoopClause, index_texts, item_texts}
+use Rattle.task_program.proofs.LoopPieces.{item_and_comma, clause_texts, IsNumber, IsWord}
+use Rattle.task_program.proofs.LoopPieces.{IsVariable, IsNewVariable, HasItemForm}
+use Rattle.task_program.proofs.LoopPieces.{HasLoopClauseForm, is_if, is_final}
+use Rattle.task_program.proofs.LoopPieces.IndexWritten.{NumberIndex, MinusIndex, VariableIndex}
+use Rattle.task_program.proofs.LoopPieces.IndexWritten.{SignIndex}
+use Rattle.task_program.proofs.LoopPieces.ItemWritten.{PlainItem, IndexedItem}
+use Rattle.task_program.proofs.LoopPieces.LoopClause.{DependClause}
+use Rattle.task_program.proofs.LoopPieces.LoopPiece.{WorkPiece, GroupPiece, ForPiece, EndPiece}
 use Rattle.task_program.proofs.FoundPlaces.{same_text}
 use Rattle.task_program.proofs.Found.{type_is}
 use Rattle.program_text.specs.Tokens.{is_run_byte}

@@ -24,7 +24,7 @@ use Rattle.loop_text.specs.FirstPass.{State, is_allowed, closes_nothing, is_numb
 use Rattle.loop_text.specs.FirstPass.{nests_too_deep, place_fault, unless_fault, step}
 use Rattle.loop_text.specs.LoopTokens.{form_fault}
 use Rattle.loop_text.specs.FirstPass.{end_at, tree_or_fault, first_pass, after_header}
-use Rattle.task_program.specs.LoopViablePrefix.{IsLoopSentence}
+use Rattle.task_program.specs.FirstLoopFault.{IsLoopSentence}
 use Rattle.task_program.specs.FirstFault.{IsViable, IsWrong, IsRight, EndsEarly, AreRightWhole}
 use Rattle.task_program.specs.FirstFault.{IsFirstFault}
 use Rattle.task_program.specs.FirstFault.IsMisplaced.{AfterWhole, Elsewhere}
@@ -36,6 +36,7 @@ use Rattle.task_program.proofs.FoundPlaces.{same_text}
 use Rattle.task_program.proofs.FirstFaults.{fault_so}
 use Rattle.task_program.proofs.Begun.{row_cases}
 use Rattle.task_program.proofs.LoopContinued.{nothing_follows}
+use Rattle.task_program.proofs.LoopPiecesSpelled.{sentence_of_pieces}
 use Rattle.task_program.proofs.LoopShapes.{closes_none, fits_at, FollowsAt}
 use Rattle.task_program.proofs.LoopAccepting.{is_whole, accepts_none, sentence_accepted}
 use Rattle.task_program.proofs.LoopBegun.{variables_of_each, shape_of, brace_lines, LoopBegan}
@@ -357,7 +358,7 @@ end_is state line fault h = ended_err (end_at state.place state.tree.blocks line
 sentence_of : (later : List (List ℕ))
     → FollowsAt Statement false false [] [] [] later
     → IsLoopSentence later
-sentence_of later f = record { pieces = f.pieces; spelled = f.texts_are; forms = f.forms }
+sentence_of later f = sentence_of_pieces later f
 
 -- before the first token
 at_start : Counts [] after_header

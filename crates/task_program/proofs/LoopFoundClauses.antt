@@ -46,9 +46,9 @@ use Rattle.program_text.proofs.Bools.{or_true_right, bool_cases, and_right_false
 pub number_is : (text : List ℕ) (most : ℕ)
     → is_number text ≡ true
     → nat_lt most (value_of text) ≡ false
-    → IsNumber text most
+    → IsNumber true text most
 number_is text most number
-    fits = record { is_number = number; fits = ltb-false most (value_of text) fits }
+    fits = record { is_number = number; fits = λ h. ltb-false most (value_of text) fits }
 
 abbrev pub Goes : LoopPlace → List LoopBlock → Tree → List (List ℕ) → ℕ → LoopHead → Pending
     → Bounds → List Token → Type 0
@@ -148,7 +148,7 @@ from_goes blocks tree variables pending from to word variable is_new room around
 pub to_goes : (blocks : List LoopBlock) (tree : Tree) (variables : List (List ℕ))
     (pending : Pending) (to : ℕ) (word variable first : Token)
     → IsNew variables word variable
-    → IsNumber first.text LARGEST_BOUND
+    → IsNumber true first.text LARGEST_BOUND
     → Goes ForTo blocks tree variables word.line no_clauses pending
     (bounds_of variable.text (value_of first.text) to) (word ∷ variable ∷ first ∷ [])
 to_goes blocks tree variables pending to word variable first is_new is_first room around here token
@@ -163,8 +163,8 @@ to_goes blocks tree variables pending to word variable first is_new is_first roo
 pub for_goes : (blocks : List LoopBlock) (tree : Tree) (variables : List (List ℕ))
     (pending : Pending) (word variable first last : Token)
     → IsNew variables word variable
-    → IsNumber first.text LARGEST_BOUND
-    → IsNumber last.text LARGEST_BOUND
+    → IsNumber true first.text LARGEST_BOUND
+    → IsNumber true last.text LARGEST_BOUND
     → Goes ForBrace blocks tree variables word.line no_clauses pending
     (bounds_of variable.text (value_of first.text) (value_of last.text))
     (word ∷ variable ∷ first ∷ last ∷ [])
@@ -275,7 +275,7 @@ pub if_closes_goes : (blocks : List LoopBlock) (tree : Tree) (variables : List (
     → head.has_if ≡ false
     → w.text ≡ codes "if"
     → bracket.text ≡ codes "("
-    → IsNumber number.text 1
+    → IsNumber true number.text 1
     → Goes IfCloses blocks tree variables word.line (with_if head (value_of number.text)) pending
     bounds (word ∷ (clauses ++ w ∷ bracket ∷ number ∷ []))
 if_closes_goes blocks tree variables pending bounds word clauses head w bracket number t none is_if
@@ -336,7 +336,7 @@ pub final_closes_goes : (blocks : List LoopBlock) (tree : Tree) (variables : Lis
     → head.has_final ≡ false
     → w.text ≡ codes "final"
     → bracket.text ≡ codes "("
-    → IsNumber number.text 1
+    → IsNumber true number.text 1
     → Goes FinalCloses blocks tree variables word.line (with_final head (value_of number.text))
     pending bounds (word ∷ (clauses ++ w ∷ bracket ∷ number ∷ []))
 final_closes_goes blocks tree variables pending bounds word clauses head w bracket number t none

@@ -55,8 +55,8 @@ pub data Around : List LoopBlock
   Inside : (blocks : List LoopBlock) (variables : List (List ℕ)) (room : ℕ)
       (around before opens : List Token) (tree : Tree) (opening : LoopOpening)
       → Around blocks variables (suc room) around
-      → Spelled variables (suc room) before tree
-      → OpeningSpelled variables opens opening
+      → Spelled true variables (suc room) before tree
+      → OpeningSpelled true variables opens opening
       → Around (record { before = tree; opening = opening } ∷ blocks)
       (variables_around opening variables) room (around ++ (before ++ opens))
 
@@ -123,7 +123,7 @@ pub record InTask (variables : List (List ℕ)) (word : Token) (clauses : List T
     (head : LoopHead)
     : Type 0 where
   pub is_task : word.text ≡ codes "task"
-  pub clauses_are : ClausesSpelled variables clauses head
+  pub clauses_are : ClausesSpelled true variables clauses head
 
 -- a `depend` up to its `:`
 pub data Heading : DependKind → List Token → Type 0 where
@@ -169,13 +169,13 @@ pub data Part : (variables : List (List ℕ)) → LoopPlace → (word_line : ℕ
       (word ∷ variable ∷ [])
   AtTo : (vs : List (List ℕ)) (p : Pending) (to : ℕ) (word variable first : Token)
       → IsNew vs word variable
-      → IsNumber first.text LARGEST_BOUND
+      → IsNumber true first.text LARGEST_BOUND
       → Part vs ForTo word.line no_clauses p (bounds_of variable.text (value_of first.text) to)
       (word ∷ variable ∷ first ∷ [])
   AtForBrace : (vs : List (List ℕ)) (p : Pending) (word variable first last : Token)
       → IsNew vs word variable
-      → IsNumber first.text LARGEST_BOUND
-      → IsNumber last.text LARGEST_BOUND
+      → IsNumber true first.text LARGEST_BOUND
+      → IsNumber true last.text LARGEST_BOUND
       → Part vs ForBrace word.line no_clauses p
       (bounds_of variable.text (value_of first.text) (value_of last.text))
       (word ∷ variable ∷ first ∷ last ∷ [])
@@ -202,7 +202,7 @@ pub data Part : (variables : List (List ℕ)) → LoopPlace → (word_line : ℕ
       → head.has_if ≡ false
       → w.text ≡ codes "if"
       → opens.text ≡ codes "("
-      → IsNumber number.text 1
+      → IsNumber true number.text 1
       → Part vs IfCloses word.line (with_if head (value_of number.text)) p b
       (word ∷ (clauses ++ w ∷ opens ∷ number ∷ []))
   AtFinalOpens : (vs : List (List ℕ)) (p : Pending) (b : Bounds) (word : Token)
@@ -224,7 +224,7 @@ pub data Part : (variables : List (List ℕ)) → LoopPlace → (word_line : ℕ
       → head.has_final ≡ false
       → w.text ≡ codes "final"
       → opens.text ≡ codes "("
-      → IsNumber number.text 1
+      → IsNumber true number.text 1
       → Part vs FinalCloses word.line (with_final head (value_of number.text)) p b
       (word ∷ (clauses ++ w ∷ opens ∷ number ∷ []))
   AtDependOpens : (vs : List (List ℕ)) (p : Pending) (b : Bounds) (word : Token)
@@ -284,7 +284,7 @@ pub record Reads (tokens : List Token) (state : State) : Type 0 where
   pub part : List Token
   pub tokens_are : tokens ≡ around ++ (here ++ part)
   pub around_is : Around state.tree.blocks variables room around
-  pub here_is : Spelled variables room here state.tree.statements
+  pub here_is : Spelled true variables room here state.tree.statements
   pub part_is : Part variables state.place state.word_line state.head state.pending state.bounds
       part
 
@@ -339,7 +339,7 @@ pub record Stands (blocks : List LoopBlock) (tree : Tree) (variables : List (Lis
     (around here : List Token)
     : Type 0 where
   pub around_is : Around blocks variables room around
-  pub here_is : Spelled variables room here tree
+  pub here_is : Spelled true variables room here tree
 
 -- one token more in the statement that is being read
 pub grow : (blocks : List LoopBlock) (tree : Tree) (variables : List (List ℕ)) (room : ℕ)
@@ -369,7 +369,7 @@ pub ends : (blocks : List LoopBlock) (tree : Tree) (variables : List (List ℕ))
     (around here part : List Token) (token : Token) (word_line : ℕ) (pending : Pending)
     (bounds : Bounds)
     → Around blocks variables room around
-    → Spelled variables room (here ++ (part ++ token ∷ [])) tree
+    → Spelled true variables room (here ++ (part ++ token ∷ [])) tree
     → Reads ((around ++ (here ++ part)) ++ token ∷ [])
     (state_of Statement word_line no_clauses pending bounds blocks tree)
 ends blocks tree variables room around here part token word_line pending bounds a s = record {
@@ -390,8 +390,8 @@ pub opens : (blocks : List LoopBlock) (tree : Tree) (variables : List (List ℕ)
     (around here part : List Token) (token : Token) (opening : LoopOpening) (pending : Pending)
     (bounds : Bounds)
     → Around blocks variables room around
-    → Spelled variables room here tree
-    → OpeningSpelled variables (part ++ token ∷ []) opening
+    → Spelled true variables room here tree
+    → OpeningSpelled true variables (part ++ token ∷ []) opening
     → nat_le MOST_NESTING (length blocks) ≡ false
     → Reads ((around ++ (here ++ part)) ++ token ∷ []) (state_of Statement 0 no_clauses pending
     bounds (record { before = tree; opening = opening } ∷ blocks) NoStatement)
@@ -422,7 +422,7 @@ closed_state blocks tree word_line pending bounds =
 pub closes : (blocks : List LoopBlock) (tree : Tree) (variables : List (List ℕ)) (room : ℕ)
     (around here : List Token) (token : Token) (word_line : ℕ) (pending : Pending) (bounds : Bounds)
     → Around blocks variables room around
-    → Spelled variables room here tree
+    → Spelled true variables room here tree
     → closes_nothing Statement blocks token.text ≡ false
     → token.text ≡ codes "}"
     → Reads ((around ++ (here ++ [])) ++ token ∷ [])

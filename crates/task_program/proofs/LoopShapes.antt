@@ -26,14 +26,14 @@ use Rattle.program_text.specs.Words.{is_text, is_word, is_number, is_type, type_
 use Rattle.program_text.specs.Words.{is_statement_word, type_of}
 use Rattle.loop_text.specs.FirstPass.{ends_item}
 use Rattle.loop_text.specs.LoopTokens.{is_plus_or_minus}
-use Rattle.task_program.specs.LoopViablePrefix.{IndexWritten, ItemWritten, LoopClause, LoopPiece}
-use Rattle.task_program.specs.LoopViablePrefix.{index_texts, item_texts, item_and_comma}
-use Rattle.task_program.specs.LoopViablePrefix.{clause_texts, piece_texts, IsNumber, IsWord}
-use Rattle.task_program.specs.LoopViablePrefix.{IsVariable, IsNewVariable, HasIndexForm}
-use Rattle.task_program.specs.LoopViablePrefix.{HasItemForm, HasLoopClauseForm, is_if, is_final}
-use Rattle.task_program.specs.LoopViablePrefix.{HaveLoopForms}
-use Rattle.task_program.specs.LoopViablePrefix.LoopClause.{IfClause, FinalClause}
-use Rattle.task_program.specs.LoopViablePrefix.LoopPiece.{TaskPiece, WaitPiece, EndPiece}
+use Rattle.task_program.proofs.LoopPieces.{IndexWritten, ItemWritten, LoopClause, LoopPiece}
+use Rattle.task_program.proofs.LoopPieces.{index_texts, item_texts, item_and_comma}
+use Rattle.task_program.proofs.LoopPieces.{clause_texts, piece_texts, IsNumber, IsWord}
+use Rattle.task_program.proofs.LoopPieces.{IsVariable, IsNewVariable, HasIndexForm}
+use Rattle.task_program.proofs.LoopPieces.{HasItemForm, HasLoopClauseForm, is_if, is_final}
+use Rattle.task_program.proofs.LoopPieces.{HaveLoopForms}
+use Rattle.task_program.proofs.LoopPieces.LoopClause.{IfClause, FinalClause}
+use Rattle.task_program.proofs.LoopPieces.LoopPiece.{TaskPiece, WaitPiece, EndPiece}
 use Rattle.task_program.proofs.FoundPlaces.{same_text}
 use Rattle.program_text.proofs.Bools.{bool_cases}
 use Rattle.task_program.proofs.Shapes.{no_more_than_one}

@@ -1,6 +1,6 @@
 -- The fault of a text of version 2, apart from any reading of its tokens: the first of them at
 -- which something is wrong, and what it is; or else the fault of its expansion.
-use Rattle.std.specs.Prelude.{ℕ, ◌<◌, ◌≤◌, Bool, false, ◌&&◌, ◌||◌, nat_lt}
+use Rattle.std.specs.Prelude.{◌≡◌, ℕ, ◌<◌, ◌≤◌, Bool, true, false, ◌&&◌, ◌||◌, nat_lt}
 use Rattle.std.specs.Prelude.{if◌then◌else◌, List, [], ◌∷◌, length, drop, reverse, Option}
 use Rattle.std.specs.Prelude.{Some, None, codes}
 use Rattle.program_text.specs.declared.fault.ReadKind.{ReadKind}
@@ -14,9 +14,17 @@ use Rattle.task_program.specs.TokenCounts.{is_too_deep, open_braces}
 use Rattle.loop_text.specs.Loops.{Tree}
 use Rattle.loop_text.specs.LoopTokens.{form_fault}
 use Rattle.task_program.specs.LoopGrammar.{Spelled}
-use Rattle.task_program.specs.LoopViablePrefix.{IsLoopSentence}
 use Rattle.task_program.specs.FirstFault.{Rules, AreRightWhole, IsFirstFault}
 use Rattle.task_program.specs.ExpansionFault.{HasExpansionFault}
+
+-- the texts of the tokens after the header are derived by the grammar, whatever its numbers are and
+-- however deep its blocks
+pub record IsLoopSentence (derived : List (List ℕ)) : Type 0 where
+  pub tokens : List Token
+  pub room : ℕ
+  pub tree : Tree
+  pub texts_are : derived ≡ texts tokens
+  pub spelled : Spelled false [] room tokens tree
 
 -- ---- how large a number may be, by the tokens before it, of which the last comes first here
 
@@ -77,7 +85,7 @@ loop_rules = record {
 -- these are a sentence, each token right, and spell this tree
 pub record IsTreeOf (tokens : List Token) (tree : Tree) : Type 0 where
   pub whole : AreRightWhole loop_rules tokens
-  pub spelled : Spelled [] MOST_NESTING tokens tree
+  pub spelled : Spelled true [] MOST_NESTING tokens tree
 
 abbrev pub body_of : List ℕ → List Token
 body_of text = drop 2 (tokens_of text)

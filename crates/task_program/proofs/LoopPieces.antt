@@ -1,5 +1,4 @@
--- The grammar of version 2 without its limits, and the tokens with which what follows the header
--- can begin.
+-- What a text of version 2 spells, piece by piece as it is written.
 use Rattle.std.specs.Prelude.{◌≡◌, ℕ, ◌≤◌, Bool, true, false, List, [], ◌∷◌, ◌++◌, All, count_by}
 use Rattle.std.specs.Prelude.{codes}
 use Rattle.std.specs.List.{flat_map, list_any}
@@ -135,9 +134,3 @@ HaveLoopForms (ForPiece variable first last ∷ pieces) variables around =
     × HaveLoopForms pieces (variable ∷ variables) (variables ∷ around)
 HaveLoopForms (EndPiece ∷ pieces) variables [] = ⊥
 HaveLoopForms (EndPiece ∷ pieces) variables (outer ∷ around) = HaveLoopForms pieces outer around
-
--- the texts of the tokens after the header are derived by the grammar
-pub record IsLoopSentence (texts : List (List ℕ)) : Type 0 where
-  pub pieces : List LoopPiece
-  pub spelled : texts ≡ flat_map piece_texts pieces
-  pub forms : HaveLoopForms pieces [] []
