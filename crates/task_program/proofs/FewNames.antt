@@ -12,7 +12,7 @@ use Rattle.task_program.specs.Expansion.{Piece}
 use Rattle.task_program.specs.Expansion.Piece.{TurnBegins, TaskComes, ItemComes, TaskOpens}
 use Rattle.task_program.specs.Expansion.Piece.{GroupComes, GroupOpens, BlockEnds, WorkIs, WaitIs}
 use Rattle.task_program.specs.SecondPass.{take_pieces}
-use Rattle.task_program.specs.SecondPass.{fault_of}
+use Rattle.task_program.specs.PieceFaults.{fault_of}
 use Rattle.task_program.specs.Expanded.{ExpansionState, after_piece}
 use Rattle.task_program.specs.FewNames.{HasFewNames}
 use Rattle.task_program.proofs.Allowed.{below_piece, weighs}

@@ -35,7 +35,7 @@ use Rattle.task_program.specs.TreeSoFar.{Block}
 use Rattle.task_program.specs.Expansion.{Piece, is_negative, size_of, index_fits}
 use Rattle.task_program.specs.Expansion.{subscript_of}
 use Rattle.task_program.specs.SecondPass.{unless_at_fault}
-use Rattle.task_program.specs.SecondPass.{fault_of}
+use Rattle.task_program.specs.PieceFaults.{fault_of}
 use Rattle.task_program.specs.Expanded.{ExpansionState, after_piece}
 use Rattle.task_program.specs.SecondPass.{then_take, take_pieces}
 use Rattle.task_program.specs.PieceFaults.{fault_if, fault_at}

@@ -39,12 +39,13 @@ use Rattle.task_program.specs.Faults.{is_item_too_many, is_work_too_large, after
 use Rattle.task_program.specs.TreeSoFar.{after_end_of}
 use Rattle.task_program.specs.Faults.{line_of_block}
 use Rattle.task_program.specs.TreeSoFar.Block.{TaskBlock, GroupBlock}
+use Rattle.std.specs.Option.{option_or}
 use Rattle.task_program.specs.TokenCounts.{inside_after, is_inside, outside_from, outside, tasks_by}
 use Rattle.task_program.specs.TokenCounts.{is_waiting, is_value_too_large, is_too_deep}
 use Rattle.task_program.specs.TokenCounts.{is_task_past, is_segment_past, is_work_past, segments_by}
 use Rattle.task_program.specs.TokenCounts.{work_by, tasks_in, segments_in, work_in, items_after}
 use Rattle.task_program.specs.TokenCounts.{items_in, braces_after, open_braces}
-use Rattle.task_program.specs.TokenCounts.{too_many_after, or_else, limit_fault_after}
+use Rattle.task_program.specs.TokenCounts.{too_many_after, limit_fault_after}
 use Rattle.task_program.proofs.Keeping.{at, with_one}
 use Rattle.task_program.proofs.FoundPlaces.{same_text}
 use Rattle.task_program.proofs.Found.{type_is, is_depend, is_end}
@@ -437,7 +438,7 @@ table number deep task segment item work =
 abbrev pub told : (number deep task segment item work : Bool) → Option ReadKind
 told number deep task segment item work =
     cond number (Some BadNumber) (cond deep (Some TooDeep)
-    (or_else (cond task (Some TooManyTasks) (cond segment (Some TooManySegments) None))
+    (option_or (cond task (Some TooManyTasks) (cond segment (Some TooManySegments) None))
     (cond item (Some TooManyItems) (cond work (Some WorkTooLarge) None))))
 
 same_rows : (a b c d e f : Bool) → told a b c d e f ≡ table a b c d e f

@@ -4,6 +4,7 @@
 use Rattle.std.specs.Prelude.{ℕ, ◌+◌, Bool, true, false, not, ◌&&◌, ◌||◌, nat_lt, nat_le}
 use Rattle.std.specs.Prelude.{if◌then◌else◌, List, [], ◌∷◌, length, drop, fold, sum_by, Option}
 use Rattle.std.specs.Prelude.{Some, None, codes}
+use Rattle.std.specs.Option.{option_or}
 use Rattle.program_text.specs.declared.fault.ReadKind.{ReadKind}
 use Rattle.program_text.specs.declared.fault.ReadKind.TheVariants.{BadNumber, TooDeep, TooManyTasks}
 use Rattle.program_text.specs.declared.fault.ReadKind.TheVariants.{TooManySegments, TooManyItems}
@@ -117,10 +118,6 @@ too_many_after body text =
     else (if is_segment_past (is_inside before) (segments_in before) text then Some TooManySegments
     else None)
 
-abbrev pub or_else : Option ReadKind → Option ReadKind → Option ReadKind
-or_else (Some kind) later = Some kind
-or_else None later = later
-
 -- the first limit that this token passes after these, where so many blocks may be open
 abbrev pub limit_fault_after : (nesting : ℕ) (too_many : Option ReadKind) (body : List Token)
     → List ℕ
@@ -129,6 +126,6 @@ limit_fault_after nesting too_many body text =
     let before = texts body in
     if is_value_too_large (is_inside before) text then Some BadNumber
     else (if is_too_deep nesting (length (open_braces body)) text then Some TooDeep
-    else or_else too_many (if nat_lt MOST_ITEMS (items_in before) then Some TooManyItems
+    else option_or too_many (if nat_lt MOST_ITEMS (items_in before) then Some TooManyItems
     else (if is_work_past (is_inside before) (work_in before) text then Some WorkTooLarge
     else None)))
