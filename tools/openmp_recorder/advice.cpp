@@ -50,6 +50,7 @@ Folds Adviser::by_depth() {
 
 // A small one that fits: more tasks in a row than the limit allows need that many in each chunk at least.
 Folds Adviser::by_chunk() {
+  if (!fits({0, 0, 2 * whole.tasks})) return {};
   uint64_t chunk = std::max<uint64_t>(2, (whole.tasks + most_tasks - 1) / most_tasks);
   for (; chunk < 2 * whole.tasks; chunk += 1 + chunk / 8)
     if (fits({0, 0, chunk})) return {0, 0, chunk};
@@ -79,7 +80,7 @@ Folds Adviser::by_cost() {
   std::vector<int64_t> costs;
   for (const Task &t : region.tasks)
     if (t.parent && !t.part) costs.push_back(t.total);
-  if (costs.size() <= most_tasks) return {};
+  if (costs.size() <= most_tasks || !fits({0, INT64_MAX, 0})) return {};
   for (int64_t units = cost_in_a_gap(costs) / unit + 1; units <= 2 * (whole.total / unit + 1); units += 1 + units / 4) {
     Folds folds{0, in_two_digits(units) * unit, 0};
     if (fits(folds)) return folds;

@@ -3,7 +3,6 @@
 #include <dirent.h>
 #include <sys/stat.h>
 
-#include <cstdio>
 #include <vector>
 
 #include "say.hpp"
@@ -35,11 +34,29 @@ bool write_file(const std::string &name, const std::string &text) {
   return written;
 }
 
+NewFile::NewFile(const std::string &called, uint64_t most_bytes)
+    : name(called), file(fopen(called.c_str(), "w")), left(most_bytes), good(file) {}
+
+void NewFile::put(const std::string &piece) {
+  is_too_long = is_too_long || piece.size() > left;
+  good = good && !is_too_long && fwrite(piece.data(), 1, piece.size(), file) == piece.size();
+  left -= good ? piece.size() : 0;
+}
+
+bool NewFile::end(const std::string &limit) {
+  if (file && fclose(file)) good = false;
+  if (good) return true;
+  if (file) remove(name.c_str());
+  say(name + (is_too_long ? " is not written: " + limit : " cannot be written"));
+  return false;
+}
+
 // NAME, or NAME.2 of a later region, or NAME.4711 of a child process and NAME.4711.2 of its later regions.
 bool is_of_run(const std::string &file, const std::string &name) {
   std::string rest = file;
   if (!take(rest, ".tasks") && !take(rest, ".replay") && !take(rest, ".times")) return false;
   take(rest, ".inout");
+  take(rest, ".large");
   for (int numbers = 0; numbers < 2 && rest != name; numbers++) take_number(rest);
   return rest == name;
 }

@@ -1,8 +1,25 @@
 // The files that a run writes.
 #pragma once
 #include <cstdint>
+#include <cstdio>
 #include <string>
 
 bool write_file(const std::string &name, const std::string &text);
+
+// A file that is written piece by piece, up to so many bytes.
+class NewFile {
+ public:
+  NewFile(const std::string &called, uint64_t most_bytes);
+  NewFile(const NewFile &) = delete;
+  void put(const std::string &piece);
+  bool end(const std::string &limit);  // whether all is written; else a word is said, and no part of it stays
+
+ private:
+  std::string name;
+  FILE *file;
+  uint64_t left;
+  bool good, is_too_long = false;
+};
+
 void remove_old_files(const std::string &name, int64_t began);  // that a run wrote before this time of the day
 bool is_of_run(const std::string &file, const std::string &name);  // file names without a folder

@@ -39,10 +39,13 @@ class Reporter {
   Places places;
 
   Size fold_as_asked(Region &region);
+  std::string head(Region &region, int64_t work);
   Text finish(Region &region, bool exclusion_as_order);
   void tell_remarks(const Region &region, const std::string &name);
   std::string write_run(const Region &region, const std::string &name, const Text &text);
-  void write_bracket(Region &region, const std::string &name);
+  bool write_piece_by_piece(Region &region, const std::string &file, int64_t work, bool exclusion_as_order);
+  void write_large(Region &region, const std::string &name, const Size &size);
+  void tell_size(const std::string &files, const Size &size, int64_t work);
 };
 
 Size Reporter::fold_as_asked(Region &region) {
@@ -57,11 +60,16 @@ Size Reporter::fold_as_asked(Region &region) {
   return size;
 }
 
+// Of a text of this work, in units.
+std::string Reporter::head(Region &region, int64_t work) {
+  int64_t total = region.root->total, lost = total - work * options.unit;
+  if (std::abs(lost) > total / 50) region.remarks[Remark::Rounding].add(nullptr);
+  return head_of(region, recording, options, places);
+}
+
 Text Reporter::finish(Region &region, bool exclusion_as_order) {
   Text text = program_text(region, {options.unit, exclusion_as_order}, places);
-  int64_t total = region.root->total, lost = total - text.work * options.unit;
-  if (std::abs(lost) > total / 50) region.remarks[Remark::Rounding].add(nullptr);
-  text.words = head_of(region, recording, options, places) + text.words;
+  text.words = head(region, text.work) + text.words;
   return text;
 }
 
@@ -82,26 +90,56 @@ std::string Reporter::write_run(const Region &region, const std::string &name, c
 
 // The same run with what excludes each other in the order of creation: its span is too high where that of the first is
 // too low.
-void Reporter::write_bracket(Region &region, const std::string &name) {
+bool let_exclusion_be_order(Region &region) {
   auto seen = region.remarks.extract(Remark::MutexInOutSet);
-  if (seen.empty()) return;
+  if (seen.empty()) return false;
   region.remarks[Remark::MutexAsInOut] = seen.mapped();
-  write_file(name + ".inout.tasks", finish(region, true).words);
+  return true;
+}
+
+bool Reporter::write_piece_by_piece(Region &region, const std::string &file, int64_t work, bool exclusion_as_order) {
+  NewFile out(file, most_large_bytes);
+  out.put(head(region, work));
+  tell_program(region, {options.unit, exclusion_as_order, true}, places, [&](auto &piece) { out.put(piece); });
+  return out.end("spanprof_large takes " + std::to_string(most_large_bytes) + " bytes" +
+                 (options.lines ? "; set SPANPROF_LINES=0" : ""));
+}
+
+// What exceeds the limits of the commands is a text for spanprof_large, and has no replay document.
+void Reporter::write_large(Region &region, const std::string &name, const Size &size) {
+  std::string stem = name + ".large", over = over_the_limits(size, options.unit, of_any_size);
+  if (!over.empty()) return say(stem + ".tasks is not written: " + over);
+  if (options.lines) places.look_up(codes_of(region));
+  int64_t work = work_in_units(region, options.unit);
+  if (!write_piece_by_piece(region, stem + ".tasks", work, false)) return;
+  tell_remarks(region, name);
+  tell_size(stem + ".tasks", size, work);
+  if (let_exclusion_be_order(region)) write_piece_by_piece(region, stem + ".inout.tasks", work, true);
+}
+
+void Reporter::tell_size(const std::string &files, const Size &size, int64_t work) {
+  say(files + ": " + std::to_string(size.tasks) + " tasks, " + std::to_string(size.segments) + " segments, work " +
+      std::to_string(work) + " " + options.unit_name);
 }
 
 void Reporter::write(Region &region, const std::string &name) {
   Size size = fold_as_asked(region);
-  std::string over = over_the_limits(size, options.unit);
-  if (!over.empty()) return say(name + " is not written: " + over + "; " + advice_for(region, options.unit));
+  std::string over = over_the_limits(size, options.unit), before = name + ".tasks is not written: ";
+  if (!over.empty()) {
+    write_large(region, name, size);
+    return say(before + over + "; " + advice_for(region, options.unit));
+  }
   if (options.lines) places.look_up(codes_of(region));
   Text text = finish(region, false);
   over = over_the_length(text.words);
-  if (!over.empty()) return say(name + " is not written: " + over);
+  if (!over.empty()) {
+    write_large(region, name, size);
+    return say(before + over);
+  }
   tell_remarks(region, name);
   if (!write_file(name + ".tasks", text.words)) return;
-  say(name + ".tasks" + write_run(region, name, text) + ": " + std::to_string(size.tasks) + " tasks, " +
-      std::to_string(size.segments) + " segments, work " + std::to_string(text.work) + " " + options.unit_name);
-  write_bracket(region, name);
+  tell_size(name + ".tasks" + write_run(region, name, text), size, text.work);
+  if (let_exclusion_be_order(region)) write_file(name + ".inout.tasks", finish(region, true).words);
 }
 
 void Reporter::tell_outside(const Seen &outside) {

@@ -8,6 +8,7 @@
 #include <cstdint>
 #include <cstdio>
 #include <cstring>
+#include <map>
 
 #include "callers.hpp"
 
@@ -87,7 +88,8 @@ void Places::look_up(const std::vector<const void *> &codes) {
       ask(module, {own.begin() + i, own.begin() + std::min(own.size(), i + 200)});
 }
 
-std::string Places::at(const void *code) const {
+const std::string &Places::at(const void *code) const {
+  static const std::string &unknown = *new std::string;  // never destroyed, since texts are written late
   auto found = known.find(code);
-  return found == known.end() ? "" : found->second;
+  return found == known.end() ? unknown : found->second;
 }

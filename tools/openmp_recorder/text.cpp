@@ -2,37 +2,53 @@
 
 #include <omp-tools.h>
 
-#include <map>
+#include <charconv>
+#include <string_view>
+#include <unordered_map>
+#include <utility>
 
 namespace {
+constexpr size_t longest_piece = 1 << 20;
+const char *const of_a_thread = "one of the region's threads";
+
 // Where the writer is in a task's own code.
 struct Place {
   Task &task;
   unsigned indent;
+  size_t next = 0;       // of its steps
   unsigned segment = 0;  // the open one, counted within the task
   int64_t cost = 0;      // of the open segment, not written yet
   unsigned folded = 0;   // tasks below whose cost is in it
   unsigned joined = 0;   // siblings whose cost is in it
 };
 
+// Tasks may lie so deep within each other that the writer keeps the open ones in a list of its own.
 class Writer {
  public:
-  Writer(const Style &chosen, const Places &known) : style(chosen), places(known) {}
-  Text text;
-  void body(Task &t, unsigned indent);
+  Writer(const Style &chosen, const Places &known, const Taker &to) : style(chosen), places(known), taker(to) {}
+  void tell(Task &root);
 
  private:
   const Style &style;
   const Places &places;
+  const Taker &taker;
+  std::string piece;          // not handed on yet
+  std::vector<Place> inside;  // the open tasks, innermost last
   uint32_t opened = 0;
-  std::map<uint64_t, size_t> names;
+  std::unordered_map<uint64_t, uint64_t> names;
 
-  void line(unsigned indent, const std::string &words, const std::string &comment = "");
+  void begin_line(unsigned indent);
+  void number(uint64_t value);
+  void end_line(const std::string &comment = {});
+  void line(unsigned indent, const char *words, const std::string &comment = {});
+  void items(const Task &t);
   void flush(Place &p);
-  void open(Place &p) { p.task.numbers[p.segment] = opened++; }
+  void open(Place &p);
   void step(Place &p, const Step &step);
+  void leave_out(Place &p, const Task &child);
   void create(Place &p, Task &child);
-  std::string items(const Task &t);
+  void enter(Task &t, unsigned indent);
+  void leave();
 };
 
 const char *type_of(uint64_t type, bool exclusion_as_order) {
@@ -57,60 +73,93 @@ unsigned tasks_below(const Task &t) {
   return count;
 }
 
-void Writer::line(unsigned indent, const std::string &words, const std::string &comment) {
-  text.words.append(2 * indent, ' ');
-  text.words += words;
-  if (!comment.empty()) text.words += "  # " + comment;
-  text.words += '\n';
+int64_t rounded(int64_t nanoseconds, int64_t unit) { return (nanoseconds + unit / 2) / unit; }
+
+std::string folded_words(const Place &p) {
+  if (p.joined) return std::to_string(1 + p.joined) + " tasks joined";
+  if (p.folded) return std::to_string(p.folded) + (p.folded == 1 ? " task folded" : " tasks folded");
+  return {};
+}
+
+void Writer::begin_line(unsigned indent) {
+  if (!style.large) piece.append(2 * indent, ' ');
+}
+
+void Writer::number(uint64_t value) {
+  char digits[24];
+  piece.append(digits, std::to_chars(digits, digits + sizeof digits, value).ptr);
+}
+
+void Writer::end_line(const std::string &comment) {
+  if (!comment.empty()) piece.append("  # ").append(comment);
+  piece += '\n';
+  if (piece.size() < longest_piece) return;
+  taker(piece);
+  piece.clear();
+}
+
+void Writer::line(unsigned indent, const char *words, const std::string &comment) {
+  begin_line(indent);
+  piece += words;
+  end_line(comment);
+}
+
+void Writer::items(const Task &t) {
+  std::string_view last;
+  for (const DependItem &item : t.items) {
+    std::string_view type = type_of(item.type, style.exclusion_as_order);
+    if (type == last) piece += ", a";
+    else piece.append(last.empty() ? " depend(" : ") depend(").append(type).append(": a");
+    number(names.emplace(item.address, names.size()).first->second);
+    last = type;
+  }
+  if (!last.empty()) piece += ')';
 }
 
 void Writer::flush(Place &p) {
-  int64_t rounded = (p.cost + style.unit / 2) / style.unit;
-  std::string folded = std::to_string(p.folded) + (p.folded == 1 ? " task folded" : " tasks folded");
-  if (p.joined) folded = std::to_string(1 + p.joined) + " tasks joined";
-  bool says = p.folded || p.joined;
-  if (rounded || says) line(p.indent, "work " + std::to_string(rounded), says ? folded : "");
-  text.work += rounded;
+  int64_t cost = rounded(p.cost, style.unit);
+  if (cost || p.folded || p.joined) {
+    begin_line(p.indent);
+    piece += "work ";
+    number(static_cast<uint64_t>(cost));
+    end_line(folded_words(p));
+  }
   p.cost = 0;
   p.folded = p.joined = 0;
 }
 
-std::string Writer::items(const Task &t) {
-  std::string clauses, last;
-  for (auto &item : t.items) {
-    std::string type = type_of(item.type, style.exclusion_as_order);
-    std::string name = "a" + std::to_string(names.emplace(item.address, names.size()).first->second);
-    if (type == last) clauses.insert(clauses.size() - 1, ", " + name);
-    else clauses += " depend(" + type + ": " + name + ")";
-    last = type;
+void Writer::open(Place &p) {
+  if (!style.large) p.task.numbers[p.segment] = opened++;
+}
+
+// The segment goes on, under the number that it has.
+void Writer::leave_out(Place &p, const Task &child) {
+  if (child.fold == Fold::Whole) {
+    p.cost += child.total;
+    p.folded += 1 + tasks_below(child);
   }
-  return clauses;
+  p.segment++;
+  if (style.large) return;
+  p.task.numbers[p.segment] = p.task.numbers[p.segment - 1];
+  p.task.numbers[p.segment - 1] = none;
 }
 
 void Writer::create(Place &p, Task &child) {
-  if (!is_written(child)) {  // the segment goes on, under the number that it has
-    if (child.fold == Fold::Whole) {
-      p.cost += child.total;
-      p.folded += 1 + tasks_below(child);
-    }
-    p.task.numbers[p.segment + 1] = p.task.numbers[p.segment];
-    p.task.numbers[p.segment++] = none;
-    return;
-  }
+  if (!is_written(child)) return leave_out(p, child);
   flush(p);
-  line(p.indent, std::string("task") + (child.undeferred ? " if(0)" : "") + items(child) + " {",
-       child.part ? "one of the region's threads" : places.at(child.code));
-  body(child, p.indent + 1);
-  line(p.indent, "}");
-  p.segment++;
-  open(p);
+  begin_line(p.indent);
+  piece += child.undeferred ? "task if(0)" : "task";
+  items(child);
+  piece += " {";
+  end_line(child.part ? of_a_thread : places.at(child.code));
+  enter(child, p.indent + 1);
 }
 
 void Writer::step(Place &p, const Step &step) {
-  if (step.kind == Kind::Work) p.cost += step.cost();
-  else if (step.kind == Kind::Create) create(p, *step.child());
-  else flush(p);
+  if (step.kind != Kind::Work && step.kind != Kind::Create) flush(p);
   switch (step.kind) {
+    case Kind::Work: p.cost += step.cost(); return;
+    case Kind::Create: return create(p, *step.child());
     case Kind::Wait:
       line(p.indent, "taskwait", places.at(step.code()));
       p.segment++;
@@ -120,34 +169,75 @@ void Writer::step(Place &p, const Step &step) {
       line(--p.indent, "}");
       p.segment++;
       return open(p);
-    case Kind::Work:
-    case Kind::Create: return;
   }
 }
 
-void Writer::body(Task &t, unsigned indent) {
-  t.numbers.assign(t.segment + 1, none);
-  Place p{t, indent};
+void Writer::enter(Task &t, unsigned indent) {
+  if (!style.large) t.numbers.assign(t.segment + 1, none);
+  Place &p = inside.emplace_back(Place{t, indent});
   if (t.fold == Fold::Body) {
+    p.next = t.steps.size();
     p.segment = t.segment;
     p.cost = t.total;
     p.folded = tasks_below(t);
-    open(p);
   } else {
-    open(p);
     p.cost = t.joined;
     p.joined = t.joined_tasks;
-    for (auto &one : t.steps) step(p, one);
   }
-  flush(p);
+  open(p);
+}
+
+void Writer::leave() {
+  flush(inside.back());
+  inside.pop_back();
+  if (inside.empty()) return;
+  Place &maker = inside.back();
+  line(maker.indent, "}");
+  maker.segment++;
+  open(maker);
+}
+
+void Writer::tell(Task &root) {
+  line(0, "omptasks 1");
+  enter(root, 0);
+  while (!inside.empty()) {
+    Place &p = inside.back();
+    if (p.next < p.task.steps.size()) step(p, p.task.steps[p.next++]);
+    else leave();
+  }
+  taker(piece);
+}
+
+// Of the lines of one task's own code.
+int64_t own_work(const Task &t, int64_t unit) {
+  if (t.fold == Fold::Body) return rounded(t.total, unit);
+  int64_t work = 0, cost = t.joined;
+  for (const Step &step : t.steps) {
+    bool is_left_out = step.kind == Kind::Create && !is_written(*step.child());
+    if (step.kind == Kind::Work) cost += step.cost();
+    else if (!is_left_out) work += rounded(std::exchange(cost, 0), unit);
+    else if (step.child()->fold == Fold::Whole) cost += step.child()->total;
+  }
+  return work + rounded(cost, unit);
 }
 }  // namespace
 
+int64_t work_in_units(const Region &region, int64_t unit) {
+  int64_t work = 0;
+  for (const Task &t : region.tasks)
+    if (is_written(t)) work += own_work(t, unit);
+  return work;
+}
+
+void tell_program(Region &region, const Style &style, const Places &places, const Taker &taker) {
+  Writer(style, places, taker).tell(*region.root);
+}
+
 Text program_text(Region &region, const Style &style, const Places &places) {
-  Writer writer(style, places);
-  writer.text.words = "omptasks 1\n";
-  writer.body(*region.root, 0);
-  return writer.text;
+  Text text;
+  text.work = work_in_units(region, style.unit);
+  tell_program(region, style, places, [&](const std::string &piece) { text.words += piece; });
+  return text;
 }
 
 std::vector<const void *> codes_of(const Region &region) {

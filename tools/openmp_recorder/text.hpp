@@ -1,5 +1,6 @@
 // The program text of a region.
 #pragma once
+#include <functional>
 #include <string>
 #include <vector>
 
@@ -9,13 +10,18 @@
 struct Style {
   int64_t unit = 1;                 // nanoseconds
   bool exclusion_as_order = false;  // `mutexinoutset` as `inout`, and not as `inoutset`
+  bool large = false;               // lines are not indented, and segments get no numbers
 };
 
 struct Text {
   std::string words;  // without a head
-  int64_t work = 0;  // in units
+  int64_t work = 0;   // in units
 };
 
+using Taker = std::function<void(const std::string &piece)>;
+
 std::vector<const void *> codes_of(const Region &region);  // whose places stand in its text
+int64_t work_in_units(const Region &region, int64_t unit);  // as the text has it, rounded line by line
 Text program_text(Region &region, const Style &style, const Places &places);  // numbers the segments too
-std::string over_the_length(const std::string &words);                        // of a text; empty where it fits
+void tell_program(Region &region, const Style &style, const Places &places, const Taker &taker);  // piece by piece
+std::string over_the_length(const std::string &words);  // of a text for the ten commands; empty where it fits

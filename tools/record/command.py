@@ -7,6 +7,7 @@ import webbrowser
 
 from record.console import say, tell
 from record.fault import OWN_FAULT, Fault
+from record.large import answers, head_of, large_summary, spanprof_large, unmeasured_summary
 from record.options import parse
 from record.run import end_as
 from record.session import TOOLS, Session
@@ -17,17 +18,31 @@ from report.answers import Answers
 REPORTERS = [os.path.join(TOOLS, "spanprof-report"), os.path.join(TOOLS, "..", "..", "bin", "spanprof-report")]
 
 
-def print_summary(session, found, said):
+def show(lines):
+    for line in lines:
+        print(line, file=sys.stderr)
+
+
+def print_summary(session, found, said, shown=()):
     """Of the heaviest region, which is answered; the others in a line each."""
     tell("reading " + ", ".join(os.path.basename(recording.text) for recording in found))
-    answers = [Answers(recording.text) for recording in found]
-    heaviest = max(range(len(found)), key=lambda i: answers[i].work)
-    remarks = {remark for one in answers for remark in one.head.remarks}
-    news = session.notes + said.news(session.out, [recording.text for recording in found], remarks)
-    others = [other_region(one) for i, one in enumerate(answers) if i != heaviest]
-    for line in summary(answers[heaviest], verdict(found[heaviest]), news, others):
-        print(line, file=sys.stderr)
+    answered = [Answers(recording.text) for recording in found]
+    heaviest = max(range(len(found)), key=lambda i: answered[i].work)
+    remarks = {remark for one in answered for remark in one.head.remarks}
+    news = session.notes + said.news(session.out, [recording.text for recording in found] + list(shown), remarks)
+    others = [other_region(one) for i, one in enumerate(answered) if i != heaviest]
+    show(summary(answered[heaviest], verdict(found[heaviest]), news, others))
     return found[heaviest]
+
+
+def print_large(found, program, news):
+    """Of the regions that are beyond the limits of the ten commands; the news stand under the first."""
+    for one in found:
+        name = os.path.basename(one.text)
+        if program:
+            tell("measuring %s, %d MB, by spanprof_large" % (name, os.path.getsize(one.text) // 1000000))
+        show(large_summary(answers(program, one.text), news) if program else unmeasured_summary(one.text, news))
+        news = []
 
 
 def write_page(options, recording):
@@ -42,11 +57,24 @@ def write_page(options, recording):
         say("there is no browser to show %s" % options.html)
 
 
+def print_summaries(session, found, said):
+    """Answers the recording that a page can show: the heaviest within the limits of the ten commands."""
+    small, large = [[one for one in found if one.is_large == is_large] for is_large in (False, True)]
+    program = spanprof_large() if large else []
+    shown = [one.text for one in large] if program else []
+    recording = print_summary(session, small, said, shown) if small else None
+    remarks = {remark for one in large for remark in head_of(one.text).remarks}
+    print_large(large, program, [] if small else session.notes + said.news(session.out, shown, remarks))
+    return recording
+
+
 def report(session, found, said):
     try:
-        recording = print_summary(session, found, said)
+        recording = print_summaries(session, found, said)
     except SystemExit as refused:  # a word of spanprof's
         raise Fault(str(refused)) from refused
+    if session.options.html and not recording:
+        raise Fault("no page is written: the recording is beyond the limits of the ten commands")
     if session.options.html:
         write_page(session.options, recording)
 

@@ -20,6 +20,7 @@ class Recording:
     replay: str = ""
     times: str = ""
     number: int = 1  # in the files' names
+    is_large: bool = False  # beyond the limits of the ten commands
 
 
 def check_folder(out):
@@ -43,6 +44,13 @@ def recordings(out):
     return [one for one in found if os.path.exists(one.text)]
 
 
+def large_recordings(out):
+    """Those of the regions that are beyond the limits of the ten commands: NAME.large.tasks, NAME.2.large.tasks .."""
+    stems = [(stem_of(out, number), number) for number in range(1, most_regions(os.environ) + 1)]
+    found = [Recording(stem + ".large.tasks", number=number, is_large=True) for stem, number in stems]
+    return [one for one in found if os.path.exists(one.text)]
+
+
 def stem_of(out, number):
     return out if number == 1 else "%s.%d" % (out, number)
 
@@ -55,7 +63,7 @@ def recording(stem, number=1):
 def remove_old(out):
     """Takes away what an earlier run of this name left, as the recorder does where it is loaded."""
     for path in glob.glob(glob.escape(out) + ".*"):
-        if re.fullmatch(r"(\.[0-9]+)?(\.inout)?\.(tasks|replay|times)", path[len(out):]):
+        if re.fullmatch(r"(\.[0-9]+)?(\.large)?(\.inout)?\.(tasks|replay|times)", path[len(out):]):
             os.remove(path)
 
 

@@ -22,7 +22,7 @@ def make_folder(out, runs):
     except OSError as wrong:
         raise Fault("%s: %s" % (folder, wrong.strerror)) from wrong
     for entry in os.listdir(folder):
-        if re.fullmatch(r"run\d+(\.\d+)?(\.inout)?\.(tasks|replay|times)", entry):
+        if re.fullmatch(r"run\d+(\.\d+)?(\.large)?(\.inout)?\.(tasks|replay|times)", entry):
             os.remove(os.path.join(folder, entry))
     return names(out, runs)
 

@@ -5,7 +5,7 @@ import tempfile
 import program
 from record.console import say, tell
 from record.fault import Fault
-from record.files import check_folder, messages, recordings, remove_old
+from record.files import check_folder, large_recordings, messages, recordings, remove_old
 from record.linkage import linkage
 from record.recorder import recorder_library
 from record.repeat import combine_all, make_folder
@@ -75,7 +75,7 @@ class Session:
     def record_once(self):
         """The program's end, the recordings, and what was said."""
         status, said = self.run(self.out)
-        found = recordings(self.out)
+        found = recordings(self.out) + large_recordings(self.out)
         if not found:
             say("nothing is recorded: " + why_nothing(status, said, self.out, self.is_script))
         return status, found, said

@@ -105,6 +105,15 @@ TEST(limits_are_told) {
   EXPECT(over_the_limits({1, 1, 0, 0, 1000000000000, 0}, 1000), "");
 }
 
+TEST(limits_of_any_size_are_told) {
+  EXPECT(over_the_limits({9000000, 20000000, 1048576, 32, 999999999999, 1}, 1, of_any_size), "");
+  EXPECT_PART(over_the_limits({1, 1, 1048577, 0, 0, 0}, 1, of_any_size),
+              "1048577 tasks and groups inside each other, and spanprof_large takes 1048576");
+  EXPECT_PART(over_the_limits({1, 1, 1, 33, 0, 0}, 1, of_any_size), "depend items");
+  EXPECT_PART(over_the_limits({1, 1, 1, 1, 1000000000000, 0}, 1, of_any_size), "in one piece");
+  EXPECT_PART(over_the_limits({1, 1, 1, 1, 1, 1000000000000000}, 1, of_any_size), "units of work");
+}
+
 TEST(many_tasks_in_a_row_are_advised_to_be_chunks) {
   Run run = in_a_row(std::vector<int64_t>(9000, 50));
   Region &region = only_region(run);

@@ -1,4 +1,6 @@
 // Heads, remarks, names, files.
+#include <unistd.h>
+
 #include "../events.hpp"
 #include "../files.hpp"
 #include "../fold.hpp"
@@ -20,6 +22,62 @@ TEST(costs_are_in_the_unit_and_rounded) {
   Region &region = only_region(run);
   EXPECT(text_of(region, {1000, false}), "work 1\ntask {\n  work 3\n}\n");
   EXPECT(program_text(region, {1000, false}, Places()).work, 4);
+}
+
+TEST(a_large_text_is_told_piece_by_piece_and_not_indented) {
+  Run run = Made().create(0, 1, 2).go(0, 1, 2).after(3).create(0, 2, 3).go(0, 2, 1, ompt_task_complete).run(0, 1, 3, 4)
+                .barrier(0, 1).read();
+  Region &region = only_region(run);
+  std::string words;
+  tell_program(region, {1, false, true}, Places(), [&](const std::string &piece) { words += piece; });
+  EXPECT(words, "omptasks 1\ntask {\nwork 3\ntask {\nwork 4\n}\n}\n");
+  EXPECT(region.tasks.back().numbers.empty(), true);
+}
+
+TEST(the_work_is_that_of_the_lines) {
+  Run run = two_tasks();
+  Region &region = only_region(run);
+  EXPECT(work_in_units(region, 1), 3999);
+  EXPECT(work_in_units(region, 1000), 1 + 3);
+  fold(region, {0, 9999, 0});
+  EXPECT(work_in_units(region, 1000), 4);
+}
+
+TEST(deeply_nested_tasks_are_written_line_by_line) {
+  Region region;
+  Task *maker = &region.tasks.emplace_back();
+  region.root = maker;
+  const size_t deep = 200000;
+  for (size_t i = 0; i < deep; i++) {
+    Task &child = region.tasks.emplace_back();
+    child.parent = maker;
+    maker->steps = {Step::work(1), Step::create(&child)};
+    maker->segment = maker->children = 1;
+    maker = &child;
+  }
+  add_up(region);
+  EXPECT(fold(region, {}).blocks, deep);
+  size_t bytes = 0, pieces = 0;
+  tell_program(region, {1, false, true}, Places(), [&](const std::string &piece) { bytes += piece.size(), pieces++; });
+  EXPECT(bytes, std::string("omptasks 1\n").size() + deep * std::string("work 1\ntask {\n}\n").size());
+  EXPECT(pieces > 1, true);
+}
+
+TEST(a_new_file_stays_only_where_all_is_written) {
+  std::string name = "/tmp/spanprof_recorder_test." + std::to_string(getpid());
+  NewFile whole(name, 7);
+  whole.put("four");
+  whole.put("two");
+  EXPECT(whole.end(""), true);
+  EXPECT(access(name.c_str(), F_OK), 0);
+  NewFile longer(name, 6);
+  longer.put("four");
+  longer.put("two");
+  setenv("SPANPROF_MESSAGES", "/dev/null", 1);
+  EXPECT(longer.end("six are allowed"), false);
+  EXPECT(NewFile("/no/such/folder/x", 6).end(""), false);
+  unsetenv("SPANPROF_MESSAGES");
+  EXPECT(access(name.c_str(), F_OK), -1);
 }
 
 TEST(times_of_segments_are_since_the_region_began) {
@@ -75,7 +133,8 @@ TEST(lengths_are_limited) {
 
 TEST(files_of_a_run_are_known_by_their_names) {
   for (const char *name : {"out.tasks", "out.replay", "out.times", "out.2.tasks", "out.inout.tasks",
-                           "out.2.inout.tasks", "out.4711.tasks", "out.4711.2.replay"})
+                           "out.2.inout.tasks", "out.4711.tasks", "out.4711.2.replay", "out.large.tasks",
+                           "out.2.large.tasks", "out.2.large.inout.tasks"})
     EXPECT(is_of_run(name, "out"), true);
   for (const char *name : {"out", "other.tasks", "out.csv", "out2.tasks", "out.x.tasks", "about.tasks"})
     EXPECT(is_of_run(name, "out"), false);

@@ -36,6 +36,14 @@ class Recordings(InAFolder):
         self.assertEqual([bool(one.replay) for one in found], [True, False])
         self.assertEqual([bool(one.times) for one in found], [False, True])
 
+    def test_regions_beyond_the_limits(self):
+        for name in ("mine.tasks", "mine.3.large.tasks", "mine.large.tasks", "mine.large.inout.tasks"):
+            self.write(name)
+        found = files.large_recordings(self.out)
+        self.assertEqual([(os.path.basename(one.text), one.number, one.is_large) for one in found],
+                         [("mine.large.tasks", 1, True), ("mine.3.large.tasks", 3, True)])
+        self.assertEqual([os.path.basename(one.text) for one in files.recordings(self.out)], ["mine.tasks"])
+
     def test_a_first_region_that_is_not_written(self):
         self.write("mine.3.tasks")
         self.assertEqual([os.path.basename(one.text) for one in files.recordings(self.out)], ["mine.3.tasks"])
@@ -44,8 +52,8 @@ class Recordings(InAFolder):
         self.assertEqual([files.most_regions({"SPANPROF_REGIONS": word}) for word in ("", "x", "3")], [10, 10, 3])
 
     def test_old_files_go_and_others_stay(self):
-        for name in ("mine.tasks", "mine.3.replay", "mine.12.inout.tasks", "mine.c", "mine.html", "mine.x.tasks",
-                     "mine"):
+        for name in ("mine.tasks", "mine.3.replay", "mine.12.inout.tasks", "mine.large.tasks", "mine.2.large.tasks",
+                     "mine.2.large.inout.tasks", "mine.c", "mine.html", "mine.x.tasks", "mine"):
             self.write(name)
         files.remove_old(self.out)
         self.assertEqual(self.names(), ["mine", "mine.c", "mine.html", "mine.x.tasks"])
@@ -61,19 +69,25 @@ spanprof recorder: recording to {0}.tasks
 spanprof recorder: {0}: mutexinoutset, 1 time: span too low
 spanprof recorder: {0}.tasks and {0}.replay: 3 tasks, 7 segments, work 10 ns
 spanprof recorder: {0}.2.tasks: 3 tasks, 7 segments, work 10 ns
-spanprof recorder: {0}.3 is not written: 21890 tasks, and spanprof takes 4096; record with SPANPROF_FOLD_DEPTH=7
+spanprof recorder: {0}.3.large.tasks: 21890 tasks, 43781 segments, work 10 ns
+spanprof recorder: {0}.3.tasks is not written: 21890 tasks, and spanprof takes 4096; record with SPANPROF_FOLD_DEPTH=7
 """
 
     def test_only_what_the_summary_does_not_show(self):
         said = files.messages(self.write("words", self.LINES.format(self.out)))
         self.assertTrue(said.loaded)
-        self.assertEqual(said.news(self.out, [self.out + ".tasks"], {"mutexinoutset, 1 time: span too low"}), [
+        advice = "mine.3.tasks is not written: 21890 tasks, and spanprof takes 4096; record with --fold depth=7"
+        shown = [self.out + ".tasks"]
+        self.assertEqual(said.news(self.out, shown, {"mutexinoutset, 1 time: span too low"}), [
             "mine.2.tasks: 3 tasks, 7 segments, work 10 ns",
-            "mine.3 is not written: 21890 tasks, and spanprof takes 4096; record with --fold depth=7"])
+            "mine.3.large.tasks: 21890 tasks, 43781 segments, work 10 ns",
+            advice])
+        self.assertEqual(said.news(self.out, shown + [self.out + ".3.large.tasks", self.out + ".2.tasks"]), [
+            "mine: mutexinoutset, 1 time: span too low", advice])
 
     def test_a_text_that_is_one_of_several_runs(self):
         said = files.messages(self.write("words", self.LINES.format(self.out)))
-        self.assertEqual(len(said.without([self.out + ".tasks"]).lines), 4)
+        self.assertEqual(len(said.without([self.out + ".tasks"]).lines), 5)
 
     def test_none(self):
         self.assertFalse(files.messages(os.path.join(self.kept.name, "words")).loaded)

@@ -6,7 +6,7 @@ import tempfile
 import unittest
 from unittest import mock
 
-from record import command, session
+from record import command, large, session
 from record.fault import Fault
 from record.files import Messages, Recording
 from record.tests.made_up import Answers, Head
@@ -67,6 +67,12 @@ class Runs(unittest.TestCase):
         (status, found, _), told = self.record(1, [0])
         self.assertEqual((status, [one.text for one in found], told), (0, [self.out + ".tasks"], ""))
 
+    def test_one_beyond_the_limits(self):
+        with open(self.out + ".large.tasks", "w", encoding="utf-8") as file:
+            file.write("omptasks 1\n")
+        (status, found, _), told = self.record(1, [4])
+        self.assertEqual((status, [one.is_large for one in found], told), (4, [True], ""))
+
     def test_nothing(self):
         (status, found, _), told = self.record(1, [4])
         self.assertEqual((status, found), (4, []))
@@ -105,6 +111,88 @@ class Summaries(unittest.TestCase):
         with mock.patch("record.command.Answers", return_value=answers), contextlib.redirect_stderr(told):
             command.print_summary(mock.Mock(notes=[], out="/tmp/mine"), [Recording("mine.tasks")], said)
         self.assertEqual(told.getvalue().count("folded task"), 1)
+
+
+class Large(unittest.TestCase):
+    """Summaries of texts beyond the limits of the ten commands."""
+
+    def setUp(self):
+        kept = tempfile.TemporaryDirectory()
+        self.addCleanup(kept.cleanup)
+        self.folder, self.out = kept.name, os.path.join(kept.name, "mine")
+        with open(self.out + ".large.tasks", "w", encoding="utf-8") as file:
+            file.write("# recorded: from mine, 2026-11-24T00:10:02Z, threads 4, clock wall, unit us\n"
+                       "# region: at mine.c:9, 1 of 1\n# elapsed: 40\nomptasks 1\n# remark: none\nwork 1\n")
+        self.lines = [self.out + ".large.tasks: 9000 tasks, 20001 segments, work 100 us",
+                      self.out + ".tasks is not written: 9000 tasks, and spanprof takes 4096"]
+
+    def program(self, words, status=0):
+        path = os.path.join(self.folder, "large")
+        with open(path, "w", encoding="utf-8") as file:
+            file.write("#!/bin/sh\ncat > /dev/null\nprintf '%s'\nexit %d\n" % (words, status))
+        os.chmod(path, 0o755)
+        return path
+
+    def told(self, program, small=()):
+        found = list(small) + [Recording(self.out + ".large.tasks", is_large=True)]
+        made = mock.Mock(notes=["a note"], out=self.out, options=argparse.Namespace(html=None))
+        told = io.StringIO()
+        with mock.patch("record.command.spanprof_large", return_value=program), contextlib.redirect_stderr(told):
+            command.report(made, found, Messages(True, self.lines))
+        return told.getvalue()
+
+    def test_the_numbers_of_the_program(self):
+        program = self.program("tasks 9000\\nsegments 20001\\nwork 100\\nspan 30\\n")
+        self.assertEqual(self.told([program]), """\
+mine.large.tasks, region at mine.c:9, 4 threads, costs in us of wall time
+tasks         9,000, in 20,001 segments (recorded)
+work          100 us: the time of one thread (measured; the sum is proved for the recorded text)
+span          30 us: no run ends sooner (proved for the recorded text, of measured costs)
+parallelism   3.34: work / span; no number of threads gives more (proved for the recorded text)
+elapsed       40 us on 4 threads: it was 2.50 times as fast as one (measured)
+remarks       a note
+              mine.tasks is not written: 9000 tasks, and spanprof takes 4096
+""")
+
+    def test_without_the_program(self):
+        self.assertEqual(self.told([]), """\
+mine.large.tasks, region at mine.c:9, 4 threads, costs in us of wall time
+remarks       spanprof_large, which measures it, is not found; `rt run` in crates/spanprof_large proves and builds it
+              a note
+              mine.large.tasks: 9000 tasks, 20001 segments, work 100 us
+              mine.tasks is not written: 9000 tasks, and spanprof takes 4096
+""")
+
+    def test_the_news_are_told_once(self):
+        program = self.program("tasks 9000\\nsegments 20001\\nwork 100\\nspan 30\\n")
+        with mock.patch("record.command.Answers", return_value=Answers()):
+            told = self.told([program], [Recording("mine.2.tasks")])
+        self.assertEqual((told.count("a note"), told.count("is not written")), (1, 1))
+        self.assertTrue(told.startswith("sort.tasks, region at"))
+        self.assertIn("remarks       none\n", told)
+
+    def test_a_refusal_or_no_such_program(self):
+        with self.assertRaisesRegex(Fault, "spanprof_large: error: out of memory"):
+            self.told([self.program("error: out of memory\\n", 3)])
+        with self.assertRaisesRegex(Fault, "spanprof_large: .*No such file"):
+            self.told(["/no/such/program"])
+
+    def test_no_page(self):
+        made = mock.Mock(notes=[], out=self.out, options=argparse.Namespace(html="p.html"))
+        with mock.patch("record.command.spanprof_large", return_value=[]), \
+                contextlib.redirect_stderr(io.StringIO()), self.assertRaisesRegex(Fault, "no page is written"):
+            command.report(made, [Recording(self.out + ".large.tasks", is_large=True)], Messages(True, []))
+
+    def test_where_the_program_is_looked_for(self):
+        with mock.patch.dict(os.environ, {"SPANPROF_LARGE": "nice large"}):
+            self.assertEqual(large.spanprof_large(), ["nice", "large"])
+        with mock.patch.dict(os.environ), mock.patch("shutil.which", return_value=None), \
+                mock.patch("record.large.IN_REPOSITORY", self.out):
+            os.environ.pop("SPANPROF_LARGE", None)
+            self.assertEqual(large.spanprof_large(), [])
+        with mock.patch.dict(os.environ), mock.patch("shutil.which", return_value="/bin/large"):
+            os.environ.pop("SPANPROF_LARGE", None)
+            self.assertEqual(large.spanprof_large(), ["/bin/large"])
 
 
 class Statuses(unittest.TestCase):
