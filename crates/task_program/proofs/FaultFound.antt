@@ -1,9 +1,9 @@
 -- The fault that is told is the first.
-use Rattle.std.proofs.Common.{◌≡◌, ℕ, ◌<◌, ◌+◌, ◌≤◌, Bool, true, false, not, cond, List, [], ◌∷◌, ◌++◌}
+use Rattle.std.proofs.Common.{◌≡◌, ℕ, ◌+◌, ◌≤◌, Bool, true, false, not, cond, List, [], ◌∷◌, ◌++◌}
 use Rattle.std.proofs.Common.{length, Option, Some, None, Result, Ok, Err, refl, sym}
 use Rattle.std.proofs.Common.{ap, subst, ◌∙◌, arith, codes}
-use Rattle.std.specs.Prelude.{sum_by, nat_lt, drop, map}
-use Rattle.std.proofs.lemmas.Bool.{ltb-false, ltb-true, not-false}
+use Rattle.std.specs.Prelude.{sum_by, nat_lt, drop, map, MatchBool}
+use Rattle.std.proofs.lemmas.Bool.{ltb-false, ltb-true, not-false, MatchBool-at_true, MatchBool-at_false}
 use Rattle.std.proofs.lemmas.List.{append-nil, length-map, drop-append-le}
 use Rattle.program_text.specs.declared.fault.ReadKind.{ReadKind}
 use Rattle.program_text.specs.declared.fault.ReadKind.TheVariants.{TooLong, BadHeader, BadWord}
@@ -31,16 +31,15 @@ use Rattle.task_program.specs.Versions.{begins_version_two}
 use Rattle.task_program.specs.TokenCounts.{open_braces, too_many_after, limit_fault_after}
 use Rattle.task_program.specs.ViablePrefix.{IsSentence}
 use Rattle.task_program.specs.FirstFault.{Rules, IsViable, IsWrong, IsRight, EndsEarly}
-use Rattle.task_program.specs.FirstPlainFault.{plain_rules, program_rules, HasFault}
-use Rattle.task_program.proofs.MachineFaults.{IsToldApart, FaultIsFirst}
+use Rattle.task_program.specs.FirstPlainFault.{plain_rules, program_rules}
+use Rattle.task_program.proofs.MachineFaults.{IsToldApart, FaultIsFirst, HasPlainFault}
 use Rattle.task_program.specs.FirstFault.IsMisplaced.{OfHeader, AfterWhole, Elsewhere}
 use Rattle.task_program.specs.FirstFault.IsWrong.{ByItself, Misplaced, PastLimit}
 use Rattle.task_program.specs.FirstFault.EndsEarly.{InHeader, BlockOpen, Inside}
-use Rattle.task_program.specs.FirstPlainFault.HasFault.{TextTooLong, OfTokens}
 use Rattle.task_program.proofs.FirstFaults.{fault_so}
 use Rattle.task_program.proofs.Machines.{Machine, WrongSo, EndsSo, refused, whole_read, read_whole}
 use Rattle.task_program.proofs.Keeping.{at, passes, unless_ok, ok_is, step_keeps}
-use Rattle.task_program.proofs.ReadWhole.{of_one, too_long, same_fault}
+use Rattle.task_program.proofs.ReadWhole.{of_one, too_long, same_fault, refused_with}
 use Rattle.task_program.proofs.Shapes.{closes_none, fits_at, FollowsAt, nothing_follows}
 use Rattle.task_program.proofs.Accepting.{is_whole, sentence_accepted}
 use Rattle.task_program.proofs.Tallies.{Tally, tally_of, tally_after, tally_now, limit_of, limits}
@@ -472,16 +471,6 @@ reading = record {
   early = ends_so;
 }
 
-short_refused : (text : List ℕ) (fault : ReadFault)
-    → length text ≤ MOST_TEXT_BYTES
-    → program_of text ≡ one_pass text
-    → HasFault text fault
-    → program_of text ≡ Err fault
-short_refused text fault fits so (TextTooLong _ long) = absurd (omega (arith, fits, long))
-short_refused text fault fits so (OfTokens _ _ short first) =
-    so
-    ∙ (refused program_rules reading sentence_long (tokens_of text) (line_at_end 1 text) fault).1 first
-
 -- a text of version 1 is read or has a first fault, and never both
 told_apart : (text : List ℕ)
     → begins_version_two (tokens_of text) ≡ false
@@ -501,17 +490,15 @@ told_apart text one short =
             (read.0, so ∙ read.1),
       );
       refused = λ fault. (
-        λ h. OfTokens text fault fits
+        λ h. subst (λ (b : Bool). MatchBool b (fault ≡ fault_so TooLong 1)
+            (HasPlainFault text fault)) (sym short)
             ((refused program_rules reading sentence_long (tokens_of text) line fault).0
             (sym so ∙ h)),
-        λ h. short_refused text fault fits so h,
+        λ h. so
+            ∙ (refused program_rules reading sentence_long (tokens_of text) line fault).1
+            (MatchBool-at_false (fault ≡ fault_so TooLong 1) (HasPlainFault text fault) short h),
       );
     }
-
-long_refused : (text : List ℕ) (fault : ReadFault) → MOST_TEXT_BYTES < length text
-    → program_of text ≡ Err (fault_so TooLong 1) → HasFault text fault → program_of text ≡ Err fault
-long_refused text fault long so (TextTooLong _ again) = so
-long_refused text fault long so (OfTokens _ _ short first) = absurd (omega (arith, short, long))
 
 -- and so with a text of too many bytes
 long_apart : (text : List ℕ) → nat_lt MOST_TEXT_BYTES (length text) ≡ true → IsToldApart text
@@ -523,10 +510,11 @@ long_apart text long =
         λ w. absurd (omega (arith, longer, w.text_fits)),
       );
       refused = λ fault. (
-        λ h. subst (HasFault text)
-            (same_fault (program_of text) (fault_so TooLong 1) fault (too_long text long) h)
-            (TextTooLong text longer),
-        λ h. long_refused text fault longer (too_long text long) h,
+        λ h. subst (λ (b : Bool). MatchBool b (fault ≡ fault_so TooLong 1)
+            (HasPlainFault text fault)) (sym long)
+            (sym (same_fault (program_of text) (fault_so TooLong 1) fault (too_long text long) h)),
+        λ h. refused_with (program_of text) (fault_so TooLong 1) fault (too_long text long)
+            (MatchBool-at_true (fault ≡ fault_so TooLong 1) (HasPlainFault text fault) long h),
       );
     }
 

@@ -1,12 +1,12 @@
 -- The fault of a text of version 2, apart from any reading of its tokens: the first of them at
 -- which something is wrong, and what it is; or else the fault of its expansion.
-use Rattle.std.specs.Prelude.{◌≡◌, ℕ, ◌<◌, ◌≤◌, Bool, true, false, ◌&&◌, ◌||◌, nat_lt}
+use Rattle.std.specs.Prelude.{◌≡◌, ℕ, Bool, true, false, ◌&&◌, ◌||◌, ◌⊎◌, nat_lt}
 use Rattle.std.specs.Prelude.{slice_index_or, if◌then◌else◌, List, [], length, drop, reverse, Option}
 use Rattle.std.specs.Prelude.{Some, None, codes}
 use Rattle.program_text.specs.declared.fault.ReadKind.{ReadKind}
-use Rattle.program_text.specs.declared.fault.ReadKind.TheVariants.{TooLong, BadNumber, TooDeep}
+use Rattle.program_text.specs.declared.fault.ReadKind.TheVariants.{BadNumber, TooDeep}
 use Rattle.program_text.specs.declared.fault.ReadFault.{ReadFault}
-use Rattle.program_text.specs.declared.limits.TheConstants.{MOST_TEXT_BYTES, MOST_NESTING}
+use Rattle.program_text.specs.declared.limits.TheConstants.{MOST_NESTING}
 use Rattle.program_text.specs.declared.limits.TheConstants.{LARGEST_COST, LARGEST_BOUND}
 use Rattle.program_text.specs.Tokens.{Token, texts, tokens_of, line_at_end}
 use Rattle.program_text.specs.Words.{is_text, is_word, is_number, value_of}
@@ -76,19 +76,9 @@ pub record IsTreeOf (tokens : List Token) (tree : Tree) : Type 0 where
 abbrev pub body_of : List ℕ → List Token
 body_of text = drop 2 (tokens_of text)
 
--- The fault of a text of version 2: it is too long, or else the first fault of the tokens after its
--- header, or else that of the expansion of the tree that they spell.
-pub data HasLoopFault : List ℕ → ReadFault → Type 0 where
-  TextTooLong : (text : List ℕ)
-      → MOST_TEXT_BYTES < length text
-      → HasLoopFault text (record { kind = TooLong; line = 1 })
-  OfTokens : (text : List ℕ) (fault : ReadFault)
-      → length text ≤ MOST_TEXT_BYTES
-      → IsFirstFault loop_rules (body_of text) (line_at_end 1 text) fault
-      → HasLoopFault text fault
-  OfExpansion : (text : List ℕ) (fault : ReadFault)
-      → length text ≤ MOST_TEXT_BYTES
-      → (tree : Tree)
-      → IsTreeOf (body_of text) tree
-      → HasExpansionFault tree fault
-      → HasLoopFault text fault
+-- the first fault of the tokens after the header of version 2, or else that of the expansion of the
+-- tree that they spell
+abbrev pub HasLoopFault : List ℕ → ReadFault → Type 0
+HasLoopFault text fault =
+    IsFirstFault loop_rules (body_of text) (line_at_end 1 text) fault
+    ⊎ ((tree : Tree) × IsTreeOf (body_of text) tree × HasExpansionFault tree fault)
