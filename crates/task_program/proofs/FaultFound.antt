@@ -18,7 +18,8 @@ use Rattle.program_text.specs.declared.limits.TheConstants.{MOST_NESTING}
 use Rattle.program_text.specs.Tokens.{Token, texts, tokens_of, line_at_end}
 use Rattle.program_text.specs.TokenFaults.{form_fault_within}
 use Rattle.program_text.specs.Words.{is_text}
-use Rattle.task_program.specs.Within.{IsWithin}
+use Rattle.task_program.specs.Within.{IsWithin, pending_tasks, pending_segments}
+use Rattle.program_text.specs.Limits.{tasks_of, segments_of}
 use Rattle.task_program.specs.ProgramMarks.{ProgramMarks}
 use Rattle.task_program.specs.Faults.{State, place_fault, is_header}
 use Rattle.task_program.specs.Faults.{form_fault}
@@ -29,6 +30,8 @@ use Rattle.task_program.specs.Faults.{start, one_pass}
 use Rattle.task_program.specs.ReadInVersion.{program_of}
 use Rattle.task_program.specs.Versions.{begins_version_two}
 use Rattle.task_program.specs.TokenCounts.{open_braces, too_many_after, limit_fault_after}
+use Rattle.task_program.specs.TokenCounts.{tasks_in, segments_in}
+use Rattle.task_program.proofs.TokenLimits.{too_many_so}
 use Rattle.task_program.specs.ViablePrefix.{IsSentence}
 use Rattle.task_program.specs.FirstFault.{Rules, IsViable, IsWrong, IsRight, EndsEarly}
 use Rattle.task_program.specs.FirstPlainFault.{plain_rules, program_rules}
@@ -45,7 +48,7 @@ use Rattle.task_program.proofs.Accepting.{is_whole, sentence_accepted}
 use Rattle.task_program.proofs.Tallies.{Tally, tally_of, tally_after, tally_now, limit_of, limits}
 use Rattle.task_program.proofs.Tallies.{NoItems, is_past_header, tally_more, place_tallies}
 use Rattle.task_program.proofs.Tallies.{place_limits, header_tallies, header_limits}
-use Rattle.task_program.proofs.Tallies.{nothing_counted}
+use Rattle.task_program.proofs.Tallies.{nothing_counted, too_many_with}
 use Rattle.task_program.proofs.Begun.{LengthAt, Began, is_not_viable, viable_next, fits_of}
 use Rattle.task_program.proofs.Begun.{step_begins, row_cases, in_header, after_header, closes_at}
 use Rattle.task_program.proofs.Begun.{whole_closes, whole_now, closes_same, no_header, no_close}
@@ -123,12 +126,12 @@ header_limitless Header state text here = refl
 header_limitless Version state text here = refl
 header_limitless _ state text here = absurd cc
 
--- the limits counted on the tokens are those that the reading tests
-limits_so : (before : List Token) (state : State) (text : List ℕ) → Counts before state
+limits_told : (before : List Token) (state : State) (text : List ℕ) → Counts before state
     → is_header state.place text ≡ true → is_allowed state.place state.head.has_if text ≡ true
-    → limit_fault_after MOST_NESTING (too_many_after (drop 2 before) text) (drop 2 before) text
+    → limit_fault_after MOST_NESTING (too_many_with (texts (drop 2 before)) text) (drop 2 before)
+    text
     ≡ limits state text
-limits_so before state text c header allowed =
+limits_told before state text c header allowed =
     bool_cases (is_past_header state.place)
     (λ past. ap (λ (t : Tally). limit_of t text) c.tally_is
     ∙ place_limits state.place state text past c.within.items allowed)
@@ -140,9 +143,27 @@ limits_so before state text c header allowed =
       header_short state.place (length (texts before)) c.began.length_is here,
     )
     in
-    ap (λ (ts : List Token). limit_fault_after MOST_NESTING (too_many_after ts text) ts text) (nothing_after before short)
+    ap (λ (ts : List Token). limit_fault_after MOST_NESTING (too_many_with (texts ts) text) ts text) (nothing_after before short)
     ∙ header_limits state.place text here header
     ∙ sym (header_limitless state.place state text here))
+
+-- the limits counted on the tokens are those that the reading tests
+limits_so : (before : List Token) (state : State) (text : List ℕ) → Counts before state
+    → is_header state.place text ≡ true → is_allowed state.place state.head.has_if text ≡ true
+    → limit_fault_after MOST_NESTING (too_many_after (drop 2 before) text) (drop 2 before) text
+    ≡ limits state text
+limits_so before state text c header allowed =
+    let body = drop 2 before in
+    let tasks : tasks_in (texts body)
+    ≡ tasks_of state.tree.marks + pending_tasks state.place =
+    ap (λ (t : Tally). t.tasks) c.tally_is in
+    let segments : segments_in (texts body)
+    ≡ segments_of state.tree.marks + pending_segments state.place =
+    ap (λ (t : Tally). t.segments) c.tally_is in
+    ap (λ (found : Option ReadKind). limit_fault_after MOST_NESTING found body text)
+    (too_many_so body text (omega (arith, tasks, c.within.tasks))
+    (omega (arith, segments, c.within.segments)))
+    ∙ limits_told before state text c header allowed
 
 -- the tally of the tokens goes on as the state does
 pub tally_goes : (before : List Token) (state : State) (bytes : ℕ) (next : State) (token : Token)
