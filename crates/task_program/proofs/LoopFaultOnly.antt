@@ -17,7 +17,8 @@ use Rattle.task_program.specs.ReadInVersion.{program_of}
 use Rattle.task_program.specs.LoopGrammar.{IsSpelled}
 use Rattle.task_program.specs.FirstFault.{AreRight, AreRightWhole}
 use Rattle.task_program.specs.FirstFault.AreRight.{Nothing, More}
-use Rattle.task_program.specs.FirstLoopFault.{loop_rules, IsTreeOf, body_of, HasLoopFault}
+use Rattle.task_program.specs.Versions.{body_of}
+use Rattle.task_program.specs.FirstLoopFault.{loop_rules, IsTreeOf, HasLoopFault}
 use Rattle.task_program.proofs.MachineFaults.{IsToldInLoops, LoopFaultIsFirst}
 use Rattle.std.proofs.lemmas.List.Elements.{All-nil, All-push}
 use Rattle.task_program.proofs.ReadWhole.{of_two, went_through, too_long, same_fault, refused_with}

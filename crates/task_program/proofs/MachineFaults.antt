@@ -10,7 +10,8 @@ use Rattle.task_program.specs.Versions.{begins_version_two}
 use Rattle.loop_text.specs.Loops.{Tree}
 use Rattle.task_program.specs.FirstFault.{AreRightWhole, IsFirstFault}
 use Rattle.task_program.specs.FirstPlainFault.{program_rules}
-use Rattle.task_program.specs.FirstLoopFault.{loop_rules, HasLoopFault, IsTreeOf, body_of}
+use Rattle.task_program.specs.Versions.{body_of}
+use Rattle.task_program.specs.FirstLoopFault.{loop_rules, HasLoopFault, IsTreeOf}
 use Rattle.task_program.specs.RightTexts.{IsRightWhole, IsRightLoopText}
 
 -- the fault of a text of too many bytes, or else this

@@ -1,18 +1,19 @@
 -- The fault of a text of version 2, apart from any reading of its tokens: the first of them at
 -- which something is wrong, and what it is; or else the fault of its expansion.
 use Rattle.std.specs.Prelude.{◌≡◌, ℕ, Bool, true, false, ◌&&◌, ◌||◌, ◌⊎◌, nat_lt}
-use Rattle.std.specs.Prelude.{slice_index_or, if◌then◌else◌, List, [], length, drop, reverse, Option}
+use Rattle.std.specs.Prelude.{slice_index_or, if◌then◌else◌, List, [], length, reverse, Option}
 use Rattle.std.specs.Prelude.{Some, None, codes}
 use Rattle.program_text.specs.declared.fault.ReadKind.{ReadKind}
 use Rattle.program_text.specs.declared.fault.ReadKind.TheVariants.{BadNumber, TooDeep}
 use Rattle.program_text.specs.declared.fault.ReadFault.{ReadFault}
 use Rattle.program_text.specs.declared.limits.TheConstants.{MOST_NESTING}
 use Rattle.program_text.specs.declared.limits.TheConstants.{LARGEST_COST, LARGEST_BOUND}
-use Rattle.program_text.specs.Tokens.{Token, texts, tokens_of, line_at_end}
+use Rattle.program_text.specs.Tokens.{Token, texts, line_at_end}
 use Rattle.program_text.specs.Words.{is_text, is_word, is_number, value_of}
 use Rattle.task_program.specs.TokenCounts.{is_too_deep, open_braces}
 use Rattle.loop_text.specs.Loops.{Tree}
 use Rattle.loop_text.specs.LoopTokens.{form_fault}
+use Rattle.task_program.specs.Versions.{body_of}
 use Rattle.task_program.specs.LoopGrammar.{Spelled}
 use Rattle.task_program.specs.FirstFault.{Rules, AreRightWhole, IsFirstFault}
 use Rattle.task_program.specs.ExpansionFault.{HasExpansionFault}
@@ -72,9 +73,6 @@ loop_rules = record {
 pub record IsTreeOf (tokens : List Token) (tree : Tree) : Type 0 where
   pub whole : AreRightWhole loop_rules tokens
   pub spelled : Spelled true [] MOST_NESTING tokens tree
-
-abbrev pub body_of : List ℕ → List Token
-body_of text = drop 2 (tokens_of text)
 
 -- the first fault of the tokens after the header of version 2, or else that of the expansion of the
 -- tree that they spell
