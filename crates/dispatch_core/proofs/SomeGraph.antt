@@ -5,9 +5,7 @@ use Rattle.std.proofs.lemmas.Bool.{cases_lt}
 use Rattle.std.proofs.lemmas.List.{get_or_append_left, get_or_push, length_push}
 use Rattle.task_program.specs.ProgramMarks.{ProgramMarks}
 use Rattle.task_program.specs.Programs.{IsProgram}
-use Rattle.task_program.specs.Trees.{HasTree, HasTreeIn}
-use Rattle.task_program.specs.declared.version.Version.{Version}
-use Rattle.task_program.specs.declared.version.Version.TheVariants.{One, Two}
+use Rattle.task_program.specs.Trees.{HasTree}
 use Rattle.task_segments.proofs.InPlace.{read_in_place, some_segment}
 use Rattle.task_segments.proofs.Order.{goes_up, continues_or_is_created}
 use Rattle.task_segments.proofs.Programs.{few_segments, few_tasks, grouped_program, nested_program}
@@ -30,14 +28,9 @@ use Rattle.dispatch_core.specs.Values.IsValue.{Computes}
 use Rattle.dispatch_core.proofs.DecidedEdges.{decide_kept_edge}
 use Rattle.dispatch_core.proofs.Decisions.{some_list}
 
-fits_in : (version : Version) (text : List ℕ) (program : ProgramMarks)
-    → HasTreeIn version text program
-    → IsProgram program
-fits_in One text program h = h.program_fits
-fits_in Two text program h = h.expanded.program_fits
-
 pub tree_fits : (text : List ℕ) (program : ProgramMarks) → HasTree text program → IsProgram program
-tree_fits text program h = fits_in program.version text program h
+tree_fits text program (inl h) = h.program_fits
+tree_fits text program (inr h) = h.expanded.program_fits
 
 -- what holds of a program's table
 pub record IsWhole (table : Table) : Type 0 where

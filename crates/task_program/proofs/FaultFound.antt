@@ -1,9 +1,9 @@
 -- The fault that is told is the first.
-use Rattle.std.proofs.Common.{◌≡◌, ℕ, ◌<◌, ◌+◌, ◌≤◌, Bool, true, false, not, cond, List, [], ◌∷◌, ◌++◌}
+use Rattle.std.proofs.Common.{◌≡◌, ℕ, ◌+◌, ◌≤◌, Bool, true, false, not, cond, List, [], ◌∷◌, ◌++◌}
 use Rattle.std.proofs.Common.{length, Option, Some, None, Result, Ok, Err, refl, sym}
 use Rattle.std.proofs.Common.{ap, subst, ◌∙◌, arith, codes}
-use Rattle.std.specs.Prelude.{sum_by, nat_lt, drop, map}
-use Rattle.std.proofs.lemmas.Bool.{ltb-false, ltb-true, not-false}
+use Rattle.std.specs.Prelude.{sum_by, nat_lt, drop, map, MatchBool}
+use Rattle.std.proofs.lemmas.Bool.{ltb-false, ltb-true, not-false, MatchBool-at_true, MatchBool-at_false}
 use Rattle.std.proofs.lemmas.List.{append-nil, length-map, drop-append-le}
 use Rattle.program_text.specs.declared.fault.ReadKind.{ReadKind}
 use Rattle.program_text.specs.declared.fault.ReadKind.TheVariants.{TooLong, BadHeader, BadWord}
@@ -18,7 +18,8 @@ use Rattle.program_text.specs.declared.limits.TheConstants.{MOST_NESTING}
 use Rattle.program_text.specs.Tokens.{Token, texts, tokens_of, line_at_end}
 use Rattle.program_text.specs.TokenFaults.{form_fault_within}
 use Rattle.program_text.specs.Words.{is_text}
-use Rattle.task_program.specs.Within.{IsWithin}
+use Rattle.task_program.specs.Within.{IsWithin, pending_tasks, pending_segments}
+use Rattle.program_text.specs.Limits.{tasks_of, segments_of}
 use Rattle.task_program.specs.ProgramMarks.{ProgramMarks}
 use Rattle.task_program.specs.Faults.{State, place_fault, is_header}
 use Rattle.task_program.specs.Faults.{form_fault}
@@ -29,24 +30,25 @@ use Rattle.task_program.specs.Faults.{start, one_pass}
 use Rattle.task_program.specs.ReadInVersion.{program_of}
 use Rattle.task_program.specs.Versions.{begins_version_two}
 use Rattle.task_program.specs.TokenCounts.{open_braces, too_many_after, limit_fault_after}
+use Rattle.task_program.specs.TokenCounts.{tasks_in, segments_in}
+use Rattle.task_program.proofs.TokenLimits.{too_many_so}
 use Rattle.task_program.specs.ViablePrefix.{IsSentence}
 use Rattle.task_program.specs.FirstFault.{Rules, IsViable, IsWrong, IsRight, EndsEarly}
-use Rattle.task_program.specs.FirstPlainFault.{plain_rules, program_rules, HasFault}
-use Rattle.task_program.proofs.MachineFaults.{IsToldApart, FaultIsFirst}
+use Rattle.task_program.specs.FirstPlainFault.{plain_rules, program_rules}
+use Rattle.task_program.proofs.MachineFaults.{IsToldApart, FaultIsFirst, HasPlainFault}
 use Rattle.task_program.specs.FirstFault.IsMisplaced.{OfHeader, AfterWhole, Elsewhere}
 use Rattle.task_program.specs.FirstFault.IsWrong.{ByItself, Misplaced, PastLimit}
 use Rattle.task_program.specs.FirstFault.EndsEarly.{InHeader, BlockOpen, Inside}
-use Rattle.task_program.specs.FirstPlainFault.HasFault.{TextTooLong, OfTokens}
 use Rattle.task_program.proofs.FirstFaults.{fault_so}
 use Rattle.task_program.proofs.Machines.{Machine, WrongSo, EndsSo, refused, whole_read, read_whole}
 use Rattle.task_program.proofs.Keeping.{at, passes, unless_ok, ok_is, step_keeps}
-use Rattle.task_program.proofs.ReadWhole.{of_one, too_long, same_fault}
+use Rattle.task_program.proofs.ReadWhole.{of_one, too_long, same_fault, refused_with}
 use Rattle.task_program.proofs.Shapes.{closes_none, fits_at, FollowsAt, nothing_follows}
 use Rattle.task_program.proofs.Accepting.{is_whole, sentence_accepted}
 use Rattle.task_program.proofs.Tallies.{Tally, tally_of, tally_after, tally_now, limit_of, limits}
 use Rattle.task_program.proofs.Tallies.{NoItems, is_past_header, tally_more, place_tallies}
 use Rattle.task_program.proofs.Tallies.{place_limits, header_tallies, header_limits}
-use Rattle.task_program.proofs.Tallies.{nothing_counted}
+use Rattle.task_program.proofs.Tallies.{nothing_counted, too_many_with}
 use Rattle.task_program.proofs.Begun.{LengthAt, Began, is_not_viable, viable_next, fits_of}
 use Rattle.task_program.proofs.Begun.{step_begins, row_cases, in_header, after_header, closes_at}
 use Rattle.task_program.proofs.Begun.{whole_closes, whole_now, closes_same, no_header, no_close}
@@ -124,12 +126,12 @@ header_limitless Header state text here = refl
 header_limitless Version state text here = refl
 header_limitless _ state text here = absurd cc
 
--- the limits counted on the tokens are those that the reading tests
-limits_so : (before : List Token) (state : State) (text : List ℕ) → Counts before state
+limits_told : (before : List Token) (state : State) (text : List ℕ) → Counts before state
     → is_header state.place text ≡ true → is_allowed state.place state.head.has_if text ≡ true
-    → limit_fault_after MOST_NESTING (too_many_after (drop 2 before) text) (drop 2 before) text
+    → limit_fault_after MOST_NESTING (too_many_with (texts (drop 2 before)) text) (drop 2 before)
+    text
     ≡ limits state text
-limits_so before state text c header allowed =
+limits_told before state text c header allowed =
     bool_cases (is_past_header state.place)
     (λ past. ap (λ (t : Tally). limit_of t text) c.tally_is
     ∙ place_limits state.place state text past c.within.items allowed)
@@ -141,9 +143,27 @@ limits_so before state text c header allowed =
       header_short state.place (length (texts before)) c.began.length_is here,
     )
     in
-    ap (λ (ts : List Token). limit_fault_after MOST_NESTING (too_many_after ts text) ts text) (nothing_after before short)
+    ap (λ (ts : List Token). limit_fault_after MOST_NESTING (too_many_with (texts ts) text) ts text) (nothing_after before short)
     ∙ header_limits state.place text here header
     ∙ sym (header_limitless state.place state text here))
+
+-- the limits counted on the tokens are those that the reading tests
+limits_so : (before : List Token) (state : State) (text : List ℕ) → Counts before state
+    → is_header state.place text ≡ true → is_allowed state.place state.head.has_if text ≡ true
+    → limit_fault_after MOST_NESTING (too_many_after (drop 2 before) text) (drop 2 before) text
+    ≡ limits state text
+limits_so before state text c header allowed =
+    let body = drop 2 before in
+    let tasks : tasks_in (texts body)
+    ≡ tasks_of state.tree.marks + pending_tasks state.place =
+    ap (λ (t : Tally). t.tasks) c.tally_is in
+    let segments : segments_in (texts body)
+    ≡ segments_of state.tree.marks + pending_segments state.place =
+    ap (λ (t : Tally). t.segments) c.tally_is in
+    ap (λ (found : Option ReadKind). limit_fault_after MOST_NESTING found body text)
+    (too_many_so body text (omega (arith, tasks, c.within.tasks))
+    (omega (arith, segments, c.within.segments)))
+    ∙ limits_told before state text c header allowed
 
 -- the tally of the tokens goes on as the state does
 pub tally_goes : (before : List Token) (state : State) (bytes : ℕ) (next : State) (token : Token)
@@ -472,16 +492,6 @@ reading = record {
   early = ends_so;
 }
 
-short_refused : (text : List ℕ) (fault : ReadFault)
-    → length text ≤ MOST_TEXT_BYTES
-    → program_of text ≡ one_pass text
-    → HasFault text fault
-    → program_of text ≡ Err fault
-short_refused text fault fits so (TextTooLong _ long) = absurd (omega (arith, fits, long))
-short_refused text fault fits so (OfTokens _ _ short first) =
-    so
-    ∙ (refused program_rules reading sentence_long (tokens_of text) (line_at_end 1 text) fault).1 first
-
 -- a text of version 1 is read or has a first fault, and never both
 told_apart : (text : List ℕ)
     → begins_version_two (tokens_of text) ≡ false
@@ -501,17 +511,15 @@ told_apart text one short =
             (read.0, so ∙ read.1),
       );
       refused = λ fault. (
-        λ h. OfTokens text fault fits
+        λ h. subst (λ (b : Bool). MatchBool b (fault ≡ fault_so TooLong 1)
+            (HasPlainFault text fault)) (sym short)
             ((refused program_rules reading sentence_long (tokens_of text) line fault).0
             (sym so ∙ h)),
-        λ h. short_refused text fault fits so h,
+        λ h. so
+            ∙ (refused program_rules reading sentence_long (tokens_of text) line fault).1
+            (MatchBool-at_false (fault ≡ fault_so TooLong 1) (HasPlainFault text fault) short h),
       );
     }
-
-long_refused : (text : List ℕ) (fault : ReadFault) → MOST_TEXT_BYTES < length text
-    → program_of text ≡ Err (fault_so TooLong 1) → HasFault text fault → program_of text ≡ Err fault
-long_refused text fault long so (TextTooLong _ again) = so
-long_refused text fault long so (OfTokens _ _ short first) = absurd (omega (arith, short, long))
 
 -- and so with a text of too many bytes
 long_apart : (text : List ℕ) → nat_lt MOST_TEXT_BYTES (length text) ≡ true → IsToldApart text
@@ -523,10 +531,11 @@ long_apart text long =
         λ w. absurd (omega (arith, longer, w.text_fits)),
       );
       refused = λ fault. (
-        λ h. subst (HasFault text)
-            (same_fault (program_of text) (fault_so TooLong 1) fault (too_long text long) h)
-            (TextTooLong text longer),
-        λ h. long_refused text fault longer (too_long text long) h,
+        λ h. subst (λ (b : Bool). MatchBool b (fault ≡ fault_so TooLong 1)
+            (HasPlainFault text fault)) (sym long)
+            (sym (same_fault (program_of text) (fault_so TooLong 1) fault (too_long text long) h)),
+        λ h. refused_with (program_of text) (fault_so TooLong 1) fault (too_long text long)
+            (MatchBool-at_true (fault ≡ fault_so TooLong 1) (HasPlainFault text fault) long h),
       );
     }
 

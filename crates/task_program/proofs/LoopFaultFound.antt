@@ -30,7 +30,7 @@ use Rattle.task_program.specs.FirstFault.{IsFirstFault}
 use Rattle.task_program.specs.FirstFault.IsMisplaced.{AfterWhole, Elsewhere}
 use Rattle.task_program.specs.FirstFault.IsWrong.{ByItself, Misplaced, PastLimit}
 use Rattle.task_program.specs.FirstFault.EndsEarly.{BlockOpen, Inside}
-use Rattle.task_program.specs.FirstLoopFault.{loop_rules, is_above, most_after}
+use Rattle.task_program.specs.FirstLoopFault.{loop_rules}
 use Rattle.task_program.proofs.Machines.{Machine, WrongSo, EndsSo, refused, whole_read, read_whole}
 use Rattle.task_program.proofs.FoundPlaces.{same_text}
 use Rattle.task_program.proofs.FirstFaults.{fault_so}
@@ -44,6 +44,7 @@ use Rattle.task_program.proofs.LoopBegun.{closes_same, fits_of, unfit_close, unf
 use Rattle.task_program.proofs.LoopBegun.{is_not_viable, viable_next, step_passes, step_begins}
 use Rattle.task_program.proofs.LoopBegun.{Passed}
 use Rattle.task_program.proofs.LoopMost.{LastNow, last_more, large_at, small_at}
+use Rattle.task_program.proofs.LoopMost.{above_so, is_above, most_after}
 use Rattle.program_text.proofs.Bools.{bool_cases}
 
 -- ---- what is known where right tokens were read
@@ -124,8 +125,11 @@ step_right before state next token c h =
       formed = passed.formed;
       viable = viable_next before state token.text c.began
           (fits_of state token.text passed.unopened passed.allowed);
-      within = rw
-          (not_large before state next token c passed, not_deep before state next token c passed)
+      within = rw (
+        above_so (texts before) token.text,
+        not_large before state next token c passed,
+        not_deep before state next token c passed,
+      )
           refl;
     }
 
@@ -251,13 +255,14 @@ at_place before state text kind c formed h =
     let past = large_at state.place (reverse (texts before)) state.head state.tree.blocks text
     c.last allowed_so large in
     subst (IsWrong loop_rules before text) same (PastLimit formed viable
-    (rw (is_large (most_after (texts before)) text past) refl)))
+    (rw (above_so (texts before) text, is_large (most_after (texts before)) text past) refl)))
     (λ small h3. row_cases (nests_too_deep state.place state.tree.blocks text) TooDeep kind _ h3
     (λ deep same.
     let block = deep_block state.place state.head state.tree.blocks text deep allowed_so in
     let no_number : is_number text ≡ false = rw block.0 refl in
     subst (IsWrong loop_rules before text) same (PastLimit formed viable
     (rw (
+      above_so (texts before) text,
       is_no_number (most_after (texts before)) text no_number,
       is_deep before state text c block,
     ) refl)))

@@ -1,9 +1,9 @@
 -- A text of version 2 that has a fault by the definition is refused with it, and with no other.
-use Rattle.std.proofs.Common.{◌≡◌, ℕ, ◌<◌, ◌≤◌, true, false, List, length}
+use Rattle.std.proofs.Common.{◌≡◌, ℕ, Bool, true, false, List, length, inl, inr}
 use Rattle.std.proofs.Common.{None, Result, Ok, Err, refl, sym, ap}
 use Rattle.std.proofs.Common.{subst, ◌∙◌, arith}
-use Rattle.std.specs.Prelude.{nat_lt}
-use Rattle.std.proofs.lemmas.Bool.{ltb-true, ltb-false}
+use Rattle.std.specs.Prelude.{nat_lt, MatchBool}
+use Rattle.std.proofs.lemmas.Bool.{ltb-true, ltb-false, MatchBool-at_true, MatchBool-at_false}
 use Rattle.program_text.specs.declared.fault.ReadKind.TheVariants.{TooLong}
 use Rattle.program_text.specs.declared.fault.ReadFault.{ReadFault}
 use Rattle.program_text.specs.declared.limits.TheConstants.{MOST_TEXT_BYTES}
@@ -17,11 +17,11 @@ use Rattle.task_program.specs.ReadInVersion.{program_of}
 use Rattle.task_program.specs.LoopGrammar.{IsSpelled}
 use Rattle.task_program.specs.FirstFault.{AreRight, AreRightWhole}
 use Rattle.task_program.specs.FirstFault.AreRight.{Nothing, More}
-use Rattle.task_program.specs.FirstLoopFault.{loop_rules, IsTreeOf, body_of, HasLoopFault}
+use Rattle.task_program.specs.Versions.{body_of}
+use Rattle.task_program.specs.FirstLoopFault.{loop_rules, IsTreeOf, HasLoopFault}
 use Rattle.task_program.proofs.MachineFaults.{IsToldInLoops, LoopFaultIsFirst}
-use Rattle.task_program.specs.FirstLoopFault.HasLoopFault.{TextTooLong, OfTokens, OfExpansion}
 use Rattle.std.proofs.lemmas.List.Elements.{All-nil, All-push}
-use Rattle.task_program.proofs.ReadWhole.{of_two, went_through, too_long, same_fault}
+use Rattle.task_program.proofs.ReadWhole.{of_two, went_through, too_long, same_fault, refused_with}
 use Rattle.task_program.proofs.ReadWhole.{short_words}
 use Rattle.task_program.proofs.LoopFound.{AreFormed, found_tree}
 use Rattle.task_program.proofs.LoopOnly.{taken_tree}
@@ -74,31 +74,30 @@ tree_of tokens line whole =
 -- ---- the whole
 
 fault_by_pass : (text : List ℕ) (read : Result Tree ReadFault) (fault : ReadFault)
-    → length text ≤ MOST_TEXT_BYTES
     → first_pass (body_of text) (line_at_end 1 text) after_header ≡ read
     → then_second read ≡ Err fault
     → HasLoopFault text fault
-fault_by_pass text (Ok tree) fault fits first h =
-    OfExpansion text fault fits tree
-    (whole_tree (body_of text) (line_at_end 1 text) tree first)
-    ((expansion_fault tree fault).0 h)
-fault_by_pass text (Err other) fault fits first h =
+fault_by_pass text (Ok tree) fault first h =
+    inr (
+      tree,
+      whole_tree (body_of text) (line_at_end 1 text) tree first,
+      (expansion_fault tree fault).0 h,
+    )
+fault_by_pass text (Err other) fault first h =
     let same : other ≡ fault = cc in
-    subst (HasLoopFault text) same (OfTokens text other fits
-    ((refused_so (body_of text) (line_at_end 1 text) other).0 first))
+    subst (HasLoopFault text) same
+    (inl ((refused_so (body_of text) (line_at_end 1 text) other).0 first))
 
 short_refused : (text : List ℕ) (fault : ReadFault)
-    → length text ≤ MOST_TEXT_BYTES
     → program_of text ≡ two_passes text
     → HasLoopFault text fault
     → program_of text ≡ Err fault
-short_refused text fault fits so (TextTooLong _ long) = absurd (omega (arith, fits, long))
-short_refused text fault fits so (OfTokens _ _ short first) =
+short_refused text fault so (inl first) =
     so ∙ ap then_second ((refused_so (body_of text) (line_at_end 1 text) fault).1 first)
-short_refused text fault fits so (OfExpansion _ _ short tree whole expanded) =
+short_refused text fault so (inr expanded) =
     so
-    ∙ ap then_second (tree_read (body_of text) (line_at_end 1 text) tree whole)
-    ∙ (expansion_fault tree fault).1 expanded
+    ∙ ap then_second (tree_read (body_of text) (line_at_end 1 text) expanded.0 expanded.1)
+    ∙ (expansion_fault expanded.0 fault).1 expanded.2
 
 -- a text of version 2 is read or has a first fault, and never both
 told_in_loops : (text : List ℕ)
@@ -126,22 +125,15 @@ told_in_loops text two short =
             ∙ expansion_taken w.tree program w.expanded,
       );
       refused = λ fault. (
-        λ h. fault_by_pass text (first_pass (body_of text) line after_header) fault fits refl
-            (sym so ∙ h),
-        λ h. short_refused text fault fits so h,
+        λ h. subst (λ (b : Bool). MatchBool b (fault ≡ fault_so TooLong 1)
+            (HasLoopFault text fault)) (sym short)
+            (fault_by_pass text (first_pass (body_of text) line after_header) fault refl
+            (sym so ∙ h)),
+        λ h. short_refused text fault so
+            (MatchBool-at_false (fault ≡ fault_so TooLong 1) (HasLoopFault text fault) short h),
       );
       has_tree = λ whole. tree_of (body_of text) line whole;
     }
-
-long_refused : (text : List ℕ) (fault : ReadFault)
-    → MOST_TEXT_BYTES < length text
-    → program_of text ≡ Err (fault_so TooLong 1)
-    → HasLoopFault text fault
-    → program_of text ≡ Err fault
-long_refused text fault long so (TextTooLong _ again) = so
-long_refused text fault long so (OfTokens _ _ short first) = absurd (omega (arith, short, long))
-long_refused text fault long so (OfExpansion _ _ short tree whole expanded) =
-    absurd (omega (arith, short, long))
 
 -- and so with a text of too many bytes
 long_in_loops : (text : List ℕ) → nat_lt MOST_TEXT_BYTES (length text) ≡ true → IsToldInLoops text
@@ -153,10 +145,11 @@ long_in_loops text long =
         λ w. absurd (omega (arith, longer, w.text_fits)),
       );
       refused = λ fault. (
-        λ h. subst (HasLoopFault text)
-            (same_fault (program_of text) (fault_so TooLong 1) fault (too_long text long) h)
-            (TextTooLong text longer),
-        λ h. long_refused text fault longer (too_long text long) h,
+        λ h. subst (λ (b : Bool). MatchBool b (fault ≡ fault_so TooLong 1)
+            (HasLoopFault text fault)) (sym long)
+            (sym (same_fault (program_of text) (fault_so TooLong 1) fault (too_long text long) h)),
+        λ h. refused_with (program_of text) (fault_so TooLong 1) fault (too_long text long)
+            (MatchBool-at_true (fault ≡ fault_so TooLong 1) (HasLoopFault text fault) long h),
       );
       has_tree = λ whole. tree_of (body_of text) (line_at_end 1 text) whole;
     }

@@ -1,8 +1,8 @@
 -- How large a number may be where the first pass stands, told by the last tokens.
-use Rattle.std.proofs.Common.{◌≡◌, ℕ, ◌<◌, ◌≤◌, Bool, true, false, ◌||◌, List, []}
+use Rattle.std.proofs.Common.{◌≡◌, ℕ, ◌<◌, ◌≤◌, Bool, true, false, ◌&&◌, ◌||◌, cond, List, []}
 use Rattle.std.proofs.Common.{◌∷◌, ◌++◌, Option, Some, None, refl, sym, ap, subst, ◌∙◌, arith}
 use Rattle.std.proofs.Common.{codes}
-use Rattle.std.specs.Prelude.{nat_lt, reverse}
+use Rattle.std.specs.Prelude.{nat_lt, reverse, if◌then◌else◌}
 use Rattle.std.proofs.lemmas.Bool.{and_parts, ltb-true, ltb-false}
 use Rattle.std.proofs.Math.Bool.{and-false}
 use Rattle.std.proofs.lemmas.List.{reverse-append}
@@ -28,13 +28,81 @@ use Rattle.program_text.specs.Words.{is_type, value_of}
 use Rattle.loop_text.specs.FirstPass.{State, is_allowed, is_number_too_large, after_at}
 use Rattle.loop_text.specs.FirstPass.{ends_item}
 use Rattle.loop_text.specs.LoopTokens.{is_plus_or_minus}
-use Rattle.task_program.specs.FirstLoopFault.{ends_with, ends_with_variable, ends_with_bound}
-use Rattle.task_program.specs.FirstLoopFault.{most_by_last}
+use Rattle.task_program.specs.FirstLoopFault.{before_last, comes_bound, is_too_large_after}
 use Rattle.task_program.proofs.FoundPlaces.{same_text}
 use Rattle.task_program.proofs.Tallies.{other_text}
 use Rattle.task_program.proofs.Begun.{texts_more}
 use Rattle.task_program.proofs.LoopShapes.{is_loop_end}
 use Rattle.program_text.proofs.Bools.{bool_cases}
+
+-- ---- the most that a number may be, by the tokens before it, of which the last comes first here
+
+-- the last is this
+abbrev pub ends_with : (text : List ℕ) → List (List ℕ) → Bool
+ends_with text [] = false
+ends_with text (last ∷ others) = is_text last text
+
+-- the last is the variable of a `for`
+abbrev pub ends_with_variable : List (List ℕ) → Bool
+ends_with_variable [] = false
+ends_with_variable (last ∷ others) = is_word last && ends_with (codes "for") others
+
+-- the last is the first bound of a `for`
+abbrev pub ends_with_bound : List (List ℕ) → Bool
+ends_with_bound [] = false
+ends_with_bound (last ∷ others) = is_number last && ends_with_variable others
+
+-- A variable may be called `work`, so a `for` is looked for first. The number of an index may be of
+-- any size: it comes after `[`, `+` or `-`, also where the name or variable before is called `for`.
+abbrev pub most_by_last : List (List ℕ) → Option ℕ
+most_by_last before =
+    if ends_with_variable before || ends_with_bound before then Some LARGEST_BOUND
+    else (if ends_with (codes "work") before then Some LARGEST_COST
+    else (if ends_with (codes "(") before then Some 1
+    else None))
+
+-- the most that a number may be after these, where the grammar has a number: that of a bound, that
+-- of the cost of a `work`, and 1 for an `if` or `final`
+abbrev pub most_after : List (List ℕ) → Option ℕ
+most_after before = most_by_last (reverse before)
+
+abbrev pub is_above : Option ℕ → List ℕ → Bool
+is_above None text = false
+is_above (Some most) text = is_number text && nat_lt most (value_of text)
+
+comes_so : (before : List (List ℕ))
+    → comes_bound before ≡ (ends_with_variable before || ends_with_bound before)
+comes_so [] = refl
+comes_so (last ∷ []) = refl
+comes_so (last ∷ second ∷ []) = refl
+comes_so (last ∷ second ∷ third ∷ others) = refl
+
+last_so : (text : List ℕ) (before : List (List ℕ))
+    → is_text [] text ≡ false
+    → is_text (before_last before 0) text ≡ ends_with text before
+last_so text [] h = h
+last_so text (last ∷ others) h = refl
+
+by_rows : (bound cost one number : Bool) (text : List ℕ)
+    → is_number text ≡ number
+    → (number && cond bound (nat_lt LARGEST_BOUND (value_of text))
+    (cond cost (nat_lt LARGEST_COST (value_of text)) (one && nat_lt 1 (value_of text))))
+    ≡ is_above (cond bound (Some LARGEST_BOUND) (cond cost (Some LARGEST_COST)
+    (cond one (Some 1) None))) text
+by_rows true cost one number text is = rw is refl
+by_rows false true one number text is = rw is refl
+by_rows false false true number text is = rw is refl
+by_rows false false false number text is = and-false number
+
+-- a number is too large after these where it is above the most that may stand there
+pub above_so : (before : List (List ℕ)) (text : List ℕ)
+    → (is_number text && is_too_large_after (reverse before) (value_of text))
+    ≡ is_above (most_after before) text
+above_so before text =
+    let last = reverse before in
+    rw (comes_so last, last_so (codes "work") last refl, last_so (codes "(") last refl)
+    (by_rows (ends_with_variable last || ends_with_bound last) (ends_with (codes "work") last)
+    (ends_with (codes "(") last) (is_number text) text refl)
 
 -- the most that a number may be at a place, if there is a most
 abbrev pub most_at : LoopPlace → Option ℕ

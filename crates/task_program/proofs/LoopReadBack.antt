@@ -1,7 +1,7 @@
 -- The canonical text of version 2 has the program as its tree.
-use Rattle.std.proofs.Common.{◌≡◌, ℕ, suc, ◌+◌, ◌*◌, ◌≤◌, false, List, [], ◌∷◌, ◌++◌, length, refl}
+use Rattle.std.proofs.Common.{◌≡◌, ℕ, suc, ◌+◌, ◌*◌, ◌≤◌, true, false, List, [], ◌∷◌, ◌++◌, length, refl}
 use Rattle.std.proofs.Common.{sym, ap, subst, ◌∙◌, arith, codes}
-use Rattle.std.specs.Prelude.{All, fold, sum_by}
+use Rattle.std.specs.Prelude.{All, drop, fold, sum_by}
 use Rattle.std.specs.List.{flat_map}
 use Rattle.std.proofs.lemmas.List.{append-nil}
 use Rattle.std.proofs.lemmas.List.Sums.{sum_by-append}
@@ -24,7 +24,8 @@ use Rattle.task_program.specs.TreeSoFar.{Block}
 use Rattle.task_program.specs.Grammar.{IsShort}
 use Rattle.task_program.specs.Expanded.{ExpansionState, empty_expansion}
 use Rattle.task_program.specs.ExpandsTo.{state_after_tree, program_of_state}
-use Rattle.task_program.specs.LoopGrammar.{HasLoopTree}
+use Rattle.task_program.specs.LoopGrammar.{HasLoopTree, Spelled}
+use Rattle.task_program.specs.Versions.{begins_version_two, body_of}
 use Rattle.task_program.proofs.Nested.{nests}
 use Rattle.task_program.proofs.NamesOnce.{AreOnce, once_mentioned}
 use Rattle.task_program.proofs.Spelled.{spell, HasName, FitsNames, loops_spelled, line_texts_by}
@@ -234,6 +235,9 @@ canonical_loops program two fits =
     let body : List Token = with_lines words (λ i. lines.0 (suc (suc i))) in
     let has_marks : HasMarks names MOST_NESTING body marks = lines_spelled names MOST_NESTING marks
     (nests program fits) located [] [] (λ i. lines.0 (suc (suc i))) (no_marks names MOST_NESTING) in
+    let in_front = front_apart words lines.0 (tokens_of (canonical_text program)) tokens_are in
+    let body_is : body ≡ body_of (canonical_text program) =
+    sym (ap (λ (ts : List Token). drop 2 ts) in_front) in
     let once : AreOnce names =
     subst AreOnce (sym fits.ordered) (once_mentioned (flat_map (names_of_mark names) marks)) in
     let all_names : names
@@ -249,14 +253,10 @@ canonical_loops program two fits =
     let long : length (canonical_text program) ≤ MOST_CANONICAL_BYTES = expansion_so.3 in (
       record {
         in_version = two;
-        word = record { text = codes "omptasks"; line = lines.0 0 };
-        version = record { text = codes "2"; line = lines.0 1 };
-        body = body;
+        header = ap (λ (ts : List Token). begins_version_two ts) in_front;
         tree = has_marks.tree;
-        tokens_are = front_apart words lines.0 (tokens_of (canonical_text program)) tokens_are;
-        header = refl;
-        version_is_two = (refl, refl);
-        spelled = has_marks.spelled;
+        spelled = subst (λ (ts : List Token). Spelled true [] MOST_NESTING ts has_marks.tree)
+            body_is has_marks.spelled;
         expanded = record {
           program_is = expansion_so.0;
           program_fits = fits;
@@ -265,8 +265,9 @@ canonical_loops program two fits =
           bytes_fit = expansion_so.2;
         };
         text_fits = omega (arith, long);
-        words_fit = subst (λ (ts : List (List ℕ)). All IsShort ts)
-            (sym (texts_stay words (λ i. lines.0 (suc (suc i))))) short_words.each;
+        words_fit = subst (λ (ts : List Token). All IsShort (texts ts)) body_is
+            (subst (λ (ts : List (List ℕ)). All IsShort ts)
+            (sym (texts_stay words (λ i. lines.0 (suc (suc i))))) short_words.each);
       },
       long,
     )

@@ -10,7 +10,7 @@ use Rattle.program_text.proofs.Bools.{bool_cases}
 use Rattle.task_program.specs.ProgramMarks.{ProgramMarks}
 use Rattle.task_program.specs.ReadInVersion.{program_of}
 use Rattle.task_program.specs.Versions.{begins_version_two}
-use Rattle.task_program.specs.FirstPlainFault.{HasFault}
+use Rattle.task_program.proofs.MachineFaults.{UnlessTooLong, HasPlainFault}
 use Rattle.task_program.specs.FirstLoopFault.{HasLoopFault}
 use Rattle.task_program.specs.Readings.{HasFirstFault, IsReading, HasOneReading}
 use Rattle.task_program.proofs.FaultFound.{fault_is_first}
@@ -19,7 +19,8 @@ use Rattle.task_program.proofs.ReadWhole.{found_tree_of, only_tree}
 
 -- the fault by the version
 abbrev fault_by : List ℕ → ReadFault → Bool → Type 0
-fault_by text fault two = MatchBool two (HasLoopFault text fault) (HasFault text fault)
+fault_by text fault two = UnlessTooLong text fault
+    (MatchBool two (HasLoopFault text fault) (HasPlainFault text fault))
 
 not_memory : (kind : ReadKind) → kind ≢ OutOfMemory → is_memory kind ≡ false
 not_memory OutOfMemory other = absurd (other refl)

@@ -42,10 +42,10 @@ use Rattle.task_program.specs.TreeSoFar.Block.{TaskBlock, GroupBlock}
 use Rattle.std.specs.Option.{option_or}
 use Rattle.task_program.specs.TokenCounts.{inside_after, is_inside, outside_from, outside, tasks_by}
 use Rattle.task_program.specs.TokenCounts.{is_waiting, is_value_too_large, is_too_deep}
-use Rattle.task_program.specs.TokenCounts.{is_task_past, is_segment_past, is_work_past, segments_by}
+use Rattle.task_program.specs.TokenCounts.{is_work_past, segments_by}
 use Rattle.task_program.specs.TokenCounts.{work_by, tasks_in, segments_in, work_in, items_after}
 use Rattle.task_program.specs.TokenCounts.{items_in, braces_after, open_braces}
-use Rattle.task_program.specs.TokenCounts.{too_many_after, limit_fault_after}
+use Rattle.task_program.specs.TokenCounts.{limit_fault_after}
 use Rattle.task_program.proofs.Keeping.{at, with_one}
 use Rattle.task_program.proofs.FoundPlaces.{same_text}
 use Rattle.task_program.proofs.Found.{type_is, is_depend, is_end}
@@ -69,7 +69,7 @@ weigh_either weight true text = refl
 weigh_either weight false text = omega arith
 
 -- outside parentheses it counts
-sum_more : (weight : List ℕ → ℕ) (before : List (List ℕ)) (text : List ℕ)
+pub sum_more : (weight : List ℕ → ℕ) (before : List (List ℕ)) (text : List ℕ)
     → sum_by weight (outside (before ++ text ∷ []))
     ≡ sum_by weight (outside before) + cond (is_inside before) 0 (weight text)
 sum_more weight before text =
@@ -427,6 +427,23 @@ place_tallies (DependMore kind) state text line past none allowed =
 
 -- ---- the limits
 
+abbrev pub is_task_past : (inside : Bool) → (tasks : ℕ) → List ℕ → Bool
+is_task_past inside tasks text =
+    not inside && (is_text text (codes "task") && nat_le MOST_TASKS tasks)
+
+abbrev pub is_segment_past : (inside : Bool) → (segments : ℕ) → List ℕ → Bool
+is_segment_past inside segments text =
+    not inside
+    && ((is_text text (codes "task") && nat_lt MOST_SEGMENTS (segments + 2))
+    || (is_waiting text && nat_lt MOST_SEGMENTS (segments + 1)))
+
+-- too many tasks or segments, with the token apart
+abbrev pub too_many_with : (before : List (List ℕ)) → List ℕ → Option ReadKind
+too_many_with before text =
+    cond (is_task_past (is_inside before) (tasks_in before) text) (Some TooManyTasks)
+    (cond (is_segment_past (is_inside before) (segments_in before) text) (Some TooManySegments)
+    None)
+
 -- the rows of the limits, in their order
 abbrev table : (number deep task segment item work : Bool) → Option ReadKind
 table number deep task segment item work =
@@ -736,7 +753,7 @@ version_limits text number value =
 pub header_limits : (place : Place) (text : List ℕ)
     → is_past_header place ≡ false
     → is_header place text ≡ true
-    → limit_fault_after MOST_NESTING (too_many_after [] text) [] text ≡ None
+    → limit_fault_after MOST_NESTING (too_many_with [] text) [] text ≡ None
 header_limits Header text past header =
     ap (λ (t : Tally). limit_of t text) nothing_counted
     ∙ rw (same_text text (codes "omptasks") header) refl

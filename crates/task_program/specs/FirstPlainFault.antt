@@ -1,14 +1,12 @@
--- The fault of a text of version 1, apart from any reading.
-use Rattle.std.specs.Prelude.{ℕ, ◌<◌, ◌≤◌, List, length, sum_by, Option}
+-- The rules of a text of version 1.
+use Rattle.std.specs.Prelude.{ℕ, List, length, sum_by, Option}
 use Rattle.program_text.specs.declared.fault.ReadKind.{ReadKind}
-use Rattle.program_text.specs.declared.fault.ReadKind.TheVariants.{TooLong}
-use Rattle.program_text.specs.declared.fault.ReadFault.{ReadFault}
-use Rattle.program_text.specs.declared.limits.TheConstants.{MOST_TEXT_BYTES, MOST_TOKEN_BYTES}
+use Rattle.program_text.specs.declared.limits.TheConstants.{MOST_TOKEN_BYTES}
 use Rattle.program_text.specs.declared.limits.TheConstants.{MOST_NESTING}
 use Rattle.program_text.specs.TokenFaults.{form_fault_within}
-use Rattle.program_text.specs.Tokens.{Token, tokens_of, line_at_end}
+use Rattle.program_text.specs.Tokens.{Token}
 use Rattle.task_program.specs.TokenCounts.{too_many_after, limit_fault_after}
-use Rattle.task_program.specs.FirstFault.{Rules, IsFirstFault}
+use Rattle.task_program.specs.FirstFault.{Rules}
 use Rattle.task_program.specs.ViablePrefix.{IsSentence}
 
 -- the rules where all tokens have so many bytes at most, so many blocks may be open, and this tells
@@ -26,13 +24,3 @@ plain_rules token_bytes nesting too_many = record {
 -- those of a program's text
 abbrev pub program_rules : Rules
 program_rules = plain_rules MOST_TOKEN_BYTES MOST_NESTING too_many_after
-
--- the fault of a text of version 1: it is too long, or else the first fault of its tokens
-pub data HasFault : List ℕ → ReadFault → Type 0 where
-  TextTooLong : (text : List ℕ)
-      → MOST_TEXT_BYTES < length text
-      → HasFault text (record { kind = TooLong; line = 1 })
-  OfTokens : (text : List ℕ) (fault : ReadFault)
-      → length text ≤ MOST_TEXT_BYTES
-      → IsFirstFault program_rules (tokens_of text) (line_at_end 1 text) fault
-      → HasFault text fault

@@ -1,17 +1,23 @@
 -- What a text is read as: its tree, or its first fault. No machine is in it.
-use Rattle.std.specs.Prelude.{◌≡◌, ℕ, MatchBool, List, Result, Ok, Err}
+use Rattle.std.specs.Prelude.{◌≡◌, ℕ, nat_lt, MatchBool, List, length, Result, Ok, Err}
+use Rattle.program_text.specs.declared.fault.ReadKind.TheVariants.{TooLong}
+use Rattle.program_text.specs.declared.limits.TheConstants.{MOST_TEXT_BYTES}
 use Rattle.program_text.specs.declared.fault.ReadFault.{ReadFault}
-use Rattle.program_text.specs.Tokens.{tokens_of}
+use Rattle.program_text.specs.Tokens.{tokens_of, line_at_end}
 use Rattle.task_program.specs.ProgramMarks.{ProgramMarks}
 use Rattle.task_program.specs.Versions.{begins_version_two}
 use Rattle.task_program.specs.Trees.{HasTree}
-use Rattle.task_program.specs.FirstPlainFault.{HasFault}
+use Rattle.task_program.specs.FirstFault.{IsFirstFault}
+use Rattle.task_program.specs.FirstPlainFault.{program_rules}
 use Rattle.task_program.specs.FirstLoopFault.{HasLoopFault}
 
--- the first fault of a text, in the version that its header tells
+-- The first fault of a text: it is too long, or else its tokens have one, in the version that its
+-- header tells.
 abbrev pub HasFirstFault : List ℕ → ReadFault → Type 0
 HasFirstFault text fault =
-    MatchBool (begins_version_two (tokens_of text)) (HasLoopFault text fault) (HasFault text fault)
+    MatchBool (nat_lt MOST_TEXT_BYTES (length text)) (fault ≡ record { kind = TooLong; line = 1 })
+    (MatchBool (begins_version_two (tokens_of text)) (HasLoopFault text fault)
+    (IsFirstFault program_rules (tokens_of text) (line_at_end 1 text) fault))
 
 -- its tree, or its first fault
 abbrev pub IsReading : List ℕ → Result ProgramMarks ReadFault → Type 0

@@ -9,7 +9,8 @@ use Rattle.loop_text.specs.Loops.{Tree}
 use Rattle.task_program.specs.ExpandsTo.{ExpandsTo}
 use Rattle.task_program.specs.FirstFault.{AreRightWhole}
 use Rattle.task_program.specs.FirstPlainFault.{program_rules}
-use Rattle.task_program.specs.FirstLoopFault.{loop_rules, IsTreeOf, body_of}
+use Rattle.task_program.specs.Versions.{body_of}
+use Rattle.task_program.specs.FirstLoopFault.{loop_rules, IsTreeOf}
 
 -- a text of version 1 without a fault: a sentence within the limits, each token right
 pub record IsRightWhole (text : List ℕ) : Type 0 where

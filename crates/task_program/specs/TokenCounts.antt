@@ -2,7 +2,7 @@
 -- token more passes. A text of version 1 has parentheses in its clauses only, and one `:` or `,`
 -- before each depend item.
 use Rattle.std.specs.Prelude.{ℕ, ◌+◌, Bool, true, false, not, ◌&&◌, ◌||◌, nat_lt, nat_le}
-use Rattle.std.specs.Prelude.{if◌then◌else◌, List, [], ◌∷◌, length, drop, fold, sum_by, Option}
+use Rattle.std.specs.Prelude.{if◌then◌else◌, List, [], ◌∷◌, ◌++◌, length, drop, fold, sum_by, Option}
 use Rattle.std.specs.Prelude.{Some, None, codes}
 use Rattle.std.specs.Option.{option_or}
 use Rattle.program_text.specs.declared.fault.ReadKind.{ReadKind}
@@ -96,16 +96,6 @@ is_value_too_large inside text =
 abbrev pub is_too_deep : (most open_blocks : ℕ) → List ℕ → Bool
 is_too_deep most open_blocks text = is_text text (codes "{") && nat_le most open_blocks
 
-abbrev pub is_task_past : (inside : Bool) → (tasks : ℕ) → List ℕ → Bool
-is_task_past inside tasks text =
-    not inside && (is_text text (codes "task") && nat_le MOST_TASKS tasks)
-
-abbrev pub is_segment_past : (inside : Bool) → (segments : ℕ) → List ℕ → Bool
-is_segment_past inside segments text =
-    not inside
-    && ((is_text text (codes "task") && nat_lt MOST_SEGMENTS (segments + 2))
-    || (is_waiting text && nat_lt MOST_SEGMENTS (segments + 1)))
-
 abbrev pub is_work_past : (inside : Bool) → (work : ℕ) → List ℕ → Bool
 is_work_past inside work text =
     not inside && (is_number text && nat_lt MOST_WORK (work + value_of text))
@@ -113,10 +103,9 @@ is_work_past inside work text =
 -- there are too many tasks or segments with this token, after these
 abbrev pub too_many_after : (body : List Token) → List ℕ → Option ReadKind
 too_many_after body text =
-    let before = texts body in
-    if is_task_past (is_inside before) (tasks_in before) text then Some TooManyTasks
-    else (if is_segment_past (is_inside before) (segments_in before) text then Some TooManySegments
-    else None)
+    let all = texts body ++ text ∷ [] in
+    if nat_lt MOST_TASKS (tasks_in all) then Some TooManyTasks
+    else (if nat_lt MOST_SEGMENTS (segments_in all) then Some TooManySegments else None)
 
 -- the first limit that this token passes after these, where so many blocks may be open
 abbrev pub limit_fault_after : (nesting : ℕ) (too_many : Option ReadKind) (body : List Token)
