@@ -4,6 +4,7 @@
 #include <cmath>
 #include <cstdio>
 
+#include "exact.hpp"
 #include "fold.hpp"
 #include "span.hpp"
 
@@ -118,9 +119,11 @@ std::string advice_for(Region &region, int64_t unit) {
   std::string out = "parallelism is " + parallelism(whole.total, region.span) +
                     "; make the program's own cutoff or blocks larger";
   std::vector<Offer> offers = adviser.offers();
-  if (offers.empty()) return out + "; no fold fits, since tasks with depend are not folded";
+  if (offers.empty()) out += "; no fold fits, since tasks with depend are not folded";
   for (const Offer &one : offers)
     out += ", or record with " + one.setting + " (" + std::to_string(one.tasks) + " tasks left, parallelism " +
            parallelism(whole.total, one.span) + ")";
+  if (uint64_t left = tasks_after_exact_folds(region, unit))
+    out += "; with SPANPROF_FOLD_EXACT=1 work and span stay (" + std::to_string(left) + " tasks left)";
   return out;
 }
