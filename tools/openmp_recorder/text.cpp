@@ -146,9 +146,8 @@ void Writer::leave_out(Place &p, const Task &child) {
 }
 
 std::string Writer::comment_of(const Task &t) const {
-  if (t.part) return of_a_thread;
-  if (!t.stands_for) return places.at(t.code);
-  const std::string &at = places.at(t.code);
+  std::string at = t.part ? of_a_thread : places.at(t.code);
+  if (!t.stands_for) return at;
   return at + (at.empty() ? "" : ", ") + std::to_string(t.stands_for) + " tasks folded exactly";
 }
 
