@@ -206,10 +206,12 @@ bool fits(Region &made, int64_t unit, Size &size) {
 
 // The one that folds least.
 bool best(Region &region, int64_t unit, Region &made, Size &size) {
-  round_costs(region, unit);
-  add_up(region);
-  ::fold(region, {});
-  span_of(region);
+  if (unit > 1) {
+    round_costs(region, unit);
+    add_up(region);
+    ::fold(region, {});
+    span_of(region);
+  }
   for (uint64_t together = 2; together < 2 * region.root->size; together += 1 + together / 4) {
     made = Region();
     if (fold_together(region, together, made) && fits(made, unit, size)) return true;

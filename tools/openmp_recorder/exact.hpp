@@ -3,6 +3,9 @@
 #include "fold.hpp"
 #include "run.hpp"
 
+// A region here is added up, and its span without folds was the last that was added up. Costs of whole nanoseconds are
+// taken as they are; for another unit they are rounded, and all is added up anew.
+
 // Puts fewer tasks in the place of the region's, so that the text fits the ten commands; false, and nothing is changed
 // but that costs are whole units, where no exact fold does.
 bool fold_exactly(Region &region, int64_t unit, Size &size);
