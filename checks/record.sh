@@ -117,6 +117,26 @@ expect "a run that fails" 3 spanprof-record --runs 2 --out failing -- ./llvm 3
 expect_word "a run that fails" 'run 1 of 2 is the last, and there is no median: the program ended with status 3'
 echo "several runs"
 
+clang-16 -g -O1 -fopenmp "$top/checks/large_recordings/program.c" -o many -L$library -Wl,-rpath,$library
+cat > large <<'SH'
+#!/bin/sh
+cat > /dev/null
+printf 'tasks 8190\nsegments 20476\nwork 90\nspan 30\n'
+SH
+chmod +x large
+SPANPROF_LARGE=$folder/large expect "a large recording" 0 spanprof-record -- ./many tree 13
+expect_word "a large recording" 'many.large.tasks, region at program.c:'
+expect_word "a large recording" '30 ns: no run ends sooner (proved for the recorded text, of measured costs)'
+expect_word "a large recording" 'many.tasks is not written: 8190 tasks, and spanprof takes 4096; parallelism is'
+[ -e many.large.tasks ] && [ ! -e many.tasks ] || fail "a large recording: other files"
+SPANPROF_LARGE=/none expect "no spanprof_large" 125 spanprof-record -- ./many tree 13
+expect_word "no spanprof_large" 'spanprof-record: spanprof_large: '
+expect "an exact fold" 0 spanprof-record --fold exact -- ./many tree 13
+expect_word "an exact fold" 'exact fold'
+"$spanprof" span < many.tasks > counted || fail "an exact fold is refused"
+[ ! -e many.large.tasks ] || fail "an exact fold: the large text of the run before is left"
+echo "recordings of any size"
+
 expect_error 127 './none: no such program' spanprof-record -- ./none
 expect_error 127 'llvm: no such program on the PATH; llvm of this folder is ./llvm' spanprof-record -- llvm
 expect_error 126 './in: not executable' spanprof-record -- ./in

@@ -2,6 +2,7 @@
 // says: 50[0-9][0-9] tasks, and spanprof takes 4096; parallelism is
 // says: blocks larger; no fold fits, since tasks with depend are not
 // no file: out.tasks
+// file: out.large.tasks
 #include "spend.h"
 
 static char place[5000];

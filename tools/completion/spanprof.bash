@@ -57,7 +57,7 @@ _spanprof_record() {
         --clock) _spanprof_among "$current" wall cpu ;;
         --html) _spanprof_files "$current" .html ;;
         --out | --runtime) _spanprof_files "$current" ;;
-        --fold) _spanprof_among "$current" depth= cost= chunk=; compopt -o nospace 2> /dev/null ;;
+        --fold) _spanprof_among "$current" exact depth= cost= chunk=; compopt -o nospace 2> /dev/null ;;
         --threads | --runs) ;;
         *) case $current in
             -*) _spanprof_among "$current" -- "$(_spanprof_options "${COMP_WORDS[0]}")" ;;

@@ -4,6 +4,7 @@
 #include <cmath>
 #include <cstdio>
 
+#include "exact.hpp"
 #include "fold.hpp"
 #include "span.hpp"
 
@@ -108,6 +109,7 @@ std::string parallelism(int64_t work, int64_t span) {
 }
 
 std::string advice_for(Region &region, int64_t unit) {
+  uint64_t exact = unit == 1 ? tasks_after_exact_folds(region, unit) : 0;  // first, since other folds change spans
   Adviser adviser(region, unit);
   const Size &whole = adviser.size();
   if (whole.items > most_items) return "give each task fewer depend items";
@@ -118,9 +120,11 @@ std::string advice_for(Region &region, int64_t unit) {
   std::string out = "parallelism is " + parallelism(whole.total, region.span) +
                     "; make the program's own cutoff or blocks larger";
   std::vector<Offer> offers = adviser.offers();
-  if (offers.empty()) return out + "; no fold fits, since tasks with depend are not folded";
+  if (offers.empty()) out += "; no fold fits, since tasks with depend are not folded";
   for (const Offer &one : offers)
     out += ", or record with " + one.setting + " (" + std::to_string(one.tasks) + " tasks left, parallelism " +
            parallelism(whole.total, one.span) + ")";
+  if (unit > 1) exact = tasks_after_exact_folds(region, unit);  // last, since it rounds costs
+  if (exact) out += "; with SPANPROF_FOLD_EXACT=1 work and span stay (" + std::to_string(exact) + " tasks left)";
   return out;
 }

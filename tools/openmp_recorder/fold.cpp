@@ -72,6 +72,8 @@ void count(const Task &t, const Folds &folds, Size &size) {
 void add_up_steps(Task &t) {
   unsigned groups = 0;
   t.total = t.largest = 0;
+  t.size = 1;
+  t.waits = t.inner_groups = 0;
   for (const Step &step : t.steps) {
     if (step.kind == Kind::Work) t.total += step.cost(), t.largest = std::max(t.largest, step.cost());
     if (step.kind == Kind::GroupBegin) t.inner_groups = std::max(t.inner_groups, ++groups);
@@ -87,7 +89,7 @@ void add_up_steps(Task &t) {
 void add_up(Region &region) {
   for (Task &t : region.tasks) add_up_steps(t);
   for (auto t = region.tasks.rbegin(); t != region.tasks.rend(); ++t)
-    if (t->parent) t->parent->total += t->total;
+    if (t->parent) t->parent->total += t->total, t->parent->size += t->size;
 }
 
 Size fold(Region &region, const Folds &folds, uint64_t enough) {

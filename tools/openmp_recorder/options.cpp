@@ -52,5 +52,6 @@ Options read_options() {
   number("SPANPROF_FOLD_DEPTH", chosen.fold_depth);
   number("SPANPROF_FOLD_COST", chosen.fold_cost);
   number("SPANPROF_FOLD_CHUNK", chosen.fold_chunk);
+  flag("SPANPROF_FOLD_EXACT", "0", "1", chosen.fold_exact);
   return chosen;
 }

@@ -28,6 +28,7 @@ Words words(Remark remark) {
     case Remark::ToldElsewhere: return {"untied task whose end another thread told", "work and span too low"};
     case Remark::PartsLeftOut: return {"parts without tasks, left out", "work and span too low"};
     case Remark::Folded: return {"folded task", "span too high (an upper bound)"};
+    case Remark::FoldedExactly: return {"exact fold", "work and span are the whole's, other numbers the fold's"};
     case Remark::HeldLock: return {"time inside locks, which exclude each other", "span too low"};
     case Remark::Rounding: return {"rounding to whole units", "work differs by more than a fiftieth"};
   }

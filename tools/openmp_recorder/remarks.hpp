@@ -22,6 +22,7 @@ enum class Remark : uint8_t {
   ToldElsewhere,
   PartsLeftOut,
   Folded,
+  FoldedExactly,
   HeldLock,
   Rounding
 };

@@ -8,6 +8,7 @@
 #include "advice.hpp"
 #include "compose.hpp"
 #include "events.hpp"
+#include "exact.hpp"
 #include "files.hpp"
 #include "fold.hpp"
 #include "head.hpp"
@@ -53,8 +54,15 @@ Size Reporter::fold_as_asked(Region &region) {
   remark_locks(region);
   int64_t most = INT64_MAX / options.unit;
   int64_t below = std::min(static_cast<int64_t>(options.fold_cost), most) * options.unit;
+  region.work = region.root->total;
   region.span = span_of(region);
-  Size size = fold(region, {options.fold_depth, below, options.fold_chunk});
+  Folds folds{options.fold_depth, below, options.fold_chunk};
+  Size size = fold(region, folds);
+  if (options.fold_exact && !over_the_limits(size, options.unit).empty()) {
+    if (fold_exactly(region, options.unit, size)) return size;
+    say("SPANPROF_FOLD_EXACT: no exact fold fits");
+    size = fold(region, folds);
+  }
   for (const Task &t : region.tasks)
     if (t.parent && !is_written(t)) region.remarks[Remark::Folded].add(t.code);
   return size;
@@ -62,8 +70,8 @@ Size Reporter::fold_as_asked(Region &region) {
 
 // Of a text of this work, in units.
 std::string Reporter::head(Region &region, int64_t work) {
-  int64_t total = region.root->total, lost = total - work * options.unit;
-  if (std::abs(lost) > total / 50) region.remarks[Remark::Rounding].add(nullptr);
+  int64_t lost = region.work - work * options.unit;
+  if (std::abs(lost) > region.work / 50) region.remarks[Remark::Rounding].add(nullptr);
   return head_of(region, recording, options, places);
 }
 
@@ -80,6 +88,7 @@ void Reporter::tell_remarks(const Region &region, const std::string &name) {
 
 // Which files hold the run; where there is no replay document, why.
 std::string Reporter::write_run(const Region &region, const std::string &name, const Text &text) {
+  if (region.remarks.count(Remark::FoldedExactly)) return "; no replay document, since tasks are folded exactly";
   Events events = event_lines(region);
   if (events.workers > most_workers)
     return "; no replay document, since it holds 64 workers and the run had " + std::to_string(events.workers);

@@ -77,6 +77,8 @@ struct Task {
   Fold fold = Fold::No;
   int64_t joined = 0;         // the cost of siblings that are `work` of it
   unsigned joined_tasks = 0;
+  unsigned size = 1;          // tasks, with all below it
+  unsigned stands_for = 0;    // tasks, where it or the row that it begins is an exact fold
   int64_t end = 0, end_below = 0;  // of its code and of all below it, from its start on as many threads as can be used
   bool shown = true;
   std::vector<uint32_t> numbers;  // of its segments in the text; none where a segment is part of a later one
@@ -113,7 +115,7 @@ struct Region {
   std::map<LockName, LockUse> locks;
   Remarks remarks;
   Task *root = nullptr;           // what is written
-  int64_t span = 0;               // without folds, in nanoseconds
+  int64_t work = 0, span = 0;     // without folds, in nanoseconds
   bool joined = false;            // tasks may be joined
   int64_t in_parts = 0, in_tasks = 0;  // the costs of parts without tasks, and of all else
 };

@@ -47,6 +47,7 @@ class Writer {
   void step(Place &p, const Step &step);
   void leave_out(Place &p, const Task &child);
   void create(Place &p, Task &child);
+  std::string comment_of(const Task &t) const;
   void enter(Task &t, unsigned indent);
   void leave();
 };
@@ -144,6 +145,12 @@ void Writer::leave_out(Place &p, const Task &child) {
   p.task.numbers[p.segment - 1] = none;
 }
 
+std::string Writer::comment_of(const Task &t) const {
+  std::string at = t.part ? of_a_thread : places.at(t.code);
+  if (!t.stands_for) return at;
+  return at + (at.empty() ? "" : ", ") + std::to_string(t.stands_for) + " tasks folded exactly";
+}
+
 void Writer::create(Place &p, Task &child) {
   if (!is_written(child)) return leave_out(p, child);
   flush(p);
@@ -151,7 +158,7 @@ void Writer::create(Place &p, Task &child) {
   piece += child.undeferred ? "task if(0)" : "task";
   items(child);
   piece += " {";
-  end_line(child.part ? of_a_thread : places.at(child.code));
+  end_line(comment_of(child));
   enter(child, p.indent + 1);
 }
 

@@ -81,6 +81,7 @@ def is_shown(line, out, texts, remarks):
 
 def as_option(line):
     """A fold as spanprof-record takes it."""
+    line = line.replace("SPANPROF_FOLD_EXACT=1", "--fold exact")
     return FOLD.sub(lambda found: "--fold %s=" % found[1].lower(), line)
 
 

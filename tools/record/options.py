@@ -39,8 +39,11 @@ def count(least, most):
 
 def fold(word):
     name, _, number = word.partition("=")
+    if word == "exact":
+        return name, 1
     if name not in FOLDS or not re.fullmatch(r"[1-9][0-9]{0,14}", number):
-        raise argparse.ArgumentTypeError("a fold is %s, with a whole number" % ", ".join(name + "=N" for name in FOLDS))
+        listed = ", ".join(name + "=N" for name in FOLDS)
+        raise argparse.ArgumentTypeError("a fold is exact, or %s with a whole number" % listed)
     return name, int(number)
 
 
@@ -54,9 +57,9 @@ def parser():
     add("--threads", type=count(1, 1024), metavar="P", help="OMP_NUM_THREADS of the run; spanprof judges 64 at most")
     add("--runs", type=count(1, MOST_RUNS), default=1, metavar="N",
         help="run it N times, and take the median of each segment's costs")
-    add("--fold", type=fold, action="append", default=[], metavar="depth=D|cost=C|chunk=N",
-        help="write tasks at depth D with all below them as one cost; tasks cheaper than C as work of their parent; N "
-        "neighbours as one task")
+    add("--fold", type=fold, action="append", default=[], metavar="exact|depth=D|cost=C|chunk=N",
+        help="where a recording is too large, write fewer tasks with the same work and span; or tasks at depth D with "
+        "all below them as one cost; tasks cheaper than C as work of their parent; N neighbours as one task")
     add("--runtime", metavar="FILE", help="LLVM's runtime, to run the program on whatever it is linked with")
     add("--html", metavar="PAGE", help="write the page of spanprof-report too")
     add("--open", action="store_true", help="show that page in the browser; without --html it is NAME.html")

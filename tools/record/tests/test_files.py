@@ -70,13 +70,15 @@ spanprof recorder: {0}: mutexinoutset, 1 time: span too low
 spanprof recorder: {0}.tasks and {0}.replay: 3 tasks, 7 segments, work 10 ns
 spanprof recorder: {0}.2.tasks: 3 tasks, 7 segments, work 10 ns
 spanprof recorder: {0}.3.large.tasks: 21890 tasks, 43781 segments, work 10 ns
-spanprof recorder: {0}.3.tasks is not written: 21890 tasks, and spanprof takes 4096; record with SPANPROF_FOLD_DEPTH=7
+spanprof recorder: {0}.3.tasks is not written: 21890 tasks, and spanprof takes 4096; \
+record with SPANPROF_FOLD_DEPTH=7; with SPANPROF_FOLD_EXACT=1 work and span stay
 """
 
     def test_only_what_the_summary_does_not_show(self):
         said = files.messages(self.write("words", self.LINES.format(self.out)))
         self.assertTrue(said.loaded)
-        advice = "mine.3.tasks is not written: 21890 tasks, and spanprof takes 4096; record with --fold depth=7"
+        advice = "mine.3.tasks is not written: 21890 tasks, and spanprof takes 4096; " \
+            "record with --fold depth=7; with --fold exact work and span stay"
         shown = [self.out + ".tasks"]
         self.assertEqual(said.news(self.out, shown, {"mutexinoutset, 1 time: span too low"}), [
             "mine.2.tasks: 3 tasks, 7 segments, work 10 ns",

@@ -123,9 +123,15 @@ class Words(unittest.TestCase):
         self.assertEqual(parse(["--open", "--", "./mine"]).html, "mine.html")
         self.assertEqual(parse(["--open", "--html", "p.html", "--", "./mine"]).html, "p.html")
 
+    def test_folds(self):
+        chosen = parse(["--fold", "exact", "--fold", "depth=3", "--", "x"])
+        self.assertEqual(chosen.fold, [("exact", 1), ("depth", 3)])
+        new = environment({}, chosen, "/r.so", "", "o", "m")
+        self.assertEqual((new["SPANPROF_FOLD_EXACT"], new["SPANPROF_FOLD_DEPTH"]), ("1", "3"))
+
     def test_wrong_words(self):
-        wrong = ("--unit s", "--unit 0", "--threads 0", "--runs -1", "--fold depth", "--clock sun", "--out a/",
-                 "--thre 2")
+        wrong = ("--unit s", "--unit 0", "--threads 0", "--runs -1", "--fold depth", "--fold exact=2",
+                 "--clock sun", "--out a/", "--thre 2")
         for words in [[], ["--"]] + [options.split() + ["--", "x"] for options in wrong]:
             with mock.patch("sys.stderr"), self.assertRaises(SystemExit) as end:
                 parse(words)
