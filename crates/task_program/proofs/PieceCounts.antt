@@ -10,8 +10,8 @@ use Rattle.program_text.specs.Marks.{Mark}
 use Rattle.task_program.specs.TreeSoFar.{Block, after_end_of, end_mark_of}
 use Rattle.task_program.specs.TreeSoFar.Block.{TaskBlock, GroupBlock}
 use Rattle.task_program.specs.Expansion.{Piece}
-use Rattle.task_program.specs.Expansion.Piece.{TurnBegins, TaskComes, ItemComes, TaskOpens}
-use Rattle.task_program.specs.Expansion.Piece.{GroupComes, GroupOpens, BlockEnds, WorkIs, WaitIs}
+use Rattle.task_program.specs.Expansion.Piece.{TurnBegins, ItemComes, TaskOpens}
+use Rattle.task_program.specs.Expansion.Piece.{GroupOpens, BlockEnds, WorkIs, WaitIs}
 use Rattle.task_program.specs.Expanded.{ExpansionState, after_piece, after_pieces, empty_expansion}
 use Rattle.task_program.specs.PieceCounts.{Counts, counts_in, items_after, segments_by, tasks_by}
 use Rattle.task_program.specs.PieceCounts.{turns_by, work_by}
@@ -50,67 +50,44 @@ no_work (TaskBlock line) = refl
 no_work (GroupBlock line) = refl
 
 tasks_step : CountsMarks tasks_begun tasks_by
-tasks_step state (TurnBegins line) = omega arith
-tasks_step state (TaskComes line) = omega arith
-tasks_step state (ItemComes item) = omega arith
 tasks_step state (TaskOpens undeferred line) = sum_by_push tasks_begun state.tree.marks _
-tasks_step state (GroupComes line) = omega arith
 tasks_step state (GroupOpens line) = sum_by_push tasks_begun state.tree.marks _
 tasks_step state BlockEnds =
     let same = ends_count_nothing tasks_begun no_task state.tree.blocks state.tree.marks in
     omega (arith, same)
 tasks_step state (WorkIs cost line) = sum_by_push tasks_begun state.tree.marks _
 tasks_step state (WaitIs line) = sum_by_push tasks_begun state.tree.marks _
+tasks_step state _ = omega arith
 
 segments_step : CountsMarks segments_opened segments_by
-segments_step state (TurnBegins line) = omega arith
-segments_step state (TaskComes line) = omega arith
-segments_step state (ItemComes item) = omega arith
 segments_step state (TaskOpens undeferred line) = sum_by_push segments_opened state.tree.marks _
-segments_step state (GroupComes line) = omega arith
 segments_step state (GroupOpens line) = sum_by_push segments_opened state.tree.marks _
 segments_step state BlockEnds =
     let same = ends_count_nothing segments_opened no_segment state.tree.blocks state.tree.marks in
     omega (arith, same)
 segments_step state (WorkIs cost line) = sum_by_push segments_opened state.tree.marks _
 segments_step state (WaitIs line) = sum_by_push segments_opened state.tree.marks _
+segments_step state _ = omega arith
 
 work_step : CountsMarks work_done work_by
-work_step state (TurnBegins line) = omega arith
-work_step state (TaskComes line) = omega arith
-work_step state (ItemComes item) = omega arith
 work_step state (TaskOpens undeferred line) = sum_by_push work_done state.tree.marks _
-work_step state (GroupComes line) = omega arith
 work_step state (GroupOpens line) = sum_by_push work_done state.tree.marks _
 work_step state BlockEnds =
     let same = ends_count_nothing work_done no_work state.tree.blocks state.tree.marks in
     omega (arith, same)
 work_step state (WorkIs cost line) = sum_by_push work_done state.tree.marks _
 work_step state (WaitIs line) = sum_by_push work_done state.tree.marks _
+work_step state _ = omega arith
 
 turns_step : (state : ExpansionState) (piece : Piece)
     → (after_piece state piece).turns ≡ state.turns + turns_by piece
 turns_step state (TurnBegins line) = refl
-turns_step state (TaskComes line) = omega arith
-turns_step state (ItemComes item) = omega arith
-turns_step state (TaskOpens undeferred line) = omega arith
-turns_step state (GroupComes line) = omega arith
-turns_step state (GroupOpens line) = omega arith
-turns_step state BlockEnds = omega arith
-turns_step state (WorkIs cost line) = omega arith
-turns_step state (WaitIs line) = omega arith
+turns_step state _ = omega arith
 
 items_step : (state : ExpansionState) (piece : Piece)
     → length (after_piece state piece).items ≡ items_after (length state.items) piece
-items_step state (TurnBegins line) = refl
-items_step state (TaskComes line) = refl
 items_step state (ItemComes item) = length_push state.items _
-items_step state (TaskOpens undeferred line) = refl
-items_step state (GroupComes line) = refl
-items_step state (GroupOpens line) = refl
-items_step state BlockEnds = refl
-items_step state (WorkIs cost line) = refl
-items_step state (WaitIs line) = refl
+items_step state _ = refl
 
 -- ---- along a list of pieces
 

@@ -21,7 +21,7 @@ use Rattle.task_program.proofs.ReadWhole.{found_tree_of, only_tree}
 abbrev fault_by : List ℕ → ReadFault → Bool → Type 0
 fault_by text fault two = MatchBool two (HasLoopFault text fault) (HasFault text fault)
 
-not_memory : (kind : ReadKind) → kind ≢ OutOfMemory → is_memory kind ≡ false
+pub not_memory : (kind : ReadKind) → kind ≢ OutOfMemory → is_memory kind ≡ false
 not_memory OutOfMemory other = absurd (other refl)
 not_memory _ other = refl
 
