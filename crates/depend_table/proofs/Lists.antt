@@ -1,13 +1,28 @@
 -- Ascending lists of sets of numbers.
 use Rattle.std.proofs.Common.{ℕ, ◌+◌, ◌<◌, ◌≡◌, ◌⊎◌, List, [], ◌∷◌, ◌++◌, length, get_or, Contains}
-use Rattle.std.proofs.Common.{sym, ◌∙◌, ap, subst, inl, inr, arith}
+use Rattle.std.proofs.Common.{sym, ◌∙◌, ap, subst, inl, inr, arith, zero, suc, ◌≤◌}
 use Rattle.std.specs.List.Sorted.{IsStrictlyIncreasing}
-use Rattle.std.proofs.lemmas.Bool.{cases_lt}
+use Rattle.std.proofs.lemmas.Bool.{cases_lt, cases_eq}
 use Rattle.std.proofs.lemmas.List.{length_push, get_or_append_left}
 use Rattle.std.proofs.lemmas.List.Elements.{Contains-get_or, Contains-push, Contains-append_left}
 use Rattle.std.proofs.lemmas.List.Elements.{Contains-push_cases}
 use Rattle.std.proofs.Math.Seq.{get_or-append_seam}
 use Rattle.depend_table.specs.Lists.{Lists}
+
+-- a list contains a number or does not
+pub cases_contains : (xs : List ℕ) (x : ℕ) → Contains xs x ⊎ (Contains xs x → ⊥)
+cases_contains [] x = inr (λ has. absurd (omega (arith, has.1)))
+cases_contains (y ∷ ys) x = elim (cases_eq y x) [
+  | inl e ↦ inl (0, omega arith, e)
+  | inr apart ↦ elim (cases_contains ys x) [
+    | inl has ↦ inl (suc has.0, omega (arith, has.1), has.2)
+    | inr none ↦
+        inr (λ has. elim has.0 as (λ k. k < length (y ∷ ys) → get_or (y ∷ ys) k x ≡ x → ⊥) [
+          | zero ↦ (λ _ e. apart e)
+          | suc k ↦ (λ h e. none (k, omega arith, e))
+        ] has.1 has.2)
+  ]
+]
 
 -- one more number, above all of them
 pub increasing_push : (xs : List ℕ) (n : ℕ)
@@ -35,7 +50,7 @@ increasing_push xs n up below k h =
 
 -- a list with one greater number more
 pub lists_push : (P Q : ℕ → Type 0) (xs : List ℕ) (n : ℕ) → Lists P xs → ((m : ℕ) → P m → m < n)
-    → ((m : ℕ) → P m → Q m) → Q n → ((m : ℕ) → Q m → P m ⊎ (n ≡ m)) → Lists Q (xs ++ n ∷ [])
+    → ((m : ℕ) → P m → Q m) → Q n → ((m : ℕ) → Q m → P m ⊎ (m ≡ n)) → Lists Q (xs ++ n ∷ [])
 lists_push P Q xs n lists above widened new cases = record {
   ascending = increasing_push xs n lists.ascending (λ m c. above m ((lists.each m).0 c));
   each = λ m. (
@@ -45,7 +60,7 @@ lists_push P Q xs n lists above widened new cases = record {
     ]),
     (λ q. elim (cases m q) [
       | inl old ↦ Contains-append_left xs (n ∷ []) m ((lists.each m).1 old)
-      | inr same ↦ subst (λ k. Contains (xs ++ n ∷ []) k) same (Contains-push xs n)
+      | inr same ↦ subst (λ k. Contains (xs ++ n ∷ []) k) (sym same) (Contains-push xs n)
     ]),
   );
 }

@@ -168,7 +168,7 @@ numbers_marked first marks numbers kept i number within up marked found lists =
         }
 
     back : (m : ℕ) → IsMarkedNumber first marks numbers (i + 1) m
-        → IsMarkedNumber first marks numbers i m ⊎ (number ≡ m)
+        → IsMarkedNumber first marks numbers i m ⊎ (m ≡ number)
     back m at_mark =
         let below = at_mark.below in
         elim (cases_lt at_mark.place i) [
@@ -179,7 +179,7 @@ numbers_marked first marks numbers kept i number within up marked found lists =
             found = at_mark.found;
           })
           | inr not_less ↦ let same : at_mark.place ≡ i = omega arith in
-              inr (sym found ∙ sym (ap (λ k. get_or numbers k 0) same) ∙ at_mark.found)
+              inr (sym at_mark.found ∙ ap (λ k. get_or numbers k 0) same ∙ found)
         ]
 
 -- ascending places stand between the first of them and the last

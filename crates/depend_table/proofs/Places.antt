@@ -1,4 +1,4 @@
--- The places of siblings: how many were generated before each.
+-- The places of siblings: how many were created before each.
 use Rattle.std.proofs.Common.{ℕ, ◌+◌, ◌<◌, ◌≡◌, ◌↔◌, Bool, true, false, cond, List, [], ◌∷◌, ◌++◌}
 use Rattle.std.proofs.Common.{map, reverse, length, get_or, Option, All, Contains, refl, sym, ◌∙◌}
 use Rattle.std.proofs.Common.{ap, subst, arith}

@@ -13,7 +13,7 @@ use Rattle.task_segments.specs.Precedence.{Resumption, Wait}
 use Rattle.task_segments.specs.Precedence.Descends.{Below, Itself}
 use Rattle.task_segments.specs.Table.{Table, segment, task}
 use Rattle.task_segments.specs.declared.table.Closing.{Closing}
-use Rattle.task_segments.specs.declared.table.Closing.TheVariants.{Creates, EndsGroup, EndsTask}
+use Rattle.task_segments.specs.declared.table.Closing.TheVariants.{EndsGroup}
 use Rattle.task_segments.specs.declared.table.Closing.TheVariants.{Waits}
 use Rattle.depend_table.proofs.Conflicts.{Member, Mentions, earlier_mentions}
 use Rattle.depend_table.proofs.Conflicts.Member.{Head, Tail}
@@ -28,16 +28,12 @@ use Rattle.dispatch_core.proofs.Decisions.{decide_implies, decide_less, decide_m
 use Rattle.dispatch_core.proofs.Decisions.{decide_same, decide_some, decide_true}
 
 decide_waits : (closing : Closing) → IsDecided (closing ≡ Waits)
-decide_waits (Creates child) = inr (λ e. cc)
 decide_waits Waits = inl refl
-decide_waits EndsGroup = inr (λ e. cc)
-decide_waits EndsTask = inr (λ e. cc)
+decide_waits _ = inr (λ e. cc)
 
 decide_group_end : (closing : Closing) → IsDecided (closing ≡ EndsGroup)
-decide_group_end (Creates child) = inr (λ e. cc)
-decide_group_end Waits = inr (λ e. cc)
 decide_group_end EndsGroup = inl refl
-decide_group_end EndsTask = inr (λ e. cc)
+decide_group_end _ = inr (λ e. cc)
 
 pub decide_continues : (table : Table) (s t : ℕ) → IsDecided (Continues table s t)
 decide_continues table s t =
@@ -119,7 +115,7 @@ decide_dependence table s t =
     (decide_true (items_conflict (task table u).items (task table v).items))
     (decide_same (task table u).last s))))))
 
--- a child that the task of t generated before t
+-- a child that the task of t created before t
 decide_earlier_child : (table : Table) (child t : ℕ) → IsDecided (IsEarlierChild table child t)
 decide_earlier_child table child t =
     let A : Type 0 = IsTask table child in
@@ -293,7 +289,7 @@ newest_or_older : (Q : Sibling → List Sibling → Type 0) (y : Sibling) (ys : 
 newest_or_older Q y ys x older Newest q = inl q
 newest_or_older Q y ys x older (Older h) q = inr h
 
--- of some sibling with those generated before it
+-- of some sibling with those created before it
 decide_among : (Q : Sibling → List Sibling → Type 0)
     → ((x : Sibling) (older : List Sibling) → IsDecided (Q x older))
     → (siblings : List Sibling)

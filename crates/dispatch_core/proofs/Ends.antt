@@ -15,7 +15,7 @@ use Rattle.std.proofs.lemmas.List.Folds.{sum_by-replicate}
 use Rattle.program_text.specs.declared.limits.TheConstants.{MOST_SEGMENTS}
 use Rattle.task_segments.specs.Table.{Table, costs_of}
 use Rattle.task_segments.specs.declared.table.Segment.{Segment}
-use Rattle.task_segments.specs.Precedence.{MustPrecede, Continues, Creation}
+use Rattle.task_segments.specs.Precedence.{Continues, Creation}
 use Rattle.dispatch_core.specs.declared.event.TheConstants.{MOST_WORKERS}
 use Rattle.dispatch_core.specs.declared.event.Event.{Event}
 use Rattle.dispatch_core.specs.Run.{HasStarted, HasFinished, Runs, IsFinished, IsOpen}
@@ -31,7 +31,8 @@ use Rattle.open_segments.specs.UpToDate.{IsUpToDate}
 use Rattle.dispatch_core.proofs.KeptEnough.{kept_at, open_after, precedes_of}
 use Rattle.dispatch_core.specs.RecordedGraph.{RecordedGraph, IsGraph, Precedes, predecessors_of}
 use Rattle.dispatch_core.specs.Graph.{IsGraphOf}
-use Rattle.open_segments.proofs.AtFirst.{entry-replicate, get-replicate}
+use Rattle.open_segments.proofs.AtFirst.{entry-replicate}
+use Rattle.open_segments.proofs.PlaceLemmas.{get-replicate}
 
 nothing_started : (s : ℕ) → ¬ HasStarted [] s
 nothing_started s h = let within = h.started.1 in absurd (omega arith)

@@ -11,6 +11,7 @@ use Rattle.task_segments.specs.Precedence.{Continues, Creation, MustPrecede}
 use Rattle.task_segments.specs.Schedule.{IsChain}
 use Rattle.depend_table.specs.Kept.{IsKeptEdge}
 use Rattle.depend_table.specs.Lists.{Lists}
+use Rattle.depend_table.proofs.Lists.{lists_same, cases_contains}
 use Rattle.dispatch_core.specs.declared.event.Event.{Event}
 use Rattle.dispatch_core.specs.declared.event.Event.TheVariants.{Finish}
 use Rattle.dispatch_core.specs.Run.{HasFinished, Runs, IsLegalRun, IsOpen, BecomesReady}
@@ -20,12 +21,11 @@ use Rattle.open_segments.specs.Counters.{unfinished_count}
 use Rattle.dispatch_core.specs.Sound.{TellFinished}
 use Rattle.open_segments.specs.NumberLists.{items_of}
 use Rattle.open_segments.specs.UpToDate.{IsUpToDate, IsFreed}
-use Rattle.open_segments.proofs.ListLemmas.{Lists-like}
 use Rattle.dispatch_core.proofs.Histories.{started_kept, finished_cases, started_was}
 use Rattle.dispatch_core.proofs.Histories.{started_before_finish, legal_push}
 use Rattle.open_segments.specs.Entry.{entry}
 use Rattle.dispatch_core.proofs.FinishStep.{started_after_preds}
-use Rattle.open_segments.proofs.Falls.{none_left, all_counted, has_or_not}
+use Rattle.open_segments.proofs.Falls.{none_left, all_counted}
 
 -- what must precede a finished segment is finished
 pub finished_before : (table : Table) (history : List Event) (s u : ℕ) → IsLegalRun table history
@@ -278,7 +278,7 @@ becomes_freed table history values counters worker s t up chains legal tell stat
     becomes.is_now.known becomes.is_now.after in
     let lists =
     kept_at table (IsOpenBy table values) t list opened (state.kept.lists t list there) in
-    let decided : IsKeptEdge table s t ⊎ ¬ IsKeptEdge table s t = elim (has_or_not list s) [
+    let decided : IsKeptEdge table s t ⊎ ¬ IsKeptEdge table s t = elim (cases_contains list s) [
       | inl has ↦ inl ((lists.each s).0 has)
       | inr absent ↦ inr (λ edge. absent ((lists.each s).1 edge))
     ] in
@@ -300,13 +300,12 @@ pub newly_listed : (table : Table) (history : List Event) (values : List (Option
     → Lists (IsFreed s counters) ready
     → Lists (BecomesReady table history (history ++ Finish worker s ∷ [])) ready
 newly_listed table history values counters worker s ready up chains legal runs tell state lists =
-    Lists-like (IsFreed s counters) (BecomesReady table history (history ++ Finish worker s ∷ []))
-    ready
+    lists_same (IsFreed s counters) (BecomesReady table history (history ++ Finish worker s ∷ []))
+    ready lists
     (λ t freed.
     freed_becomes table history values counters worker s t up chains legal runs tell state freed)
     (λ t becomes.
     becomes_freed table history values counters worker s t up chains legal tell state becomes)
-    lists
 
 -- of an open segment, a count of 0 tells that all that must precede it is finished
 pub none_counted : (table : Table) (history : List Event) (values : List (Option ℕ))

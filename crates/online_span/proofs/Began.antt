@@ -1,5 +1,5 @@
 -- What the table at a later moment tells of a task that has begun.
-use Rattle.std.proofs.Common.{true, ◌+◌, ◌≡◌, ◌≢◌, ◌⊎◌, ℕ, ◌<◌, ◌≤◌, Bool, cond, eqb}
+use Rattle.std.proofs.Common.{true, ◌+◌, ◌≡◌, ◌≢◌, ◌⊎◌, ℕ, ◌<◌, ◌≤◌, Bool, eqb}
 use Rattle.std.proofs.Common.{List, [], ◌∷◌, get_or, drop, refl, sym, ap, subst, ◌∙◌}
 use Rattle.std.proofs.Common.{inl, inr, arith, slice_get}
 use Rattle.std.specs.List.{All}
@@ -15,7 +15,7 @@ use Rattle.task_segments.specs.Table.{task, table_at}
 use Rattle.task_segments.proofs.Steps.{task_has_begun, count-cons, opening_of-new}
 use Rattle.task_segments.proofs.Steps.{beginning_of-old, beginning_of-new, segments_opens}
 use Rattle.task_segments.proofs.Facts.{row, first-at, beginning_within}
-use Rattle.task_segments.proofs.Grouping.{IsGrouped, Among, before_task}
+use Rattle.task_segments.proofs.Grouping.{IsGrouped, Among, before_task, among_top}
 use Rattle.task_segments.proofs.Places.{Down}
 use Rattle.online_span.specs.Awaiting.{items_of, is_undeferred}
 use Rattle.online_span.proofs.Later.{Later, ended_stays, beginnings_stay, openings_stay}
@@ -37,18 +37,6 @@ pub among_gone : (u : ℕ) (stack : List ℕ) → Among u stack → All (λ x. x
 among_gone u [] a all = a
 among_gone u (x ∷ stack) (inl is) all = all 0 0 (omega arith) is
 among_gone u (x ∷ stack) (inr a) all = among_gone u stack a (All-tail (λ x. x ≢ u) x stack all)
-
-among_below : (n u : ℕ) (stack : List ℕ) → All (λ x. x < n) stack → Among u stack → u < n
-among_below n u [] all a = absurd a
-among_below n u (x ∷ stack) all (inl is) = let below = all 0 0 (omega arith) in omega arith
-among_below n u (x ∷ stack) all (inr a) =
-    among_below n u stack (All-tail (λ x. x < n) x stack all) a
-
--- no open task has a larger number than the innermost
-pub among_top : (u : ℕ) (stack : List ℕ) → Down stack → Among u stack → u ≤ get_or stack 0 0
-among_top u [] d a = absurd a
-among_top u (x ∷ stack) d (inl is) = omega arith
-among_top u (x ∷ stack) d (inr a) = let below = among_below x u stack d.0 a in omega arith
 
 -- a task with a larger number than the running one is not open
 pub above_top : (u : ℕ) (stack : List ℕ) → Down stack → get_or stack 0 0 < u

@@ -36,19 +36,11 @@ items_stay : (m : Mark) (e : List Mark) (u : ℕ) → u < tasks_so_far e
     → items_of u (m ∷ e) ≡ items_of u e
 items_stay (Begins d i) e u l =
     let other : eqb (tasks_so_far e) u ≡ false = grind (arith, nat_tests) in rw other refl
-items_stay Ends e u l = refl
-items_stay (Works cost) e u l = refl
-items_stay Waits e u l = refl
-items_stay GroupBegins e u l = refl
-items_stay GroupEnds e u l = refl
+items_stay _ e u l = refl
 
 pub tasks_more : (m : Mark) (e : List Mark) → tasks_so_far e ≤ tasks_so_far (m ∷ e)
 tasks_more (Begins d i) e = omega (arith, tasks_begins d i e)
-tasks_more Ends e = omega arith
-tasks_more (Works cost) e = omega arith
-tasks_more Waits e = omega arith
-tasks_more GroupBegins e = omega arith
-tasks_more GroupEnds e = omega arith
+tasks_more _ e = omega arith
 
 child_more : (m : Mark) (test : List Item → Bool) (p : ℕ) (e : List Mark) (s : ℕ)
     → Child test p e s

@@ -11,7 +11,7 @@ use Rattle.task_program.specs.Marks.Mark.{Begins, Ends, Works, Waits, GroupBegin
 use Rattle.task_segments.specs.Moments.{OpenGroup, opens, segments_so_far, tasks_so_far, open_tasks}
 use Rattle.task_segments.specs.Moments.{open_groups, running_task, last_of, opening_of, cost_of}
 use Rattle.task_segments.specs.Moments.{IsProper}
-use Rattle.task_segments.specs.Schedule.{at, IsLegal, IsSpan, IsLeastEnd}
+use Rattle.task_segments.specs.Schedule.{at, IsSpan, IsLeastEnd}
 use Rattle.task_segments.specs.Schedule as schedule
 use Rattle.task_segments.specs.StartsAndTails.{IsAscending, IsEarliest}
 use Rattle.task_segments.proofs.Schedules.{by_rule, at-by_rule, length-by_rule, end_of-least}
@@ -20,7 +20,7 @@ use Rattle.task_segments.proofs.StartsAndTails.{IsSpan-earliest, IsLeastEnd-earl
 use Rattle.task_segments.proofs.Steps.{segments_opens, opening_of-new, opening_of-old}
 use Rattle.task_segments.proofs.Steps.{running_below, count-cons}
 use Rattle.task_segments.proofs.Facts.{begun_some_segment, nothing_before}
-use Rattle.task_segments.proofs.Rows.{cost_none}
+use Rattle.task_segments.proofs.Rows.{cost_none, cost_latest}
 use Rattle.online_span.specs.Awaiting.{Ended, IsLastOf, AwaitsNow, Awaits, ended_of, ended_in_first, ended_in}
 use Rattle.online_span.specs.Awaiting.{greatest_of, end_of, latest, start_now, any_items}
 use Rattle.online_span.specs.Awaiting.{is_undeferred}
@@ -80,7 +80,6 @@ last-below n test (task ∷ tasks) s b (inr h) = last-below n test tasks s b.1 h
 -- what the segment that opens now awaits has opened before it
 pub awaits-before : (m : Mark) (e : List Mark) → IsProper (m ∷ e) → (s : ℕ) → AwaitsNow (m ∷ e) s
     → s < segments_so_far e
-awaits-before (Begins d i) e p s (inl h) = omega arith
 awaits-before (Begins d i) e p s (inr h) =
     last-below _ (λ other. items_conflict other i) (ended_of (running_task e) e) s
     (ended_below (running_task e) e p.1) h
@@ -91,11 +90,9 @@ awaits-before Ends e p s (inl h) =
     omega arith
 awaits-before Ends e p s (inr h) = omega (arith, h.1)
 awaits-before (Works cost) e p s h = absurd h
-awaits-before Waits e p s (inl h) = omega arith
 awaits-before Waits e p s (inr h) =
     last-below _ any_items (ended_of (running_task e) e) s (ended_below (running_task e) e p.1) h
 awaits-before GroupBegins e p s h = absurd h
-awaits-before GroupEnds e p s (inl h) = omega arith
 awaits-before GroupEnds e p s (inr h) = in_group (open_groups e) h
   where
     in_group : (groups : List OpenGroup)
@@ -104,6 +101,7 @@ awaits-before GroupEnds e p s (inr h) = in_group (open_groups e) h
     in_group [] k = absurd k
     in_group (g ∷ groups) k =
         last-below _ any_items (ended_in g.number e) s (inside_below g.number e p.1) k
+awaits-before _ e p s (inl h) = omega arith
 
 -- the latest segment, by its number
 at_latest : (f : ℕ → ℕ) (e : List Mark) (s : ℕ) → segments_so_far e ≡ s + 1 → f (latest e) ≡ f s
@@ -112,7 +110,6 @@ at_latest f e s h = let is : latest e ≡ s = omega arith in ap f is
 -- the segment that opens now does not start before the end of what it awaits
 pub awaits-covers : (f : ℕ → ℕ) (m : Mark) (e : List Mark) (s : ℕ) → AwaitsNow (m ∷ e) s
     → f s ≤ start_now f m e
-awaits-covers f (Begins d i) e s (inl h) = omega (arith, at_latest f e s h)
 awaits-covers f (Begins d i) e s (inr h) =
     omega (
       arith,
@@ -126,13 +123,12 @@ awaits-covers f Ends e s (inl h) =
     ]
 awaits-covers f Ends e s (inr h) = rw h.0 (omega (arith, at_latest f e s h.1))
 awaits-covers f (Works cost) e s h = absurd h
-awaits-covers f Waits e s (inl h) = omega (arith, at_latest f e s h)
 awaits-covers f Waits e s (inr h) =
     omega (arith, greatest-covers f any_items (ended_of (running_task e) e) s h)
 awaits-covers f GroupBegins e s h = absurd h
-awaits-covers f GroupEnds e s (inl h) = omega (arith, at_latest f e s h)
 awaits-covers f GroupEnds e s (inr h) =
     omega (arith, greatest-covers f any_items (ended_in_first (open_groups e) e) s h)
+awaits-covers f _ e s (inl h) = omega (arith, at_latest f e s h)
 
 -- the later of the latest segment's end and the greatest of some others
 later : (f : ℕ → ℕ) (e : List Mark) (P : ℕ → Type 0) (n : ℕ) → 0 < segments_so_far e
@@ -271,21 +267,13 @@ cost-at e s l =
     (omega (arith, segments-at e))
     ∙ ap (λ (row : Segment). row.cost) (segment-at e s l)
 
-cost_opens : (m : Mark) (e : List Mark) (s : ℕ) → opens m ≡ true → cost_of s (m ∷ e) ≡ cost_of s e
-cost_opens (Begins d i) e s o = refl
-cost_opens Ends e s o = refl
-cost_opens (Works cost) e s o = absurd (grind arith)
-cost_opens Waits e s o = refl
-cost_opens GroupBegins e s o = absurd (grind arith)
-cost_opens GroupEnds e s o = refl
-
 ends_opens : (m : Mark) (e : List Mark) → opens m ≡ true
     → ((s : ℕ) → s < segments_so_far e → end_of e s ≡ start_of e s + cost_of s e)
     → (s : ℕ)
     → s < segments_so_far (m ∷ e)
     → end_of (m ∷ e) s ≡ start_of (m ∷ e) s + cost_of s (m ∷ e)
 ends_opens m e o earlier s l =
-    let cost = cost_opens m e s o in
+    let cost = cost_latest m e s o in
     elim (cases_lt s (segments_so_far e)) [
       | inl x ↦
           omega (

@@ -24,13 +24,14 @@ use Rattle.task_segments.proofs.Facts.{tasks-at}
 use Rattle.task_segments.proofs.Grouping.{IsGrouped, fits, Among, among_head, before_task}
 use Rattle.task_segments.proofs.Grouping.{groups_stay_open, begun_open}
 use Rattle.task_segments.proofs.Grouping.{groups_at_later_moment, children_are_counted, tasks_below}
+use Rattle.task_segments.proofs.Grouping.{among_top}
 use Rattle.online_span.specs.Awaiting.{Ended, IsLastOf, any_items, ended_in, latest}
 use Rattle.online_span.proofs.Last.{last_running}
 use Rattle.online_span.proofs.Held.{outer_below}
 use Rattle.online_span.proofs.Later.{Later, ended_stays, idle, tasks_grow}
 use Rattle.online_span.proofs.Later.Later.{Now, More}
 use Rattle.online_span.proofs.Children.{tasks_more, not_top}
-use Rattle.online_span.proofs.Began.{row_of, among_top, among_gone, was_open, before_within}
+use Rattle.online_span.proofs.Began.{row_of, among_gone, was_open, before_within}
 use Rattle.online_span.proofs.Began.{later_proper, later_grouped}
 
 -- one of these groups

@@ -104,12 +104,9 @@ closing_from (m ∷ b) = closing_by m b
 
 closes_now : (m : Mark) (e : List Mark) (s : ℕ) → opens m ≡ true → is_latest s e ≡ true
     → closing_of s (m ∷ e) ≡ closing_by m e
-closes_now (Begins d i) e s o r = rw r refl
-closes_now Ends e s o r = rw r refl
 closes_now (Works cost) e s o r = absurd (grind arith)
-closes_now Waits e s o r = rw r refl
 closes_now GroupBegins e s o r = absurd (grind arith)
-closes_now GroupEnds e s o r = rw r refl
+closes_now _ e s o r = rw r refl
 
 closes_so : (e : List Mark) (t : ℕ) (m : Mark) (b : List Mark) → 0 < t → t < segments_so_far e
     → opening_of t e ≡ m ∷ b
@@ -398,17 +395,13 @@ precedes e s t Ends b h (inl last) =
     (continues_at e t Ends b h (omega arith)))
 precedes e s t Ends b h (inr k) = inr (inr (inl (resumes e s t b h k.0 k.1)))
 precedes e s t (Works cost) b h k = absurd k
-precedes e s t Waits b h (inl l) =
-    let runs_on = continues_latest e t Waits b h refl h.proper.0 in
-    let is : t - 1 ≡ s = omega (arith, h.number) in
-    inl (subst (λ (n : ℕ). Continues (table_at e) n t) is runs_on.1)
 precedes e s t Waits b h (inr k) = inr (inr (inr (inr (inl (waits e s t b h k)))))
 precedes e s t GroupBegins b h k = absurd k
-precedes e s t GroupEnds b h (inl l) =
-    let runs_on = continues_latest e t GroupEnds b h refl h.proper.0 in
+precedes e s t GroupEnds b h (inr k) = inr (inr (inr (inr (inr (ends_group e s t b h k)))))
+precedes e s t m b h (inl l) =
+    let runs_on = continues_latest e t m b h refl h.proper.0 in
     let is : t - 1 ≡ s = omega (arith, h.number) in
     inl (subst (λ (n : ℕ). Continues (table_at e) n t) is runs_on.1)
-precedes e s t GroupEnds b h (inr k) = inr (inr (inr (inr (inr (ends_group e s t b h k)))))
 
 -- the first segment of a task continues none
 first_alone : (e : List Mark) (s t : ℕ) (d : Bool) (i : List Item) (b : List Mark)
@@ -440,13 +433,11 @@ awaits_continued e s t Ends b h k =
     let two = h.proper.0 in
     let begun = running_below (Ends ∷ b) (omega (arith, length-drop 1 (open_tasks b))) in
     inl (sym (h.place.follows_one s _ t k (continues_at e t Ends b h (omega arith))))
-awaits_continued e s t (Works cost) b h k =
-    absurd (let opens_one : false ≡ true = h.opens_one in grind arith)
 awaits_continued e s t Waits b h k = inl (latest_alone e s t Waits b h refl h.proper.0 k).1
-awaits_continued e s t GroupBegins b h k =
-    absurd (let opens_one : false ≡ true = h.opens_one in grind arith)
 awaits_continued e s t GroupEnds b h k =
     inl (latest_alone e s t GroupEnds b h refl h.proper.0 k).1
+awaits_continued e s t _ b h k =
+    absurd (let opens_one : false ≡ true = h.opens_one in grind arith)
 
 -- where a task's first segment opened
 record First (e : List Mark) (u t : ℕ) : Type 0 where
@@ -558,13 +549,11 @@ awaits_resumption e s t Ends b h k =
     let undeferred : is_undeferred (running_task b) b ≡ true =
     sym r.undeferred ∙ ap (λ (u : ℕ). (task T u).undeferred) ran ∙ k.undeferred in
     inr (undeferred, omega arith)
-awaits_resumption e s t (Works cost) b h k =
-    absurd (let opens_one : false ≡ true = h.opens_one in grind arith)
 awaits_resumption e s t Waits b h k = absurd (created_sooner e s t Waits b h refl h.proper.0 k)
-awaits_resumption e s t GroupBegins b h k =
-    absurd (let opens_one : false ≡ true = h.opens_one in grind arith)
 awaits_resumption e s t GroupEnds b h k =
     absurd (created_sooner e s t GroupEnds b h refl h.proper.0 k)
+awaits_resumption e s t _ b h k =
+    absurd (let opens_one : false ≡ true = h.opens_one in grind arith)
 
 -- a task whose last segment is before t had begun where t opened
 begun_by : (e : List Mark) (t : ℕ) (m : Mark) (b : List Mark) → At e t m b

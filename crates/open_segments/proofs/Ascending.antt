@@ -84,7 +84,7 @@ Lists-same P xs ys one two =
     same_members xs ys one.ascending two.ascending (λ n h. (two.each n).1 ((one.each n).0 h))
     (λ n h. (one.each n).1 ((two.each n).0 h))
 
-sum_by_agree : (f g : ℕ → ℕ) (xs : List ℕ)
+pub sum_by_agree : (f g : ℕ → ℕ) (xs : List ℕ)
     → ((n : ℕ) → Contains xs n → f n ≡ g n)
     → sum_by f xs ≡ sum_by g xs
 sum_by_agree f g [] same = refl

@@ -3,9 +3,9 @@ use Rattle.std.proofs.Common.{ℕ, ◌<◌, ◌≡◌, ◌≢◌, zero, suc, Lis
 use Rattle.std.proofs.Common.{[], Option, Some, None, length, refl, sym, ap, ◌∙◌, subst, arith}
 use Rattle.std.proofs.Common.{inl, inr, get_or}
 use Rattle.std.proofs.lemmas.Option.{slice_get-get_or}
-use Rattle.std.specs.Prelude.{slice_get, replicate, AllPairs, Contains}
+use Rattle.std.specs.Prelude.{replicate, AllPairs, Contains}
 use Rattle.std.proofs.lemmas.Bool.{cases_eq}
-use Rattle.std.proofs.lemmas.Option.{same_Some, none-some, slice_get_within}
+use Rattle.std.proofs.lemmas.Option.{none-some, slice_get_within}
 use Rattle.std.proofs.lemmas.List.{length-replicate}
 use Rattle.task_segments.specs.Table.{Table}
 use Rattle.open_segments.specs.Facts.{IsSoundTable}
@@ -19,13 +19,7 @@ use Rattle.open_segments.proofs.ListLemmas.{Lists-none}
 use Rattle.open_segments.proofs.SiblingSteps.{siblings_first}
 use Rattle.open_segments.specs.NumberLists.{items_of}
 use Rattle.open_segments.specs.UpToDate.{IsUpToDate}
-
-pub get-replicate : {A : Type 0} (n : ℕ) (x y : A) (i : ℕ)
-    → slice_get (replicate n x) i ≡ Some y
-    → x ≡ y
-get-replicate zero x y i h = absurd (none-some y h)
-get-replicate (suc n) x y zero h = same_Some x y h
-get-replicate (suc n) x y (suc i) h = get-replicate n x y i h
+use Rattle.open_segments.proofs.PlaceLemmas.{get-replicate}
 
 pub entry-replicate : (n v i : ℕ) → ¬ (entry (replicate n None) i ≡ Some v)
 entry-replicate zero v i h = none-some v h

@@ -1,9 +1,9 @@
 -- Which kept edges lead to a segment that opens.
 use Rattle.std.proofs.Common.{ℕ, ◌<◌, ◌≡◌, ◌⊎◌, zero, suc, Bool, true, false, List, [], ◌∷◌, ◌++◌}
-use Rattle.std.proofs.Common.{Option, Some, None, length, map, refl, sym, ap, ◌∙◌, subst, arith}
+use Rattle.std.proofs.Common.{Some, length, map, refl, sym, ap, ◌∙◌, subst, arith}
 use Rattle.std.proofs.Common.{inl, inr}
 use Rattle.std.specs.Prelude.{Contains, if◌then◌else◌}
-use Rattle.std.proofs.lemmas.Bool.{eqb-true}
+use Rattle.std.proofs.lemmas.Bool.{both_ways}
 use Rattle.std.proofs.lemmas.Option.{same_Some}
 use Rattle.task_segments.specs.Table.{Table, segment, task}
 use Rattle.task_segments.specs.InPlace.{IsReadInPlace}
@@ -15,8 +15,10 @@ use Rattle.depend_table.specs.Siblings.{Sibling, IsAmong, IsKept}
 use Rattle.depend_table.specs.Siblings.IsAmong.{Newest, Below}
 use Rattle.depend_table.specs.Kept.{children_below, is_some_of, KeptDependence, IsKeptEdge}
 use Rattle.depend_table.specs.Lists.{Lists}
+use Rattle.depend_table.proofs.Children.{some_of}
+use Rattle.depend_table.proofs.Lists.{lists_push}
 use Rattle.open_segments.specs.WaysToOpen.{Joins, AreKeptSiblings, last_segment}
-use Rattle.open_segments.proofs.ListLemmas.{Lists-none, Lists-end, Lists-map}
+use Rattle.open_segments.proofs.ListLemmas.{Lists-none, Lists-map}
 
 -- to a segment that follows another of its task
 pub next_cases : (table : Table) (p b t : ℕ)
@@ -144,9 +146,6 @@ join_before table p b t facts follows (inr group) =
     let less = ends.1 in
     omega (arith, less, group.last, facts.follows_one ends.0.before b t ends.0.after follows)
 
-both_true_false : (x : Bool) → x ≡ true → x ≡ false → ⊥
-both_true_false x one other = absurd (cc)
-
 -- the one before it alone, where that one creates a task that is deferred
 pub deferred_edges : (table : Table) (b t child : ℕ)
     → IsReadInPlace table
@@ -155,16 +154,15 @@ pub deferred_edges : (table : Table) (b t child : ℕ)
     → (task table child).undeferred ≡ false
     → Lists (λ p. IsKeptEdge table p t) (b ∷ [])
 deferred_edges table b t child facts follows creates deferred =
-    Lists-end (λ p. ⊥) (λ p. IsKeptEdge table p t) b [] (Lists-none (λ p. ⊥) (λ p h. h))
+    lists_push (λ p. ⊥) (λ p. IsKeptEdge table p t) [] b (Lists-none (λ p. ⊥) (λ p h. h))
     (λ p h. absurd h) (λ p h. absurd h) (inl follows)
     (λ p edge. elim (next_cases table p b t facts follows edge) [
       | inl same ↦ inr same
       | inr (inl resumption) ↦
           let child_is : resumption.child ≡ child =
           resumes_child table p b t child facts follows resumption creates in
-          absurd (both_true_false (task table child).undeferred
-          (subst (λ (u : ℕ). (task table u).undeferred ≡ true) child_is resumption.undeferred)
-          deferred)
+          absurd (both_ways (task table child).undeferred deferred
+          (subst (λ (u : ℕ). (task table u).undeferred ≡ true) child_is resumption.undeferred))
       | inr (inr joins) ↦ absurd (join_creates_none table p b t child facts follows joins creates)
     ])
 
@@ -178,9 +176,9 @@ pub resumed_edges : (table : Table) (b t child : ℕ)
 resumed_edges table b t child facts follows creates undeferred =
     let known = facts.creates b child follows.is_from creates in
     let after : b < (task table child).last = facts.created_before child b known.0 known.1 in
-    let one : Lists (λ p. p ≡ b) (b ∷ []) = Lists-end (λ p. ⊥) (λ p. p ≡ b) b []
+    let one : Lists (λ p. p ≡ b) (b ∷ []) = lists_push (λ p. ⊥) (λ p. p ≡ b) [] b
     (Lists-none (λ p. ⊥) (λ p h. h)) (λ p h. absurd h) (λ p h. absurd h) refl (λ p h. inr h) in
-    Lists-end (λ p. p ≡ b) (λ p. IsKeptEdge table p t) (task table child).last (b ∷ []) one
+    lists_push (λ p. p ≡ b) (λ p. IsKeptEdge table p t) (b ∷ []) (task table child).last one
     (λ p same. omega (arith, same, after))
     (λ p same. subst (λ (n : ℕ). IsKeptEdge table n t) (sym same) (inl follows))
     (inr (inr (inl (record {
@@ -209,7 +207,7 @@ pub after_join : (table : Table) (before next : ℕ) (list : List ℕ)
     → Lists (λ p. Joins table p next) list
     → Lists (λ p. IsKeptEdge table p next) (list ++ before ∷ [])
 after_join table before next list facts follows none joined =
-    Lists-end (λ p. Joins table p next) (λ p. IsKeptEdge table p next) before list joined
+    lists_push (λ p. Joins table p next) (λ p. IsKeptEdge table p next) list before joined
     (λ p h. join_before table p before next facts follows h)
     (λ p h. join_edge table p next h)
     (inl follows)
@@ -224,10 +222,6 @@ after_join table before next list facts follows none joined =
 pub record IsAmongChildren (table : Table) (parent n : ℕ) (one : Sibling) : Type 0 where
   pub of_parent : (task table one.task).parent ≡ Some parent
   pub below : one.task < n
-
-parent_is : (parent : Option ℕ) (p : ℕ) → is_some_of parent p ≡ true → parent ≡ Some p
-parent_is None p h = absurd (cc)
-parent_is (Some q) p h = ap (λ n. Some n) (eqb-true q p h)
 
 one_more : (table : Table) (parent u : ℕ) (one : Sibling)
     → IsAmongChildren table parent u one
@@ -249,7 +243,7 @@ step_among : (table : Table) (parent u : ℕ) (b : Bool) (one : Sibling) (rest o
 step_among table parent u false one rest older same so_far among =
     one_more table parent u one (so_far one rest among)
 step_among table parent u true one rest older same so_far
-    Newest = record { of_parent = parent_is (task table u).parent parent same; below = omega arith }
+    Newest = record { of_parent = some_of (task table u).parent parent same; below = omega arith }
 step_among table parent u true one rest older same so_far (Below among) =
     one_more table parent u one (so_far one rest among)
 
@@ -360,8 +354,8 @@ pub first_edges : (table : Table) (child s : ℕ) (kept : List ℕ) → AreKeptS
     (map (last_segment table) kept ++ s ∷ [])
 first_edges table child s kept given facts is_creator =
     let first : ℕ = (task table child).first in
-    Lists-end (λ p. KeptDependence table p first) (λ p. IsKeptEdge table p first) s
-    (map (last_segment table) kept) (sibling_edges table child kept given facts)
+    lists_push (λ p. KeptDependence table p first) (λ p. IsKeptEdge table p first)
+    (map (last_segment table) kept) s (sibling_edges table child kept given facts)
     (λ p depends.
     let earlier : ℕ = depends.earlier in
     let is_kept = kept_of table child p kept given facts depends in

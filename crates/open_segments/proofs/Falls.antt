@@ -4,7 +4,6 @@ use Rattle.std.proofs.Common.{List, [], ◌∷◌, ◌++◌, Option, Some, None,
 use Rattle.std.proofs.Common.{refl, sym, ap, ◌∙◌, subst, arith, inl, inr}
 use Rattle.std.specs.Prelude.{slice_get, slice_set, slice_index_or, Contains, is_none, IsTrue}
 use Rattle.std.specs.Prelude.{AllPairs, if◌then◌else◌}
-use Rattle.std.specs.Option.{option_flatten}
 use Rattle.std.proofs.lemmas.Bool.{cases_eq, both_ways}
 use Rattle.std.proofs.lemmas.Option.{same_Some}
 use Rattle.std.proofs.lemmas.List.Sums.{sum_by-cons}
@@ -13,10 +12,12 @@ use Rattle.std.proofs.lemmas.List.{length-set, get_or-take, length-take, take_mo
 use Rattle.std.proofs.lemmas.List.Elements.{Contains-append_left, Contains-push}
 use Rattle.std.proofs.lemmas.List.Elements.{Contains-push_cases}
 use Rattle.depend_table.specs.Lists.{Lists}
+use Rattle.depend_table.proofs.Lists.{cases_contains}
 use Rattle.open_segments.specs.Entry.{entry}
 use Rattle.open_segments.specs.Counters.{unfinished_count, AreCounts, IsCounted, AreLowered}
 use Rattle.open_segments.specs.NumberLists.{IsListed}
 use Rattle.open_segments.proofs.PlaceLemmas.{get-set_same, get-set_other, entry-set_same}
+use Rattle.open_segments.proofs.PlaceLemmas.{entry-set_other}
 
 tail_has : (x n : ℕ) (xs : List ℕ) (k : ℕ)
     → k < length (x ∷ xs)
@@ -25,16 +26,6 @@ tail_has : (x n : ℕ) (xs : List ℕ) (k : ℕ)
     → Contains xs n
 tail_has x n xs zero within is apart = absurd (apart is)
 tail_has x n xs (suc k) within is apart = (k, omega (arith, within), is)
-
-pub has_or_not : (list : List ℕ) (n : ℕ) → Contains list n ⊎ ¬ Contains list n
-has_or_not [] n = inr (λ h. let is_within = h.1 in absurd (omega (arith, is_within)))
-has_or_not (x ∷ xs) n = elim (cases_eq x n) [
-  | inl same ↦ inl (0, omega arith, same)
-  | inr apart ↦ elim (has_or_not xs n) [
-    | inl h ↦ inl (suc h.0, (let is_within = h.1 in omega (arith, is_within)), h.2)
-    | inr none ↦ inr (λ h. none (tail_has x n xs h.0 h.1 h.2 apart))
-  ]
-]
 
 -- once each: none of the later ones is the same
 abbrev pub IsOnce : List ℕ → Type 0
@@ -45,12 +36,6 @@ pub add_one : (values : List (Option ℕ)) (x : ℕ) (xs : List ℕ)
     → unfinished_count values (x ∷ xs)
     ≡ cond {A = ℕ} (is_none (entry values x)) 1 0 + unfinished_count values xs
 add_one values x xs = sum_by-cons (λ y. cond {A = ℕ} (is_none (entry values y)) 1 0) x xs
-
-pub same_entry : (values : List (Option ℕ)) (s x v : ℕ)
-    → x ≢ s
-    → entry (slice_set values s (Some v)) x ≡ entry values x
-same_entry values s x v apart =
-    ap (λ (o : Option (Option ℕ)). option_flatten o) (get-set_other values s x (Some v) apart)
 
 pub count_stays : (values : List (Option ℕ)) (s v : ℕ) (list : List ℕ)
     → ¬ Contains list s
@@ -65,7 +50,7 @@ count_stays values s v (x ∷ xs) none =
     ∙ ap
     (λ (o : Option ℕ).
     cond {A = ℕ} (is_none o) 1 0 + unfinished_count (slice_set values s (Some v)) xs)
-    (same_entry values s x v apart)
+    (entry-set_other values s x (Some v) apart)
     ∙ ap (λ (n : ℕ). cond {A = ℕ} (is_none (entry values x)) 1 0 + n) rest
     ∙ sym (add_one values x xs)
 
@@ -96,7 +81,7 @@ count_falls values s v (x ∷ xs) within none once has = elim (cases_eq x s) [
       count_falls values s v xs within none once.1 (tail_has x s xs has.0 has.1 has.2 apart) in
       let same : cond {A = ℕ} (is_none (entry (slice_set values s (Some v)) x)) 1 0
       ≡ cond {A = ℕ} (is_none (entry values x)) 1 0 =
-      ap (λ (o : Option ℕ). cond {A = ℕ} (is_none o) 1 0) (same_entry values s x v apart) in
+      ap (λ (o : Option ℕ). cond {A = ℕ} (is_none o) 1 0) (entry-set_other values s x (Some v) apart) in
       omega (arith, after, before, rest, same)
 ]
 
@@ -236,7 +221,7 @@ pub counts_after : (values : List (Option ℕ)) (preds : List (List ℕ)) (count
     → AreCounts (slice_set values s (Some v)) preds after
 counts_after values preds counts after s v within none once are_counts lowered = record {
   each = lowered.each ∙ are_counts.each;
-  counted = λ t found is. elim (has_or_not found s) [
+  counted = λ t found is. elim (cases_contains found s) [
     | inl has ↦
         let falls = count_falls values s v found within none (once t found is) has in
         lowered.lowered t (unfinished_count (slice_set values s (Some v)) found)

@@ -2,15 +2,12 @@
 use Rattle.std.proofs.Common.{ℕ, ◌+◌, ◌-◌, ◌<◌, ◌≤◌, ◌≡◌, ◌⊎◌, ◌↔◌, List, [], ◌∷◌, ◌++◌, length}
 use Rattle.std.proofs.Common.{get_or, map, take, drop, refl, sym, ap, ◌∙◌, subst, arith, inl, inr}
 use Rattle.std.specs.Prelude.{Contains, IsTrue, Bool, true, false, if◌then◌else◌}
-use Rattle.std.specs.List.Sorted.{IsStrictlyIncreasing}
 use Rattle.std.proofs.lemmas.Bool.{cases_lt, both_ways}
-use Rattle.std.proofs.lemmas.List.{length_push, length-map, get_or-map, length-take, get_or-drop}
+use Rattle.std.proofs.lemmas.List.{length-map, get_or-map, length-take, get_or-drop}
 use Rattle.std.proofs.lemmas.List.{get_or-append_right}
-use Rattle.std.proofs.Math.ListN.{get_or-append}
-use Rattle.std.proofs.lemmas.List.Elements.{Contains-append_left, Contains-push}
-use Rattle.std.proofs.lemmas.List.Elements.{Contains-push_cases, Contains-get_or}
+use Rattle.std.proofs.lemmas.List.Elements.{Contains-get_or}
 use Rattle.depend_table.specs.Lists.{Lists}
-use Rattle.depend_table.proofs.Lists.{increasing_push}
+use Rattle.depend_table.proofs.Lists.{lists_push, lists_same}
 
 pub Lists-none : (P : ℕ → Type 0) → ((n : ℕ) → ¬ P n) → Lists P []
 Lists-none P none = record {
@@ -20,10 +17,7 @@ Lists-none P none = record {
 
 pub Lists-like : (P Q : ℕ → Type 0) (list : List ℕ) → ((n : ℕ) → P n → Q n) → ((n : ℕ) → Q n → P n)
     → Lists P list → Lists Q list
-Lists-like P Q list there back lists = record {
-  ascending = lists.ascending;
-  each = λ n. (λ h. there n ((lists.each n).0 h), λ h. (lists.each n).1 (back n h));
-}
+Lists-like P Q list there back lists = lists_same P Q list lists there back
 
 -- none of the first i is left out
 abbrev pub Below : (ℕ → Type 0) → ℕ → ℕ → Type 0
@@ -36,12 +30,11 @@ pub Lists-further : (P : ℕ → Type 0) (i j : ℕ) (list : List ℕ)
     → Lists (Below P i) list
     → Lists (Below P j) list
 Lists-further P i j list up none lists =
-    Lists-like (Below P i) (Below P j) list (λ n h. (omega (arith, h.0, up), h.1))
+    lists_same (Below P i) (Below P j) list lists (λ n h. (omega (arith, h.0, up), h.1))
     (λ n h. elim (cases_lt n i) [
       | inl below ↦ (below, h.1)
       | inr above ↦ absurd (none n h.1 above h.0)
     ])
-    lists
 
 pub Lists-skip : (P : ℕ → Type 0) (i : ℕ) (list : List ℕ)
     → ¬ P i
@@ -57,47 +50,18 @@ pub Lists-push : (P : ℕ → Type 0) (i : ℕ) (list : List ℕ)
     → P i
     → Lists (Below P i) list
     → Lists (Below P (i + 1)) (list ++ i ∷ [])
-Lists-push P i list here lists = record {
-  ascending = increasing_push list i lists.ascending (λ n h. ((lists.each n).0 h).0);
-  each = λ n. (
-    λ h. elim (Contains-push_cases list i n h) [
-      | inl was ↦ let below = (lists.each n).0 was in (omega (arith, below.0), below.1)
-      | inr same ↦ (omega arith, subst P same here)
-    ],
-    λ h. elim (cases_lt n i) [
-      | inl below ↦ Contains-append_left list (i ∷ []) n ((lists.each n).1 (below, h.1))
-      | inr above ↦
-          let same : i ≡ n = omega (arith, h.0) in
-          subst (λ (m : ℕ). Contains (list ++ i ∷ []) m) same (Contains-push list i)
-    ],
-  );
-}
+Lists-push P i list here lists =
+    lists_push (Below P i) (Below P (i + 1)) list i lists (λ n h. h.0)
+    (λ n h. (omega (arith, h.0), h.1)) (omega arith, here)
+    (λ n h. elim (cases_lt n i) [
+      | inl below ↦ inl (below, h.1)
+      | inr above ↦ inr (omega (arith, h.0, above))
+    ])
 
 pub Lists-all : (P : ℕ → Type 0) (i : ℕ) (list : List ℕ) → ((n : ℕ) → P n → n < i)
     → Lists (Below P i) list → Lists P list
 Lists-all P i list all lists =
-    Lists-like (Below P i) P list (λ n h. h.1) (λ n h. (all n h, h)) lists
-
-pub Lists-end : (P Q : ℕ → Type 0) (i : ℕ) (list : List ℕ)
-    → Lists P list
-    → ((n : ℕ) → P n → n < i)
-    → ((n : ℕ) → P n → Q n)
-    → Q i
-    → ((n : ℕ) → Q n → P n ⊎ (n ≡ i))
-    → Lists Q (list ++ i ∷ [])
-Lists-end P Q i list lists below there here back = record {
-  ascending = increasing_push list i lists.ascending (λ n h. below n ((lists.each n).0 h));
-  each = λ n. (
-    λ h. elim (Contains-push_cases list i n h) [
-      | inl was ↦ there n ((lists.each n).0 was)
-      | inr same ↦ subst Q same here
-    ],
-    λ h. elim (back n h) [
-      | inl before ↦ Contains-append_left list (i ∷ []) n ((lists.each n).1 before)
-      | inr same ↦ subst (λ (m : ℕ). Contains (list ++ i ∷ []) m) (sym same) (Contains-push list i)
-    ],
-  );
-}
+    lists_same (Below P i) P list lists (λ n h. h.1) (λ n h. (all n h, h))
 
 contains_map : (f : ℕ → ℕ) (list : List ℕ) (n : ℕ) → Contains list n → Contains (map f list) (f n)
 contains_map f list n (k, within, is) =

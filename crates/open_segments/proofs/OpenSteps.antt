@@ -12,12 +12,14 @@ use Rattle.std.proofs.Math.Seq.{get_or-append_seam}
 use Rattle.task_segments.specs.Table.{Table}
 use Rattle.depend_table.specs.Kept.{IsKeptEdge}
 use Rattle.depend_table.specs.Lists.{Lists}
+use Rattle.depend_table.proofs.Lists.{cases_contains}
 use Rattle.open_segments.specs.Entry.{entry}
 use Rattle.open_segments.specs.Counters.{unfinished_count, HasValue, AreKeptOf, AreKept, AreCounts}
 use Rattle.open_segments.specs.Counters.{AreSuccessors, AreLowered, IsCounted}
 use Rattle.open_segments.specs.NumberLists.{IsListed, ArePushed}
 use Rattle.open_segments.proofs.PlaceLemmas.{get-set_same, get-set_other, entry-set_same}
-use Rattle.open_segments.proofs.Falls.{IsOnce, has_or_not, once_listed, same_entry}
+use Rattle.open_segments.proofs.PlaceLemmas.{entry-set_other}
+use Rattle.open_segments.proofs.Falls.{IsOnce, once_listed}
 use Rattle.open_segments.proofs.Falls.{counts_after, counted_above}
 
 -- one more number that was not in the list
@@ -95,7 +97,7 @@ had_no_value values s v p within none =
     let apart : p ≢ s = λ same. none-some v (sym none
     ∙ ap (λ (n : ℕ). entry (slice_set values s (Some v)) n) same
     ∙ entry-set_same values s v within) in
-    (apart, sym (same_entry values s p v apart) ∙ none)
+    (apart, sym (entry-set_other values s p (Some v) apart) ∙ none)
 
 pub has_more : (values : List (Option ℕ)) (s v p : ℕ)
     → s < length values
@@ -106,7 +108,7 @@ has_more values s v p within has = elim (cases_eq p s) [
     value = v;
     is = ap (λ (n : ℕ). entry (slice_set values s (Some v)) n) same ∙ entry-set_same values s v within;
   }
-  | inr apart ↦ record { value = has.value; is = same_entry values s p v apart ∙ has.is }
+  | inr apart ↦ record { value = has.value; is = entry-set_other values s p (Some v) apart ∙ has.is }
 ]
 
 pub has_new : (values : List (Option ℕ)) (s v : ℕ)
@@ -120,7 +122,7 @@ pub had_value : (values : List (Option ℕ)) (s v p : ℕ)
 had_value values s v p has = elim (cases_eq p s) [
   | inl same ↦ inr same
   | inr apart ↦
-      inl (record { value = has.value; is = sym (same_entry values s p v apart) ∙ has.is })
+      inl (record { value = has.value; is = sym (entry-set_other values s p (Some v) apart) ∙ has.is })
 ]
 
 successors_after : (values : List (Option ℕ)) (preds successors : List (List ℕ)) (s v : ℕ)
@@ -295,7 +297,7 @@ successors_opened values preds successors after t list within closed so_far push
           let there = old_at s (slice_get_within after s found is) in
           let old : List ℕ = get_or successors s [] in
           let was = so_far.listed s old there none in
-          elim (has_or_not list s) [
+          elim (cases_contains list s) [
             | inl has ↦
                 let now : found ≡ old ++ t ∷ [] = same_Some found (old ++ t ∷ [])
                 (sym is ∙ pushed.pushed s old (has, none) there) in (
@@ -335,7 +337,7 @@ successors_opened values preds successors after t list within closed so_far push
       once = λ s found is none.
           let there = old_at s (slice_get_within after s found is) in
           let old : List ℕ = get_or successors s [] in
-          elim (has_or_not list s) [
+          elim (cases_contains list s) [
             | inl has ↦
                 let now : found ≡ old ++ t ∷ [] =
                 same_Some found (old ++ t ∷ []) (sym is ∙ pushed.pushed s old (has, none) there) in

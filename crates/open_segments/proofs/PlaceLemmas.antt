@@ -1,12 +1,13 @@
 -- A write to one place of a list, and how many places pass a test.
 use Rattle.std.proofs.Common.{ℕ, ◌+◌, ◌<◌, ◌≤◌, ◌≡◌, ◌≢◌, zero, suc, Bool, true, false, List, []}
 use Rattle.std.proofs.Common.{◌∷◌, ◌++◌, Option, Some, None, length, cond, get_or, sum_by, map}
-use Rattle.std.proofs.Common.{refl, sym, ap, ◌∙◌, arith}
+use Rattle.std.proofs.Common.{refl, sym, ap, ◌∙◌, arith, replicate}
 use Rattle.std.specs.Prelude.{slice_get, slice_set, count_by}
 use Rattle.std.specs.Option.{option_flatten}
 use Rattle.open_segments.specs.Entry.{entry}
-use Rattle.std.proofs.lemmas.Option.{get_or_from_slice_get, same_Some, slice_get_within}
+use Rattle.std.proofs.lemmas.Option.{get_or_from_slice_get, same_Some, slice_get_within, none-some}
 use Rattle.std.proofs.lemmas.List.Sums.{count_by-le-length, sum_by-set, sum_by-cons}
+use Rattle.task_segments.proofs.Cuts.{cond_few}
 
 pub get-set_same : {A : Type 0} (xs : List A) (i : ℕ) (v : A)
     → i < length xs
@@ -24,6 +25,13 @@ get-set_other (x ∷ xs) zero (suc j) v h = refl
 get-set_other (x ∷ xs) (suc i) zero v h = refl
 get-set_other (x ∷ xs) (suc i) (suc j) v h = get-set_other xs i j v (λ e. h (ap (λ k. suc k) e))
 
+pub get-replicate : {A : Type 0} (n : ℕ) (x y : A) (i : ℕ)
+    → slice_get (replicate n x) i ≡ Some y
+    → x ≡ y
+get-replicate zero x y i h = absurd (none-some y h)
+get-replicate (suc n) x y zero h = same_Some x y h
+get-replicate (suc n) x y (suc i) h = get-replicate n x y i h
+
 pub get-append_left : {A : Type 0} (xs ys : List A) (k : ℕ)
     → k < length xs
     → slice_get (xs ++ ys) k ≡ slice_get xs k
@@ -39,10 +47,6 @@ get-push_last (x ∷ xs) y = get-push_last xs y
 count_by-cons : {A : Type 0} (p : A → Bool) (x : A) (xs : List A)
     → count_by p (x ∷ xs) ≡ cond {A = ℕ} (p x) 1 0 + count_by p xs
 count_by-cons p x xs = sum_by-cons (λ y. cond {A = ℕ} (p y) 1 0) x xs
-
-at_most_one : (b : Bool) → cond {A = ℕ} b 1 0 ≤ 1
-at_most_one true = omega arith
-at_most_one false = omega arith
 
 pub count_by-set : {A : Type 0} (p : A → Bool) (xs : List A) (i : ℕ) (v w : A)
     → slice_get xs i ≡ Some w
@@ -69,7 +73,7 @@ count_by_some_no p (x ∷ xs) zero w h fails =
     omega (arith, count_by-le-length p xs, count_by-cons p x xs)
 count_by_some_no p (x ∷ xs) (suc i) w h fails =
     let less : count_by p xs < length xs = count_by_some_no p xs i w h fails in
-    omega (arith, count_by-cons p x xs, at_most_one (p x))
+    omega (arith, count_by-cons p x xs, cond_few (p x))
 
 pub entry-set_same : (list : List (Option ℕ)) (at v : ℕ)
     → at < length list

@@ -1,4 +1,4 @@
--- The children that a task has generated, as its segments finish.
+-- The children that a task has created, as its segments finish.
 use Rattle.std.proofs.Common.{ℕ, zero, suc, ◌+◌, ◌<◌, ◌≤◌, ◌≡◌, Bool, true, false, List, [], ◌∷◌}
 use Rattle.std.proofs.Common.{Option, Some, None, length, get_or, refl, sym, ap, ◌∙◌, subst, arith}
 use Rattle.std.proofs.Common.{inl, inr}
@@ -18,11 +18,10 @@ use Rattle.depend_table.specs.Kept.{children_below, is_some_of}
 use Rattle.open_segments.specs.Entry.{entry}
 use Rattle.open_segments.specs.WaysToOpen.{AreKeptSiblings}
 use Rattle.open_segments.specs.Counters.{HasValue, AreGenerated, AreSiblingsOf, AreSiblings}
-use Rattle.open_segments.proofs.PlaceLemmas.{get-set_same, get-set_other}
+use Rattle.open_segments.proofs.PlaceLemmas.{get-set_same, get-set_other, get-replicate}
 use Rattle.open_segments.proofs.Children.{children_more}
 use Rattle.open_segments.proofs.Edges.{creates_one}
 use Rattle.open_segments.proofs.OpenSteps.{has_more, has_new, had_value}
-use Rattle.open_segments.proofs.Turning.{get-replicate}
 
 -- what stands at a place
 pub stands_at : (siblings : List (List Sibling)) (p : ℕ) (row list : List Sibling)
@@ -135,7 +134,7 @@ siblings_first table count values is none = record {
   each = length-replicate {A = List Sibling} count [] ∙ is;
   lists = λ p list there. record {
     below = 0;
-    are = sym (get-replicate count p [] list there);
+    are = sym (get-replicate count [] list p there);
     generated = record {
       begun = λ child s of_p by below. absurd (omega (arith, below));
       finished = λ child s of_p by has. absurd (none s has);
@@ -257,7 +256,7 @@ same_so_far table values s c p list next so_far =
     (sibling_before table values s c p d by.0 next of_p by.1 below) in
     omega (arith, from, less)))
 
--- the siblings that are generated before it are all of its earlier ones
+-- the siblings that are created before it are all of its earlier ones
 pub siblings_so_far : (table : Table) (values : List (Option ℕ)) (s c p : ℕ)
     (siblings : List (List Sibling))
     → IsNextChild table values s c p

@@ -1,11 +1,9 @@
 -- Lists of lists, turned: each number put in the lists of the places that it is listed with.
 use Rattle.std.proofs.Common.{ℕ, ◌+◌, ◌<◌, ◌≡◌, ◌≢◌, List, [], ◌∷◌, ◌++◌, Option, Some, None}
-use Rattle.std.proofs.Common.{length, take, get_or, refl, sym, ap, ◌∙◌, subst, arith, inl, inr}
-use Rattle.std.specs.Prelude.{slice_get, slice_set, Contains, AllPairs, replicate}
+use Rattle.std.proofs.Common.{length, take, get_or, refl, sym, ap, ◌∙◌, subst, inl, inr}
+use Rattle.std.specs.Prelude.{slice_get, slice_set, Contains, AllPairs}
 use Rattle.std.proofs.lemmas.Option.{same_Some, slice_get_within, slice_get-get_or, slice_get-map}
-use Rattle.std.proofs.lemmas.Option.{get_or_from_slice_get}
-use Rattle.std.proofs.lemmas.List.{length-set, length-replicate, length-map, map-set}
-use Rattle.std.proofs.lemmas.List.{get_or-replicate}
+use Rattle.std.proofs.lemmas.List.{length-set, length-map, map-set}
 use Rattle.std.specs.Option.{option_map}
 use Rattle.std.specs.Prelude.{Vec}
 use Rattle.std.specs.declared.alloc.Global.{Global}
@@ -107,14 +105,6 @@ pushed_at number place values before after old there is none = record {
       ap (λ (l : List (List ℕ)). slice_get l other) is
       ∙ get-set_other before place other (old ++ number ∷ []) apart;
 }
-
-pub get-replicate : {A : Type 0} (count k : ℕ) (x y : A)
-    → slice_get (replicate count x) k ≡ Some y
-    → x ≡ y
-get-replicate {A = A} count k x y is =
-    let less : k < length (replicate count x) = slice_get_within (replicate count x) k y is in
-    let within : k < count = omega (arith, less, length-replicate {A = A} count x) in
-    sym (get_or-replicate count k x x within) ∙ get_or_from_slice_get (replicate count x) k y x is
 
 pub items_set : (lists : List (Vec ℕ Global)) (place : ℕ) (row : Vec ℕ Global)
     → items_of (slice_set lists place row) ≡ slice_set (items_of lists) place row.items

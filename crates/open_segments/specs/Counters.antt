@@ -1,5 +1,5 @@
 -- What is recorded of open segments: their kept predecessors and successors, counts of unfinished
--- ones, and generated siblings.
+-- ones, and created siblings.
 use Rattle.std.specs.Prelude.{ℕ, ◌+◌, ◌<◌, ◌≡◌, ◌≢◌, ◌⊎◌, ◌↔◌, List, [], Option, Some, None, length}
 use Rattle.std.specs.Prelude.{slice_get, count_by, is_none, Contains, AllPairs}
 use Rattle.task_segments.specs.Table.{Table, task}
@@ -72,7 +72,7 @@ pub record AreSuccessors (values : List (Option ℕ)) (preds successors : List (
       → entry values s ≡ None
       → AllPairs (λ x y. x ≢ y) list
 
--- of the children of a task, those with a number below this one are generated: their creators are
+-- of the children of a task, those with a number below this one are created: their creators are
 -- finished
 pub record AreGenerated (table : Table) (values : List (Option ℕ)) (parent below : ℕ) : Type 0 where
   pub begun : (child s : ℕ)
@@ -93,7 +93,7 @@ pub record AreSiblingsOf (table : Table) (values : List (Option ℕ)) (parent : 
   pub are : list ≡ children_below table parent below
   pub generated : AreGenerated table values parent below
 
--- for each task the children that it has generated, with their items, the newest first
+-- for each task the children that it has created, with their items, the newest first
 pub record AreSiblings (table : Table) (values : List (Option ℕ)) (siblings : List (List Sibling))
     : Type 0 where
   pub each : length siblings ≡ length table.tasks

@@ -6,3 +6,4 @@ pub mod Splitting
 pub mod PlainReading
 pub mod Quick
 pub mod FaultRows
+pub mod FrontsAndBacks

@@ -5,9 +5,9 @@ use Rattle.std.specs.List.{list_any}
 use Rattle.std.proofs.lemmas.Bool.{and_parts, or_cases, or_left, or_right, eqb-true, eq-eqb}
 use Rattle.program_text.specs.Conflict.{conflicts_with, items_conflict, kinds_conflict}
 use Rattle.program_text.specs.declared.statement.DependKind.{DependKind}
-use Rattle.program_text.specs.declared.statement.DependKind.TheVariants.{DependIn, DependOut}
-use Rattle.program_text.specs.declared.statement.DependKind.TheVariants.{DependInOut}
+use Rattle.program_text.specs.declared.statement.DependKind.TheVariants.{DependIn}
 use Rattle.program_text.specs.declared.statement.DependKind.TheVariants.{DependInOutSet}
+use Rattle.program_text.specs.declared.statement.DependKind.TheVariants.{DependOut, DependInOut}
 use Rattle.program_text.specs.declared.statement.Item.{Item}
 use Rattle.task_segments.specs.Schedule.{at}
 use Rattle.span_cert.specs.declared.names.TheConstants.{PLACES}
@@ -21,21 +21,13 @@ kinds_meet : (one other : DependKind) (not_read not_set : Bool)
     → (is_set other ≡ false → not_set ≡ true)
     → meets_kind one not_read not_set ≡ true
 kinds_meet DependIn DependIn r s conflict read set = absurd cc
-kinds_meet DependIn DependOut r s conflict read set = read refl
-kinds_meet DependIn DependInOut r s conflict read set = read refl
-kinds_meet DependIn DependInOutSet r s conflict read set = read refl
-kinds_meet DependInOutSet DependIn r s conflict read set = set refl
-kinds_meet DependInOutSet DependOut r s conflict read set = set refl
-kinds_meet DependInOutSet DependInOut r s conflict read set = set refl
+kinds_meet DependIn _ r s conflict read set = read refl
 kinds_meet DependInOutSet DependInOutSet r s conflict read set = absurd cc
+kinds_meet DependInOutSet _ r s conflict read set = set refl
 kinds_meet DependOut DependIn r s conflict read set = or_right r s (set refl)
-kinds_meet DependOut DependOut r s conflict read set = or_left r s (read refl)
-kinds_meet DependOut DependInOut r s conflict read set = or_left r s (read refl)
-kinds_meet DependOut DependInOutSet r s conflict read set = or_left r s (read refl)
+kinds_meet DependOut _ r s conflict read set = or_left r s (read refl)
 kinds_meet DependInOut DependIn r s conflict read set = or_right r s (set refl)
-kinds_meet DependInOut DependOut r s conflict read set = or_left r s (read refl)
-kinds_meet DependInOut DependInOut r s conflict read set = or_left r s (read refl)
-kinds_meet DependInOut DependInOutSet r s conflict read set = or_left r s (read refl)
+kinds_meet DependInOut _ r s conflict read set = or_left r s (read refl)
 
 pair_meets : (marks : NameMarks) (t : ℕ) (one other : Item)
     → IsMarked marks t other

@@ -43,12 +43,8 @@ use Rattle.dispatch_core.proofs.SomeGraph.{IsWhole, tree_fits, whole_table}
 -- ---- the form
 
 decide_link : (next : Expected) → IsDecided (next ≡ expected.Link)
-decide_link expected.EndWord = inr (λ e. cc)
-decide_link expected.End = inr (λ e. cc)
-decide_link expected.StartOrChain = inr (λ e. cc)
-decide_link expected.Segment = inr (λ e. cc)
-decide_link (expected.Moment s) = inr (λ e. cc)
 decide_link expected.Link = inl refl
+decide_link _ = inr (λ e. cc)
 
 abbrev FormOrNone : List ℕ → Type 0
 FormOrNone text = ((claim : Claim) × HasForm text claim) ⊎ ((claim : Claim) → ¬ HasForm text claim)
@@ -61,15 +57,12 @@ abbrev claim_in : Option Progress → Claim
 claim_in None = begin.claim
 claim_in (Some p) = p.claim
 
-nothing_read : (p : Progress) → None ≡ Some p → ⊥
-nothing_read p e = cc
-
 form_of : (text : List ℕ) (read : Option Progress)
     → all_steps (step_by word_says step) begin (words_of text) ≡ read
     → length text ≤ MOST_BYTES
     → FormOrNone text
 form_of text None is fits =
-    inr (λ claim form. nothing_read _ (sym is ∙ spelled_reads text claim form))
+    inr (λ claim form. none-some _ (sym is ∙ spelled_reads text claim form))
 form_of text (Some p) is fits = elim (decide_link p.next) [
   | inr other ↦ inr (λ claim form. other (ap next_in (sym is ∙ spelled_reads text claim form)))
   | inl link ↦ elim (cases_lt 0 (length p.claim.chain)) [
@@ -272,14 +265,10 @@ refuses_claim : (document : List ℕ) (why : CheckFault)
     → Claims document (λ table claim. Fails table claim why)
     → why ≢ fault.OutOfMemory
     → HasVerdict document
-refuses_claim document fault.WrongCount h other = (Err fault.WrongCount, refl, h)
-refuses_claim document (fault.Broken s t) h other = (Err (fault.Broken s t), refl, h)
-refuses_claim document fault.EndWrong h other = (Err fault.EndWrong, refl, h)
-refuses_claim document (fault.ChainStep s t) h other = (Err (fault.ChainStep s t), refl, h)
-refuses_claim document fault.ChainSum h other = (Err fault.ChainSum, refl, h)
 refuses_claim document fault.OutOfMemory h other = absurd (other refl)
 refuses_claim document fault.BadForm h other = absurd h.says
 refuses_claim document (fault.BadProgram read) h other = absurd h.says
+refuses_claim document why h other = (Err why, refl, h)
 
 checks_claim : (document : List ℕ) (program : ProgramMarks) (claim : Claim)
     → HasTree (program_part document) program

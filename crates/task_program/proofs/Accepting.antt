@@ -6,7 +6,7 @@ use Rattle.std.specs.Prelude.{All, count_by}
 use Rattle.std.specs.List.{flat_map}
 use Rattle.std.proofs.lemmas.List.Elements.{All-head, All-tail}
 use Rattle.std.proofs.lemmas.List.Sums.{sum_by-cons}
-use Rattle.std.proofs.lemmas.Bool.{and_from, eq-eqb}
+use Rattle.std.proofs.lemmas.Bool.{and_from, eq-eqb, and_parts}
 use Rattle.task_program.specs.declared.place.Place.{Place}
 use Rattle.task_program.specs.declared.place.Place.TheVariants.{Header, Version, Statement}
 use Rattle.task_program.specs.declared.place.Place.TheVariants.{WorkNumber, GroupBrace, Clause}
@@ -33,10 +33,6 @@ is_whole _ depth = false
 unfoldable pub accepts : Shape → List (List ℕ) → Bool
 accepts shape [] = is_whole shape.place shape.depth
 accepts shape (text ∷ texts) = fits shape text && accepts (lead shape text) texts
-
-and_parts : (a b : Bool) → (a && b) ≡ true → (a ≡ true) × (b ≡ true)
-and_parts true b h = (refl, h)
-and_parts false b h = absurd cc
 
 pub accepts_next : (shape : Shape) (text : List ℕ) (texts : List (List ℕ))
     → accepts shape (text ∷ texts) ≡ true

@@ -8,10 +8,8 @@ use Rattle.std.proofs.lemmas.List.Sums.{sum_by-append}
 use Rattle.program_text.specs.declared.fault.ReadKind.{ReadKind}
 use Rattle.task_program.specs.declared.place.Place.{Place}
 use Rattle.task_program.specs.declared.place.Place.TheVariants.{Header, Version, Statement}
-use Rattle.task_program.specs.declared.place.Place.TheVariants.{WorkNumber, GroupBrace, Clause}
-use Rattle.task_program.specs.declared.place.Place.TheVariants.{IfOpens, IfNumber, IfCloses}
-use Rattle.task_program.specs.declared.place.Place.TheVariants.{DependOpens, DependType}
-use Rattle.task_program.specs.declared.place.Place.TheVariants.{DependColon, DependName, DependMore}
+use Rattle.task_program.specs.declared.place.Place.TheVariants.{Clause}
+use Rattle.task_program.specs.declared.place.Place.TheVariants.{DependMore}
 use Rattle.program_text.specs.declared.statement.DependKind.{DependKind}
 use Rattle.program_text.specs.Marks.{Mark}
 use Rattle.program_text.specs.Tokens.{Token, texts}
@@ -83,17 +81,7 @@ pub place_leads : (place : Place) (state : State) (text : List ℕ) (line : ℕ)
 place_leads Statement state text line = statement_leads state text line
 place_leads Clause state text line = clause_leads state text line
 place_leads (DependMore kind) state text line = more_leads state kind text line
-place_leads Header state text line = refl
-place_leads Version state text line = refl
-place_leads WorkNumber state text line = refl
-place_leads GroupBrace state text line = refl
-place_leads IfOpens state text line = refl
-place_leads IfNumber state text line = refl
-place_leads IfCloses state text line = refl
-place_leads DependOpens state text line = refl
-place_leads DependType state text line = refl
-place_leads (DependColon kind) state text line = refl
-place_leads (DependName kind) state text line = refl
+place_leads _ state text line = refl
 
 -- ---- which tokens are allowed
 

@@ -11,13 +11,11 @@ use Rattle.std.proofs.lemmas.List.Elements.{All-head, All-tail}
 use Rattle.std.proofs.lemmas.List.Sums.{sum_by-append, sum_by-cons}
 use Rattle.std.proofs.lemmas.Bool.{and_parts, or_parts}
 use Rattle.program_text.specs.declared.statement.DependKind.{DependKind}
-use Rattle.program_text.specs.declared.statement.DependKind.TheVariants.{DependIn, DependOut}
-use Rattle.program_text.specs.declared.statement.DependKind.TheVariants.{DependInOut}
-use Rattle.program_text.specs.declared.statement.DependKind.TheVariants.{DependInOutSet}
+use Rattle.program_text.specs.declared.statement.DependKind.TheVariants.{DependIn}
 use Rattle.program_text.specs.declared.statement.Item.{Item}
 use Rattle.task_program.specs.declared.version.Version.TheVariants.{Two}
 use Rattle.program_text.specs.Marks.{Mark}
-use Rattle.program_text.specs.Marks.Mark.{Begins, Ends, Works, Waits, GroupBegins, GroupEnds}
+use Rattle.program_text.specs.Marks.Mark.{Begins, Works}
 use Rattle.task_program.specs.Canonical.{same_kind, name_of, item_separator, items_after}
 use Rattle.task_program.specs.Canonical.{depend_clauses, line_of_mark, header_line, solid_bytes}
 use Rattle.task_program.specs.Programs.{IsLocation}
@@ -125,9 +123,7 @@ clause_weighs : (next : DependKind)
     → Weighs (codes ") depend(" ++ (type_word next ++ codes ": "))
     (codes ")" ∷ codes "depend" ∷ codes "(" ∷ type_word next ∷ codes ":" ∷ [])
 clause_weighs DependIn = record { solid_is = omega arith; half = omega arith }
-clause_weighs DependOut = record { solid_is = omega arith; half = omega arith }
-clause_weighs DependInOut = record { solid_is = omega arith; half = omega arith }
-clause_weighs DependInOutSet = record { solid_is = omega arith; half = omega arith }
+clause_weighs _ = record { solid_is = omega arith; half = omega arith }
 
 joint_weighs : (kind next : DependKind) → Weighs (item_separator kind next) (joint_texts kind next)
 joint_weighs kind next =
@@ -157,17 +153,13 @@ front_weighs : (kind : DependKind)
     → Weighs (codes " depend(" ++ (type_word kind ++ codes ": "))
     (codes "depend" ∷ codes "(" ∷ type_word kind ∷ codes ":" ∷ [])
 front_weighs DependIn = record { solid_is = omega arith; half = omega arith }
-front_weighs DependOut = record { solid_is = omega arith; half = omega arith }
-front_weighs DependInOut = record { solid_is = omega arith; half = omega arith }
-front_weighs DependInOutSet = record { solid_is = omega arith; half = omega arith }
+front_weighs _ = record { solid_is = omega arith; half = omega arith }
 
 front_apart : (kind : DependKind) (inside : List ℕ)
     → (codes " depend(" ++ (type_word kind ++ codes ": ")) ++ inside
     ≡ codes " depend(" ++ (type_word kind ++ (codes ": " ++ inside))
 front_apart DependIn inside = refl
-front_apart DependOut inside = refl
-front_apart DependInOut inside = refl
-front_apart DependInOutSet inside = refl
+front_apart _ inside = refl
 
 nothing_weighs : Weighs [] []
 nothing_weighs = record { solid_is = omega arith; half = omega arith }
@@ -232,10 +224,6 @@ line_weighs names (Works cost) fits =
     ends_weigh (codes "work ") (decimal cost) (codes "\n") (codes "work" ∷ []) (decimal cost ∷ [])
     [] (run_weighs (decimal cost) (number_run (decimal cost) (decimal_number cost fits)))
     (omega arith) (omega arith) (omega arith)
-line_weighs names Waits fits = record { solid_is = omega arith; half = omega arith }
-line_weighs names Ends fits = record { solid_is = omega arith; half = omega arith }
-line_weighs names GroupEnds fits = record { solid_is = omega arith; half = omega arith }
-line_weighs names GroupBegins fits = record { solid_is = omega arith; half = omega arith }
 line_weighs names (Begins undeferred items) fits =
     let ifs : List ℕ = cond undeferred (codes " if(0)") [] in
     let deps : List ℕ = depend_clauses names items in
@@ -258,6 +246,7 @@ line_weighs names (Begins undeferred items) fits =
     bytes_are (subst
     (λ (ts : List (List ℕ)). Weighs (codes "task" ++ ((ifs ++ deps) ++ codes " {\n")) ts) words_are
     whole)
+line_weighs names _ fits = record { solid_is = omega arith; half = omega arith }
 
 lines_weigh : (names : List (List ℕ)) (marks : List Mark)
     → All (HasLocations names) marks

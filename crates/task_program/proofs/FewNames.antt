@@ -10,7 +10,7 @@ use Rattle.program_text.specs.declared.limits.TheConstants.{MOST_ITEMS}
 use Rattle.task_program.specs.Names.{number_of_name}
 use Rattle.task_program.specs.Expansion.{Piece}
 use Rattle.task_program.specs.Expansion.Piece.{TurnBegins, TaskComes, ItemComes, TaskOpens}
-use Rattle.task_program.specs.Expansion.Piece.{GroupComes, GroupOpens, BlockEnds, WorkIs, WaitIs}
+use Rattle.task_program.specs.Expansion.Piece.{GroupComes}
 use Rattle.task_program.specs.SecondPass.{take_pieces}
 use Rattle.task_program.specs.PieceFaults.{fault_of}
 use Rattle.task_program.specs.Expanded.{ExpansionState, after_piece}
@@ -46,20 +46,8 @@ few_piece state (TaskOpens undeferred line) none h =
     let items_are = h.items in
     record { items = omega arith; names = omega (arith, tasks, names_are, items_are) }
 few_piece state (GroupComes line) none h = h
-few_piece state (GroupOpens line) none h =
-    let tasks = weighs tasks_begun state _ (below_piece state (GroupOpens line)) in
-    let names_are = h.names in
-    record { items = h.items; names = omega (arith, tasks, names_are) }
-few_piece state BlockEnds none h =
-    let tasks = weighs tasks_begun state _ (below_piece state BlockEnds) in
-    let names_are = h.names in
-    record { items = h.items; names = omega (arith, tasks, names_are) }
-few_piece state (WorkIs cost line) none h =
-    let tasks = weighs tasks_begun state _ (below_piece state (WorkIs cost line)) in
-    let names_are = h.names in
-    record { items = h.items; names = omega (arith, tasks, names_are) }
-few_piece state (WaitIs line) none h =
-    let tasks = weighs tasks_begun state _ (below_piece state (WaitIs line)) in
+few_piece state piece none h =
+    let tasks = weighs tasks_begun state _ (below_piece state piece) in
     let names_are = h.names in
     record { items = h.items; names = omega (arith, tasks, names_are) }
 

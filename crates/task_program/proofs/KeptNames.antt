@@ -18,7 +18,7 @@ use Rattle.program_text.specs.declared.statement.Item.{Item}
 use Rattle.task_program.specs.declared.version.Version.TheVariants.{Two}
 use Rattle.loop_text.specs.declared.loops.Index.{Index}
 use Rattle.program_text.specs.Marks.{Mark}
-use Rattle.program_text.specs.Marks.Mark.{Begins, Ends, Works, Waits, GroupBegins, GroupEnds}
+use Rattle.program_text.specs.Marks.Mark.{Begins}
 use Rattle.program_text.specs.Limits.{tasks_begun, segments_opened, work_done, tasks_of}
 use Rattle.program_text.specs.Limits.{segments_of, work_of}
 use Rattle.program_text.specs.declared.limits.TheConstants.{MOST_TOKEN_BYTES, MOST_TASKS}
@@ -117,11 +117,7 @@ pub line_stays : (names : List (List ℕ)) (name : List ℕ) (mark : Mark)
 line_stays names name (Begins undeferred items) h =
     ap (λ (ts : List ℕ). codes "task" ++ ((if_text undeferred) ++ (ts ++ codes " {\n")))
     (clauses_stay names name items h.1)
-line_stays names name Ends h = refl
-line_stays names name (Works cost) h = refl
-line_stays names name Waits h = refl
-line_stays names name GroupBegins h = refl
-line_stays names name GroupEnds h = refl
+line_stays names name _ h = refl
 
 pub lines_stay : (names : List (List ℕ)) (name : List ℕ) (marks : List Mark)
     → All (FitsLimits (length names)) marks
@@ -137,11 +133,7 @@ mention_stays : (names : List (List ℕ)) (name : List ℕ) (mark : Mark)
     → FitsLimits (length names) mark
     → names_of_mark (with_name names name) mark ≡ names_of_mark names mark
 mention_stays names name (Begins undeferred items) h = names_stay names name items h.1
-mention_stays names name Ends h = refl
-mention_stays names name (Works cost) h = refl
-mention_stays names name Waits h = refl
-mention_stays names name GroupBegins h = refl
-mention_stays names name GroupEnds h = refl
+mention_stays names name _ h = refl
 
 pub mentions_stay : (names : List (List ℕ)) (name : List ℕ) (marks : List Mark)
     → All (FitsLimits (length names)) marks

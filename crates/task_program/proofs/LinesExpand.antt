@@ -16,6 +16,7 @@ use Rattle.loop_text.specs.declared.loops.LoopTask.{LoopTask}
 use Rattle.task_program.specs.declared.version.Version.TheVariants.{Two}
 use Rattle.program_text.specs.Marks.{Mark}
 use Rattle.program_text.specs.Marks.Mark.{Begins, Ends, Works, Waits, GroupBegins, GroupEnds}
+use Rattle.program_text.proofs.FrontsAndBacks.{all_front, all_back}
 use Rattle.task_program.specs.Names.{number_of_name, with_name}
 use Rattle.task_program.specs.Canonical.{name_of, line_of_mark, header_line, solid_bytes}
 use Rattle.task_program.specs.Programs.{IsNamed, FitsLimits, names_of_mark}
@@ -33,7 +34,7 @@ use Rattle.task_program.proofs.Sound.{fits_more, kept_names}
 use Rattle.task_program.proofs.KeptNames.{line_stays}
 use Rattle.task_program.proofs.NamesOnce.{AreOnce, number_is, names_stay}
 use Rattle.task_program.proofs.LinesSpelled as lines
-use Rattle.task_program.proofs.LinesSpelled.{IsItemOf, Stands, all_front, all_back}
+use Rattle.task_program.proofs.LinesSpelled.{IsItemOf, Stands}
 
 -- ---- each index is in range
 

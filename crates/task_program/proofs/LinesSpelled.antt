@@ -6,7 +6,7 @@ use Rattle.std.specs.List.{flat_map, AllZip}
 use Rattle.std.specs.Fmt.{decimal}
 use Rattle.std.proofs.lemmas.List.{append-nil}
 use Rattle.std.proofs.lemmas.List.Concat.{flat_map-append}
-use Rattle.std.proofs.lemmas.List.Elements.{All-head, All-tail, All-nil, All-cons}
+use Rattle.std.proofs.lemmas.List.Elements.{All-head, All-tail}
 use Rattle.program_text.specs.declared.statement.DependKind.{DependKind}
 use Rattle.program_text.specs.declared.statement.Item.{Item}
 use Rattle.loop_text.specs.declared.loops.LoopItem.{LoopItem}
@@ -33,6 +33,7 @@ use Rattle.task_program.proofs.Spelled.{spell, decimal_value, decimal_number, af
 use Rattle.task_program.proofs.Spelled.{depend_texts_by, if_texts, line_texts_by}
 use Rattle.task_program.proofs.Locations.{with_lines, lines_apart, StandsFor, ItemIs, location_item}
 use Rattle.program_text.proofs.Bools.{bool_cases}
+use Rattle.program_text.proofs.FrontsAndBacks.{all_front, all_back}
 use Rattle.task_program.proofs.ReadPieces.{is_type_word, type_of_word}
 
 -- ---- items
@@ -456,16 +457,6 @@ no_marks names
       spelled = grammar.Spelled.Nothing [] room;
       stands = Nothing names;
     }
-
-pub all_front : (P : Mark → Type 0) (one other : List Mark) → All P (one ++ other) → All P one
-all_front P [] other all = All-nil P
-all_front P (mark ∷ one) other all =
-    All-cons P mark one (All-head P mark (one ++ other) all)
-    (all_front P one other (All-tail P mark (one ++ other) all))
-
-pub all_back : (P : Mark → Type 0) (one other : List Mark) → All P (one ++ other) → All P other
-all_back P [] other all = all
-all_back P (mark ∷ one) other all = all_back P one other (All-tail P mark (one ++ other) all)
 
 append_of_block : {A : Type 0} (before opens inside : List A) (closes : A) (rest : List A)
     → (before ++ (opens ++ (inside ++ closes ∷ []))) ++ rest

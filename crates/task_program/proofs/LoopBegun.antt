@@ -8,17 +8,13 @@ use Rattle.std.proofs.lemmas.Bool.{not-false}
 use Rattle.program_text.specs.declared.fault.ReadKind.{ReadKind}
 use Rattle.program_text.specs.declared.fault.ReadFault.{ReadFault}
 use Rattle.loop_text.specs.declared.loop_place.LoopPlace.{LoopPlace}
-use Rattle.loop_text.specs.declared.loop_place.LoopPlace.TheVariants.{Statement, WorkNumber}
-use Rattle.loop_text.specs.declared.loop_place.LoopPlace.TheVariants.{GroupBrace, ForVariable}
-use Rattle.loop_text.specs.declared.loop_place.LoopPlace.TheVariants.{ForFrom, ForTo, ForBrace}
-use Rattle.loop_text.specs.declared.loop_place.LoopPlace.TheVariants.{Clause, IfOpens, IfNumber}
-use Rattle.loop_text.specs.declared.loop_place.LoopPlace.TheVariants.{IfCloses, FinalOpens}
-use Rattle.loop_text.specs.declared.loop_place.LoopPlace.TheVariants.{FinalNumber, FinalCloses}
-use Rattle.loop_text.specs.declared.loop_place.LoopPlace.TheVariants.{DependOpens, DependType}
-use Rattle.loop_text.specs.declared.loop_place.LoopPlace.TheVariants.{DependColon, DependName}
+use Rattle.loop_text.specs.declared.loop_place.LoopPlace.TheVariants.{Statement}
+use Rattle.loop_text.specs.declared.loop_place.LoopPlace.TheVariants.{GroupBrace}
+use Rattle.loop_text.specs.declared.loop_place.LoopPlace.TheVariants.{ForBrace}
+use Rattle.loop_text.specs.declared.loop_place.LoopPlace.TheVariants.{Clause}
 use Rattle.loop_text.specs.declared.loop_place.LoopPlace.TheVariants.{Subscript, IndexStart}
-use Rattle.loop_text.specs.declared.loop_place.LoopPlace.TheVariants.{IndexNumber, IndexSign}
-use Rattle.loop_text.specs.declared.loop_place.LoopPlace.TheVariants.{IndexCloses, DependMore}
+use Rattle.loop_text.specs.declared.loop_place.LoopPlace.TheVariants.{IndexSign}
+use Rattle.loop_text.specs.declared.loop_place.LoopPlace.TheVariants.{DependMore}
 use Rattle.loop_text.specs.declared.open_loops.LoopBlock.{LoopBlock}
 use Rattle.program_text.specs.declared.statement.DependKind.{DependKind}
 use Rattle.program_text.specs.Tokens.{Token, texts}
@@ -162,29 +158,7 @@ allowed_same : (place : LoopPlace) (state : State) (text : List ℕ)
     → is_allowed place state.head state.tree.blocks text
     ≡ allowed_at place state.head.has_if state.head.has_final (variables_of state.tree.blocks) text
 allowed_same Statement state text = refl
-allowed_same WorkNumber state text = refl
-allowed_same GroupBrace state text = refl
-allowed_same ForVariable state text = refl
-allowed_same ForFrom state text = refl
-allowed_same ForTo state text = refl
-allowed_same ForBrace state text = refl
-allowed_same Clause state text = refl
-allowed_same IfOpens state text = refl
-allowed_same IfNumber state text = refl
-allowed_same IfCloses state text = refl
-allowed_same FinalOpens state text = refl
-allowed_same FinalNumber state text = refl
-allowed_same FinalCloses state text = refl
-allowed_same DependOpens state text = refl
-allowed_same DependType state text = refl
-allowed_same (DependColon kind) state text = refl
-allowed_same (DependName kind) state text = refl
-allowed_same (Subscript kind) state text = refl
-allowed_same (IndexStart kind) state text = refl
-allowed_same (IndexNumber kind) state text = refl
-allowed_same (IndexSign kind) state text = refl
-allowed_same (IndexCloses kind) state text = refl
-allowed_same (DependMore kind) state text = refl
+allowed_same _ state text = refl
 
 both_tests : (closes other allowed known : Bool)
     → closes ≡ false
@@ -376,26 +350,7 @@ place_braces (IndexSign kind) state text line h =
 place_braces (DependMore kind) state text line h =
     no_brace (DependMore kind) state text line h refl refl
     (either_blocks (is_text text (codes ",")) _ _ state.tree.blocks refl refl)
-place_braces WorkNumber state text line h = no_brace WorkNumber state text line h refl refl refl
-place_braces ForVariable state text line h = no_brace ForVariable state text line h refl refl refl
-place_braces ForFrom state text line h = no_brace ForFrom state text line h refl refl refl
-place_braces ForTo state text line h = no_brace ForTo state text line h refl refl refl
-place_braces IfOpens state text line h = no_brace IfOpens state text line h refl refl refl
-place_braces IfNumber state text line h = no_brace IfNumber state text line h refl refl refl
-place_braces IfCloses state text line h = no_brace IfCloses state text line h refl refl refl
-place_braces FinalOpens state text line h = no_brace FinalOpens state text line h refl refl refl
-place_braces FinalNumber state text line h = no_brace FinalNumber state text line h refl refl refl
-place_braces FinalCloses state text line h = no_brace FinalCloses state text line h refl refl refl
-place_braces DependOpens state text line h = no_brace DependOpens state text line h refl refl refl
-place_braces DependType state text line h = no_brace DependType state text line h refl refl refl
-place_braces (DependColon kind) state text line h =
-    no_brace (DependColon kind) state text line h refl refl refl
-place_braces (DependName kind) state text line h =
-    no_brace (DependName kind) state text line h refl refl refl
-place_braces (IndexNumber kind) state text line h =
-    no_brace (IndexNumber kind) state text line h refl refl refl
-place_braces (IndexCloses kind) state text line h =
-    no_brace (IndexCloses kind) state text line h refl refl refl
+place_braces place state text line h = no_brace place state text line h refl refl refl
 
 -- ---- one token more
 

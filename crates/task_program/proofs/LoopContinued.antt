@@ -256,18 +256,12 @@ steps_back ForBrace has_if has_final x variables around text ts h f = λ new_one
     ts (λ pieces forms. (new_one, first_number, last_number, forms)) f)
 steps_back Clause has_if has_final x variables around text ts h f = clause_back has_if has_final x
     variables around text ts h f
-steps_back IfOpens has_if has_final x variables around text ts h f = rw
-    (same_text text (codes "(") h) f
 steps_back IfNumber has_if has_final x variables around text ts h f = f text h
 steps_back IfCloses has_if has_final x variables around text ts h f =
     rw (same_text text (codes ")") h) (if_back has_if has_final variables around ts f)
-steps_back FinalOpens has_if has_final x variables around text ts h f = rw
-    (same_text text (codes "(") h) f
 steps_back FinalNumber has_if has_final x variables around text ts h f = f text h
 steps_back FinalCloses has_if has_final x variables around text ts h f =
     rw (same_text text (codes ")") h) (final_back has_if has_final variables around ts f)
-steps_back DependOpens has_if has_final x variables around text ts h f = rw
-    (same_text text (codes "(") h) f
 steps_back DependType has_if has_final x variables around text ts h f =
     subst (λ (t : List ℕ). ClausesRest has_if has_final variables around (codes "depend" ∷ codes "("
     ∷ t ∷ ts))
@@ -287,6 +281,8 @@ steps_back (IndexCloses kind) has_if has_final x variables around text ts h f =
     rw (same_text text (codes "]") h) (closes_back kind has_if has_final x variables around ts f)
 steps_back (DependMore kind) has_if has_final x variables around text ts h f = item_back kind has_if
     has_final x variables around text ts h f
+steps_back _ has_if has_final x variables around text ts h f = rw
+    (same_text text (codes "(") h) f
 
 -- ---- a word that is no variable yet
 

@@ -3,7 +3,7 @@ use Rattle.std.proofs.Common.{◌≡◌, ℕ, ◌<◌, ◌≤◌, Bool, true, fa
 use Rattle.std.proofs.Common.{◌∷◌, ◌++◌, Option, Some, None, refl, sym, ap, subst, ◌∙◌, arith}
 use Rattle.std.proofs.Common.{codes}
 use Rattle.std.specs.Prelude.{nat_lt, reverse, if◌then◌else◌}
-use Rattle.std.proofs.lemmas.Bool.{and_parts, ltb-true, ltb-false}
+use Rattle.std.proofs.lemmas.Bool.{and_parts, ltb-true, ltb-false, both_ways}
 use Rattle.std.proofs.Math.Bool.{and-false}
 use Rattle.std.proofs.lemmas.List.{reverse-append}
 use Rattle.loop_text.specs.declared.loop_place.LoopPlace.{LoopPlace}
@@ -339,9 +339,6 @@ no_number_at (IndexCloses kind) head open_now text h n = no_text text (codes "]"
 no_number_at (DependMore kind) head open_now text h n = no_end text n
 no_number_at _ head open_now text h n = absurd cc
 
-both_ways : (b : Bool) → b ≡ true → b ≡ false → ⊥
-both_ways b h g = absurd cc
-
 -- the last tokens tell the most that a number may be, where there can be one
 most_is : (place : LoopPlace) (before : List (List ℕ)) (head : LoopHead)
     (open_now : List LoopBlock) (text : List ℕ)
@@ -359,8 +356,8 @@ most_is FinalNumber before head open_now text h allowed n = h
 most_is (IndexStart kind) before head open_now text h allowed n = h
 most_is (IndexNumber kind) before head open_now text h allowed n = h
 most_is place before head open_now text h allowed n =
-    absurd (both_ways (is_allowed place head open_now text) allowed
-    (no_number_at place head open_now text refl n))
+    absurd (both_ways (is_allowed place head open_now text)
+    (no_number_at place head open_now text refl n) allowed)
 
 abbrev pub IsTooLarge : List (List ℕ) → List ℕ → Type 0
 IsTooLarge before text =

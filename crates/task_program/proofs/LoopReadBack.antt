@@ -5,14 +5,13 @@ use Rattle.std.specs.Prelude.{All, drop, fold, sum_by}
 use Rattle.std.specs.List.{flat_map}
 use Rattle.std.proofs.lemmas.List.{append-nil}
 use Rattle.std.proofs.lemmas.List.Sums.{sum_by-append}
-use Rattle.std.proofs.lemmas.List.Elements.{All-head, All-tail, All-nil, All-cons}
-use Rattle.program_text.specs.declared.statement.Item.{Item}
+use Rattle.std.proofs.lemmas.List.Elements.{All-weaker}
 use Rattle.task_program.specs.declared.version.Version.{Version}
 use Rattle.task_program.specs.declared.version.Version.TheVariants.{Two}
 use Rattle.program_text.specs.declared.limits.TheConstants.{MOST_TOKEN_BYTES, MOST_NESTING}
 use Rattle.program_text.specs.declared.limits.TheConstants.{MOST_CANONICAL_BYTES, MOST_TURNS}
 use Rattle.program_text.specs.Marks.{Mark}
-use Rattle.program_text.specs.Marks.Mark.{Begins, Ends, Works, Waits, GroupBegins, GroupEnds}
+use Rattle.program_text.specs.Marks.Mark.{Begins, Works}
 use Rattle.task_program.specs.Names.{with_name}
 use Rattle.task_program.specs.Canonical.{name_of, line_of_mark, header_line, canonical_text}
 use Rattle.task_program.specs.Canonical.{solid_bytes}
@@ -38,95 +37,51 @@ use Rattle.task_program.proofs.CanonicalBytes.{text_weighs}
 
 -- ---- each name is a location
 
-items_located : (names : List (List ℕ)) (items : List Item)
-    → All IsLocation names
-    → All (IsNamed (length names)) items
-    → All (IsLocated names) items
-items_located names [] names_fit all = All-nil (IsLocated names)
-items_located names (item ∷ items) names_fit all =
-    All-cons (IsLocated names) item items
-    (names_fit item.name [] (All-head (IsNamed (length names)) item items all))
-    (items_located names items names_fit (All-tail (IsNamed (length names)) item items all))
-
 mark_located : (names : List (List ℕ)) (mark : Mark)
     → All IsLocation names
     → FitsLimits (length names) mark
     → HasLocations names mark
 mark_located names (Works cost) names_fit fits = fits
-mark_located names Waits names_fit fits = tt
 mark_located names (Begins undeferred items) names_fit fits =
-    items_located names items names_fit fits.1
-mark_located names Ends names_fit fits = tt
-mark_located names GroupBegins names_fit fits = tt
-mark_located names GroupEnds names_fit fits = tt
+    All-weaker (IsNamed (length names)) (IsLocated names) (λ item below. names_fit item.name [] below) items fits.1
+mark_located names _ names_fit fits = tt
 
 marks_located : (names : List (List ℕ)) (marks : List Mark)
     → All IsLocation names
     → All (FitsLimits (length names)) marks
     → All (HasLocations names) marks
-marks_located names [] names_fit fits = All-nil (HasLocations names)
-marks_located names (mark ∷ marks) names_fit fits =
-    All-cons (HasLocations names) mark marks
-    (mark_located names mark names_fit (All-head (FitsLimits (length names)) mark marks fits))
-    (marks_located names marks names_fit (All-tail (FitsLimits (length names)) mark marks fits))
+marks_located names marks names_fit =
+    All-weaker (FitsLimits (length names)) (HasLocations names) (λ mark. mark_located names mark names_fit) marks
 
 -- so its tokens are known, and short
-
-items_written : (names : List (List ℕ)) (items : List Item)
-    → All (IsLocated names) items
-    → All (HasName (spell false) names) items
-items_written names [] all = All-nil (HasName (spell false) names)
-items_written names (item ∷ items) all =
-    All-cons (HasName (spell false) names) item items
-    (location_written (name_of names item) (All-head (IsLocated names) item items all))
-    (items_written names items (All-tail (IsLocated names) item items all))
 
 mark_written : (names : List (List ℕ)) (mark : Mark)
     → HasLocations names mark
     → FitsNames (spell false) names mark
 mark_written names (Works cost) h = h
-mark_written names Waits h = tt
-mark_written names (Begins undeferred items) h = items_written names items h
-mark_written names Ends h = tt
-mark_written names GroupBegins h = tt
-mark_written names GroupEnds h = tt
+mark_written names (Begins undeferred items) h =
+    All-weaker (IsLocated names) (HasName (spell false) names) (λ item. location_written (name_of names item)) items h
+mark_written names _ h = tt
 
 marks_written : (names : List (List ℕ)) (marks : List Mark)
     → All (HasLocations names) marks
     → All (FitsNames (spell false) names) marks
-marks_written names [] all = All-nil (FitsNames (spell false) names)
-marks_written names (mark ∷ marks) all =
-    All-cons (FitsNames (spell false) names) mark marks
-    (mark_written names mark (All-head (HasLocations names) mark marks all))
-    (marks_written names marks (All-tail (HasLocations names) mark marks all))
-
-items_short : (names : List (List ℕ)) (items : List Item)
-    → All (IsLocated names) items
-    → All (HasShort (spell false) names) items
-items_short names [] all = All-nil (HasShort (spell false) names)
-items_short names (item ∷ items) all =
-    All-cons (HasShort (spell false) names) item items
-    (location_short (name_of names item) (All-head (IsLocated names) item items all))
-    (items_short names items (All-tail (IsLocated names) item items all))
+marks_written names =
+    All-weaker (HasLocations names) (FitsNames (spell false) names) (mark_written names)
 
 mark_short : (names : List (List ℕ)) (mark : Mark)
     → HasLocations names mark
     → FitsShort (spell false) names mark
 mark_short names (Works cost) h = h
-mark_short names Waits h = tt
-mark_short names (Begins undeferred items) h = items_short names items h
-mark_short names Ends h = tt
-mark_short names GroupBegins h = tt
-mark_short names GroupEnds h = tt
+mark_short names (Begins undeferred items) h =
+    All-weaker (IsLocated names) (HasShort (spell false) names) (λ item. location_short (name_of names item)) items h
+mark_short names _ h = tt
 
 marks_short : (names : List (List ℕ)) (marks : List Mark)
     → All (HasLocations names) marks
     → All (FitsShort (spell false) names) marks
-marks_short names [] all = All-nil (FitsShort (spell false) names)
-marks_short names (mark ∷ marks) all =
-    All-cons (FitsShort (spell false) names) mark marks
-    (mark_short names mark (All-head (HasLocations names) mark marks all))
-    (marks_short names marks (All-tail (HasLocations names) mark marks all))
+marks_short names =
+    All-weaker (HasLocations names) (FitsShort (spell false) names) (mark_short names)
 
 -- ---- the whole text
 

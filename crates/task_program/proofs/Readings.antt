@@ -22,7 +22,7 @@ abbrev fault_by : List ℕ → ReadFault → Bool → Type 0
 fault_by text fault two = UnlessTooLong text fault
     (MatchBool two (HasLoopFault text fault) (HasPlainFault text fault))
 
-not_memory : (kind : ReadKind) → kind ≢ OutOfMemory → is_memory kind ≡ false
+pub not_memory : (kind : ReadKind) → kind ≢ OutOfMemory → is_memory kind ≡ false
 not_memory OutOfMemory other = absurd (other refl)
 not_memory _ other = refl
 

@@ -413,14 +413,10 @@ steps_back GroupBrace has_if depth text texts h f =
     rw (same_text text (codes "{") (allowed_of GroupBrace has_if depth text h))
     (piece_rest depth (suc depth) GroupWritten texts tt (λ pieces nested. nested) f)
 steps_back Clause has_if depth text texts h f = clause_back has_if depth text texts h f
-steps_back IfOpens has_if depth text texts h f =
-    rw (same_text text (codes "(") (allowed_of IfOpens has_if depth text h)) f
 steps_back IfNumber has_if depth text texts h f = f text (allowed_of IfNumber has_if depth text h)
 steps_back IfCloses has_if depth text texts h f =
     rw (same_text text (codes ")") (allowed_of IfCloses has_if depth text h))
     (closes_back has_if depth texts f)
-steps_back DependOpens has_if depth text texts h f =
-    rw (same_text text (codes "(") (allowed_of DependOpens has_if depth text h)) f
 steps_back DependType has_if depth text texts h f =
     subst (λ (t : List ℕ). ClausesRest has_if depth (codes "depend" ∷ codes "(" ∷ t ∷ texts))
     (sym (type_is text (allowed_of DependType has_if depth text h))) f
@@ -431,6 +427,8 @@ steps_back (DependName kind) has_if depth text texts h f =
     f text (allowed_of (DependName kind) has_if depth text h)
 steps_back (DependMore kind) has_if depth text texts h f =
     more_back kind has_if depth text texts h f
+steps_back place has_if depth text texts h f =
+    rw (same_text text (codes "(") (allowed_of place has_if depth text h)) f
 
 -- ---- wherever the reading stands, the grammar has something
 

@@ -13,8 +13,8 @@ use Rattle.program_text.specs.declared.fault.ReadKind.TheVariants.{WorkTooLarge}
 use Rattle.task_program.specs.declared.place.Place.{Place}
 use Rattle.task_program.specs.declared.place.Place.TheVariants.{Header, Version, Statement}
 use Rattle.task_program.specs.declared.place.Place.TheVariants.{WorkNumber, GroupBrace, Clause}
-use Rattle.task_program.specs.declared.place.Place.TheVariants.{IfOpens, IfNumber, IfCloses}
-use Rattle.task_program.specs.declared.place.Place.TheVariants.{DependOpens, DependType}
+use Rattle.task_program.specs.declared.place.Place.TheVariants.{IfNumber, IfCloses}
+use Rattle.task_program.specs.declared.place.Place.TheVariants.{DependType}
 use Rattle.task_program.specs.declared.place.Place.TheVariants.{DependColon, DependName, DependMore}
 use Rattle.program_text.specs.declared.statement.DependKind.{DependKind}
 use Rattle.program_text.specs.declared.statement.DependKind.TheVariants.{DependIn, DependOut}
@@ -347,13 +347,7 @@ type_tallies : (state : State) (kind : DependKind) (line : ℕ)
 type_tallies state DependIn line =
     same_tally _ _ _ _ _ _ _ _ _ _ _ _ refl (omega arith) (omega arith) (omega arith) (omega arith)
     refl
-type_tallies state DependOut line =
-    same_tally _ _ _ _ _ _ _ _ _ _ _ _ refl (omega arith) (omega arith) (omega arith) (omega arith)
-    refl
-type_tallies state DependInOut line =
-    same_tally _ _ _ _ _ _ _ _ _ _ _ _ refl (omega arith) (omega arith) (omega arith) (omega arith)
-    refl
-type_tallies state DependInOutSet line =
+type_tallies state _ line =
     same_tally _ _ _ _ _ _ _ _ _ _ _ _ refl (omega arith) (omega arith) (omega arith) (omega arith)
     refl
 
@@ -402,15 +396,9 @@ place_tallies WorkNumber state text line past none allowed = work_tallies state 
 place_tallies GroupBrace state text line past none allowed =
     rw (same_text text (codes "{") allowed) (group_tallies state line none)
 place_tallies Clause state text line past none allowed = clause_tallies state text line allowed
-place_tallies IfOpens state text line past none allowed =
-    rw (same_text text (codes "(") allowed) (same_tally _ _ _ _ _ _ _ _ _ _ _ _ refl (omega arith)
-    (omega arith) (omega arith) (omega arith) refl)
 place_tallies IfNumber state text line past none allowed = if_number_tallies state text line allowed
 place_tallies IfCloses state text line past none allowed =
     rw (same_text text (codes ")") allowed) (same_tally _ _ _ _ _ _ _ _ _ _ _ _ refl (omega arith)
-    (omega arith) (omega arith) (omega arith) refl)
-place_tallies DependOpens state text line past none allowed =
-    rw (same_text text (codes "(") allowed) (same_tally _ _ _ _ _ _ _ _ _ _ _ _ refl (omega arith)
     (omega arith) (omega arith) (omega arith) refl)
 place_tallies DependType state text line past none allowed =
     subst
@@ -424,6 +412,9 @@ place_tallies (DependName kind) state text line past none allowed =
     name_tallies state kind text line allowed
 place_tallies (DependMore kind) state text line past none allowed =
     more_tallies state kind text line allowed
+place_tallies _ state text line past none allowed =
+    rw (same_text text (codes "(") allowed) (same_tally _ _ _ _ _ _ _ _ _ _ _ _ refl (omega arith)
+    (omega arith) (omega arith) (omega arith) refl)
 
 -- ---- the limits
 
@@ -705,16 +696,10 @@ place_limits WorkNumber state text past few allowed = work_limits state text few
 place_limits GroupBrace state text past few allowed =
     rw (same_text text (codes "{") allowed) (brace_limits GroupBrace state few refl refl refl)
 place_limits Clause state text past few allowed = clause_limits state text few allowed
-place_limits IfOpens state text past few allowed =
-    rw (same_text text (codes "(") allowed)
-    (passes_no_limit IfOpens state (codes "(") refl few refl refl refl refl)
 place_limits IfNumber state text past few allowed = if_number_limits state text few allowed
 place_limits IfCloses state text past few allowed =
     rw (same_text text (codes ")") allowed)
     (passes_no_limit IfCloses state (codes ")") refl few refl refl refl refl)
-place_limits DependOpens state text past few allowed =
-    rw (same_text text (codes "(") allowed)
-    (passes_no_limit DependOpens state (codes "(") refl few refl refl refl refl)
 place_limits DependType state text past few allowed =
     subst (λ (t : List ℕ). LimitsSame DependType state t) (sym (type_is text allowed))
     (type_limits state (type_of text) few)
@@ -723,6 +708,9 @@ place_limits (DependColon kind) state text past few allowed =
     (passes_no_limit (DependColon kind) state (codes ":") refl few refl refl refl refl)
 place_limits (DependName kind) state text past few allowed = name_limits state kind text allowed
 place_limits (DependMore kind) state text past few allowed = more_limits state kind text few allowed
+place_limits place state text past few allowed =
+    rw (same_text text (codes "(") allowed)
+    (passes_no_limit place state (codes "(") refl few refl refl refl refl)
 
 -- ---- the header
 

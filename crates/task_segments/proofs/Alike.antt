@@ -123,8 +123,8 @@ closing_of_one table h t before closing o next c =
     ∙ ap (λ (s : ℕ). (segment table s).closing) (follows_one table h before o.0 t next o.2)
     ∙ o.1
 
--- of the children that a task generated before the end of a group, those with a pair to it were
--- generated inside
+-- of the children that a task created before the end of a group, those with a pair to it were
+-- created inside
 generated_inside : (table : Table) → IsNestedTable table → (u t : ℕ) → OpensAfter table EndsGroup t
     → IsEarlierChild table u t → MustPrecede table (task table u).last t
     → (segment table t).children_before ≤ (task table u).siblings_before

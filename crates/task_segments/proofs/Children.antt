@@ -35,7 +35,7 @@ innermost_is : (p : ℕ) (stack : List ℕ)
 innermost_is p [] h = absurd cc
 innermost_is p (x ∷ stack) h = (omega arith, grind (arith, nat_tests))
 
--- u is a child of p that has begun, and p had generated k before it
+-- u is a child of p that has begun, and p had created k before it
 record IsChildAt (e : List Mark) (p k u : ℕ) : Type 0 where
   above : 0 < u
   has_begun : u < tasks_so_far e
@@ -124,7 +124,7 @@ pub record HasSiblingAt (table : Table) (u k : ℕ) : Type 0 where
   pub of_parent : (task table sibling).parent ≡ (task table u).parent
   pub count : (task table sibling).siblings_before ≡ k
 
--- t opens after the end of a group, and k is the number of a child that its task generated before t
+-- t opens after the end of a group, and k is the number of a child that its task created before t
 pub record HasChildAt (table : Table) (t k : ℕ) : Type 0 where
   pub opens_after : OpensAfter table closings.EndsGroup t
   pub child : ℕ
@@ -141,7 +141,7 @@ pub record IsNumbered (table : Table) : Type 0 where
   pub ascend : (u v : ℕ) → u < v → IsTask table v → (task table u).parent ≡ (task table v).parent
       → (task table u).siblings_before < (task table v).siblings_before
   -- only a segment after the end of a group counts children, and no more than its task has
-  -- generated
+  -- created
   pub children : (t k : ℕ)
       → IsSegment table t
       → k < (segment table t).children_before
@@ -298,7 +298,7 @@ grouped_opening e t xs g o =
     subst (λ (xs : List Mark). IsGrouped xs) o
     (at_opening (λ xs. IsGrouped xs) (λ m x p. p.2) e t g)
 
--- a child that its task had generated before the end of a group
+-- a child that its task had created before the end of a group
 child_before_end : (e : List Mark)
     → IsLast e
     → (t k u : ℕ) (before : List Mark)
@@ -332,7 +332,7 @@ child_before_end e h t k u before l o found =
       count = is.1;
     }
 
--- a group begins where its task had generated no more children than where it ends
+-- a group begins where its task had created no more children than where it ends
 group_children : (e : List Mark) (t k : ℕ) (before : List Mark)
     → IsGrouped e
     → opening_of t e ≡ GroupEnds ∷ before
@@ -347,7 +347,7 @@ group_children e t k before g o less =
       innermost_count (open_groups before),
     )
 
--- each number that a segment counts is that of a child generated before it
+-- each number that a segment counts is that of a child created before it
 children_at : (e : List Mark) → IsLast e → (t k : ℕ) → t < segments_so_far e
     → k < (segment (table_at e) t).children_before → HasChildAt (table_at e) t k
 children_at e h t k l less =

@@ -317,7 +317,7 @@ closing_creates table h s child i e = by_closing (segment table s).closing refl
         absurd
         (none_next table h s ((task table child).last + 1) c (after_task table h child s i e))
 
--- a child generated before a segment of its parent has ended before it
+-- a child created before a segment of its parent has ended before it
 pub children : (table : Table)
     → IsNestedTable table
     → (u p s t : ℕ)
@@ -332,7 +332,7 @@ children table h u p s t e f o l =
     let creator_is = made.creator in
     after_child table h u made.child t (o.of_task ∙ sym same) (omega arith)
 
--- a child generated before t has ended before the segment that t follows by one, where that one
+-- a child created before t has ended before the segment that t follows by one, where that one
 -- does not create it
 ended_before : (table : Table)
     → IsNestedTable table
@@ -365,7 +365,7 @@ next_ended table h child before t generated after next =
     ended_before table h child before
     (subst (λ n. IsEarlierChild table child n) (next_is table h before t after next) generated) next
 
--- a child generated before a wait has ended before the segment that waits
+-- a child created before a wait has ended before the segment that waits
 pub child_ends_before_wait : (table : Table)
     → IsNestedTable table
     → (child before t : ℕ)
@@ -403,7 +403,7 @@ last_lower table h u c i =
     (record { is_segment = c.resumes.is_to; of_task = c.resumes.same_task ∙ c.of_creator }) in
     omega arith
 
--- the group that a task is generated in ends after it
+-- the group that a task is created in ends after it
 own_group : (table : Table) → IsNestedTable table → (u t : ℕ) → HasInnermost table u
     → (task table u).innermost_group ≡ Some t → EndsAfter table u t
 own_group table h u t g e =

@@ -23,11 +23,7 @@ pub record IsReading (marks : List Mark) : Type 0 where
 
 task_counted : (mark : Mark) → tasks_begun mark ≡ cond (begins_task mark) 1 0
 task_counted (Begins d i) = refl
-task_counted Ends = refl
-task_counted (Works cost) = refl
-task_counted Waits = refl
-task_counted GroupBegins = refl
-task_counted GroupEnds = refl
+task_counted _ = refl
 
 -- the tasks that are begun are the marks that begin one
 pub tasks_counted : (marks : List Mark) → tasks_of marks ≡ count_by begins_task marks

@@ -7,9 +7,7 @@ use mathlib.Core.Bool.{beq}
 use Rattle.std.specs.Bool.{Decides}
 use Rattle.std.proofs.lemmas.Bool.Decides.{Decides-and, Decides-eqb}
 use Rattle.program_text.specs.declared.statement.DependKind.{DependKind}
-use Rattle.program_text.specs.declared.statement.DependKind.TheVariants.{DependIn, DependOut}
-use Rattle.program_text.specs.declared.statement.DependKind.TheVariants.{DependInOut}
-use Rattle.program_text.specs.declared.statement.DependKind.TheVariants.{DependInOutSet}
+use Rattle.program_text.specs.declared.statement.DependKind.TheVariants.{DependIn}
 use Rattle.program_text.specs.declared.statement.Item.{Item}
 use Rattle.program_text.specs.contracts.statement.DependKind as kinds
 use Rattle.program_text.specs.contracts.statement.DependKindPartialEq.TheImpl as kind_eq
@@ -34,21 +32,10 @@ decides_equivalent b to from (p, q) = (λ e. to (p e), λ x. q (from x))
 closing_decides : (a b : Closing) → Decides (closing_eq.ghosts.eq a b) (a ≡ b)
 closing_decides (Creates t) (Creates u) =
     decides_equivalent (eqb t u) (λ e. ap Creates e) (λ e. cc) (Decides-eqb t u)
-closing_decides (Creates t) Waits = (λ e. cc, λ e. cc)
-closing_decides (Creates t) EndsGroup = (λ e. cc, λ e. cc)
-closing_decides (Creates t) EndsTask = (λ e. cc, λ e. cc)
-closing_decides Waits (Creates u) = (λ e. cc, λ e. cc)
 closing_decides Waits Waits = (λ e. refl, λ e. refl)
-closing_decides Waits EndsGroup = (λ e. cc, λ e. cc)
-closing_decides Waits EndsTask = (λ e. cc, λ e. cc)
-closing_decides EndsGroup (Creates u) = (λ e. cc, λ e. cc)
-closing_decides EndsGroup Waits = (λ e. cc, λ e. cc)
 closing_decides EndsGroup EndsGroup = (λ e. refl, λ e. refl)
-closing_decides EndsGroup EndsTask = (λ e. cc, λ e. cc)
-closing_decides EndsTask (Creates u) = (λ e. cc, λ e. cc)
-closing_decides EndsTask Waits = (λ e. cc, λ e. cc)
-closing_decides EndsTask EndsGroup = (λ e. cc, λ e. cc)
 closing_decides EndsTask EndsTask = (λ e. refl, λ e. refl)
+closing_decides _ _ = (λ e. cc, λ e. cc)
 
 abbrev AreEqual : Segment → Segment → Type 0
 AreEqual a b =
@@ -92,9 +79,7 @@ segment_decides a b =
 
 kind_self : (a : DependKind) → kind_eq.ghosts.eq a a ≡ true
 kind_self DependIn = refl
-kind_self DependOut = refl
-kind_self DependInOut = refl
-kind_self DependInOutSet = refl
+kind_self _ = refl
 
 kind_decides : (a b : DependKind) → Decides (kind_eq.ghosts.eq a b) (a ≡ b)
 kind_decides a b = (

@@ -4,7 +4,7 @@ use Rattle.std.specs.List.{sum_by}
 use Rattle.std.proofs.lemmas.List.Sums.{sum_by-cons}
 use Rattle.task_program.specs.Limits.{segments_opened}
 use Rattle.task_program.specs.Marks.{Mark}
-use Rattle.task_program.specs.Marks.Mark.{Begins, Ends, Works, Waits, GroupBegins, GroupEnds}
+use Rattle.task_program.specs.Marks.Mark.{Begins}
 use Rattle.task_program.specs.ProgramMarks.{ProgramMarks}
 use Rattle.task_program.specs.Programs.{IsProgram}
 use Rattle.task_program.proofs.Nested.{is_nested}
@@ -28,40 +28,12 @@ one_more (Begins d i) marks =
       count-cons is_wait (Begins d i) marks,
       count-cons begins_group (Begins d i) marks,
     )
-one_more Ends marks =
+one_more m marks =
     omega (
       arith,
-      count-cons begins_task Ends marks,
-      count-cons is_wait Ends marks,
-      count-cons begins_group Ends marks,
-    )
-one_more (Works cost) marks =
-    omega (
-      arith,
-      count-cons begins_task (Works cost) marks,
-      count-cons is_wait (Works cost) marks,
-      count-cons begins_group (Works cost) marks,
-    )
-one_more Waits marks =
-    omega (
-      arith,
-      count-cons begins_task Waits marks,
-      count-cons is_wait Waits marks,
-      count-cons begins_group Waits marks,
-    )
-one_more GroupBegins marks =
-    omega (
-      arith,
-      count-cons begins_task GroupBegins marks,
-      count-cons is_wait GroupBegins marks,
-      count-cons begins_group GroupBegins marks,
-    )
-one_more GroupEnds marks =
-    omega (
-      arith,
-      count-cons begins_task GroupEnds marks,
-      count-cons is_wait GroupEnds marks,
-      count-cons begins_group GroupEnds marks,
+      count-cons begins_task m marks,
+      count-cons is_wait m marks,
+      count-cons begins_group m marks,
     )
 
 opened_in : (marks : List Mark)

@@ -155,7 +155,7 @@ pub record IsReadInPlace (table : Table) : Type 0 where
       → IsOf table p t
       → s < t
       → (task table u).last < t
-  -- a child generated before a wait, or inside a group, has ended before the segment that waits, or
+  -- a child created before a wait, or inside a group, has ended before the segment that waits, or
   -- that ends the group
   pub waited : (child before t : ℕ)
       → IsEarlierChild table child t

@@ -1,6 +1,6 @@
 -- How thieves are shared out, lane by lane.
 use Rattle.std.proofs.Common.{ℕ, ◌+◌, ◌≡◌, ◌≢◌, ◌<◌, ◌≤◌, ◌++◌, ◌∷◌, [], List, All, length, map, set, get_or}
-use Rattle.std.proofs.Common.{refl, sym, ap, ◌∙◌, subst, inl, inr, arith, append_assoc, length-append}
+use Rattle.std.proofs.Common.{sym, ap, ◌∙◌, subst, inl, inr, arith, append_assoc, length-append}
 use Rattle.std.proofs.Common.{get_or-set_same, get_or-set_other}
 use Rattle.std.proofs.lemmas.List.{length-set, get_or_append_left, map-append, map-set, length-map, get_or-map}
 use Rattle.std.proofs.lemmas.Bool.{cases_lt}
@@ -123,21 +123,9 @@ next_listed f own place xs x apart is lists =
     (lists_push (IsOtherLane place own) (IsOtherLane (place + 1) own) (map f xs) place lists (λ m other. other.0)
     (λ m other. let less = other.0 in (omega (arith, less), other.1)) (omega arith, apart)
     (λ m other. elim (eqb_tells place m) [
-      | inl same ↦ inr same.1
+      | inl same ↦ inr (sym same.1)
       | inr differs ↦ let less = other.0 in inl (omega (arith, less, differs.1), other.1)
     ])))
-
-pub none_listed : (own : ℕ) → Lists (IsOtherLane 0 own) []
-none_listed own = record {
-  ascending = λ k less. absurd (omega (arith, less));
-  each = λ n. (λ c. let less = c.1 in absurd (omega (arith, less)), λ other. let less = other.0 in absurd (omega (arith, less)));
-}
-
-pub none_gave : (own lane had : ℕ) → GaveOne 0 own lane had had
-none_gave own lane had = record {
-  gave = λ other. let less = other.0 in absurd (omega (arith, less));
-  kept = λ _. refl;
-}
 
 -- A lane has a thief left for each worker that was given none of its thieves yet. The first so many were served.
 pub record IsEnough (workers served lane left : ℕ) : Type 0 where
