@@ -8,3 +8,5 @@ pub mod Taken
 pub mod Fitting
 pub mod Measuring
 pub mod Whole
+pub mod Cutting
+pub mod Streaming

@@ -7,7 +7,7 @@ use Rattle.program_text.specs.declared.scanner.Scanner.{Scanner}
 use Rattle.program_text.specs.Marks.{Mark}
 use Rattle.program_text.specs.Marks.Mark.{Begins}
 use Rattle.program_text.specs.ScannerSeen.{tokens_left, end_line}
-use Rattle.program_text.specs.Tokens.{Token, texts, tokens_of, line_at_end}
+use Rattle.program_text.specs.Tokens.{Token, texts, tokens_from, line_at_end}
 use Rattle.task_segments.specs.Moments.{last_moment}
 use Rattle.task_segments.proofs.Programs.{moment_after-append}
 use Rattle.online_span.specs.declared.meter.Meter.{Meter}
@@ -16,7 +16,7 @@ use Rattle.large_text.specs.declared.marks.TextMark.{TextMark}
 use Rattle.large_text.specs.declared.reader.MarkReader.{MarkReader}
 use Rattle.large_text.specs.LargeReading.{IsReadSoFar, mark_seen}
 use Rattle.large_text.specs.LargeTrees.{HasLargeTree, IsLargeRightWhole, IsLargeFirstFault}
-use Rattle.large_text.specs.Measured.{MeasuresText, MeasuresSoFar}
+use Rattle.large_text.specs.Measured.{MeasuresText, MeasuresSoFar, CanMeasure}
 
 -- a token with which a mark is whole
 pub mark_taken : (before : List Token) (token : Token) (mark : TextMark) (old new : MarkReader)
@@ -51,91 +51,111 @@ none_taken before token old new meter reads m = record {
 -- ---- the tokens of a text
 
 -- the tokens before the scanner have been taken, and those of the text that are left are its own
-pub record StandsAt (text : List ℕ) (scanner : Scanner) (reader : MarkReader) (meter : Meter)
-    : Type 0 where
-  pub before : List Token
-  pub all : tokens_of text ≡ before ++ tokens_left scanner
-  pub line : end_line scanner ≡ line_at_end 1 text
-  pub so_far : MeasuresSoFar before reader meter
+pub record GoesThrough (text : List ℕ) (line : ℕ) (scanner : Scanner) (first reader : MarkReader)
+    (start meter : Meter) : Type 0 where
+  pub gone : List Token
+  pub all : tokens_from false line text ≡ gone ++ tokens_left scanner
+  pub line_is : end_line scanner ≡ line_at_end line text
+  pub reads : (before : List Token) → MeasuresSoFar before first start
+      → MeasuresSoFar (before ++ gone) reader meter
 
-pub stands_first : (text : List ℕ) (scanner : Scanner) (reader : MarkReader) (meter : Meter)
+pub goes_first : (text : List ℕ) (line : ℕ) (scanner : Scanner) (reader : MarkReader) (meter : Meter)
     → scanner.rest.now ≡ text
-    → scanner.line ≡ 1
-    → IsReadSoFar [] [] reader
-    → Measures meter (Begins false [] ∷ [])
-    → StandsAt text scanner reader meter
-stands_first text scanner reader meter rest line so_far measures = record {
-  before = [];
-  all = rw (rest, line) refl;
-  line = rw (rest, line) refl;
-  so_far = record { marks = []; so_far = so_far; measures = measures };
+    → scanner.line ≡ line
+    → GoesThrough text line scanner reader reader meter meter
+goes_first text line scanner reader meter rest line_is = record {
+  gone = [];
+  all = rw (rest, line_is) refl;
+  line_is = rw (rest, line_is) refl;
+  reads = λ before m. subst (λ (ts : List Token). MeasuresSoFar ts reader meter)
+      (sym (append-nil before)) m;
 }
 
-pub stands_next : (text : List ℕ) (scanner next : Scanner) (token : Token) (old new : MarkReader)
-    (meter more : Meter)
-    → StandsAt text scanner old meter
+pub goes_on : (text : List ℕ) (line : ℕ) (scanner next : Scanner) (token : Token)
+    (first old new : MarkReader) (start meter more : Meter)
+    → GoesThrough text line scanner first old start meter
     → tokens_left scanner ≡ token ∷ tokens_left next
     → end_line next ≡ end_line scanner
     → ((before : List Token) → MeasuresSoFar before old meter
     → MeasuresSoFar (before ++ token ∷ []) new more)
-    → StandsAt text next new more
-stands_next text scanner next token old new meter more at split line reads = record {
-  before = at.before ++ token ∷ [];
+    → GoesThrough text line next first new start more
+goes_on text line scanner next token first old new start meter more at split line_is reads = record {
+  gone = at.gone ++ token ∷ [];
   all = at.all
-      ∙ ap (λ (ts : List Token). at.before ++ ts) split
-      ∙ sym (append_assoc at.before (token ∷ []) (tokens_left next));
-  line = line ∙ at.line;
-  so_far = reads at.before at.so_far;
+      ∙ ap (λ (ts : List Token). at.gone ++ ts) split
+      ∙ sym (append_assoc at.gone (token ∷ []) (tokens_left next));
+  line_is = line_is ∙ at.line_is;
+  reads = λ before m. subst (λ (ts : List Token). MeasuresSoFar ts new more)
+      (append_assoc before at.gone (token ∷ []))
+      (reads (before ++ at.gone) (at.reads before m));
 }
 
+pub goes_still : (text : List ℕ) (line : ℕ) (scanner : Scanner) (first reader : MarkReader)
+    (start meter : Meter)
+    → GoesThrough text line scanner first reader start meter
+    → CanMeasure first start
+    → CanMeasure reader meter
+goes_still text line scanner first reader start meter at can = record {
+  tokens = can.tokens ++ at.gone;
+  so_far = at.reads can.tokens can.so_far;
+}
+
+pub goes_whole : (text : List ℕ) (line : ℕ) (scanner : Scanner) (first reader : MarkReader)
+    (start meter : Meter)
+    → GoesThrough text line scanner first reader start meter
+    → tokens_left scanner ≡ []
+    → (before : List Token) → MeasuresSoFar before first start
+    → MeasuresSoFar (before ++ tokens_from false line text) reader meter
+goes_whole text line scanner first reader start meter at none = λ before m.
+    subst (λ (ts : List Token). MeasuresSoFar (before ++ ts) reader meter)
+    (sym (at.all ∙ ap (λ (ts : List Token). at.gone ++ ts) none ∙ append-nil at.gone))
+    (at.reads before m)
+
 -- the first fault is at this token
-pub stops_at : (text : List ℕ) (scanner : Scanner) (token : Token) (later : List Token)
-    (reader : MarkReader) (meter : Meter) (fault : ReadFault)
-    → StandsAt text scanner reader meter
-    → tokens_left scanner ≡ token ∷ later
+pub stops_at : (text : List ℕ) (line : ℕ) (scanner : Scanner) (token : Token) (rest : List Token)
+    (first reader : MarkReader) (start meter : Meter) (fault : ReadFault)
+    → GoesThrough text line scanner first reader start meter
+    → tokens_left scanner ≡ token ∷ rest
     → ((before later : List Token) (end_line : ℕ) → MeasuresSoFar before reader meter
     → IsLargeFirstFault (before ++ token ∷ later) end_line fault)
-    → IsLargeFirstFault (tokens_of text) (line_at_end 1 text) fault
-stops_at text scanner token later reader meter fault at split refused =
-    subst (λ (ts : List Token). IsLargeFirstFault ts (line_at_end 1 text) fault)
-    (sym (at.all ∙ ap (λ (ts : List Token). at.before ++ ts) split))
-    (refused at.before later (line_at_end 1 text) at.so_far)
-
-all_taken : (text : List ℕ) (scanner : Scanner) (reader : MarkReader) (meter : Meter)
-    (at : StandsAt text scanner reader meter)
-    → tokens_left scanner ≡ []
-    → at.before ≡ tokens_of text
-all_taken text scanner reader meter at none =
-    sym (at.all ∙ ap (λ (ts : List Token). at.before ++ ts) none ∙ append-nil at.before)
+    → (before later : List Token) (end_line : ℕ) → MeasuresSoFar before first start
+    → IsLargeFirstFault (before ++ (tokens_from false line text ++ later)) end_line fault
+stops_at text line scanner token rest first reader start meter fault at split refused =
+    λ before later end_line m.
+    let whole : before ++ (tokens_from false line text ++ later)
+    ≡ (before ++ at.gone) ++ token ∷ (rest ++ later) =
+    ap (λ (ts : List Token). before ++ (ts ++ later))
+    (at.all ∙ ap (λ (ts : List Token). at.gone ++ ts) split)
+    ∙ ap (λ (ts : List Token). before ++ ts) (append_assoc at.gone (token ∷ rest) later)
+    ∙ sym (append_assoc before at.gone (token ∷ (rest ++ later))) in
+    subst (λ (ts : List Token). IsLargeFirstFault ts end_line fault) (sym whole)
+    (refused (before ++ at.gone) (rest ++ later) end_line (at.reads before m))
 
 -- the text ends where it may not
-pub stops_early : (text : List ℕ) (scanner : Scanner) (line : ℕ) (reader : MarkReader)
+pub stops_early : (before all : List Token) (end_line line : ℕ) (reader : MarkReader)
     (meter : Meter) (fault : ReadFault)
-    → StandsAt text scanner reader meter
-    → tokens_left scanner ≡ []
-    → line ≡ end_line scanner
+    → MeasuresSoFar before reader meter
+    → before ≡ all
+    → line ≡ end_line
     → ((before : List Token) (marks : List Mark) → IsReadSoFar before marks reader
     → IsLargeFirstFault before line fault)
-    → IsLargeFirstFault (tokens_of text) (line_at_end 1 text) fault
-stops_early text scanner line reader meter fault at none line_is refused =
-    subst (λ (ts : List Token). IsLargeFirstFault ts (line_at_end 1 text) fault)
-    (all_taken text scanner reader meter at none)
-    (subst (λ (n : ℕ). IsLargeFirstFault at.before n fault) (line_is ∙ at.line)
-    (refused at.before at.so_far.marks at.so_far.so_far))
+    → IsLargeFirstFault all end_line fault
+stops_early before all end_line line reader meter fault m all_is line_is refused =
+    subst (λ (ts : List Token). IsLargeFirstFault ts end_line fault) all_is
+    (subst (λ (n : ℕ). IsLargeFirstFault before n fault) line_is (refused before m.marks m.so_far))
 
 -- the text is whole
-pub is_measured : (text : List ℕ) (scanner : Scanner) (reader : MarkReader) (meter : Meter)
-    → StandsAt text scanner reader meter
-    → tokens_left scanner ≡ []
+pub is_measured : (before all : List Token) (reader : MarkReader) (meter : Meter)
+    → MeasuresSoFar before reader meter
+    → before ≡ all
     → ((before : List Token) (marks : List Mark) → IsReadSoFar before marks reader
     → HasLargeTree (texts before) marks × IsLargeRightWhole before)
-    → MeasuresText (tokens_of text) meter
-is_measured text scanner reader meter at none whole =
-    let is = whole at.before at.so_far.marks at.so_far.so_far in
-    subst (λ (ts : List Token). MeasuresText ts meter)
-    (all_taken text scanner reader meter at none) (record {
-      marks = at.so_far.marks;
+    → MeasuresText all meter
+is_measured before all reader meter m all_is whole =
+    let is = whole before m.marks m.so_far in
+    subst (λ (ts : List Token). MeasuresText ts meter) all_is (record {
+      marks = m.marks;
       tree = is.0;
       right = is.1;
-      measures = at.so_far.measures;
+      measures = m.measures;
     })

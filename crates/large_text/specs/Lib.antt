@@ -2,3 +2,4 @@ pub mod LargeTrees
 pub mod LargeFaults
 pub mod LargeReading
 pub mod Measured
+pub mod Streamed

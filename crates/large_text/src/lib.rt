@@ -9,5 +9,7 @@ pub mod marks;
 mod measure;
 mod place_tests;
 pub mod reader;
+mod stream;
 
 pub use measure::measure_text;
+pub use stream::TextMeter;

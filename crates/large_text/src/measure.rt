@@ -1,11 +1,11 @@
 //! Work and span of a text of any size.
-ghost use Rattle.std.specs.Prelude.{ℕ, ◌≢◌, ◌+◌, ◌<◌, ◌^◌, [], ◌∷◌, ◌++◌, List, IfOk, IfErr, OnOk};
-ghost use Rattle.std.specs.Prelude.{length};
+ghost use Rattle.std.specs.Prelude.{ℕ, ◌≡◌, ◌≢◌, ◌+◌, ◌<◌, ◌≤◌, ◌^◌, [], ◌∷◌, ◌++◌, List, IfOk, IfErr, OnOk};
+ghost use Rattle.std.specs.Prelude.{length, false};
 ghost use Rattle.program_text.specs.declared.fault.ReadKind.TheVariants.{OutOfMemory};
 ghost use Rattle.program_text.specs.Marks.{Mark};
 ghost use Rattle.program_text.specs.ScannerSeen.{token_seen};
 ghost use Rattle.program_text.specs.Tokens as tokens;
-ghost use Rattle.program_text.specs.Tokens.{tokens_of, line_at_end};
+ghost use Rattle.program_text.specs.Tokens.{tokens_of, tokens_from, line_at_end};
 ghost use Rattle.online_span.specs.Measuring.{Measures, CanTake};
 ghost use Rattle.large_text.specs.LargeReading.{mark_seen};
 ghost use Rattle.large_text.specs.LargeTrees.{IsLargeFirstFault};
@@ -27,14 +27,49 @@ pub fn measure_text(alloc: Global, text: &[u8]) -> Result<Meter, ReadFault>
     ensures refused { IfErr result (λ fault. fault.kind ≢ OutOfMemory
         → IsLargeFirstFault (tokens_of text.now) (line_at_end 1 text.now) fault) }
 {
-    let mut scanner = Scanner::new(text);
     let mut reader = MarkReader::new(alloc);
     let mut meter = Meter::new(alloc);
-    'tokens: while let Some(token) = scanner.next_token() {
-        take_token(&mut reader, &mut meter, token)?;
-    }
-    reader.finish(scanner.line)?;
+    let line = take_tokens(&mut reader, &mut meter, text, 1)?;
+    reader.finish(line)?;
     Ok(meter)
+}
+
+// Takes the tokens of these bytes, which begin on this line, outside a comment. The result is the
+// line on which they end.
+pub(crate) fn take_tokens(
+    reader: &mut MarkReader,
+    meter: &mut Meter,
+    text: &[u8],
+    line: u32,
+) -> Result<u32, ReadFault>
+    requires taken { CanMeasure reader.old meter.old }
+    requires first { 1 ≤ line }
+    requires lines { line + length text.now < 2 ^ 32 }
+    ensures reads { OnOk result ((before : List tokens.Token)
+        → MeasuresSoFar before reader.old meter.old
+        → MeasuresSoFar (before ++ tokens_from false line text.now) reader.new meter.new) }
+    ensures line { IfOk result (λ end. end ≡ line_at_end line text.now) }
+    ensures refused { IfErr result (λ fault. fault.kind ≢ OutOfMemory
+        → (before later : List tokens.Token) (end_line : ℕ)
+        → MeasuresSoFar before reader.old meter.old
+        → IsLargeFirstFault (before ++ (tokens_from false line text.now ++ later)) end_line fault) }
+{
+    let mut scanner = scanner_from(text, line);
+    'tokens: while let Some(token) = scanner.next_token() {
+        take_token(reader, meter, token)?;
+    }
+    Ok(scanner.line)
+}
+
+fn scanner_from<'a>(text: &'a [u8], line: u32) -> Scanner<'a>
+    requires first { 1 ≤ line }
+    requires lines { line + length text.now < 2 ^ 32 }
+    ensures rest { result.rest.now ≡ text.now }
+    ensures line { result.line ≡ line }
+{
+    let mut scanner = Scanner::new(text);
+    scanner.line = line;
+    scanner
 }
 
 // Takes the next token, and the mark that is whole with it, if one is.

@@ -1,9 +1,48 @@
-use Rattle.program_text.specs.ScannerSeen.{token_seen}
-use Rattle.large_text.proofs.Measuring.{stands_next}
+use Rattle.std.proofs.Common.{◌≢◌, [], None, refl, rules}
+use Rattle.program_text.specs.declared.fault.ReadKind.TheVariants.{OutOfMemory}
+use Rattle.program_text.specs.Tokens.{tokens_of, line_at_end}
+use Rattle.large_text.specs.LargeTrees.{IsLargeFirstFault}
+use Rattle.large_text.specs.Streamed.{HasTakenLines}
+use Rattle.large_text.proofs.Streaming.{taken_first, keeps_more, fault_last, ends_early, ends_whole}
 use Rattle.large_text.proofs.measure.measure_text.Goals as goal
 
-pub tokens-preserved : goal.tokens-preserved
-tokens-preserved c =
-    stands_next c.args.text.now c.tokens.scanner c.next_token.new.self (token_seen c.in-Some.token)
-    c.tokens.reader c.take_token.new.reader c.tokens.meter c.take_token.new.meter c.tokens.invariant
-    c.in-Some.ensures.first c.in-Some.ensures.line c.in_ok-take_token.ensures.reads
+pub returns-in_err-line-clause-refused : goal.returns-in_err-line-clause-refused
+returns-in_err-line-clause-refused c =
+    let text = c.args.text.now in
+    let reader = c.new-reader.result in
+    let meter = c.new-meter.result in
+    let fault = c.in_err-line.field-0.0 in
+    let h : HasTakenLines text text 1 reader meter =
+    keeps_more [] [] text 1 reader meter
+    (taken_first reader meter c.new-reader.ensures c.new-meter.ensures) in
+    let stops : fault.kind ≢ OutOfMemory
+    → IsLargeFirstFault (tokens_of text) (line_at_end 1 text) fault =
+    λ some. fault_last None text text text 1 reader meter fault refl refl h
+    (c.in_err-line.ensures.refused some) (line_at_end 1 text) in
+    search (stops, rules)
+
+pub returns-in_err-finish-clause-refused : goal.returns-in_err-finish-clause-refused
+returns-in_err-finish-clause-refused c =
+    let text = c.args.text.now in
+    let reader = c.new-reader.result in
+    let meter = c.new-meter.result in
+    let fault = c.in_err-finish.field-0.0 in
+    let h : HasTakenLines text text 1 reader meter =
+    keeps_more [] [] text 1 reader meter
+    (taken_first reader meter c.new-reader.ensures c.new-meter.ensures) in
+    let stops : IsLargeFirstFault (tokens_of text) (line_at_end 1 text) fault =
+    ends_early None text text text 1 c.in_ok-line.line reader c.take_tokens.new.reader meter
+    c.take_tokens.new.meter fault refl refl h c.in_ok-line.ensures.line c.in_ok-line.ensures.reads
+    c.in_err-finish.ensures.early in
+    search (stops, rules)
+
+pub returns-clause-measured : goal.returns-clause-measured
+returns-clause-measured c =
+    let text = c.args.text.now in
+    let reader = c.new-reader.result in
+    let meter = c.new-meter.result in
+    let h : HasTakenLines text text 1 reader meter =
+    keeps_more [] [] text 1 reader meter
+    (taken_first reader meter c.new-reader.ensures c.new-meter.ensures) in
+    ends_whole None text text text 1 reader c.take_tokens.new.reader meter
+    c.take_tokens.new.meter refl refl h c.in_ok-line.ensures.reads c.in_ok-finish.ensures.whole

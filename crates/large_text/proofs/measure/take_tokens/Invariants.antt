@@ -1,0 +1,9 @@
+use Rattle.std.proofs.Common.{length}
+use Rattle.large_text.proofs.Measuring.{GoesThrough}
+use Rattle.large_text.proofs.measure.take_tokens.Given as goal
+
+abbrev pub invariant-tokens : goal.invariant-tokens
+invariant-tokens l = GoesThrough l.text l.line l.scanner l.fn.reader l.reader l.fn.meter l.meter
+
+abbrev pub decreases-tokens : goal.decreases-tokens
+decreases-tokens l = length l.scanner.rest.now

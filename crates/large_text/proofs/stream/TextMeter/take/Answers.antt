@@ -1,0 +1,13 @@
+use Rattle.std.proofs.lemmas.Result.{on_ok_weaker}
+use Rattle.large_text.proofs.Streaming.{takes_two, split_whole}
+use Rattle.large_text.proofs.stream.TextMeter.take.Goals as goal
+
+pub returns : goal.returns
+returns c =
+    let bytes = c.args.bytes.now in
+    let lines = c.split_at.result.0.now in
+    let tail = c.split_at.result.1.now in
+    on_ok_weaker c.keep-2.result
+    (takes_two bytes lines tail c.args.self.now c.take_lines.new.self c.keep-2.new.self
+    (split_whole bytes lines tail c.whole_lines-end.result c.split_at.ensures.front
+    c.split_at.ensures.back) c.in_ok-take_lines.ensures) c.keep-2.ensures

@@ -1,0 +1,57 @@
+-- What a meter of a text has taken of its bytes.
+use Rattle.std.specs.Prelude.{◌≡◌, ℕ, ◌+◌, ◌<◌, ◌^◌, false, List, [], ◌∷◌, ◌++◌, length}
+use Rattle.std.specs.Prelude.{Option, Some, None}
+use Rattle.program_text.specs.declared.fault.ReadFault.{ReadFault}
+use Rattle.program_text.specs.Tokens.{tokens_from, tokens_of, line_at_end}
+use Rattle.online_span.specs.declared.meter.Meter.{Meter}
+use Rattle.large_text.specs.declared.reader.MarkReader.{MarkReader}
+use Rattle.large_text.specs.declared.stream.TextMeter.{TextMeter}
+use Rattle.large_text.specs.LargeTrees.{IsLargeFirstFault}
+use Rattle.large_text.specs.Measured.{MeasuresSoFar}
+
+-- they end with an LF
+abbrev pub EndsLine : List ℕ → Type 0
+EndsLine bytes = (front : List ℕ) × (bytes ≡ front ++ 10 ∷ [])
+
+-- the tokens of a text that begins with these bytes are theirs and those of what follows
+abbrev pub CutsTokens : List ℕ → Type 0
+CutsTokens bytes =
+    (later : List ℕ)
+    → tokens_of (bytes ++ later) ≡ tokens_of bytes ++ tokens_from false (line_at_end 1 bytes) later
+
+-- the tokens of some lines have been taken, and what follows them is kept: it begins on this line
+pub record HasTakenLines (bytes tail : List ℕ) (line : ℕ) (reader : MarkReader) (meter : Meter)
+    : Type 0 where
+  pub lines : List ℕ
+  pub all : bytes ≡ lines ++ tail
+  pub cuts : CutsTokens lines
+  pub line_is : line ≡ line_at_end 1 lines
+  pub so_far : MeasuresSoFar (tokens_of lines) reader meter
+
+-- it is the first fault of every text that begins with these bytes
+abbrev pub HasFault : List ℕ → ReadFault → Type 0
+HasFault bytes fault =
+    (later : List ℕ) (end_line : ℕ) → IsLargeFirstFault (tokens_of (bytes ++ later)) end_line fault
+
+abbrev pub HasTakenBy : Option ReadFault → (bytes tail : List ℕ) (line : ℕ) → MarkReader → Meter
+    → Type 0
+HasTakenBy None bytes tail line reader meter = HasTakenLines bytes tail line reader meter
+HasTakenBy (Some fault) bytes tail line reader meter = HasFault bytes fault
+
+-- the meter has taken these bytes, with which a text begins
+pub record HasTaken (bytes : List ℕ) (text_meter : TextMeter) : Type 0 where
+  pub fits : length bytes + 1 < 2 ^ 32
+  pub taken : HasTakenBy text_meter.fault bytes text_meter.tail.items text_meter.line
+      text_meter.reader text_meter.meter
+
+-- some bytes were taken, and so many more are not too many
+pub record CanTakeBytes (count : ℕ) (text_meter : TextMeter) : Type 0 where
+  pub bytes : List ℕ
+  pub taken : HasTaken bytes text_meter
+  pub fits : length bytes + count + 1 < 2 ^ 32
+
+-- what was taken before and these bytes behind it have been taken
+abbrev pub TakesBytes : List ℕ → (before after : TextMeter) → Type 0
+TakesBytes bytes before after =
+    (taken : List ℕ) → length taken + length bytes + 1 < 2 ^ 32
+    → HasTaken taken before → HasTaken (taken ++ bytes) after
