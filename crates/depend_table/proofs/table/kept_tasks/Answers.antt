@@ -12,10 +12,15 @@ use Rattle.depend_table.specs.Entries.{newest_first, tasks_of, predecessors_for}
 use Rattle.depend_table.specs.Marks.{AreWithin, IsMarked, AreMarkedToo, IsMarkedNumber}
 use Rattle.depend_table.proofs.Marks.{marked_in_turn, marked_within, written_back}
 use Rattle.depend_table.proofs.Places.{kept_listed}
+use Rattle.std.proofs.lemmas.List.Elements.{Contains-get_or}
 use Rattle.depend_table.proofs.table.kept_tasks.Goals as goal
 
 abbrev no_item : Item
 no_item = record { kind = DependIn; name = 0 }
+
+pub predecessors_at-requires-clause-one : goal.predecessors_at-requires-clause-one
+predecessors_at-requires-clause-one c =
+    Contains-get_or c.args.items.now c.loop-item.item-index no_item c.loop-item-test.true
 
 pub mark-requires : goal.mark-requires
 mark-requires c =

@@ -10,17 +10,22 @@ use Rattle.depend_table.specs.Generations.{sharing_at}
 use Rattle.depend_table.specs.Marks.{AreWithin}
 use Rattle.depend_table.proofs.Marks.{within_wider}
 use Rattle.depend_table.proofs.Places.{predecessors_in_order, predecessors_below}
+use Rattle.std.proofs.lemmas.List.Elements.{Contains-get_or}
 use Rattle.depend_table.proofs.table.window_on.Goals as goal
 
 abbrev no_item : Item
 no_item = record { kind = DependIn; name = 0 }
+
+pub predecessors_at-requires-clause-one : goal.predecessors_at-requires-clause-one
+predecessors_at-requires-clause-one c =
+    Contains-get_or c.args.items.now c.loop-item.item-index no_item c.loop-item-test.true
 
 pub with_places-window-requires-clause-ascending : goal.with_places-window-requires-clause-ascending
 with_places-window-requires-clause-ascending c =
     let items = c.args.items.now in
     let item = get_or items c.loop-item.item-index no_item in
     subst IsStrictlyIncreasing (sym c.predecessors_at.ensures) (predecessors_in_order
-    c.args.names.now c.args.calls.now item.name (sharing_at item.name items) c.requires)
+    c.args.names.now c.args.calls.now item.name (sharing_at item.name items) c.requires.table)
 
 pub with_places-window-requires-clause-few : goal.with_places-window-requires-clause-few
 with_places-window-requires-clause-few c = λ k d h.
@@ -29,7 +34,7 @@ with_places-window-requires-clause-few c = λ k d h.
     let item = get_or items c.loop-item.item-index no_item in
     let below = subst (λ (xs : List ℕ). All (λ place. place < length calls) xs)
     (sym c.predecessors_at.ensures)
-    (predecessors_below c.args.names.now calls item.name (sharing_at item.name items) c.requires) in
+    (predecessors_below c.args.names.now calls item.name (sharing_at item.name items) c.requires.table) in
     let less = below k d h in
     let fits : length calls < 2 ^ 64 = search rules in
     omega arith
@@ -46,7 +51,7 @@ loop-item-preserved c =
     let places = c.predecessors_at.result.now in
     let below = subst (λ (xs : List ℕ). All (λ place. place < length calls) xs)
     (sym c.predecessors_at.ensures)
-    (predecessors_below names calls item.name (sharing_at item.name items) c.requires) in
+    (predecessors_below names calls item.name (sharing_at item.name items) c.requires.table) in
     let earlier = All-weaker
     (λ (one : Item). AreWithin old.first old.end (predecessors_for names items one))
     (λ (one : Item). AreWithin new.first new.end (predecessors_for names items one))

@@ -1,0 +1,9 @@
+use Rattle.std.proofs.Common.{sym, ◌∙◌}
+use Rattle.program_text.specs.declared.statement.DependKind.TheVariants.{DependIn}
+use Rattle.depend_table.proofs.Ascending.{not_repeated}
+use Rattle.depend_table.proofs.table.enter_all.Goals as goal
+
+pub is_repeated-requires : goal.is_repeated-requires
+is_repeated-requires c = λ up.
+    not_repeated 0 c.loop-index.index (record { kind = DependIn; name = 0 }) c.args.items.now
+    (sym c.names_ascend-ascend.ensures ∙ up) c.loop-index-test.true
