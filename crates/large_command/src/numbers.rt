@@ -25,6 +25,7 @@ pub(crate) fn answer(alloc: Global, text: &[u8]) -> Result<Report, AllocError>
     }
 }
 
+/// What a meter tells, once it has taken all of a text.
 fn numbers(alloc: Global, meter: &Meter) -> Result<Report, AllocError>
     ensures { IfOk result (λ report. TellsMeter meter.now report) }
 {
