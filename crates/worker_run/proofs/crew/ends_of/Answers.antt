@@ -1,8 +1,9 @@
-use Rattle.std.proofs.Common.{ℕ, ◌≡◌, ◌≤◌, ◌++◌, ◌∷◌, [], List, All, drop, length, sym, subst, arith}
-use Rattle.std.proofs.lemmas.List.{drop-append-le}
+use Rattle.std.proofs.Common.{ℕ, ◌≡◌, ◌≤◌, ◌+◌, ◌++◌, ◌∷◌, [], List, All, drop, length, sym, ap, subst, arith, ◌∙◌}
+use Rattle.std.proofs.lemmas.List.{drop-append-le, drop-drop, drop_all, length-drop}
 use Rattle.std.proofs.lemmas.List.Elements.{All-push}
 use Rattle.worker_run.specs.declared.worker.Ending.TheVariants.{NoMemory}
 use Rattle.worker_run.proofs.crew.ends_of.Goals as goal
+use Rattle.worker_run.proofs.crew.ends_of.Goals.{in-Some, in-None}
 
 -- one more behind a place of which each is so
 one_behind : {A : Type 0} (P : A → Type 0) (n : ℕ) (xs : List A) (x : A) → n ≤ length xs
@@ -10,13 +11,55 @@ one_behind : {A : Type 0} (P : A → Type 0) (n : ℕ) (xs : List A) (x : A) →
 one_behind P n xs x less each this =
     subst (All P) (sym (drop-append-le n xs (x ∷ []) less)) (All-push P (drop n xs) x each this)
 
+-- what is left behind a place, and behind the next one
+one_less : {A : Type 0} (n : ℕ) (xs : List A) (x : A) (rest : List A) → x ∷ rest ≡ drop n xs → rest ≡ drop (n + 1) xs
+one_less n xs x rest all = ap (λ ys. drop 1 ys) all ∙ drop-drop 1 n xs
+
+-- there is an item at a place behind which not all is left
+has_place : {A : Type 0} (n : ℕ) (xs : List A) (x : A) (rest : List A) → x ∷ rest ≡ drop n xs → n + 1 ≤ length xs
+has_place n xs x rest all =
+    let long : length (x ∷ rest) ≡ length (drop n xs) = ap (λ ys. length ys) all in
+    omega (arith, long, length-drop n xs)
+
+-- none behind the end
+none_behind : {A : Type 0} (P : A → Type 0) (n : ℕ) (xs : List A) → length xs ≤ n → All P (drop n xs)
+none_behind P n xs short = subst (All P) (sym (drop_all n xs short)) (λ k d none. absurd (omega (arith, none)))
+
+-- where no more are left behind a place, none are behind the next one
+still_none : {A : Type 0} (n : ℕ) (xs rest : List A) → length xs ≤ n → rest ≡ drop n xs → rest ≡ drop (n + 1) xs
+still_none n xs rest short all =
+    let more : length xs ≤ n + 1 = omega (arith, short) in all ∙ drop_all n xs short ∙ sym (drop_all (n + 1) xs more)
+
 pub loop-preserved : goal.loop-preserved
 loop-preserved g c =
-    let items = c.in_ok-push-2.ensures.items in record {
-      count =
-          let long = c.in_ok-push-2.ensures.len in let before = c.loop.invariant.count in
-          let ok = c.loop.ends.ok in let new_ok = c.push-in-loop.new.self.ok in
-          omega (arith, long, before, ok, new_ok);
-      refused = rw items (one_behind (λ e. e.how ≡ NoMemory) c.len-started.result c.loop.ends.items c.no_memory.result
-          (omega (arith, c.loop.invariant.count)) c.loop.invariant.refused c.no_memory.ensures);
+    let handles = c.args.handles.items in
+    let items = c.in_ok-push.ensures.items in
+    let count = c.loop.invariant.count in
+    let rest = c.loop.invariant.rest in
+    let left = c.loop.invariant.left in
+    let long = c.in_ok-push.ensures.len in
+    let ok = c.loop.ends.ok in
+    let new_ok = c.push.new.self.ok in record {
+      count = omega (arith, long, count, ok, new_ok);
+      rest = elim c.match-next.branch [
+        | in-Some w ↦ one_less c.loop.counter handles w.in-Some.handle _ (sym (w.in-Some.ensures.items) ∙ rest)
+        | in-None w ↦
+            (let none = w.in-None.ensures.cases in
+            let short : length handles ≤ c.loop.counter = omega (arith, left, none.0) in
+            still_none c.loop.counter handles _ short (sym (w.in-None.ensures.items) ∙ rest))
+      ];
+      left = elim c.match-next.branch [
+        | in-Some w ↦ (let one = w.in-Some.ensures.cases in omega (arith, left, one.1))
+        | in-None w ↦ (let none = w.in-None.ensures.cases in omega (arith, left, none.0, none.1))
+      ];
+      refused = elim c.match-next.branch [
+        | in-Some w ↦ none_behind (λ e. e.how ≡ NoMemory) (length handles) c.push.new.self.items
+            (let some = has_place c.loop.counter handles w.in-Some.handle _ (sym (w.in-Some.ensures.items) ∙ rest) in
+            omega (arith, long, count, some, ok, new_ok))
+        | in-None w ↦
+            (let none = w.in-None.ensures.cases in
+            let short : length handles ≤ length c.loop.ends.items = omega (arith, left, none.0, count) in
+            rw items (one_behind (λ e. e.how ≡ NoMemory) (length handles) c.loop.ends.items c.match-next.end short
+            c.loop.invariant.refused (ap (λ e. e.how) (w.end-is) ∙ w.no_memory-end.ensures)))
+      ];
     }
