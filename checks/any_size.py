@@ -1,6 +1,7 @@
 #!/usr/bin/env python3
 """Compares spanprof_large with `spanprof span` on the examples and on random programs, and with numbers known
-beforehand on programs of a million tasks, of which it also tells time and memory.
+beforehand on programs of a million tasks, of which it also tells time and memory. The rows of `--upto` are compared
+with a plain computation, and on the smaller programs with the bounds of `spanprof curve`.
 
     checks/any_size.py [COUNT [LARGE [SPANPROF]]]     COUNT random programs (300); the built programs if none are given
 
@@ -18,6 +19,7 @@ TOP = Path(__file__).resolve().parent.parent
 LARGE = TOP / "crates/spanprof_large/out/spanprof_large"
 SPANPROF = TOP / "crates/spanprof/out/spanprof"
 MILLION = 1_000_000
+UPTO = 9
 NAMES = ("a", "b", "c", "work", "in")
 KINDS = ("in", "out", "inout", "inoutset")
 
@@ -85,9 +87,9 @@ def tree(levels):
 
 # ---- asking and comparing
 
-def ask(program, text):
+def ask(program, text, *words):
     """The status and the text of one run."""
-    ran = subprocess.run([str(program)], input=text.encode(), capture_output=True, check=False)
+    ran = subprocess.run([str(program), *words], input=text.encode(), capture_output=True, check=False)
     if ran.stderr:
         raise Wrong(f"{program.name} writes to standard error: {ran.stderr[:80]!r}")
     return ran.returncode, ran.stdout.decode()
@@ -98,11 +100,26 @@ def without_tasks(status, told):
     return status, re.sub(r"\Atasks \d+\n", "", told)
 
 
+def bounds(work, span, upto):
+    """The table of bounds, computed plainly."""
+    rows = ((p, max(span, -(-work // p)), (work + (p - 1) * span) // p) for p in range(1, upto + 1))
+    return "threads,least,bound\n" + "".join("%d,%d,%d\n" % row for row in rows)
+
+
+def without_ends(told):
+    """What `spanprof curve` prints, without the column of ends."""
+    return re.sub(r"^(\w+),\w+,", r"\1,", told, flags=re.MULTILINE)
+
+
 def compare(what, text, large, spanprof):
     wanted = ask(spanprof, text)
     told = without_tasks(*ask(large, text))
     if told != wanted:
         raise Wrong(f"{what}: spanprof_large {told}, and span {wanted}")
+    status, curve = ask(spanprof, text, "curve", f"--upto={UPTO}")
+    told = ask(large, text, "--upto", str(UPTO))
+    if told != (status, curve if status else without_ends(curve)):
+        raise Wrong(f"{what}: spanprof_large {told}, and curve {curve!r}")
 
 
 def compare_examples(large, spanprof):
@@ -124,6 +141,9 @@ def measure(name, made, large):
     wanted = "tasks {}\nsegments {}\nwork {}\nspan {}\n".format(*numbers)
     if (status, told) != (0, wanted):
         raise Wrong(f"{name}: status {status}, {told!r}, and not {wanted!r}")
+    _, _, work, span = numbers
+    if ask(large, text, "--upto=1024") != (0, bounds(work, span, 1_024)):
+        raise Wrong(f"{name}: other bounds")
     most = resource.getrusage(resource.RUSAGE_CHILDREN).ru_maxrss // 1024
     print(f"{name}: {numbers[0]:,} tasks, {len(text) / 1e6:.1f} MB of text, {seconds:.2f} s; "
           f"at most {most} MB in any run so far (measured)")
@@ -140,7 +160,7 @@ def main():
         examples = compare_examples(large, spanprof)
         for seed in range(count):
             compare(f"random program {seed}", draw(seed), large, spanprof)
-        print(f"{examples} examples and {count} random programs: as `spanprof span` tells")
+        print(f"{examples} examples and {count} random programs: as `spanprof span` and `curve` tell")
         for name, made in (("nested", nested(MILLION)), ("tree", tree(20)), ("chain", chain(MILLION)),
                            ("independent", independent(MILLION))):
             measure(name, made, large)

@@ -39,6 +39,7 @@ spanprof gre|greedy
 spanprof greedy --|--threads
 spanprof curve --|--upto
 spanprof run --|--workers
+spanprof_large --|--upto
 spanprof-record --uni|--unit
 spanprof-record --clock c|cpu
 spanprof-record --html mi|mine.html

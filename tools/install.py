@@ -11,6 +11,7 @@ import sys
 
 TOOLS = os.path.dirname(os.path.abspath(__file__))
 SPANPROF = os.path.join(TOOLS, "..", "crates", "spanprof", "out", "spanprof")
+LARGE = os.path.join(TOOLS, "..", "crates", "spanprof_large", "out", "spanprof_large")
 LIST = os.path.join("share", "spanprof", "installed")
 COMMANDS = ("spanprof-record", "spanprof-report", "spanprof-conformance")
 SHARED = ("*.py", "record/*.py", "report/*.py", "report/template/*", "plots/*.py", "conformance/*.py",
@@ -25,9 +26,15 @@ def shared_files():
             and not any(part in "/" + path for part in LEFT_OUT)]
 
 
-def plan(spanprof=SPANPROF):
-    """Where each file goes: pairs of a file and its path below the prefix."""
+def plan(spanprof=SPANPROF, large=LARGE):
+    """Where each file goes: pairs of a file and its path below the prefix. The program for texts of any size goes there
+    where it is built."""
     pairs = [(spanprof, "bin/spanprof")]
+    if os.path.isfile(large):
+        pairs += [(large, "bin/spanprof_large"),
+                  (os.path.join(TOOLS, "completion", "spanprof.bash"),
+                   "share/bash-completion/completions/spanprof_large"),
+                  (os.path.join(TOOLS, "man", "spanprof.1"), "share/man/man1/spanprof_large.1")]
     pairs += [(os.path.join(TOOLS, name), "bin/" + name) for name in COMMANDS]
     pairs += [(os.path.join(TOOLS, "openmp_recorder", "librecorder.so"), "lib/spanprof/librecorder.so")]
     pairs += [(os.path.join(TOOLS, path), "share/spanprof/" + path) for path in shared_files()]

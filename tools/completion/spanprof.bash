@@ -32,6 +32,14 @@ _spanprof() {
     esac
 }
 
+_spanprof_large() {
+    local current=${COMP_WORDS[COMP_CWORD]} before=${COMP_WORDS[COMP_CWORD - 1]}
+    case $before in
+        '<' | '>') _spanprof_files "$current" ;;
+        spanprof_large | */spanprof_large) _spanprof_among "$current" --upto ;;
+    esac
+}
+
 _spanprof_record_program() { # the place of the program among the words; none where the options have not ended
     local i
     for ((i = 1; i < COMP_CWORD; i++)); do
@@ -103,6 +111,7 @@ _spanprof_commands() { # WORD: the commands that its --help lists
 }
 
 complete -F _spanprof spanprof
+complete -F _spanprof_large spanprof_large
 complete -F _spanprof_record spanprof-record
 complete -F _spanprof_report spanprof-report
 complete -F _spanprof_conformance spanprof-conformance

@@ -19,6 +19,12 @@ class Plan(unittest.TestCase):
             self.assertIn(path, places)
         self.assertEqual(len(places), len(set(places)))
 
+    def test_the_program_for_large_texts_where_it_is_built(self):
+        self.assertNotIn("bin/spanprof_large", [path for _, path in install.plan(large="no such program")])
+        places = dict((path, source) for source, path in install.plan(large=__file__))
+        self.assertEqual(places["bin/spanprof_large"], __file__)
+        self.assertIn("share/man/man1/spanprof_large.1", places)
+
     def test_tests_and_the_installer_stay_behind(self):
         self.assertFalse([path for path in install.shared_files() if "tests/" in path or path.endswith("install.py")])
 

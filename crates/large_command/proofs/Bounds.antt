@@ -16,6 +16,7 @@ use Rattle.task_segments.proofs.Order.{goes_up}
 use Rattle.task_segments.proofs.Programs.{last_of_nested}
 use Rattle.task_segments.proofs.Schedules.{IsLegal-by_rule, by_rule, end_of-by_rule}
 use Rattle.task_segments.proofs.Work.{all_work_at}
+use Rattle.online_span.specs.Spans.{IsSpanOf}
 use Rattle.greedy_sim.proofs.EverySchedule.{span-le}
 use Rattle.spanprof_command.specs.GreedyRuns.{bound_of, least_of}
 
@@ -89,3 +90,11 @@ span_is_within costs R span asc is_span =
       ends,
       span-le costs R span (by_rule (work_before costs) (length costs)) legal is_span,
     )
+
+-- the span of nested marks is no more than their work
+pub within_work : (body : List Mark) (span : ℕ) → IsNested body → IsSpanOf body span
+    → span ≤ work_of (last_moment body)
+within_work body span nested is_span =
+    subst (λ (work : ℕ). span ≤ work) (all_work_of body nested)
+    (span_is_within (costs_of (table_of body)) (MustPrecede (table_of body)) span
+    (must_ascend body nested) is_span.greatest_sum)

@@ -8,7 +8,8 @@ use Rattle.online_span.specs.declared.meter.Meter.{Meter}
 use Rattle.online_span.specs.Measuring.{Measures}
 use Rattle.online_span.specs.Spans.{IsSpanOf}
 use Rattle.spanprof_command.specs.Report.{Report}
-use Rattle.large_command.specs.LargeReports.{TellsMeter, numbers_report}
+use Rattle.command_words.specs.declared.large.LargeRequest.TheVariants.{Bounds, Numbers}
+use Rattle.large_command.specs.LargeReports.{TellsMeter, bounds_report, numbers_report}
 
 pub tells_meter : (meter : Meter) (tasks segments work span : ℕ) (report : Report)
     → ((moment : List Mark) → Measures meter moment → tasks + 1 ≡ tasks_so_far moment)
@@ -16,7 +17,7 @@ pub tells_meter : (meter : Meter) (tasks segments work span : ℕ) (report : Rep
     → ((moment : List Mark) → Measures meter moment → work ≡ work_of moment)
     → ((body : List Mark) → IsNested body → Measures meter (last_moment body) → IsSpanOf body span)
     → report ≡ numbers_report tasks segments work span
-    → TellsMeter meter report
+    → TellsMeter Numbers meter report
 tells_meter meter tasks segments work span report all_tasks all_segments all_work whole says =
     λ marks nested measures.
     let e = all_segments (last_moment marks) measures in
@@ -29,4 +30,16 @@ tells_meter meter tasks segments work span report all_tasks all_segments all_wor
       says = says
           ∙ (ap (λ s. numbers_report tasks s work span) e
           ∙ ap (λ w. numbers_report tasks (segments_so_far (last_moment marks)) w span) f);
+    }
+
+pub tells_bounds : (meter : Meter) (upto work span : ℕ) (report : Report)
+    → ((moment : List Mark) → Measures meter moment → work ≡ work_of moment)
+    → ((body : List Mark) → IsNested body → Measures meter (last_moment body) → IsSpanOf body span)
+    → report ≡ bounds_report upto work span
+    → TellsMeter (Bounds upto) meter report
+tells_bounds meter upto work span report all_work whole says =
+    λ marks nested measures. record {
+      span = span;
+      is_span = whole marks nested measures;
+      says = says ∙ ap (λ w. bounds_report upto w span) (all_work (last_moment marks) measures);
     }

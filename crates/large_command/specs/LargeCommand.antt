@@ -1,30 +1,59 @@
 -- How the program ends, over a reader and a writer.
-use Rattle.std.specs.Prelude.{◌≡◌, ◌⊎◌, ◌<◌, ◌≤◌, ℕ, List, length, Option}
+use Rattle.std.specs.Prelude.{◌≡◌, ◌⊎◌, ◌&&◌, ℕ, Bool, true, false, List, Option, Some, None}
+use Rattle.std.specs.Prelude.{nat_le}
 use Rattle.std.specs.Io.KnownBytes.{Keeps}
+use Rattle.command_words.specs.LargeWords.{large_request_of}
+use Rattle.command_words.specs.declared.large.LargeRequest.{LargeRequest}
+use Rattle.command_words.specs.declared.large.LargeRequest.TheVariants.{Bounds, Numbers}
+use Rattle.greedy_sim.specs.declared.greedy.TheConstants.{MOST_THREADS}
 use Rattle.spanprof_command.specs.Command.{ReadsWithin}
+use Rattle.spanprof_command.specs.GreedyRuns.{thread_count}
 use Rattle.spanprof_command.specs.Report.{Report, wrong_words}
 use Rattle.large_command.specs.LargeReports.{AnswersWithin}
 use Rattle.large_command.specs.declared.engine.TheConstants.{LARGEST_TEXT}
 
--- there are words beside the program's name: they are wrong, and nothing is read
+-- bounds are told for 1 to MOST_THREADS threads
+abbrev pub is_in_range : LargeRequest → Bool
+is_in_range Numbers = true
+is_in_range (Bounds upto) = nat_le 1 upto && nat_le upto MOST_THREADS
+
+-- the words ask for something of a text
+abbrev pub wants_text : Option LargeRequest → Bool
+wants_text None = false
+wants_text (Some asked) = is_in_range asked
+
+-- the words ask for nothing, and nothing is read
 pub record RefusesWords (words : List (List ℕ)) (before after : Option (List ℕ)) (output : Report)
     : Type 0 where
-  pub some : 1 < length words
+  pub none : large_request_of words ≡ None
   pub kept : Keeps before after
   pub says : output ≡ wrong_words
 
+-- they ask for bounds on a number of threads that is out of range, and nothing is read
+pub record RefusesCount (words : List (List ℕ)) (before after : Option (List ℕ)) (output : Report)
+    : Type 0 where
+  pub asked : LargeRequest
+  pub asks : large_request_of words ≡ Some asked
+  pub outside : is_in_range asked ≡ false
+  pub kept : Keeps before after
+  pub says : output ≡ thread_count
+
 -- what was read is a text of which the program answers this
-pub record AnswersText (before after : Option (List ℕ)) (output : Report) : Type 0 where
+pub record AnswersText (asked : LargeRequest) (before after : Option (List ℕ)) (output : Report)
+    : Type 0 where
   pub text : List ℕ
   pub read : ReadsWithin LARGEST_TEXT before after text
-  pub answers : AnswersWithin text output
+  pub answers : AnswersWithin asked text output
 
 pub record AnswersWords (words : List (List ℕ)) (before after : Option (List ℕ)) (output : Report)
     : Type 0 where
-  pub none : length words ≤ 1
-  pub answers : AnswersText before after output
+  pub asked : LargeRequest
+  pub asks : large_request_of words ≡ Some asked
+  pub inside : is_in_range asked ≡ true
+  pub answers : AnswersText asked before after output
 
 -- what is to be written is the report of the words and of what was read
 abbrev pub IsReport : List (List ℕ) → Option (List ℕ) → Option (List ℕ) → Report → Type 0
 IsReport words before after output =
-    RefusesWords words before after output ⊎ AnswersWords words before after output
+    RefusesWords words before after output
+    ⊎ (RefusesCount words before after output ⊎ AnswersWords words before after output)

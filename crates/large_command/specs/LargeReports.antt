@@ -1,5 +1,8 @@
 -- The report of a text of any size: one text and one status.
-use Rattle.std.specs.Prelude.{◌≡◌, ◌⊎◌, ◌+◌, ◌<◌, ◌≤◌, ℕ, List, ◌++◌, codes, length}
+use Rattle.std.specs.Prelude.{◌≡◌, ◌⊎◌, ◌+◌, ◌<◌, ◌≤◌, ℕ, List, [], ◌∷◌, ◌++◌, codes, length}
+use Rattle.std.specs.Prelude.{Option, Some}
+use Rattle.command_words.specs.declared.large.LargeRequest.{LargeRequest}
+use Rattle.command_words.specs.declared.large.LargeRequest.TheVariants.{Bounds, Numbers}
 use Rattle.program_text.specs.declared.fault.ReadFault.{ReadFault}
 use Rattle.program_text.specs.Marks.{Mark}
 use Rattle.program_text.specs.Tokens.{texts, tokens_of, line_at_end}
@@ -10,6 +13,8 @@ use Rattle.online_span.specs.declared.meter.Meter.{Meter}
 use Rattle.online_span.specs.Measuring.{Measures}
 use Rattle.online_span.specs.Spans.{IsSpanOf}
 use Rattle.large_text.specs.LargeTrees.{HasLargeTree, IsLargeFirstFault, IsLargeRightWhole}
+use Rattle.spanprof_command.specs.GreedyRuns.{bound_of, least_of}
+use Rattle.spanprof_command.specs.Tables.{numbered_table}
 use Rattle.spanprof_command.specs.Report.{Report, input_too_long, number_line, program_refusal}
 use Rattle.spanprof_command.specs.declared.report.Status.TheVariants.{Done}
 use Rattle.large_command.specs.declared.engine.TheConstants.{LARGEST_TEXT}
@@ -40,18 +45,55 @@ pub record TellsNumbers (marks : List Mark) (output : Report) : Type 0 where
       ≡ numbers_report tasks (segments_so_far (last_moment marks)) (work_of (last_moment marks))
       span
 
--- the same of a meter, whatever it has taken
-abbrev pub TellsMeter : Meter → Report → Type 0
-TellsMeter meter output =
-    (marks : List Mark) → (nested : IsNested marks)
-    → Measures meter (last_moment marks) → TellsNumbers marks output
+-- ---- bounds
 
--- the text has a tree, and no token of it is wrong: its numbers are told
-pub record AcceptsText (text : List ℕ) (output : Report) : Type 0 where
+abbrev pub bounds_header : List (List ℕ)
+bounds_header = codes "threads" ∷ codes "least" ∷ codes "bound" ∷ []
+
+-- a number of threads, an end before which no legal schedule on them ends, and one after which no
+-- greedy schedule does
+abbrev pub bounds_row : (work span p : ℕ) → List (Option ℕ)
+bounds_row work span p =
+    Some p ∷ Some (least_of work span p) ∷ Some (bound_of work span p) ∷ []
+
+-- a row for one thread, two, and so on
+abbrev pub bounds_report : (upto work span : ℕ) → Report
+bounds_report upto work span = record {
+  text = numbered_table bounds_header (bounds_row work span) 1 upto;
+  status = Done;
+}
+
+-- the bounds of a program with these marks
+pub record TellsBounds (upto : ℕ) (marks : List Mark) (output : Report) : Type 0 where
+  pub span : ℕ
+  pub is_span : IsSpanOf marks span
+  pub says : output ≡ bounds_report upto (work_of (last_moment marks)) span
+
+-- ---- what is asked of a text
+
+-- of a program with these marks this is told
+abbrev pub Tells : LargeRequest → List Mark → Report → Type 0
+Tells Numbers marks output = TellsNumbers marks output
+Tells (Bounds upto) marks output = TellsBounds upto marks output
+
+-- a meter has taken the marks of a whole program
+pub record IsOfProgram (meter : Meter) : Type 0 where
+  pub marks : List Mark
+  pub nested : IsNested marks
+  pub measures : Measures meter (last_moment marks)
+
+-- of the marks that a meter has taken this is told
+abbrev pub TellsMeter : LargeRequest → Meter → Report → Type 0
+TellsMeter asked meter output =
+    (marks : List Mark) → (nested : IsNested marks)
+    → Measures meter (last_moment marks) → Tells asked marks output
+
+-- the text has a tree, and no token of it is wrong: what is asked is told
+pub record AcceptsText (asked : LargeRequest) (text : List ℕ) (output : Report) : Type 0 where
   pub marks : List Mark
   pub tree : HasLargeTree (texts (tokens_of text)) marks
   pub right : IsLargeRightWhole (tokens_of text)
-  pub says : TellsNumbers marks output
+  pub says : Tells asked marks output
 
 -- something is wrong with it, and the line of its first fault is written
 pub record RefusesText (text : List ℕ) (output : Report) : Type 0 where
@@ -59,17 +101,17 @@ pub record RefusesText (text : List ℕ) (output : Report) : Type 0 where
   pub is_fault : IsLargeFirstFault (tokens_of text) (line_at_end 1 text) fault
   pub says : output ≡ program_refusal fault
 
-abbrev pub Answers : List ℕ → Report → Type 0
-Answers text output = AcceptsText text output ⊎ RefusesText text output
+abbrev pub Answers : LargeRequest → List ℕ → Report → Type 0
+Answers asked text output = AcceptsText asked text output ⊎ RefusesText text output
 
 -- a text that is too long is refused, whatever it holds
 pub record RefusesLength (text : List ℕ) (output : Report) : Type 0 where
   pub longer : LARGEST_TEXT < length text
   pub says : output ≡ input_too_long
 
-pub record AnswersLength (text : List ℕ) (output : Report) : Type 0 where
+pub record AnswersLength (asked : LargeRequest) (text : List ℕ) (output : Report) : Type 0 where
   pub fits : length text ≤ LARGEST_TEXT
-  pub answers : Answers text output
+  pub answers : Answers asked text output
 
-abbrev pub AnswersWithin : List ℕ → Report → Type 0
-AnswersWithin text output = RefusesLength text output ⊎ AnswersLength text output
+abbrev pub AnswersWithin : LargeRequest → List ℕ → Report → Type 0
+AnswersWithin asked text output = RefusesLength text output ⊎ AnswersLength asked text output

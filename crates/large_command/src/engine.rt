@@ -1,17 +1,22 @@
 //! Words, text, report and status, in that order.
 ghost use Rattle.std.specs.Prelude.{◌≡◌, ◌≢◌, ◌+◌, ◌-◌, ◌^◌, ◌<◌, ◌≤◌, List, ℕ, Err, map};
-ghost use Rattle.std.specs.Prelude.{string_bytes, IfOk, length, true};
+ghost use Rattle.std.specs.Prelude.{string_bytes, IfOk, false, true};
 ghost use Rattle.counted_io.specs.Counted.{inner_of, faults_of, flushes_of, is_flushed};
 ghost use Rattle.command_io.specs.Input.{ConsumesAtMost};
+ghost use Rattle.command_words.specs.LargeWords.{large_request_of};
 ghost use Rattle.spanprof_command.specs.Command.{EndsWith, HadFaults};
 ghost use Rattle.spanprof_command.specs.Report.{out_of_memory, read_fault};
 ghost use Rattle.spanprof_command.specs.declared.engine.TheConstants.{MOST_RETRIES};
-ghost use Rattle.large_command.specs.LargeCommand.{AnswersText, IsReport};
+ghost use Rattle.large_command.specs.LargeCommand.{AnswersText, IsReport, is_in_range};
+ghost use Rattle.large_command.specs.LargeCommand.{wants_text};
 ghost use Rattle.large_command.specs.declared.engine.NoReport.TheVariants.{OutOfMemory};
 
 use crate::numbers::answer;
 use command_io::{InputFault, read_input};
+use command_words::large::{LargeRequest, read_large_words};
+use command_words::request::WordsFault;
 use counted_io::Counted;
+use greedy_sim::greedy::MOST_THREADS;
 use spanprof_command::{MOST_RETRIES, Report, Status, send};
 use std::alloc::{AllocError, Global};
 use std::io::{Read, Write};
@@ -20,7 +25,9 @@ use std::io::{Read, Write};
 pub const LARGEST_TEXT: usize = 4_294_967_294;
 
 /// Reads a text of version 1 of any size to its end, and writes how many tasks and segments it has,
-/// its work and its span, each on a line of its own. There are no words beside the program's name.
+/// its work and its span, each on a line of its own. With the words `--upto P` it writes a table of
+/// bounds in their place, as CSV: a row for one thread, two, and so on up to P, from 1 to 1,024.
+/// Other words, and another P, are refused before anything is read.
 ///
 /// A text of more than [`LARGEST_TEXT`] bytes is refused. Reads and writes that are interrupted are
 /// tried again, together at most [`MOST_RETRIES`] times. Out of memory and a reader that fails have
@@ -43,7 +50,8 @@ pub fn command<R: Read, W: Write>(
     ensures flushed { result ≢ Status.Fault → is_flushed writer.new ≡ true }
 
     // In every case.
-    ensures reads_nothing { 1 < length words.now → reader.new ≡ reader.old }
+    ensures reads_nothing { wants_text (large_request_of (map string_bytes words.now)) ≡ false
+        → reader.new ≡ reader.old }
     ensures reads_so_much { ConsumesAtMost (LARGEST_TEXT + 1) (R.remaining (inner_of reader.old))
         (R.remaining (inner_of reader.new)) }
     ensures flushes { flushes_of writer.new ≤ flushes_of writer.old + 1 }
@@ -87,7 +95,8 @@ fn prepare<R: Read>(
     requires { faults_of reader.old + retries.old < 2 ^ 64 - 1 }
     ensures report { IfOk result (λ report. IsReport (map string_bytes words.now)
         (R.remaining (inner_of reader.old)) (R.remaining (inner_of reader.new)) report) }
-    ensures reads_nothing { 1 < length words.now → reader.new ≡ reader.old }
+    ensures reads_nothing { wants_text (large_request_of (map string_bytes words.now)) ≡ false
+        → reader.new ≡ reader.old }
 
     ensures reads_so_much { ConsumesAtMost (LARGEST_TEXT + 1) (R.remaining (inner_of reader.old))
         (R.remaining (inner_of reader.new)) }
@@ -97,19 +106,33 @@ fn prepare<R: Read>(
     ensures failed { result ≡ Err NoReport.ReadFault
         → faults_of reader.new + retries.new ≡ faults_of reader.old + retries.old + 1 }
 {
-    if words.len() > 1 {
-        return Ok(Report::of_line(alloc, b"error: wrong words\n", Status::Usage)?);
+    match read_large_words(alloc, words) {
+        Ok(asked) if is_in_range(asked) => answer_text(alloc, asked, reader, retries),
+        Ok(_) => Ok(Report::of_line(alloc, b"error: ThreadCount\n", Status::Refused)?),
+        Err(WordsFault::WrongWords) => {
+            Ok(Report::of_line(alloc, b"error: wrong words\n", Status::Usage)?)
+        }
+        Err(WordsFault::OutOfMemory) => Err(NoReport::OutOfMemory),
     }
-    answer_text(alloc, reader, retries)
+}
+
+fn is_in_range(asked: LargeRequest) -> bool
+    ensures { result ≡ is_in_range asked }
+{
+    match asked {
+        LargeRequest::Numbers => true,
+        LargeRequest::Bounds { upto } => 1 <= upto && upto <= MOST_THREADS,
+    }
 }
 
 fn answer_text<R: Read>(
     alloc: Global,
+    asked: LargeRequest,
     reader: &mut Counted<R>,
     retries: &mut u32,
 ) -> Result<Report, NoReport>
     requires { faults_of reader.old + retries.old < 2 ^ 64 - 1 }
-    ensures report { IfOk result (λ report. AnswersText (R.remaining (inner_of reader.old))
+    ensures report { IfOk result (λ report. AnswersText asked (R.remaining (inner_of reader.old))
         (R.remaining (inner_of reader.new)) report) }
 
     ensures reads_so_much { ConsumesAtMost (LARGEST_TEXT + 1) (R.remaining (inner_of reader.old))
@@ -121,7 +144,7 @@ fn answer_text<R: Read>(
         → faults_of reader.new + retries.new ≡ faults_of reader.old + retries.old + 1 }
 {
     match read_input(alloc, reader, LARGEST_TEXT, retries) {
-        Ok(text) => Ok(answer(alloc, text.as_slice())?),
+        Ok(text) => Ok(answer(alloc, asked, text.as_slice())?),
         Err(InputFault::TooLong) => {
             Ok(Report::of_line(alloc, b"error: input too long\n", Status::Refused)?)
         }

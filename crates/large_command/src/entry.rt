@@ -15,12 +15,12 @@ ghost use Rattle.std.specs.declared.io.ErrorKind.TheVariants.{OutOfMemory};
 
 use crate::engine::command;
 use counted_io::Counted;
-use spanprof_command::without_words;
+use spanprof_command::{given_words, without_words};
 use std::alloc::{AllocGlobal, Global};
 use std::env::Env;
+use std::io;
 use std::io::{Input, Print, Read, Write};
 use std::process::ExitCode;
-use std::{env, io};
 
 /// The whole program: hands the words, standard input and standard output of the process to
 /// `start`, and answers what it answers.
@@ -30,13 +30,8 @@ pub fn run_program<H: AllocGlobal + Env + Input + Print>(rt: &H) -> ExitCode {
     start(rt.alloc(), given_words(rt), &mut reader, &mut writer)
 }
 
-/// The words of the command line, of which the first is the program's name.
-fn given_words(rt: &(impl AllocGlobal + Env)) -> io::Result<Vec<String>> {
-    Ok(env::args(rt)?.collect(rt.alloc())?)
-}
-
 /// Does what `command` does with the words that the system handed over, and answers the exit
-/// status: 0 where the report was written, 1 where the text was refused, 2 for wrong words, and 3
+/// status: 0 where the report was written, 1 where the text or P was refused, 2 for wrong words, and 3
 /// where memory ran out, a read failed or a write failed. Where there are no words, nothing is
 /// read: words that are not text are wrong words.
 pub fn start<R: Read, W: Write>(

@@ -1,7 +1,8 @@
-//! The program `spanprof_large`: work and span of a text of any size, from words and bytes to a
-//! text and a status.
+//! The program `spanprof_large`: work, span and bounds of a text of any size, from words and
+//! bytes to a text and a status.
 #![tactic(auto)]
 
+mod bound_rows;
 mod engine;
 mod entry;
 pub mod laws;

@@ -1,21 +1,24 @@
 //! What the program answers to a text.
 ghost use Rattle.std.specs.Prelude.{◌≡◌, ◌+◌, ◌<◌, ◌^◌, IfOk, length};
-ghost use Rattle.online_span.specs.declared.meter.Meter.{Meter};
-ghost use Rattle.large_command.specs.LargeReports.{Answers, TellsMeter, numbers_report};
+ghost use Rattle.command_words.specs.declared.large.LargeRequest.TheVariants.{Numbers};
+ghost use Rattle.large_command.specs.LargeReports.{Answers, IsOfProgram, TellsMeter};
+ghost use Rattle.large_command.specs.LargeReports.{numbers_report};
 
+use crate::bound_rows::bounds;
+use command_words::large::LargeRequest;
 use large_text::measure_text;
 use online_span::Meter;
 use spanprof_command::{Report, Status, refusal};
 use std::alloc::{AllocError, Global};
 use task_program::fault::ReadKind;
 
-/// The numbers of a text, or the line of its first fault.
-pub(crate) fn answer(alloc: Global, text: &[u8]) -> Result<Report, AllocError>
+/// What is asked of a text, or the line of its first fault.
+pub(crate) fn answer(alloc: Global, asked: LargeRequest, text: &[u8]) -> Result<Report, AllocError>
     requires { length text.now + 1 < 2 ^ 32 }
-    ensures { IfOk result (λ report. Answers text.now report) }
+    ensures { IfOk result (λ report. Answers asked text.now report) }
 {
     match measure_text(alloc, text) {
-        Ok(meter) => numbers(alloc, &meter),
+        Ok(meter) => tell(alloc, asked, &meter),
         Err(fault) => {
             if fault.kind == ReadKind::OutOfMemory {
                 return Err(AllocError);
@@ -25,9 +28,20 @@ pub(crate) fn answer(alloc: Global, text: &[u8]) -> Result<Report, AllocError>
     }
 }
 
+/// What is asked of a program that a meter has taken.
+fn tell(alloc: Global, asked: LargeRequest, meter: &Meter) -> Result<Report, AllocError>
+    requires { IsOfProgram meter.now }
+    ensures { IfOk result (λ report. TellsMeter asked meter.now report) }
+{
+    match asked {
+        LargeRequest::Numbers => numbers(alloc, meter),
+        LargeRequest::Bounds { upto } => bounds(alloc, upto, meter),
+    }
+}
+
 /// What a meter tells, once it has taken all of a text.
 fn numbers(alloc: Global, meter: &Meter) -> Result<Report, AllocError>
-    ensures { IfOk result (λ report. TellsMeter meter.now report) }
+    ensures { IfOk result (λ report. TellsMeter Numbers meter.now report) }
 {
     numbers_report(
         alloc,

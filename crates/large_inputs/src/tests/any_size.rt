@@ -48,7 +48,7 @@ fn many_tasks(rt: HostRuntime) -> Result<(), Fail> {
 #[test]
 fn ends(rt: HostRuntime) -> Result<(), Fail> {
     let worked = "omptasks 1\nwork 5 task { work 3 } work 2 taskwait work 1";
-    let rows: [(&[&str], &str, (Status, &str)); 6] = [
+    let rows: [(&[&str], &str, (Status, &str)); 5] = [
         (
             &[],
             worked,
@@ -69,11 +69,67 @@ fn ends(rt: HostRuntime) -> Result<(), Fail> {
             "omptasks 2\n",
             (Status::Refused, "error: line 1: BadHeader\n"),
         ),
-        (&["span"], worked, (Status::Usage, "error: wrong words\n")),
-        (&["--help"], worked, (Status::Usage, "error: wrong words\n")),
+        (
+            &["--upto", "3"],
+            "omptasks 1\nwork 1\n}\n",
+            (Status::Refused, "error: line 3: Unopened\n"),
+        ),
     ];
     for (words, input, (status, text)) in rows {
         assert_ends(&rt, words, input.as_bytes(), (status, text.as_bytes()))?;
     }
     Ok(())
+}
+
+#[test]
+fn bounds(rt: HostRuntime) -> Result<(), Fail> {
+    let input = b"omptasks 1\ntask { work 4 } task { work 4 } work 2";
+    let rows: [(&[&str], &str); 4] = [
+        (
+            &["--upto", "3"],
+            "threads,least,bound\n1,10,10\n2,5,7\n3,4,6\n",
+        ),
+        (
+            &["--upto=03"],
+            "threads,least,bound\n1,10,10\n2,5,7\n3,4,6\n",
+        ),
+        (&["--upto", "1"], "threads,least,bound\n1,10,10\n"),
+        (&[], "tasks 2\nsegments 5\nwork 10\nspan 4\n"),
+    ];
+    for (words, text) in rows {
+        assert_ends(&rt, words, input, (Status::Done, text.as_bytes()))?;
+    }
+    Ok(())
+}
+
+#[test]
+fn words_before_the_text(rt: HostRuntime) -> Result<(), Fail> {
+    let wrong = (Status::Usage, "error: wrong words\n");
+    let count = (Status::Refused, "error: ThreadCount\n");
+    let rows: [(&[&str], (Status, &str)); 8] = [
+        (&["span"], wrong),
+        (&["--help"], wrong),
+        (&["--upto"], wrong),
+        (&["--upto=4294967296"], wrong),
+        (&["--upto=1", "--upto=1"], wrong),
+        (&["--upto", "0"], count),
+        (&["--upto", "1025"], count),
+        (&["--upto", "4294967295"], count),
+    ];
+    for (words, (status, text)) in rows {
+        // The text is wrong too, and nobody reads it.
+        assert_ends(&rt, words, b"omptasks 2\n", (status, text.as_bytes()))?;
+    }
+    Ok(())
+}
+
+#[test]
+fn as_many_rows_as_there_may_be(rt: HostRuntime) -> Result<(), Fail> {
+    let alloc = rt.alloc();
+    let mut wanted = String::from_str(alloc, "threads,least,bound\n")?;
+    for threads in 1..1_025 {
+        wanted.push_str(&format!(in alloc; "{threads},0,0\n")?)?;
+    }
+    let ends = (Status::Done, wanted.as_bytes());
+    assert_ends(&rt, &["--upto", "1024"], b"omptasks 1\n", ends)
 }
