@@ -1,0 +1,76 @@
+//! Texts in pieces: however a text is cut, the answer is that of the whole.
+ghost use Rattle.std.specs.Prelude.{◌+◌, ◌<◌, ◌≤◌, ◌^◌, length};
+
+use large_text::{TextMeter, measure_text};
+use online_span::Meter;
+use program_text::fault::{ReadFault, ReadKind};
+use std::alloc::Global;
+use std::test::Fail;
+
+/// With comments, CR and names to cut, and with faults early, late and at the end.
+static TEXTS: [&str; 8] = [
+    "omptasks 1 # a\r\nwork 12 task depend(inout: ab) { # } {\r\nwork 3 }\ntaskwait work 4",
+    "omptasks 1\n\n\ntask { work 1 }\n# the end",
+    "omptasks 1 work 345",
+    "omptasks 1\nwork 5\n\nwork $ work\n}\n",
+    "omptasks 1\ntask {\ntaskgroup {\nwork 1\n",
+    "omptasks 1\nwork\n\n",
+    "omptasks 2\nwork 1\n",
+    "",
+];
+
+/// Tasks, segments, work and span; or the fault and its line.
+type Told = Result<(u64, u64, u64, u64), (ReadKind, u32)>;
+
+fn told(measured: Result<Meter, ReadFault>) -> Told {
+    match measured {
+        Ok(meter) => Ok((
+            meter.tasks(),
+            meter.segments(),
+            meter.total_work(),
+            meter.span(),
+        )),
+        Err(fault) => Err((fault.kind, fault.line)),
+    }
+}
+
+fn in_two(alloc: Global, text: &[u8], cut: usize) -> Result<Meter, ReadFault>
+    requires long { length text.now + 1 < 2 ^ 32 }
+    requires within { cut ≤ length text.now }
+{
+    let (first, rest) = text.split_at(cut);
+    let mut meter = TextMeter::new(alloc);
+    meter.take(first)?;
+    meter.take(rest)?;
+    meter.finish()
+}
+
+fn by_bytes(alloc: Global, text: &[u8]) -> Result<Meter, ReadFault>
+    requires { length text.now + 1 < 2 ^ 32 }
+{
+    let mut meter = TextMeter::new(alloc);
+    let mut taken = 0;
+    'bytes: while taken < text.len() {
+        meter.take(&text[taken..taken + 1])?;
+        taken += 1;
+    }
+    meter.finish()
+}
+
+#[test]
+fn any_cut(rt: HostRuntime) -> Result<(), Fail> {
+    for text in &TEXTS {
+        let bytes = text.as_bytes();
+        assert!(&rt; bytes.len() < 1000);
+        let whole = told(measure_text(rt.alloc(), bytes));
+        for cut in 0..bytes.len() + 1 {
+            assert_eq!(&rt;
+                told(in_two(rt.alloc(), bytes, cut)),
+                whole,
+                "{text} at {cut}"
+            );
+        }
+        assert_eq!(&rt; told(by_bytes(rt.alloc(), bytes)), whole, "{text}");
+    }
+    Ok(())
+}
