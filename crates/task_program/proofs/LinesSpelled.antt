@@ -23,6 +23,7 @@ use Rattle.program_text.specs.Words.{type_word, value_of, type_of}
 use Rattle.loop_text.specs.Parts.{no_clauses}
 use Rattle.loop_text.specs.Loops.{Tree}
 use Rattle.loop_text.specs.Loops.Tree.{NoStatement, ThenWork, ThenWait, ThenGroup, ThenTask}
+use Rattle.task_program.specs.declared.version.Version.TheVariants.{Two}
 use Rattle.task_program.specs.LoopGrammar as grammar
 use Rattle.task_program.specs.LoopGrammar.{ItemsSpelled, ClausesSpelled, OpeningSpelled, Spelled}
 use Rattle.task_program.specs.LoopGrammar.{task_of}
@@ -51,7 +52,7 @@ record Clauses (names : List (List ℕ)) (tokens : List Token) (head : LoopHead)
   more : List LoopItem
   all : List LoopItem
   all_are : all ≡ head.items ++ (first ++ more)
-  spelled : ClausesSpelled true [] tokens (record head { items = all })
+  spelled : ClausesSpelled Two true [] tokens (record head { items = all })
   stand : AllZip (IsItemOf names) items more
 
 abbrev depend_front : DependKind → (a b c d : ℕ) → List Token → List Token
@@ -61,9 +62,9 @@ depend_front kind a b c d inside = record { text = codes "depend"; line = a }
 
 closed_clause : (kind : DependKind) (before inside : List Token) (a b c d e : ℕ) (head : LoopHead)
     (items : List LoopItem)
-    → ClausesSpelled true [] before head
-    → ItemsSpelled [] (type_of (type_word kind)) inside items
-    → ClausesSpelled true []
+    → ClausesSpelled Two true [] before head
+    → ItemsSpelled Two [] (type_of (type_word kind)) inside items
+    → ClausesSpelled Two true []
     (before ++ depend_front kind a b c d (inside ++ record { text = codes ")"; line = e } ∷ []))
     (record head { items = head.items ++ items })
 closed_clause kind before inside a b c d e head items clauses all =
@@ -76,8 +77,8 @@ closed_clause kind before inside a b c d e head items clauses all =
 items_spelled : (names : List (List ℕ)) (kind : DependKind) (items : List Item)
     (before inside : List Token) (a b c d : ℕ) (head : LoopHead) (first : List LoopItem)
     (lines : ℕ → ℕ)
-    → ClausesSpelled true [] before head
-    → ItemsSpelled [] (type_of (type_word kind)) inside first
+    → ClausesSpelled Two true [] before head
+    → ItemsSpelled Two [] (type_of (type_word kind)) inside first
     → All (IsLocated names) items
     → Clauses names
     (before
@@ -106,14 +107,14 @@ items_spelled names kind (item ∷ items) before inside a b c d head first lines
     location_item (type_of (type_word kind)) (name_of names item) (λ i. lines (suc i)) located in
     let comma : Token = record { text = codes ","; line = lines 0 } in
     let inside_next : List Token = inside ++ comma ∷ with_lines name (λ i. lines (suc i)) in
-    let begun_next : ItemsSpelled [] (type_of (type_word kind)) inside_next
+    let begun_next : ItemsSpelled Two [] (type_of (type_word kind)) inside_next
     (first ++ one.item ∷ []) =
     grammar.ItemsSpelled.More [] (type_of (type_word kind)) inside
     (with_lines name (λ i. lines (suc i))) comma first one.item begun refl one.spelled in
-    let begun_so : ItemsSpelled [] (type_of (type_word item.kind)) inside_next
+    let begun_so : ItemsSpelled Two [] (type_of (type_word item.kind)) inside_next
     (first ++ one.item ∷ []) = subst
     (λ (k : DependKind).
-    ItemsSpelled [] (type_of (type_word k)) inside_next (first ++ one.item ∷ []))
+    ItemsSpelled Two [] (type_of (type_word k)) inside_next (first ++ one.item ∷ []))
     kind_is begun_next in
     let items_so = items_spelled names item.kind items before inside_next a b c d head
     (first ++ one.item ∷ []) apart.0 clauses begun_so others in
@@ -137,7 +138,7 @@ items_spelled names kind (item ∷ items) before inside a b c d head first lines
       all_are = items_so.all_are
           ∙ ap (λ (is : List LoopItem). head.items ++ is)
           (append_assoc first (one.item ∷ []) items_so.more);
-      spelled = subst (λ (ts : List Token). ClausesSpelled true [] ts (record head {
+      spelled = subst (λ (ts : List Token). ClausesSpelled Two true [] ts (record head {
         items = items_so.all;
       }))
           tokens_are items_so.spelled;
@@ -152,9 +153,9 @@ items_spelled names kind (item ∷ items) before inside a b c d head first lines
     let closes : Token = record { text = codes ")"; line = lines 0 } in
     let before_next : List Token = before ++ depend_front kind a b c d (inside ++ closes ∷ []) in
     let head_next : LoopHead = record head { items = head.items ++ first } in
-    let clauses_next : ClausesSpelled true [] before_next head_next =
+    let clauses_next : ClausesSpelled Two true [] before_next head_next =
     closed_clause kind before inside a b c d (lines 0) head first clauses begun in
-    let begun_next : ItemsSpelled [] (type_of (type_word item.kind)) (with_lines name lines_five)
+    let begun_next : ItemsSpelled Two [] (type_of (type_word item.kind)) (with_lines name lines_five)
     (one.item ∷ []) = grammar.ItemsSpelled.First
     [] (type_of (type_word item.kind)) (with_lines name lines_five) one.item one.spelled in
     let items_so = items_spelled names item.kind items before_next (with_lines name lines_five)
@@ -181,7 +182,7 @@ items_spelled names kind (item ∷ items) before inside a b c d head first lines
       more = one.item ∷ items_so.more;
       all = items_so.all;
       all_are = items_so.all_are ∙ append_assoc head.items first (one.item ∷ items_so.more);
-      spelled = subst (λ (ts : List Token). ClausesSpelled true [] ts (record head {
+      spelled = subst (λ (ts : List Token). ClausesSpelled Two true [] ts (record head {
         items = items_so.all;
       }))
           tokens_are items_so.spelled;
@@ -193,7 +194,7 @@ items_spelled names kind (item ∷ items) before inside a b c d head first lines
 record IsHead (names : List (List ℕ)) (undeferred : Bool) (items : List Item) (tokens : List Token)
     : Type 0 where
   head : LoopHead
-  spelled : ClausesSpelled true [] tokens head
+  spelled : ClausesSpelled Two true [] tokens head
   undeferred_is : head.undeferred ≡ undeferred
   not_final : head.is_final ≡ false
   stand : AllZip (IsItemOf names) items head.items
@@ -201,7 +202,7 @@ record IsHead (names : List (List ℕ)) (undeferred : Bool) (items : List Item) 
 -- the clauses, after these
 depends_spelled : (names : List (List ℕ)) (items : List Item) (before : List Token)
     (head : LoopHead) (lines : ℕ → ℕ)
-    → ClausesSpelled true [] before head
+    → ClausesSpelled Two true [] before head
     → head.is_final ≡ false
     → head.items ≡ []
     → All (IsLocated names) items
@@ -211,7 +212,7 @@ unfolding with_lines
 depends_spelled names [] before head lines clauses not_final none all = record {
   head = head;
   spelled =
-      subst (λ (ts : List Token). ClausesSpelled true [] ts head) (sym (append-nil before)) clauses;
+      subst (λ (ts : List Token). ClausesSpelled Two true [] ts head) (sym (append-nil before)) clauses;
   undeferred_is = refl;
   not_final = not_final;
   stand = subst (λ (is : List LoopItem). AllZip (IsItemOf names) [] is) (sym none) tt;
@@ -238,7 +239,7 @@ depends_spelled names (item ∷ items) before head lines clauses not_final none 
     record {
       head = record head { items = items_so.all };
       spelled = subst
-          (λ (ts : List Token). ClausesSpelled true []
+          (λ (ts : List Token). ClausesSpelled Two true []
           (before ++ depend_front item.kind (lines 0) (lines 1) (lines 2) (lines 3) ts)
           (record head { items = items_so.all }))
           (sym apart.1) items_so.spelled;
@@ -263,7 +264,7 @@ clauses_spelled names false items lines all =
 clauses_spelled names true items lines all =
     let head : LoopHead = record no_clauses { has_if = true; undeferred = true } in
     let number : grammar.IsNumber true (codes "0") 1 = record { is_number = refl; fits = λ h. zero_is } in
-    let first : ClausesSpelled true []
+    let first : ClausesSpelled Two true []
     (record { text = codes "if"; line = lines 0 } ∷ record { text = codes "("; line = lines 1 }
     ∷ record { text = codes "0"; line = lines 2 } ∷ record { text = codes ")"; line = lines 3 }
     ∷ [])
@@ -280,7 +281,7 @@ record IsOpening (names : List (List ℕ)) (undeferred : Bool) (items : List Ite
     (tokens : List Token)
     : Type 0 where
   task : LoopTask
-  spelled : OpeningSpelled true [] tokens (TaskOpening task)
+  spelled : OpeningSpelled Two true [] tokens (TaskOpening task)
   undeferred_is : task.undeferred ≡ undeferred
   not_final : task.is_final ≡ false
   stand : AllZip (IsItemOf names) items task.items
@@ -313,7 +314,7 @@ opening_spelled names undeferred items lines all =
       task = task_of clauses_so.head (lines 0) (apart.0 0);
       spelled = subst
           (λ (ts : List Token).
-          OpeningSpelled true [] ts (TaskOpening (task_of clauses_so.head (lines 0) (apart.0 0))))
+          OpeningSpelled Two true [] ts (TaskOpening (task_of clauses_so.head (lines 0) (apart.0 0))))
           tokens_are
           (grammar.OpeningSpelled.Task [] (with_lines clauses (λ i. lines (suc i))) word brace
           clauses_so.head refl clauses_so.spelled refl);
@@ -351,7 +352,7 @@ pub data Stands : (names : List (List ℕ)) → List Mark → Tree → Type 0 wh
 pub record HasMarks (names : List (List ℕ)) (room : ℕ) (tokens : List Token) (marks : List Mark)
     : Type 0 where
   pub tree : Tree
-  pub spelled : Spelled true [] room tokens tree
+  pub spelled : Spelled Two true [] room tokens tree
   pub stands : Stands names marks tree
 
 abbrev pub HasLocations : List (List ℕ) → Mark → Type 0
@@ -370,7 +371,7 @@ has_marks_of_same : (names : List (List ℕ)) (room : ℕ) (tokens other : List 
     → HasMarks names room other more
 has_marks_of_same names room tokens other marks more same equal h = record {
   tree = h.tree;
-  spelled = subst (λ (ts : List Token). Spelled true [] room ts h.tree) same h.spelled;
+  spelled = subst (λ (ts : List Token). Spelled Two true [] room ts h.tree) same h.spelled;
   stands = subst (λ (ms : List Mark). Stands names ms h.tree) equal h.stands;
 }
 
@@ -393,7 +394,7 @@ work_added names room cost a b before done fits h =
     record {
       tree = ThenWork h.tree cost b;
       spelled = subst
-          (λ (n : ℕ). Spelled true [] room (before ++ word ∷ number ∷ []) (ThenWork h.tree n b)) is
+          (λ (n : ℕ). Spelled Two true [] room (before ++ word ∷ number ∷ []) (ThenWork h.tree n b)) is
           (grammar.Spelled.Work [] room before word number h.tree h.spelled refl within);
       stands = Work names done h.tree cost b h.stands;
     }

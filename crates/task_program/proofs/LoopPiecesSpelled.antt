@@ -21,6 +21,7 @@ use Rattle.loop_text.specs.Loops.{Tree}
 use Rattle.loop_text.specs.Loops.Tree.{NoStatement}
 use Rattle.loop_text.specs.OpenBlocks.{variables_around}
 use Rattle.loop_text.specs.Parts.{no_clauses}
+use Rattle.task_program.specs.declared.version.Version.TheVariants.{Two}
 use Rattle.task_program.specs.LoopGrammar as grammar
 use Rattle.task_program.specs.LoopGrammar.{IndexSpelled, ItemSpelled, ItemsSpelled, ClausesSpelled}
 use Rattle.task_program.specs.LoopGrammar.{OpeningSpelled, Spelled, item_of, task_of}
@@ -106,7 +107,7 @@ index_spelled variables (SignIndex variable sign number) form =
 record ItemIs (variables : List (List ℕ)) (kind : DependKind) (tokens : List Token)
     : Type 0 where
   pub item : LoopItem
-  pub spelled : ItemSpelled variables kind tokens item
+  pub spelled : ItemSpelled Two variables kind tokens item
 
 item_spelled : (variables : List (List ℕ)) (kind : DependKind) (item : ItemWritten)
     → HasItemForm variables item
@@ -120,17 +121,17 @@ item_spelled variables kind (IndexedItem name index) form =
     record {
       item = item_of kind (token_of name) (Some inside.index);
       spelled = subst (λ (ts : List Token).
-          ItemSpelled variables kind (token_of name ∷ token_of (codes "[") ∷ ts)
+          ItemSpelled Two variables kind (token_of name ∷ token_of (codes "[") ∷ ts)
           (item_of kind (token_of name) (Some inside.index)))
           (sym (tokens_append (index_texts index) (codes "]" ∷ [])))
           (Indexed variables kind (token_of name) (token_of (codes "[")) (token_of (codes "]"))
-          (tokens_of_texts (index_texts index)) inside.index form.0 refl inside.spelled refl);
+          (tokens_of_texts (index_texts index)) inside.index refl form.0 refl inside.spelled refl);
     }
 
 record ItemsAre (variables : List (List ℕ)) (kind : DependKind) (tokens : List Token)
     : Type 0 where
   pub items : List LoopItem
-  pub spelled : ItemsSpelled variables kind tokens items
+  pub spelled : ItemsSpelled Two variables kind tokens items
 
 -- one item more, behind some that are spelled
 item_added : (variables : List (List ℕ)) (kind : DependKind) (last : ItemWritten)
@@ -143,7 +144,7 @@ item_added variables kind last before form earlier =
     record {
       items = earlier.items ++ one.item ∷ [];
       spelled = subst
-          (λ (ts : List Token). ItemsSpelled variables kind ts (earlier.items ++ one.item ∷ []))
+          (λ (ts : List Token). ItemsSpelled Two variables kind ts (earlier.items ++ one.item ∷ []))
           (sym (tokens_append before (codes "," ∷ item_texts last)))
           (More variables kind (tokens_of_texts before) (tokens_of_texts (item_texts last))
           (token_of (codes ",")) earlier.items one.item earlier.spelled refl one.spelled);
@@ -195,7 +196,7 @@ items_spelled variables kind (item ∷ items) last forms form =
 
 record ClausesAre (variables : List (List ℕ)) (tokens : List Token) : Type 0 where
   pub head : LoopHead
-  pub spelled : ClausesSpelled false variables tokens head
+  pub spelled : ClausesSpelled Two false variables tokens head
 
 abbrev if_weight : LoopClause → ℕ
 if_weight clause = cond (is_if clause) 1 0
@@ -210,14 +211,14 @@ none_left false n h = refl
 -- clauses behind some that are spelled
 clauses_after : (variables : List (List ℕ)) (clauses : List LoopClause) (before : List Token)
     (head : LoopHead)
-    → ClausesSpelled false variables before head
+    → ClausesSpelled Two false variables before head
     → All (HasLoopClauseForm variables) clauses
     → cond head.has_if 1 0 + count_by is_if clauses ≤ 1
     → cond head.has_final 1 0 + count_by is_final clauses ≤ 1
     → ClausesAre variables (before ++ tokens_of_texts (flat_map clause_texts clauses))
 clauses_after variables [] before head earlier forms one_if one_final = record {
   head = head;
-  spelled = subst (λ (ts : List Token). ClausesSpelled false variables ts head)
+  spelled = subst (λ (ts : List Token). ClausesSpelled Two false variables ts head)
       (sym (append-nil before)) earlier;
 }
 clauses_after variables (IfClause number ∷ clauses) before head earlier forms one_if one_final =
@@ -244,7 +245,7 @@ clauses_after variables (FinalClause number ∷ clauses) before head earlier for
     let here = tokens_of_texts (clause_texts (FinalClause number)) in
     let later = clauses_after variables clauses (before ++ here) _
     (Final variables before (token_of (codes "final")) (token_of (codes "(")) (token_of number)
-    (token_of (codes ")")) head earlier (none_left head.has_final (count_by is_final clauses) finals)
+    (token_of (codes ")")) head refl earlier (none_left head.has_final (count_by is_final clauses) finals)
     refl refl (record { is_number = form; fits = λ h. absurd cc }) refl)
     (All-tail (HasLoopClauseForm variables) (FinalClause number) clauses forms)
     ifs (omega (arith, finals)) in
@@ -303,7 +304,7 @@ record Run (variables : List (List ℕ)) (around : List (List (List ℕ))) (room
     : Type 0 where
   pub inside : List Token
   pub tree : Tree
-  pub spelled : Spelled false variables room (before ++ inside) tree
+  pub spelled : Spelled Two false variables room (before ++ inside) tree
   pub ends : EndsAt around pieces inside
 
 ends_later : (around : List (List (List ℕ))) (pieces later : List LoopPiece)
@@ -332,7 +333,7 @@ run_later : (variables : List (List ℕ)) (around : List (List (List ℕ))) (roo
 run_later variables around room before first pieces later same shorter run = record {
   inside = first ++ run.inside;
   tree = run.tree;
-  spelled = subst (λ (ts : List Token). Spelled false variables room ts run.tree)
+  spelled = subst (λ (ts : List Token). Spelled Two false variables room ts run.tree)
       (append_assoc before first run.inside) run.spelled;
   ends = ends_later around pieces later first run.inside same shorter run.ends;
 }
@@ -341,7 +342,7 @@ run_later variables around room before first pieces later same shorter run = rec
 record OpeningIs (variables : List (List ℕ)) (piece : LoopPiece) (inner : List (List ℕ))
     : Type 0 where
   pub opening : LoopOpening
-  pub spelled : OpeningSpelled false variables (tokens_of_texts (piece_texts piece)) opening
+  pub spelled : OpeningSpelled Two false variables (tokens_of_texts (piece_texts piece)) opening
   pub inner_is : variables_around opening variables ≡ inner
 
 abbrev RunOf : ℕ → Type 0
@@ -349,7 +350,7 @@ RunOf n = (variables : List (List ℕ)) (around : List (List (List ℕ))) (room 
     (before : List Token) (tree : Tree) (pieces : List LoopPiece)
     → length pieces ≤ n
     → length pieces ≤ room
-    → Spelled false variables room before tree
+    → Spelled Two false variables room before tree
     → HaveLoopForms pieces variables around
     → Run variables around room before pieces
 
@@ -360,7 +361,7 @@ block_run : (n : ℕ) → RunOf n
     (inner : List (List ℕ))
     → length pieces ≤ n
     → suc (length pieces) ≤ room
-    → Spelled false variables room before tree
+    → Spelled Two false variables room before tree
     → OpeningIs variables piece inner
     → HaveLoopForms pieces inner (variables ∷ around)
     → Run variables around room before (piece ∷ pieces)
@@ -375,7 +376,7 @@ block_run n runs variables around (suc room) before tree piece pieces inner fewe
     let first = opens ++ (body.inside ++ token_of (codes "}") ∷ []) in
     let block = Block variables room before opens body.inside (token_of (codes "}")) o.opening tree
     body.tree s o.spelled
-    (subst (λ (vs : List (List ℕ)). Spelled false vs room body.inside body.tree) (sym o.inner_is)
+    (subst (λ (vs : List (List ℕ)). Spelled Two false vs room body.inside body.tree) (sym o.inner_is)
     body.spelled)
     refl in
     let shorter : suc (length rest) ≤ length pieces = body.ends.3 in
@@ -396,7 +397,7 @@ task_opening variables clauses forms =
     (omega (arith, forms.1)) (omega (arith, forms.2)) in
     record {
       opening = TaskOpening (task_of head.head 0 0);
-      spelled = subst (λ (ts : List Token). OpeningSpelled false variables
+      spelled = subst (λ (ts : List Token). OpeningSpelled Two false variables
           (token_of (codes "task") ∷ ts) (TaskOpening (task_of head.head 0 0)))
           (sym (tokens_append (flat_map clause_texts clauses) (codes "{" ∷ [])))
           (Task variables (tokens_of_texts (flat_map clause_texts clauses))
@@ -408,7 +409,7 @@ pieces_run : (n : ℕ) → RunOf n
 pieces_run n variables [] room before tree [] fewer shallow s forms = record {
   inside = [];
   tree = tree;
-  spelled = subst (λ (ts : List Token). Spelled false variables room ts tree)
+  spelled = subst (λ (ts : List Token). Spelled Two false variables room ts tree)
       (sym (append-nil before)) s;
   ends = refl;
 }
@@ -452,7 +453,7 @@ pieces_run (suc n) variables around room before tree (ForPiece variable from to 
     (record {
       opening = ForOpening variable (value_of from) (value_of to) 0 0;
       spelled = For variables (token_of (codes "for")) (token_of variable) (token_of from)
-          (token_of to) (token_of (codes "{")) refl forms.0.0 forms.0.1
+          (token_of to) (token_of (codes "{")) refl refl forms.0.0 forms.0.1
           (record { is_number = forms.1; fits = λ h. absurd cc })
           (record { is_number = forms.2; fits = λ h. absurd cc }) refl;
       inner_is = refl;
@@ -464,7 +465,7 @@ pieces_run (suc n) variables (outer ∷ around) room before tree (EndPiece ∷ p
     forms = record {
       inside = [];
       tree = tree;
-      spelled = subst (λ (ts : List Token). Spelled false variables room ts tree)
+      spelled = subst (λ (ts : List Token). Spelled Two false variables room ts tree)
           (sym (append-nil before)) s;
       ends = (pieces, refl, forms, omega arith);
     }

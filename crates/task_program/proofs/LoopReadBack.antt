@@ -210,7 +210,7 @@ canonical_loops program two fits =
         in_version = two;
         header = ap (λ (ts : List Token). begins_version_two ts) in_front;
         tree = has_marks.tree;
-        spelled = subst (λ (ts : List Token). Spelled true [] MOST_NESTING ts has_marks.tree)
+        spelled = subst (λ (ts : List Token). Spelled Two true [] MOST_NESTING ts has_marks.tree)
             body_is has_marks.spelled;
         expanded = record {
           program_is = expansion_so.0;
