@@ -14,7 +14,7 @@ use Rattle.task_program.specs.FirstFault.IsFirstFault.{AtEnd}
 use Rattle.task_program.specs.Grammar.{texts_of, names_of_piece}
 use Rattle.task_program.specs.Names.{with_name}
 use Rattle.task_program.specs.TreeSoFar.{Block}
-use Rattle.task_program.specs.ViablePrefix.{IsSentence}
+use Rattle.task_program.specs.FirstPlainFault.{IsSentence}
 use Rattle.task_program.proofs.FoundPlaces.{Explained}
 use Rattle.task_program.proofs.Begun.{LengthAt, is_not_viable, viable_next, whole_now}
 use Rattle.task_program.proofs.Tallies.{Tally}

@@ -137,7 +137,7 @@ Explained texts state = (p : Parts) × Explains texts state p
 pub same_text : (text word : List ℕ) → is_text text word ≡ true → text ≡ word
 same_text text word h = (bytes_eq-Decides text word).0 h
 
-AllZip-more : {A B : Type 0} (R : A → B → Type 0) (xs : List A) (ys : List B) (x : A) (y : B)
+pub AllZip-more : {A B : Type 0} (R : A → B → Type 0) (xs : List A) (ys : List B) (x : A) (y : B)
     → AllZip R xs ys
     → R x y
     → AllZip R (xs ++ x ∷ []) (ys ++ y ∷ [])
@@ -146,7 +146,7 @@ AllZip-more R [] (b ∷ ys) x y all one = absurd all
 AllZip-more R (a ∷ xs) [] x y all one = absurd all
 AllZip-more R (a ∷ xs) (b ∷ ys) x y all one = (all.0, AllZip-more R xs ys x y all.1 one)
 
-AllZip-weaker : {A B : Type 0} (R Q : A → B → Type 0)
+pub AllZip-weaker : {A B : Type 0} (R Q : A → B → Type 0)
     → ((x : A) (y : B) → R x y → Q x y)
     → (xs : List A) (ys : List B)
     → AllZip R xs ys
@@ -167,7 +167,7 @@ flat_map-push f xs x = flat_map-append f xs (x ∷ []) ∙ ap (λ ys. flat_map f
 abbrev pub some : List ℕ → Option (List ℕ)
 some x = Some x
 
-get_stable : (names : List (List ℕ)) (name other : List ℕ) (n : ℕ)
+pub get_stable : (names : List (List ℕ)) (name other : List ℕ) (n : ℕ)
     → slice_get names n ≡ Some name
     → slice_get (names ++ other ∷ []) n ≡ Some name
 get_stable [] name other n h = absurd cc
@@ -221,7 +221,7 @@ item_stable : (names : List (List ℕ)) (other : List ℕ) (named : DependKind �
     → IsItem (with_name names other) named item
 item_stable names other named item h = (h.0, name_stable names named.1 other item.name h.1, h.2)
 
-means_stable : (names : List (List ℕ)) (other : List ℕ) (written : Written) (mark : Mark)
+pub means_stable : (names : List (List ℕ)) (other : List ℕ) (written : Written) (mark : Mark)
     → Means names written mark
     → Means (with_name names other) written mark
 means_stable names other (TaskWritten clauses) (Begins undeferred items) h = record {
@@ -349,7 +349,7 @@ or_assoc : (a b c : Bool) → (a || (b || c)) ≡ ((a || b) || c)
 or_assoc true b c = refl
 or_assoc false b c = refl
 
-list_any-push : (test : grammar.Clause → Bool) (clauses : List grammar.Clause)
+pub list_any-push : (test : grammar.Clause → Bool) (clauses : List grammar.Clause)
     (clause : grammar.Clause)
     → list_any test (clauses ++ clause ∷ []) ≡ (list_any test clauses || test clause)
 list_any-push test [] clause = or-false (test clause)
@@ -358,7 +358,7 @@ list_any-push test (first ∷ clauses) clause =
     ∙ or_assoc (test first) (list_any test clauses) (test clause)
 
 -- a clause whose test comes after others that fail it
-list_any-more : (test : grammar.Clause → Bool) (clauses : List grammar.Clause)
+pub list_any-more : (test : grammar.Clause → Bool) (clauses : List grammar.Clause)
     (clause : grammar.Clause)
     → list_any test clauses ≡ false
     → list_any test (clauses ++ clause ∷ []) ≡ test clause
@@ -366,7 +366,7 @@ list_any-more test clauses clause h =
     list_any-push test clauses clause ∙ ap (λ b. b || test clause) h
 
 -- a clause that fails the test changes nothing
-list_any-same : (test : grammar.Clause → Bool) (clauses : List grammar.Clause)
+pub list_any-same : (test : grammar.Clause → Bool) (clauses : List grammar.Clause)
     (clause : grammar.Clause)
     → test clause ≡ false
     → list_any test (clauses ++ clause ∷ []) ≡ list_any test clauses
@@ -375,12 +375,12 @@ list_any-same test clauses clause h =
     ∙ ap (λ b. list_any test clauses || b) h
     ∙ or-false (list_any test clauses)
 
-count-push : (clauses : List grammar.Clause) (clause : grammar.Clause)
+pub count-push : (clauses : List grammar.Clause) (clause : grammar.Clause)
     → count_by is_if (clauses ++ clause ∷ [])
     ≡ count_by is_if clauses + count_by is_if (clause ∷ [])
 count-push clauses clause = sum_by-append (λ c. cond (is_if c) 1 0) clauses (clause ∷ [])
 
-items-if : (clauses : List grammar.Clause) (number : List ℕ)
+pub items-if : (clauses : List grammar.Clause) (number : List ℕ)
     → flat_map named_items (clauses ++ IfClause number ∷ []) ≡ flat_map named_items clauses
 items-if clauses number =
     flat_map-push named_items clauses (IfClause number) ∙ append-nil (flat_map named_items clauses)

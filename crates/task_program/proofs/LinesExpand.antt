@@ -394,7 +394,7 @@ goes_so whole done other blocks state next same equal g =
     subst (λ (s : ExpansionState). Goes whole other blocks s) equal
     (subst (λ (ms : List Mark). Goes whole ms blocks state) same g)
 
-in_four : (state : ExpansionState) (one two three four : List Piece)
+pub in_four : (state : ExpansionState) (one two three four : List Piece)
     → after_pieces (after_pieces (after_pieces (after_pieces state one) two) three) four
     ≡ after_pieces state (one ++ (two ++ (three ++ four)))
 in_four state one two three four =

@@ -27,7 +27,6 @@ use Rattle.loop_text.specs.Loops.Tree.{ThenWork, ThenWait}
 use Rattle.loop_text.specs.OpenBlocks.{variables_of}
 use Rattle.loop_text.specs.FirstPass.{is_allowed, is_variable, after_at, no_bounds}
 use Rattle.loop_text.specs.Parts.{no_clauses}
-use Rattle.task_program.specs.declared.version.Version.TheVariants.{Two}
 use Rattle.task_program.specs.LoopGrammar.{IsNumber, task_of}
 use Rattle.task_program.specs.LoopGrammar.ClausesSpelled.{NoClause, If, Final}
 use Rattle.task_program.specs.LoopGrammar.OpeningSpelled.{Group, Task, For}

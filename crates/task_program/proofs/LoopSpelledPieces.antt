@@ -41,7 +41,7 @@ use Rattle.task_program.proofs.LoopPieces.LoopPiece.{WorkPiece, TaskPiece, WaitP
 use Rattle.task_program.proofs.LoopPieces.LoopPiece.{ForPiece, EndPiece}
 use Rattle.task_program.proofs.LoopShapes.{Rest}
 
-texts_append : (one other : List Token) → texts (one ++ other) ≡ texts one ++ texts other
+pub texts_append : (one other : List Token) → texts (one ++ other) ≡ texts one ++ texts other
 texts_append one other = map-append (λ (token : Token). token.text) one other
 
 -- ---- items

@@ -1,6 +1,6 @@
 -- The fault of a text of version 2, apart from any reading of its tokens: the first of them at
 -- which something is wrong, and what it is; or else the fault of its expansion.
-use Rattle.std.specs.Prelude.{◌≡◌, ℕ, Bool, true, false, ◌&&◌, ◌||◌, ◌⊎◌, nat_lt}
+use Rattle.std.specs.Prelude.{ℕ, Bool, true, ◌&&◌, ◌||◌, ◌⊎◌, nat_lt}
 use Rattle.std.specs.Prelude.{slice_index_or, if◌then◌else◌, List, [], length, reverse, Option}
 use Rattle.std.specs.Prelude.{Some, None, codes}
 use Rattle.task_program.specs.declared.version.Version.TheVariants.{Two}
