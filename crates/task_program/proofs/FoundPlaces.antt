@@ -5,7 +5,7 @@ use Rattle.std.proofs.Common.{refl, sym, ap, subst, ◌∙◌, arith, codes}
 use Rattle.std.specs.Prelude.{All, fold, count_by, slice_get}
 use Rattle.std.specs.List.{list_any, flat_map, AllZip}
 use Rattle.std.specs.Str.{bytes_eq}
-use Rattle.std.proofs.lemmas.Bool.{eqb-true, and_parts, not-false}
+use Rattle.std.proofs.lemmas.Bool.{eqb-true, and_parts, not-false, ltb-false}
 use Rattle.std.proofs.lemmas.Slice.Eq.{bytes_eq-Decides}
 use Rattle.std.proofs.lemmas.List.{append-nil, map_push}
 use Rattle.std.proofs.lemmas.List.Sums.{fold-append, sum_by-append}
@@ -20,6 +20,7 @@ use Rattle.task_program.specs.declared.place.Place.TheVariants.{DependOpens, Dep
 use Rattle.task_program.specs.declared.place.Place.TheVariants.{DependColon, DependName, DependMore}
 use Rattle.program_text.specs.declared.statement.DependKind.{DependKind}
 use Rattle.program_text.specs.declared.statement.Item.{Item}
+use Rattle.program_text.specs.declared.limits.TheConstants.{LARGEST_COST}
 use Rattle.program_text.specs.Marks.{Mark}
 use Rattle.program_text.specs.Marks.Mark.{Begins, Works, GroupBegins}
 use Rattle.task_program.specs.Names.{number_of_name, with_name}
@@ -323,14 +324,15 @@ pub work_goes : (state : State) (text : List ℕ) (line : ℕ) (before : List (L
     → Goes state WorkNumber text line before p
 unfolding with_piece
 work_goes state text line before p passes e =
-    let number = not-false _ passes.allowed in (
+    let number = not-false _ passes.allowed in
+    let few = ltb-false LARGEST_COST (value_of text) passes.number in (
       with_piece p (WorkWritten text),
       record {
         spelled = one_more before p (codes "work" ∷ []) text text e.spelled refl
             ∙ piece_done p (WorkWritten text);
         version = e.version;
         means = AllZip-more (Means state.names) p.written state.tree.marks (WorkWritten text)
-            (Works (value_of text)) e.means (number, refl);
+            (Works (value_of text)) e.means (number, refl, few);
         names_are = e.names_are ∙ simp (flat_map-append, append-nil);
         items_are = e.items_are;
         clauses = e.clauses;

@@ -35,6 +35,7 @@ use Rattle.task_program.proofs.Spelled.{spell, HasName, FitsNames, canonical_spe
 use Rattle.task_program.proofs.Spelled.{line_texts_by}
 use Rattle.task_program.proofs.ReadBack.{AllShort, HasShort, FitsShort, lines_short}
 use Rattle.task_program.proofs.Locations.{with_lines, have_lines, location_written, location_short}
+use Rattle.task_program.proofs.KeptNames.{HasNames, has_names}
 use Rattle.task_program.proofs.LinesSpelled.{IsLocated, HasLocations, HasMarks, Stands}
 use Rattle.task_program.proofs.LinesSpelled.{lines_spelled}
 use Rattle.task_program.proofs.LinesExpand.{Prints, Goes, in_range, expands}
@@ -90,7 +91,7 @@ marks_short names =
 
 -- ---- the whole text
 
-at_first : (whole : List (List ℕ)) → Prints whole [] empty_expansion
+pub at_first : (whole : List (List ℕ)) → Prints whole [] empty_expansion
 at_first
     whole = record {
       marks_are = refl;
@@ -220,7 +221,9 @@ tree_expands program tree fits stands =
     ∙ ap (λ (ms : List Mark). fold with_name [] (flat_map (names_of_mark names) ms))
     (sym (append-nil marks)) in
     let goes : Goes names marks [] (state_after_tree tree) = expands names once marks tree stands
-    fits.marks_fit [] [] empty_expansion all_names (at_first names) in
+    (All-weaker (FitsLimits (length names)) (HasNames (length names)) (has_names (length names)) marks
+    fits.marks_fit)
+    [] [] empty_expansion all_names (at_first names) in
     let own = program_fits program (state_after_tree tree) fits goes in (
       record {
         program_is = own.program_is;

@@ -17,6 +17,7 @@ use Rattle.loop_text.specs.declared.loops.LoopTask.{LoopTask}
 use Rattle.loop_text.specs.declared.loop_reader.LoopHead.{LoopHead}
 use Rattle.loop_text.specs.declared.open_loops.LoopOpening.{LoopOpening}
 use Rattle.task_program.specs.declared.version.Version.TheVariants.{One}
+use Rattle.program_text.specs.declared.limits.TheConstants.{LARGEST_COST}
 use Rattle.program_text.specs.Marks.{Mark}
 use Rattle.program_text.specs.Marks.Mark.{Begins, Ends, Works, Waits, GroupBegins, GroupEnds}
 use Rattle.program_text.specs.Tokens.{Token, texts}
@@ -32,7 +33,7 @@ use Rattle.task_program.specs.Expansion.Piece.{TaskOpens, GroupComes, GroupOpens
 use Rattle.task_program.specs.Expansion.Piece.{WaitIs}
 use Rattle.task_program.specs.Expanded.{ExpansionState, after_piece, after_pieces}
 use Rattle.task_program.specs.LoopGrammar.{ItemSpelled, ItemsSpelled, ClausesSpelled}
-use Rattle.task_program.specs.LoopGrammar.{OpeningSpelled, Spelled, task_of}
+use Rattle.task_program.specs.LoopGrammar.{IsNumber, OpeningSpelled, Spelled, task_of}
 use Rattle.task_program.specs.LoopGrammar.ItemSpelled.{Plain, Indexed}
 use Rattle.task_program.specs.LoopGrammar.ItemsSpelled.{First, More}
 use Rattle.task_program.specs.LoopGrammar.ClausesSpelled.{NoClause, If, Final, Depend}
@@ -465,13 +466,14 @@ plain_more limited before tokens tree next more p same forms nested goes = recor
 work_more : (limited : Bool) (before : List Token) (word number : Token) (tree : Tree)
     → IsPlain limited before tree
     → word.text ≡ codes "work"
-    → is_number number.text ≡ true
+    → IsNumber limited number.text LARGEST_COST
     → IsPlain limited (before ++ word ∷ number ∷ []) (ThenWork tree (value_of number.text) number.line)
 unfolding expansion
 work_more limited before word number tree p is_word is_num =
     let piece = WorkIs (value_of number.text) number.line in
     plain_more limited before (word ∷ number ∷ []) tree _ (WorkWritten number.text ∷ []) p
-    (rw is_word refl) (All-cons HasForm (WorkWritten number.text) [] is_num (All-nil HasForm))
+    (rw is_word refl) (All-cons HasForm (WorkWritten number.text) [] is_num.is_number
+    (All-nil HasForm))
     (λ later n h. h)
     (λ is state none. subst
     (λ (s : ExpansionState). Goes (WorkWritten number.text ∷ [])
@@ -483,7 +485,7 @@ work_more limited before word number tree p is_word is_num =
       blocks_are = refl;
       no_items = none;
       names_are = refl;
-      means = ((is_num, refl), tt);
+      means = ((is_num.is_number, refl, is_num.fits is), tt);
     }))
 
 wait_more : (limited : Bool) (before : List Token) (word : Token) (tree : Tree)
@@ -626,7 +628,7 @@ tree_plain limited _ _ _ _ (Nothing variables room) = record {
 }
 tree_plain limited _ _ _ _ (Work variables room before word number tree s is_word is_num) =
     work_more limited before word number tree (tree_plain limited variables room before tree s)
-    is_word is_num.is_number
+    is_word is_num
 tree_plain limited _ _ _ _ (Wait variables room before word tree s is_word) =
     wait_more limited before word tree (tree_plain limited variables room before tree s) is_word
 tree_plain limited _ _ _ _

@@ -2,7 +2,7 @@
 -- program.
 use Rattle.std.proofs.Common.{◌≡◌, ℕ, suc, ◌+◌, ◌≤◌, Bool, true, false, ◌||◌, cond, List, [], ◌∷◌}
 use Rattle.std.proofs.Common.{◌++◌, append_assoc, map, Some, None, refl, sym, ap, subst, ◌∙◌, arith}
-use Rattle.std.proofs.Common.{eqb, length, codes}
+use Rattle.std.proofs.Common.{eqb, codes}
 use Rattle.std.specs.Prelude.{All, count_by}
 use Rattle.std.specs.List.{flat_map, list_any, AllZip}
 use Rattle.std.proofs.lemmas.List.{append-nil}
@@ -22,7 +22,6 @@ use Rattle.program_text.specs.Tokens.{Token}
 use Rattle.program_text.specs.Words.{is_word, type_of, type_word, value_of}
 use Rattle.loop_text.specs.Parts.{no_clauses}
 use Rattle.task_program.specs.Canonical.{name_of}
-use Rattle.task_program.specs.Programs.{FitsLimits}
 use Rattle.task_program.specs.Grammar as plain
 use Rattle.task_program.specs.Grammar.{Written, name_and_comma, clause_texts, texts_of, named_items}
 use Rattle.task_program.specs.Grammar.{is_if, makes_undeferred, IsClause, IsItem, Means}
@@ -290,27 +289,27 @@ task_spelled names clauses undeferred items lines h =
 -- ---- pieces
 
 piece_spells : (names : List (List ℕ)) (piece : Written) (mark : Mark)
-    → FitsLimits (length names) mark
     → Means names piece mark
     → Spells One names (texts_of piece) mark
-piece_spells names (WorkWritten number) (Works cost) fits h =
-    (number, refl, h.0, sym h.1, fits)
-piece_spells names (TaskWritten clauses) (Begins undeferred items) fits h =
+piece_spells names (WorkWritten number) (Works cost) h =
+    let value = h.1 in
+    let few = h.2 in
+    (number, refl, h.0, sym value, omega (arith, value, few))
+piece_spells names (TaskWritten clauses) (Begins undeferred items) h =
     λ lines. task_spelled names clauses undeferred items lines h
-piece_spells names WaitWritten Waits fits h = refl
-piece_spells names GroupWritten GroupBegins fits h = refl
-piece_spells names EndWritten Ends fits h = refl
-piece_spells names EndWritten GroupEnds fits h = refl
-piece_spells names _ _ fits h = absurd h
+piece_spells names WaitWritten Waits h = refl
+piece_spells names GroupWritten GroupBegins h = refl
+piece_spells names EndWritten Ends h = refl
+piece_spells names EndWritten GroupEnds h = refl
+piece_spells names _ _ h = absurd h
 
 pub pieces_spell : (names : List (List ℕ)) (written : List Written) (marks : List Mark)
-    → All (FitsLimits (length names)) marks
     → AllZip (Means names) written marks
     → AllZip (Spells One names) (map (λ piece. texts_of piece) written) marks
-pieces_spell names [] [] fits h = tt
-pieces_spell names [] (mark ∷ marks) fits h = absurd h
-pieces_spell names (piece ∷ written) [] fits h = absurd h
-pieces_spell names (piece ∷ written) (mark ∷ marks) fits h = (
-  piece_spells names piece mark (All-head (FitsLimits (length names)) mark marks fits) h.0,
-  pieces_spell names written marks (All-tail (FitsLimits (length names)) mark marks fits) h.1,
+pieces_spell names [] [] h = tt
+pieces_spell names [] (mark ∷ marks) h = absurd h
+pieces_spell names (piece ∷ written) [] h = absurd h
+pieces_spell names (piece ∷ written) (mark ∷ marks) h = (
+  piece_spells names piece mark h.0,
+  pieces_spell names written marks h.1,
 )

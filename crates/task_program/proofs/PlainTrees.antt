@@ -4,28 +4,41 @@ use Rattle.std.proofs.Common.{◌++◌, map, refl, sym, ap, subst, ◌∙◌, ar
 use Rattle.std.specs.Prelude.{All, drop, fold, sum_by, length}
 use Rattle.std.specs.List.{flat_map, AllZip}
 use Rattle.std.proofs.lemmas.Bool.{and_parts, eqb-true, eq-eqb}
-use Rattle.std.proofs.lemmas.List.Elements.{All-cons, All-tail}
+use Rattle.std.proofs.lemmas.List.{append-nil}
+use Rattle.std.proofs.lemmas.Option.{slice_get_within}
+use Rattle.std.proofs.lemmas.List.Elements.{All-nil, All-cons, All-tail}
+use Rattle.program_text.specs.declared.statement.DependKind.{DependKind}
+use Rattle.program_text.specs.declared.statement.Item.{Item}
 use Rattle.task_program.specs.declared.version.Version.{Version}
 use Rattle.task_program.specs.declared.version.Version.TheVariants.{One}
 use Rattle.program_text.specs.declared.limits.TheConstants.{MOST_TEXT_BYTES, MOST_NESTING}
 use Rattle.program_text.specs.declared.limits.TheConstants.{MOST_WORD_BYTES}
 use Rattle.program_text.specs.Marks.{Mark}
+use Rattle.program_text.specs.Marks.Mark.{Begins, Ends, Works, Waits, GroupBegins, GroupEnds}
 use Rattle.program_text.specs.Tokens.{Token, texts, tokens_of}
 use Rattle.program_text.specs.Words.{is_text, is_run, is_word, is_number, begins_with_digit, value_of}
 use Rattle.task_program.specs.ProgramMarks.{ProgramMarks}
 use Rattle.task_program.specs.Names.{with_name}
 use Rattle.task_program.specs.Grammar.{Written, texts_of, Means, names_of_piece, IsShort}
-use Rattle.task_program.specs.Grammar.{HasPlainTree}
+use Rattle.task_program.specs.Grammar.{HasPlainTree, IsItem, named_items}
+use Rattle.task_program.specs.Grammar.Written.{TaskWritten}
+use Rattle.task_program.specs.Programs.{IsNamed, names_of_mark}
+use Rattle.task_program.specs.Nested.{IsNested}
+use Rattle.loop_text.specs.Loops.{Tree}
 use Rattle.task_program.specs.LoopGrammar.{Spelled}
 use Rattle.task_program.specs.Versions.{number_of, begins_version, body_of}
 use Rattle.task_program.specs.Expanded.{ExpansionState, empty_expansion}
 use Rattle.task_program.specs.ExpandsTo.{ExpandsTo, state_after_tree}
 use Rattle.task_program.specs.Trees.{HasTree}
 use Rattle.task_program.proofs.FoundPlaces.{same_text}
-use Rattle.task_program.proofs.Nested.{nests}
+use Rattle.task_program.proofs.KeptNames.{HasNames}
+use Rattle.task_program.proofs.NamesOnce.{AreOnce, once_mentioned}
+use Rattle.task_program.proofs.Shorter.{same_mentions}
+use Rattle.task_program.proofs.Nested.{nests, room_for}
+use Rattle.task_program.proofs.LinesExpand.{expands}
 use Rattle.task_program.proofs.Locations.{with_lines, have_lines}
 use Rattle.task_program.proofs.LinesSpelled.{HasMarks, joined, words_spelled, no_marks}
-use Rattle.task_program.proofs.LoopReadBack.{texts_stay, front_apart, tree_expands}
+use Rattle.task_program.proofs.LoopReadBack.{texts_stay, front_apart, tree_expands, at_first}
 use Rattle.task_program.proofs.PlainPieces.{tree_plain}
 use Rattle.task_program.proofs.PlainSpelled.{pieces_spell}
 
@@ -114,11 +127,88 @@ plain_of_tree text program one h =
           (number_short header.number header.is_num) h.words_fit));
     }
 
+-- ---- marks of any number
+
+-- the tokens after the header of a text of version 1, in a room that suffices, and the tree that they
+-- spell, which expands to these marks
+pub record HasAnyTree (words : List (List ℕ)) (marks : List Mark) : Type 0 where
+  pub body : List Token
+  pub room : ℕ
+  pub tree : Tree
+  pub texts_are : texts body ≡ words
+  pub spelled : Spelled One true [] room body tree
+  pub marks_are : marks ≡ (state_after_tree tree).tree.marks
+
+named_below : (names : List (List ℕ)) (named : List (DependKind × List ℕ)) (items : List Item)
+    → AllZip (IsItem names) named items
+    → All (IsNamed (length names)) items
+named_below names [] [] h = All-nil (IsNamed (length names))
+named_below names [] (item ∷ items) h = absurd h
+named_below names (pair ∷ named) [] h = absurd h
+named_below names (pair ∷ named) (item ∷ items) h =
+    All-cons (IsNamed (length names)) item items
+    (slice_get_within names item.name pair.1 h.0.1) (named_below names named items h.1)
+
+mark_has_names : (names : List (List ℕ)) (piece : Written) (mark : Mark)
+    → Means names piece mark
+    → HasNames (length names) mark
+mark_has_names names (TaskWritten clauses) (Begins undeferred items) h =
+    named_below names (flat_map named_items clauses) items h.items_are
+mark_has_names names piece (Works cost) h = tt
+mark_has_names names piece Waits h = tt
+mark_has_names names piece Ends h = tt
+mark_has_names names piece GroupBegins h = tt
+mark_has_names names piece GroupEnds h = tt
+mark_has_names names _ (Begins undeferred items) h = absurd h
+
+marks_have_names : (names : List (List ℕ)) (written : List Written) (marks : List Mark)
+    → AllZip (Means names) written marks
+    → All (HasNames (length names)) marks
+marks_have_names names [] [] h = All-nil (HasNames (length names))
+marks_have_names names [] (mark ∷ marks) h = absurd h
+marks_have_names names (piece ∷ written) [] h = absurd h
+marks_have_names names (piece ∷ written) (mark ∷ marks) h =
+    All-cons (HasNames (length names)) mark marks (mark_has_names names piece mark h.0)
+    (marks_have_names names written marks h.1)
+
 joined_pieces : (written : List Written)
     → joined (map (λ piece. texts_of piece) written) ≡ flat_map texts_of written
 joined_pieces [] = refl
 joined_pieces (piece ∷ written) =
     ap (λ (ts : List (List ℕ)). texts_of piece ++ ts) (joined_pieces written)
+
+-- pieces that mean nested marks spell a tree
+pub any_tree_of_plain : (written : List Written) (names : List (List ℕ)) (marks : List Mark)
+    → AllZip (Means names) written marks
+    → names ≡ fold with_name [] (flat_map names_of_piece written)
+    → IsNested marks
+    → HasAnyTree (flat_map texts_of written) marks
+any_tree_of_plain written names marks means names_are nested =
+    let room = room_for marks nested in
+    let words : List (List ℕ) = flat_map texts_of written in
+    let lines : ℕ → ℕ = λ i. i in
+    let has_marks : HasMarks One names room.0 (with_lines words lines) marks =
+    subst (λ (ts : List (List ℕ)). HasMarks One names room.0 (with_lines ts lines) marks)
+    (joined_pieces written)
+    (words_spelled One names room.0 marks room.1 (map (λ piece. texts_of piece) written)
+    (pieces_spell names written marks means) [] [] lines (no_marks One names room.0)) in
+    let once : AreOnce names =
+    subst AreOnce (sym names_are) (once_mentioned (flat_map names_of_piece written)) in
+    let all_names : names
+    ≡ fold with_name [] (flat_map (names_of_mark names) ([] ++ (marks ++ []))) = names_are
+    ∙ ap (λ (ns : List (List ℕ)). fold with_name [] ns) (same_mentions names written marks means)
+    ∙ ap (λ (ms : List Mark). fold with_name [] (flat_map (names_of_mark names) ms))
+    (sym (append-nil marks)) in
+    let goes = expands names once marks has_marks.tree has_marks.stands
+    (marks_have_names names written marks means) [] [] empty_expansion all_names (at_first names) in
+    record {
+      body = with_lines words lines;
+      room = room.0;
+      tree = has_marks.tree;
+      texts_are = texts_stay words lines;
+      spelled = has_marks.spelled;
+      marks_are = sym goes.prints.marks_are;
+    }
 
 pub tree_of_plain : (text : List ℕ) (program : ProgramMarks)
     → HasPlainTree text program
@@ -140,7 +230,7 @@ tree_of_plain text program h =
     (joined_pieces h.written)
     (words_spelled One names MOST_NESTING program.marks (nests program h.program_fits)
     (map (λ piece. texts_of piece) h.written)
-    (pieces_spell names h.written program.marks h.program_fits.marks_fit h.means) [] [] later
+    (pieces_spell names h.written program.marks h.means) [] [] later
     (no_marks One names MOST_NESTING)) in
     let short : All IsShort words = All-tail IsShort h.version words
     (All-tail IsShort (codes "omptasks") (h.version ∷ words)
