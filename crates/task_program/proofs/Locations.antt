@@ -17,8 +17,8 @@ use Rattle.program_text.specs.Words.{is_word}
 use Rattle.task_program.specs.Expansion.{subscript_of, index_fits}
 use Rattle.loop_text.specs.Parts.{step_of}
 use Rattle.task_program.specs.declared.version.Version.TheVariants.{Two}
-use Rattle.task_program.specs.LoopGrammar as grammar
-use Rattle.task_program.specs.LoopGrammar.{index_of, ItemSpelled}
+use Rattle.task_program.specs.Grammar as grammar
+use Rattle.task_program.specs.Grammar.{index_of, ItemSpelled}
 use Rattle.task_program.proofs.Spelled.{spell, word_then, number_then, decimal_value}
 use Rattle.task_program.proofs.Spelled.{decimal_number, IsWritten}
 use Rattle.task_program.proofs.ReadBack.{AllShort, none_short, cons_short, number_short, is_short}

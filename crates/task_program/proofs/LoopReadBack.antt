@@ -26,7 +26,7 @@ use Rattle.task_program.specs.Grammar.{IsShort}
 use Rattle.task_program.specs.Expanded.{ExpansionState, empty_expansion}
 use Rattle.task_program.specs.ExpandsTo.{state_after_tree, program_of_state, ExpandsTo}
 use Rattle.loop_text.specs.Loops.{Tree}
-use Rattle.task_program.specs.LoopGrammar.{Spelled}
+use Rattle.task_program.specs.Grammar.{Spelled}
 use Rattle.task_program.proofs.Trees.{HasLoopTree}
 use Rattle.task_program.specs.Versions.{begins_version_two, body_of}
 use Rattle.task_program.proofs.Nested.{nests}

@@ -1,9 +1,9 @@
 -- The grammar of version 1 by itself, and that of both versions, have the same trees.
-use Rattle.std.proofs.Common.{◌≡◌, ℕ, suc, ◌≤◌, Bool, true, false, not, ◌&&◌, eqb, List, [], ◌∷◌}
+use Rattle.std.proofs.Common.{◌≡◌, ℕ, suc, Bool, true, false, not, ◌&&◌, eqb, List, [], ◌∷◌}
 use Rattle.std.proofs.Common.{◌++◌, map, refl, sym, ap, subst, ◌∙◌, arith, codes}
-use Rattle.std.specs.Prelude.{All, drop, fold, sum_by, length}
+use Rattle.std.specs.Prelude.{All, drop, fold, length}
 use Rattle.std.specs.List.{flat_map, AllZip}
-use Rattle.std.proofs.lemmas.Bool.{and_parts, eqb-true, eq-eqb}
+use Rattle.std.proofs.lemmas.Bool.{and_parts, eqb-true}
 use Rattle.std.proofs.lemmas.List.{append-nil}
 use Rattle.std.proofs.lemmas.Option.{slice_get_within}
 use Rattle.std.proofs.lemmas.List.Elements.{All-nil, All-cons, All-tail}
@@ -11,21 +11,21 @@ use Rattle.program_text.specs.declared.statement.DependKind.{DependKind}
 use Rattle.program_text.specs.declared.statement.Item.{Item}
 use Rattle.task_program.specs.declared.version.Version.{Version}
 use Rattle.task_program.specs.declared.version.Version.TheVariants.{One}
-use Rattle.program_text.specs.declared.limits.TheConstants.{MOST_TEXT_BYTES, MOST_NESTING}
-use Rattle.program_text.specs.declared.limits.TheConstants.{MOST_WORD_BYTES}
+use Rattle.program_text.specs.declared.limits.TheConstants.{MOST_NESTING}
 use Rattle.program_text.specs.Marks.{Mark}
 use Rattle.program_text.specs.Marks.Mark.{Begins, Ends, Works, Waits, GroupBegins, GroupEnds}
 use Rattle.program_text.specs.Tokens.{Token, texts, tokens_of}
 use Rattle.program_text.specs.Words.{is_text, is_run, is_word, is_number, begins_with_digit, value_of}
 use Rattle.task_program.specs.ProgramMarks.{ProgramMarks}
 use Rattle.task_program.specs.Names.{with_name}
-use Rattle.task_program.specs.Grammar.{Written, texts_of, Means, names_of_piece, IsShort}
-use Rattle.task_program.specs.Grammar.{HasPlainTree, IsItem, named_items}
-use Rattle.task_program.specs.Grammar.Written.{TaskWritten}
+use Rattle.task_program.specs.PlainGrammar.{Written, texts_of, Means, names_of_piece}
+use Rattle.task_program.specs.Grammar.{IsShort}
+use Rattle.task_program.specs.PlainGrammar.{HasPlainTree, IsItem, named_items}
+use Rattle.task_program.specs.PlainGrammar.Written.{TaskWritten}
 use Rattle.task_program.specs.Programs.{IsNamed, names_of_mark}
 use Rattle.task_program.specs.Nested.{IsNested}
 use Rattle.loop_text.specs.Loops.{Tree}
-use Rattle.task_program.specs.LoopGrammar.{Spelled}
+use Rattle.task_program.specs.Grammar.{Spelled}
 use Rattle.task_program.specs.Versions.{number_of, begins_version, body_of}
 use Rattle.task_program.specs.Expanded.{ExpansionState, empty_expansion}
 use Rattle.task_program.specs.ExpandsTo.{ExpandsTo, state_after_tree}
