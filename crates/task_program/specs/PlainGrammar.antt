@@ -1,5 +1,5 @@
--- The grammar of version 1 by itself: a text of it as pieces, each a statement up to its body or the
--- end of one, and what each piece means. Its trees and sentences are those of the grammar.
+-- Carried out: the grammar of version 1 by itself: a text of it as pieces, each a statement up to its
+-- body or the end of one, and what each piece means. Its trees and sentences are those of `Grammar`.
 use Rattle.std.specs.Prelude.{◌≡◌, ℕ, zero, suc, ◌≤◌, Bool, true, false, ◌==◌, List, [], ◌∷◌, ◌++◌, length}
 use Rattle.std.specs.Prelude.{map, sum_by, count_by, fold, All, Some, slice_get, codes}
 use Rattle.std.specs.List.{flat_map, list_any, AllZip}
