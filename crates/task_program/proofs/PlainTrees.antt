@@ -1,5 +1,5 @@
 -- The grammar of version 1 by itself, and that of both versions, have the same trees.
-use Rattle.std.proofs.Common.{◌≡◌, ℕ, suc, Bool, true, false, not, ◌&&◌, eqb, List, [], ◌∷◌}
+use Rattle.std.proofs.Common.{◌≡◌, ℕ, suc, true, eqb, List, [], ◌∷◌}
 use Rattle.std.proofs.Common.{◌++◌, map, refl, sym, ap, subst, ◌∙◌, arith, codes}
 use Rattle.std.specs.Prelude.{All, drop, fold, length}
 use Rattle.std.specs.List.{flat_map, AllZip}
@@ -15,7 +15,7 @@ use Rattle.program_text.specs.declared.limits.TheConstants.{MOST_NESTING}
 use Rattle.program_text.specs.Marks.{Mark}
 use Rattle.program_text.specs.Marks.Mark.{Begins, Ends, Works, Waits, GroupBegins, GroupEnds}
 use Rattle.program_text.specs.Tokens.{Token, texts, tokens_of}
-use Rattle.program_text.specs.Words.{is_text, is_run, is_word, is_number, begins_with_digit, value_of}
+use Rattle.program_text.specs.Words.{is_text, is_word, is_number, value_of}
 use Rattle.task_program.specs.ProgramMarks.{ProgramMarks}
 use Rattle.task_program.specs.Names.{with_name}
 use Rattle.task_program.specs.PlainGrammar.{Written, texts_of, Means, names_of_piece}
@@ -38,6 +38,7 @@ use Rattle.task_program.proofs.Nested.{nests, room_for}
 use Rattle.task_program.proofs.LinesExpand.{expands}
 use Rattle.task_program.proofs.Locations.{with_lines, have_lines}
 use Rattle.task_program.proofs.LinesSpelled.{HasMarks, joined, words_spelled, no_marks}
+use Rattle.task_program.proofs.ReadBack.{number_short}
 use Rattle.task_program.proofs.LoopReadBack.{texts_stay, front_apart, tree_expands, at_first}
 use Rattle.task_program.proofs.PlainPieces.{tree_plain}
 use Rattle.task_program.proofs.PlainSpelled.{pieces_spell}
@@ -74,16 +75,6 @@ header_begins : (word number : Token) (tokens : List Token)
     → value_of number.text ≡ 1
     → begins_version One (word ∷ number ∷ tokens) ≡ true
 header_begins word number tokens is_word is_num one = rw (is_word, is_num, one) refl
-
--- a number is no word
-digit_first : (run digit all : Bool) → (digit && all) ≡ true → (run && not digit) ≡ true → ⊥
-digit_first true true all h g = cc
-digit_first true false all h g = cc
-digit_first false digit all h g = cc
-
-number_short : (number : List ℕ) → is_number number ≡ true → IsShort number
-number_short number h =
-    λ word. absurd (digit_first (is_run number) (begins_with_digit number) _ h word)
 
 -- ---- trees
 
