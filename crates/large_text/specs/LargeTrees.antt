@@ -6,7 +6,7 @@ use Rattle.program_text.specs.Tokens.{Token, texts}
 use Rattle.program_text.specs.Words.{is_number, value_of}
 use Rattle.task_program.specs.FirstFault.{Rules, AreRightWhole, IsFirstFault}
 use Rattle.task_program.specs.FirstPlainFault.{plain_rules}
-use Rattle.loop_text.specs.Loops.{Tree}
+use Rattle.task_program.specs.Loops.{Tree}
 use Rattle.task_program.specs.declared.version.Version.TheVariants.{One}
 use Rattle.task_program.specs.Grammar.{Spelled}
 use Rattle.task_program.specs.ExpandsTo.{state_after_tree}
