@@ -1,6 +1,6 @@
 -- Each program has a graph, and each segment a value.
 use Rattle.std.proofs.Common.{ℕ, zero, suc, ◌<◌, ◌≤◌, ◌≡◌, ◌∙◌, ◌%◌, ◌^◌, List, [], ◌∷◌, ◌++◌}
-use Rattle.std.proofs.Common.{length, get_or, refl, sym, subst, arith, sum_by}
+use Rattle.std.proofs.Common.{length, get_or, refl, sym, subst, arith, inl, inr, sum_by}
 use Rattle.std.proofs.lemmas.Bool.{cases_lt}
 use Rattle.std.proofs.lemmas.List.{get_or_append_left, get_or_push, length_push}
 use Rattle.task_program.specs.ProgramMarks.{ProgramMarks}
