@@ -1,4 +1,5 @@
--- Marks at names, and where a segment opens: what tells quickly that a segment need not wait.
+-- Carried out: marks at names, and where a segment opens: what tells quickly that a segment need
+-- not wait.
 use Rattle.std.specs.Prelude.{ℕ, ◌+◌, ◌%◌, ◌<◌, ◌≡◌, ◌⊎◌, ◌==◌, ◌||◌, Bool, true, false, List}
 use Rattle.std.specs.Prelude.{length, slice_index_or}
 use Rattle.program_text.specs.declared.statement.DependKind.{DependKind}
