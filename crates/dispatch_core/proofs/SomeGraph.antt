@@ -1,6 +1,6 @@
 -- Each program has a graph, and each segment a value.
 use Rattle.std.proofs.Common.{ℕ, zero, suc, ◌<◌, ◌≤◌, ◌≡◌, ◌∙◌, ◌%◌, ◌^◌, List, [], ◌∷◌, ◌++◌}
-use Rattle.std.proofs.Common.{length, get_or, refl, sym, subst, arith, inl, inr, sum_by}
+use Rattle.std.proofs.Common.{length, get_or, refl, sym, subst, arith, sum_by}
 use Rattle.std.proofs.lemmas.Bool.{cases_lt}
 use Rattle.std.proofs.lemmas.List.{get_or_append_left, get_or_push, length_push}
 use Rattle.task_program.specs.ProgramMarks.{ProgramMarks}
@@ -29,8 +29,7 @@ use Rattle.dispatch_core.proofs.DecidedEdges.{decide_kept_edge}
 use Rattle.dispatch_core.proofs.Decisions.{some_list}
 
 pub tree_fits : (text : List ℕ) (program : ProgramMarks) → HasTree text program → IsProgram program
-tree_fits text program (inl h) = h.program_fits
-tree_fits text program (inr h) = h.expanded.program_fits
+tree_fits text program h = h.expanded.program_fits
 
 -- what holds of a program's table
 pub record IsWhole (table : Table) : Type 0 where

@@ -16,6 +16,7 @@ use Rattle.program_text.specs.Tokens.{Token, texts, starts_with_run_byte}
 use Rattle.program_text.specs.Words.{is_word}
 use Rattle.task_program.specs.Expansion.{subscript_of, index_fits}
 use Rattle.loop_text.specs.Parts.{step_of}
+use Rattle.task_program.specs.declared.version.Version.TheVariants.{Two}
 use Rattle.task_program.specs.LoopGrammar as grammar
 use Rattle.task_program.specs.LoopGrammar.{index_of, ItemSpelled}
 use Rattle.task_program.proofs.Spelled.{spell, word_then, number_then, decimal_value}
@@ -174,7 +175,7 @@ pub record StandsFor (kind : DependKind) (name : List ℕ) (item : LoopItem) : T
 
 pub record ItemIs (kind : DependKind) (name : List ℕ) (tokens : List Token) : Type 0 where
   pub item : LoopItem
-  pub spelled : ItemSpelled [] kind tokens item
+  pub spelled : ItemSpelled Two [] kind tokens item
   pub stands : StandsFor kind name item
 
 step_is : (size : ℕ) → size ≤ LARGEST_INDEX → step_of (decimal size) ≡ size
@@ -208,7 +209,7 @@ positive_item kind word size a b c d h fits =
       item = grammar.item_of kind token (Some (index_of None false (step_of (decimal size)) c));
       spelled = grammar.ItemSpelled.Indexed [] kind token (record { text = codes "["; line = b })
           (record { text = codes "]"; line = d }) (number ∷ [])
-          (index_of None false (step_of (decimal size)) c) h refl
+          (index_of None false (step_of (decimal size)) c) refl h refl
           (grammar.IndexSpelled.Number [] number (decimal_number size (omega (arith, fits)))) refl;
       stands = record {
         kind_is = refl;
@@ -235,7 +236,7 @@ negative_item kind word size a b c d e h fits some =
     record {
       item = grammar.item_of kind token (Some (index_of None true by c));
       spelled = grammar.ItemSpelled.Indexed [] kind token (record { text = codes "["; line = b })
-          (record { text = codes "]"; line = e }) (minus ∷ number ∷ []) (index_of None true by c) h
+          (record { text = codes "]"; line = e }) (minus ∷ number ∷ []) (index_of None true by c) refl h
           refl
           (grammar.IndexSpelled.Minus [] minus number refl
           (decimal_number size (omega (arith, fits))))
