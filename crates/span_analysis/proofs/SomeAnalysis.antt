@@ -18,7 +18,7 @@ use Rattle.span_analysis.proofs.Existence.{earliest_exists}
 use Rattle.span_analysis.proofs.PassSteps.{AreRaised-keep, AreRaised-none, AreRaised-set}
 use Rattle.span_analysis.proofs.PassSteps.{AreTailsFrom-more, AreTailsFrom-none, IsAscending-graph}
 use Rattle.span_analysis.proofs.PassSteps.{IsTails-all}
-use Rattle.span_analysis.specs.Critical.{Delays, DelaysFirst, EndsLast, IsSmallest, LeadsTo}
+use Rattle.span_analysis.specs.Critical.{Delays, EndsLast, IsSmallest, LeadsTo}
 use Rattle.span_analysis.specs.Findings.{Findings, IsAnalysis}
 use Rattle.span_analysis.specs.Passes.{AreRaised, AreTailsFrom}
 use Rattle.dispatch_core.proofs.Decisions.{IsDecided, IsFirst, decided_by_equivalent, decide_below}
@@ -77,9 +77,8 @@ some_tails_from graph is (suc d) low all =
     let later = some_tails_from graph is d (low + 1) (omega (arith, all)) in
     let places : List ℕ = predecessors_of graph low in
     let floor : ℕ = at graph.costs low + at later.0 low in
-    let each = later.1.each in
     let inside : (s : ℕ) → Contains places s → s < length later.0 =
-    λ s h. let less = is.smaller s low h in omega (arith, less, each, all) in
+    λ s h. let less = is.smaller s low h in omega (arith, less, later.1.each, all) in
     let raised = some_raised places floor later.0 inside (length places) (omega arith) in
     let whole = take_all (length places) places (omega arith) in (
       raised.0,
@@ -152,9 +151,8 @@ leads_from graph starts is earliest last (suc bound) member chain below from =
     (find_first (Delays graph starts member) member (λ s. decide_delays graph starts member s)) [
       | inr found ↦
           let first = is_smallest (Delays graph starts member) member found.0 found.1 in
-          let lower = found.1.below in
           leads_from graph starts is earliest last bound found.0 (found.0 ∷ chain)
-          (omega (arith, lower, below))
+          (omega (arith, found.1.below, below))
           (IsChainFrom-more graph starts last member found.0 chain is from first)
       | inl none ↦
           let first = first_of_all graph starts member is earliest from.inside
@@ -174,7 +172,7 @@ some_analysis graph is =
     let last = some_last graph starts.0 is starts.1.legal.each in
     let inside : last.0 < length graph.costs = last.1.holds.is_segment in
     let chain = leads_from graph starts.0 is starts.1 last.0 (suc last.0) last.0 (last.0 ∷ [])
-        (omega arith)
+    (omega arith)
     (IsChainFrom-one graph starts.0 last.0 inside) in
     let end : ℕ = end_of graph.costs starts.0 in
     let room : ℕ → ℕ = λ s. end - (at starts.0 s + at graph.costs s + at tails.0 s) in
@@ -190,7 +188,7 @@ some_analysis graph is =
     let fits : (s : ℕ) → s < length graph.costs
     → at starts.0 s + at slacks s + at graph.costs s + at tails.0 s ≡ end = λ s known.
     let within = tail-fits graph.costs (Precedes graph) tails.0 starts.0 end
-        (IsAscending-graph graph is) tails.1
+    (IsAscending-graph graph is) tails.1
     starts.1.legal
     (omega arith) s known in
     let same : at slacks s ≡ room s = at-by_rule room (length graph.costs) s known in
