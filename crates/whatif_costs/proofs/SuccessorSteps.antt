@@ -7,7 +7,8 @@ use Rattle.std.proofs.lemmas.List.Elements.{Contains-push_cases, Contains-append
 use Rattle.std.proofs.lemmas.List.Elements.{Contains-push}
 use Rattle.std.proofs.lemmas.Bool.{cases_eq, cases_lt}
 use Rattle.dispatch_core.specs.RecordedGraph.{RecordedGraph, IsGraph, Precedes, predecessors_of}
-use Rattle.whatif_costs.specs.Successors.{rows, row_of, AreSuccessors, AreSuccessorsBelow, AreJoined}
+use Rattle.whatif_costs.specs.Successors.{items_of, row_of, AreSuccessors, AreSuccessorsBelow}
+use Rattle.whatif_costs.specs.Successors.{AreJoined}
 use Rattle.whatif_costs.proofs.TailSteps.{Precedes-inside}
 
 -- one more list has the number added at its end
@@ -104,17 +105,17 @@ AreSuccessors-all graph n lists is all are = record {
 }
 
 -- one row of the vectors gets one member more
-pub rows-push : (lists : List (Vec ℕ Global)) (i x : ℕ) (old new : Vec ℕ Global) → i < length lists
-    → old ≡ get_or lists i old → new.items ≡ old.items ++ x ∷ []
-    → rows (set lists i new) ≡ set (rows lists) i (row_of (rows lists) i ++ x ∷ [])
-rows-push lists i x old new inside is pushed =
-    let items_of : Vec ℕ Global → List ℕ = λ v. v.items in
-    let here : row_of (rows lists) i ≡ old.items =
-    get_or-map items_of lists i old [] inside ∙ ap items_of (sym is) in
-    let row : new.items ≡ row_of (rows lists) i ++ x ∷ [] =
+pub items_of-push : (lists : List (Vec ℕ Global)) (i x : ℕ) (old new : Vec ℕ Global)
+    → i < length lists → old ≡ get_or lists i old → new.items ≡ old.items ++ x ∷ []
+    → items_of (set lists i new) ≡ set (items_of lists) i (row_of (items_of lists) i ++ x ∷ [])
+items_of-push lists i x old new inside is pushed =
+    let own : Vec ℕ Global → List ℕ = λ v. v.items in
+    let here : row_of (items_of lists) i ≡ old.items =
+    get_or-map own lists i old [] inside ∙ ap own (sym is) in
+    let row : new.items ≡ row_of (items_of lists) i ++ x ∷ [] =
     pushed ∙ ap (λ (xs : List ℕ). xs ++ x ∷ []) (sym here) in
-    map-set items_of lists i new ∙ ap (λ (xs : List ℕ). set (rows lists) i xs) row
+    map-set own lists i new ∙ ap (λ (xs : List ℕ). set (items_of lists) i xs) row
 
 -- as many rows as lists
-pub length-rows : (lists : List (Vec ℕ Global)) → length (rows lists) ≡ length lists
-length-rows lists = length-map lists (λ v. v.items)
+pub length-items_of : (lists : List (Vec ℕ Global)) → length (items_of lists) ≡ length lists
+length-items_of lists = length-map lists (λ v. v.items)

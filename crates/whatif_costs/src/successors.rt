@@ -1,6 +1,6 @@
 //! The successors of each segment.
 ghost use Rattle.std.specs.Prelude.{◌≡◌, ℕ, ◌<◌, OnOk, IfOk, length, Contains, replicate, []};
-ghost use Rattle.whatif_costs.specs.Successors.{rows, AreSuccessors, AreJoined};
+ghost use Rattle.whatif_costs.specs.Successors.{items_of, AreSuccessors, AreJoined};
 
 use dispatch_core::graph::Graph;
 use std::alloc::Global;
@@ -8,7 +8,7 @@ use task_program::AllocFault;
 
 /// For each segment the segments that it precedes.
 pub(crate) fn successors_of(alloc: Global, graph: &Graph) -> Result<Vec<Vec<u32>>, AllocFault>
-    ensures { IfOk result (λ made. AreSuccessors graph.now (rows made.items)) }
+    ensures { IfOk result (λ made. AreSuccessors graph.now (items_of made.items)) }
 {
     let count = graph.len();
     let mut successors = empty_rows(alloc, count)?;
@@ -19,7 +19,7 @@ pub(crate) fn successors_of(alloc: Global, graph: &Graph) -> Result<Vec<Vec<u32>
 }
 
 fn empty_rows(alloc: Global, count: u32) -> Result<Vec<Vec<u32>>, AllocFault>
-    ensures { IfOk result (λ made. rows made.items ≡ replicate count []) }
+    ensures { IfOk result (λ made. items_of made.items ≡ replicate count []) }
 {
     let mut lists = Vec::new(alloc);
     for _turn in 0..count {
@@ -31,8 +31,8 @@ fn empty_rows(alloc: Global, count: u32) -> Result<Vec<Vec<u32>>, AllocFault>
 /// Puts a segment into the rows at these places.
 fn join(lists: &mut Vec<Vec<u32>>, places: &[u32], segment: u32) -> Result<(), AllocFault>
     requires { (s : ℕ) → Contains places.now s → s < length lists.old.items }
-    ensures { OnOk result (AreJoined places.now segment (rows lists.old.items)
-        (rows lists.new.items)) }
+    ensures { OnOk result (AreJoined places.now segment (items_of lists.old.items)
+        (items_of lists.new.items)) }
 {
     for place in places {
         lists[*place as usize].push(segment)?;
