@@ -8,7 +8,7 @@ use Rattle.std.proofs.lemmas.Option.{slice_get-get_or}
 use Rattle.std.specs.List.{AllZip, range_with_len}
 use Rattle.std.specs.Prelude.{slice_get}
 use Rattle.task_segments.specs.Table.{Table}
-use Rattle.span_cert.specs.Rows.{AreColumns, InColumn, IsColumn, IsEarliestPair, IsRow}
+use Rattle.span_cert.specs.BrokenPairs.{AreColumns, InColumn, IsColumn, IsEarliestPair, IsRow}
 use Rattle.span_cert.specs.Tests.{FirstBroken, IsBroken, NoneIsBroken}
 
 -- ---- one column

@@ -7,7 +7,7 @@ use Rattle.task_segments.specs.Nesting.{IsNestedTable}
 use Rattle.task_segments.specs.Precedence.{Continues, IsTask, MustPrecede}
 use Rattle.task_segments.specs.Table.{Table, segment, task}
 use Rattle.task_segments.proofs.Order.{continues_up, depends_parts, not_root_made, one_next}
-use Rattle.span_cert.specs.Marks.{IsCut, OpensAfterChild, OpensTask}
+use Rattle.span_cert.specs.NameMarks.{IsCut, OpensAfterChild, OpensTask}
 
 -- a segment that opens its task is no next one
 opens_no_next : (table : Table) → IsNestedTable table → (s t : ℕ) → OpensTask table t

@@ -22,7 +22,7 @@ use Rattle.dispatch_core.specs.Facts.{IsSoundTable}
 use Rattle.span_cert.proofs.Broken.{legal_kept}
 use Rattle.span_cert.proofs.Counting.{bad_step, count_of, length-moments, one_link, one_link_more}
 use Rattle.span_cert.proofs.Spelling.{reads_spelled, spelled_reads}
-use Rattle.span_cert.specs.Certificates.{Claims, HasClaim, IsChecked}
+use Rattle.span_cert.specs.Acceptance.{Claims, HasClaim, IsChecked}
 use Rattle.span_cert.specs.Claims.{Claim, HasForm, moments_of_starts, segments_of_starts, word_says}
 use Rattle.span_cert.specs.OneVerdict.{HasVerdict}
 use Rattle.span_cert.specs.Steps.{Progress, begin, step}

@@ -2,9 +2,9 @@
 ghost use Rattle.std.specs.Prelude.{◌≡◌, ◌<◌, ◌↔◌, ◌⊎◌, IsTrue};
 ghost use Rattle.task_segments.specs.Nesting.{IsNestedTable};
 ghost use Rattle.task_segments.specs.Precedence.{IsSegment, MustPrecede};
-ghost use Rattle.span_cert.specs.Marks.{AreMarkedFor, IsCut, IsOpening};
+ghost use Rattle.span_cert.specs.NameMarks.{AreMarkedFor, IsCut, IsOpening};
 
-use crate::names::NameMarks;
+use crate::name_marks::NameMarks;
 use task_segments::laws::nests;
 use task_segments::table::{Closing, SegTable};
 

@@ -3,10 +3,10 @@ use Rattle.std.specs.List.{list_any}
 use Rattle.std.proofs.lemmas.Bool.{eq-eqb}
 use Rattle.program_text.specs.declared.statement.Item.{Item}
 use Rattle.task_segments.specs.Table.{segment, task}
-use Rattle.span_cert.specs.Marks.{AreMarked, AreMarkedFor, IsOpening, OpensAfterChild, OpensTask}
-use Rattle.span_cert.specs.Marks.{meets}
+use Rattle.span_cert.specs.NameMarks.{AreMarked, AreMarkedFor, IsOpening, OpensAfterChild, OpensTask}
+use Rattle.span_cert.specs.NameMarks.{meets}
 use Rattle.span_cert.specs.declared.opening.Opening.{Opening}
-use Rattle.span_cert.proofs.Marks.{items_meet}
+use Rattle.span_cert.proofs.NameMarks.{items_meet}
 use Rattle.span_cert.proofs.Openings.{after_child_waits, first_waits}
 use Rattle.span_cert.proofs.opening.may_wait.Goals as goal
 
