@@ -11,7 +11,7 @@ use Rattle.task_program.specs.declared.place.Place.{Place}
 use Rattle.task_program.specs.declared.place.Place.TheVariants.{Header, Version, Statement}
 use Rattle.task_program.specs.Faults.{State, end_at}
 use Rattle.task_program.specs.FirstFault.IsFirstFault.{AtEnd}
-use Rattle.task_program.specs.Grammar.{texts_of, names_of_piece}
+use Rattle.task_program.specs.PlainGrammar.{texts_of, names_of_piece}
 use Rattle.task_program.specs.Names.{with_name}
 use Rattle.task_program.specs.TreeSoFar.{Block}
 use Rattle.task_program.specs.FirstPlainFault.{IsSentence}

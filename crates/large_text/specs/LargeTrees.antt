@@ -8,7 +8,7 @@ use Rattle.task_program.specs.FirstFault.{Rules, AreRightWhole, IsFirstFault}
 use Rattle.task_program.specs.FirstPlainFault.{plain_rules}
 use Rattle.loop_text.specs.Loops.{Tree}
 use Rattle.task_program.specs.declared.version.Version.TheVariants.{One}
-use Rattle.task_program.specs.LoopGrammar.{Spelled}
+use Rattle.task_program.specs.Grammar.{Spelled}
 use Rattle.task_program.specs.ExpandsTo.{state_after_tree}
 use Rattle.task_program.specs.Nested.{IsNested}
 use Rattle.large_text.specs.declared.limits.TheConstants.{MOST_LARGE_TOKEN_BYTES}

@@ -25,12 +25,12 @@ use Rattle.program_text.specs.Marks.{Mark}
 use Rattle.program_text.specs.Marks.Mark.{Begins, Works, GroupBegins}
 use Rattle.task_program.specs.Names.{number_of_name, with_name}
 use Rattle.program_text.specs.Words.{is_text, is_word, is_number, value_of, type_word}
-use Rattle.task_program.specs.Grammar as grammar
-use Rattle.task_program.specs.Grammar.{Written, name_and_comma, clause_texts, texts_of, named_items}
-use Rattle.task_program.specs.Grammar.{is_if, makes_undeferred, IsClause, IsItem, Means}
-use Rattle.task_program.specs.Grammar.{names_of_piece}
-use Rattle.task_program.specs.Grammar.Clause.{IfClause, DependClause}
-use Rattle.task_program.specs.Grammar.Written.{WorkWritten, TaskWritten, GroupWritten}
+use Rattle.task_program.specs.PlainGrammar as grammar
+use Rattle.task_program.specs.PlainGrammar.{Written, name_and_comma, clause_texts, texts_of, named_items}
+use Rattle.task_program.specs.PlainGrammar.{is_if, makes_undeferred, IsClause, IsItem, Means}
+use Rattle.task_program.specs.PlainGrammar.{names_of_piece}
+use Rattle.task_program.specs.PlainGrammar.Clause.{IfClause, DependClause}
+use Rattle.task_program.specs.PlainGrammar.Written.{WorkWritten, TaskWritten, GroupWritten}
 use Rattle.task_program.specs.Faults.{State, Head, after_at, no_clauses}
 use Rattle.task_program.specs.TreeSoFar.{Block}
 use Rattle.task_program.specs.TreeSoFar.Block.{GroupBlock}

@@ -6,7 +6,6 @@ use Rattle.std.specs.Prelude.{All}
 use Rattle.std.specs.List.{flat_map, AllZip}
 use Rattle.std.specs.Fmt.{decimal}
 use Rattle.std.proofs.lemmas.List.{append-nil}
-use Rattle.std.proofs.lemmas.List.Concat.{flat_map-append}
 use Rattle.std.proofs.lemmas.List.Elements.{All-head, All-tail}
 use Rattle.program_text.specs.declared.statement.DependKind.{DependKind}
 use Rattle.program_text.specs.declared.statement.Item.{Item}
@@ -18,23 +17,22 @@ use Rattle.program_text.specs.declared.limits.TheConstants.{LARGEST_COST}
 use Rattle.program_text.specs.Marks.{Mark}
 use Rattle.program_text.specs.Marks.Mark.{Begins, Ends, Works, Waits, GroupBegins, GroupEnds}
 use Rattle.task_program.specs.Canonical.{same_kind, name_of}
-use Rattle.task_program.specs.Programs.{IsLocation}
+use Rattle.task_program.specs.Programs.{IsLocation, IsNameIn}
 use Rattle.program_text.specs.Tokens.{Token}
 use Rattle.program_text.specs.Words.{is_number, type_word, value_of, type_of}
 use Rattle.loop_text.specs.Parts.{no_clauses}
 use Rattle.loop_text.specs.Loops.{Tree}
 use Rattle.loop_text.specs.Loops.Tree.{NoStatement, ThenWork, ThenWait, ThenGroup, ThenTask}
 use Rattle.task_program.specs.declared.version.Version.{Version}
-use Rattle.task_program.specs.declared.version.Version.TheVariants.{Two}
-use Rattle.task_program.specs.LoopGrammar as grammar
-use Rattle.task_program.specs.LoopGrammar.{ItemsSpelled, ClausesSpelled, OpeningSpelled, Spelled}
-use Rattle.task_program.specs.LoopGrammar.{task_of}
+use Rattle.task_program.specs.Grammar as grammar
+use Rattle.task_program.specs.Grammar.{ItemsSpelled, ClausesSpelled, OpeningSpelled, Spelled}
+use Rattle.task_program.specs.Grammar.{task_of}
 use Rattle.task_program.proofs.Nested as nested
 use Rattle.task_program.proofs.Nested.{NestsIn}
 use Rattle.task_program.proofs.ReadBack.{same_is}
 use Rattle.task_program.proofs.Spelled.{spell, decimal_value, decimal_number, after_texts_by}
 use Rattle.task_program.proofs.Spelled.{depend_texts_by, if_texts, line_texts_by}
-use Rattle.task_program.proofs.Locations.{with_lines, lines_apart, StandsFor, ItemIs, location_item}
+use Rattle.task_program.proofs.Locations.{with_lines, lines_apart, StandsFor, ItemIs, version_item}
 use Rattle.program_text.proofs.Bools.{bool_cases}
 use Rattle.task_program.proofs.ReadPieces.{is_type_word, type_of_word}
 
@@ -46,14 +44,17 @@ IsItemOf names item loop = StandsFor item.kind (name_of names item) loop
 abbrev pub IsLocated : List (List ℕ) → Item → Type 0
 IsLocated names item = IsLocation (name_of names item)
 
+abbrev pub HasNameIn : Version → List (List ℕ) → Item → Type 0
+HasNameIn version names item = IsNameIn version (name_of names item)
+
 -- the clauses before are followed by these items, and then by more that stand for the rest
-record Clauses (names : List (List ℕ)) (tokens : List Token) (head : LoopHead)
+record Clauses (version : Version) (names : List (List ℕ)) (tokens : List Token) (head : LoopHead)
     (first : List LoopItem) (items : List Item)
     : Type 0 where
   more : List LoopItem
   all : List LoopItem
   all_are : all ≡ head.items ++ (first ++ more)
-  spelled : ClausesSpelled Two true [] tokens (record head { items = all })
+  spelled : ClausesSpelled version true [] tokens (record head { items = all })
   stand : AllZip (IsItemOf names) items more
 
 abbrev depend_front : DependKind → (a b c d : ℕ) → List Token → List Token
@@ -61,63 +62,63 @@ depend_front kind a b c d inside = record { text = codes "depend"; line = a }
     ∷ record { text = codes "("; line = b } ∷ record { text = type_word kind; line = c }
     ∷ record { text = codes ":"; line = d } ∷ inside
 
-closed_clause : (kind : DependKind) (before inside : List Token) (a b c d e : ℕ) (head : LoopHead)
+closed_clause : (version : Version) (kind : DependKind) (before inside : List Token) (a b c d e : ℕ) (head : LoopHead)
     (items : List LoopItem)
-    → ClausesSpelled Two true [] before head
-    → ItemsSpelled Two [] (type_of (type_word kind)) inside items
-    → ClausesSpelled Two true []
+    → ClausesSpelled version true [] before head
+    → ItemsSpelled version [] (type_of (type_word kind)) inside items
+    → ClausesSpelled version true []
     (before ++ depend_front kind a b c d (inside ++ record { text = codes ")"; line = e } ∷ []))
     (record head { items = head.items ++ items })
-closed_clause kind before inside a b c d e head items clauses all =
+closed_clause version kind before inside a b c d e head items clauses all =
     grammar.ClausesSpelled.Depend [] before inside (record { text = codes "depend"; line = a })
     (record { text = codes "("; line = b }) (record { text = type_word kind; line = c })
     (record { text = codes ":"; line = d }) (record { text = codes ")"; line = e })
     head items clauses refl refl (is_type_word kind) refl all refl
 
 -- the rest of the items of a task is spelled as the grammar with loops has it
-items_spelled : (names : List (List ℕ)) (kind : DependKind) (items : List Item)
+items_spelled : (version : Version) (names : List (List ℕ)) (kind : DependKind) (items : List Item)
     (before inside : List Token) (a b c d : ℕ) (head : LoopHead) (first : List LoopItem)
     (lines : ℕ → ℕ)
-    → ClausesSpelled Two true [] before head
-    → ItemsSpelled Two [] (type_of (type_word kind)) inside first
-    → All (IsLocated names) items
-    → Clauses names
+    → ClausesSpelled version true [] before head
+    → ItemsSpelled version [] (type_of (type_word kind)) inside first
+    → All (HasNameIn version names) items
+    → Clauses version names
     (before
     ++ depend_front kind a b c d
     (inside ++ with_lines (after_texts_by (spell false) names kind items) lines))
     head first items
 unfolding with_lines
-items_spelled names kind [] before inside a b c d head first lines clauses begun all = record {
+items_spelled version names kind [] before inside a b c d head first lines clauses begun all = record {
   more = [];
   all = head.items ++ first;
   all_are = ap (λ (is : List LoopItem). head.items ++ is) (sym (append-nil first));
-  spelled = closed_clause kind before inside a b c d (lines 0) head first clauses begun;
+  spelled = closed_clause version kind before inside a b c d (lines 0) head first clauses begun;
   stand = tt;
 }
-items_spelled names kind (item ∷ items) before inside a b c d head first lines clauses begun all =
+items_spelled version names kind (item ∷ items) before inside a b c d head first lines clauses begun all =
     let name : List (List ℕ) = spell false (name_of names item) in
     let after : List (List ℕ) = after_texts_by (spell false) names item.kind items in
-    let located : IsLocation (name_of names item) = All-head (IsLocated names) item items all in
-    let others : All (IsLocated names) items = All-tail (IsLocated names) item items all in
+    let located : IsNameIn version (name_of names item) = All-head (HasNameIn version names) item items all in
+    let others : All (HasNameIn version names) items = All-tail (HasNameIn version names) item items all in
     bool_cases (same_kind kind item.kind)
     (λ same.
     let kind_is : kind ≡ item.kind = same_is kind item.kind same in
     let apart = lines_apart name after (λ i. lines (suc i)) in
-    let one : ItemIs (type_of (type_word kind)) (name_of names item)
+    let one : ItemIs version (type_of (type_word kind)) (name_of names item)
     (with_lines name (λ i. lines (suc i))) =
-    location_item (type_of (type_word kind)) (name_of names item) (λ i. lines (suc i)) located in
+    version_item version (type_of (type_word kind)) (name_of names item) (λ i. lines (suc i)) located in
     let comma : Token = record { text = codes ","; line = lines 0 } in
     let inside_next : List Token = inside ++ comma ∷ with_lines name (λ i. lines (suc i)) in
-    let begun_next : ItemsSpelled Two [] (type_of (type_word kind)) inside_next
+    let begun_next : ItemsSpelled version [] (type_of (type_word kind)) inside_next
     (first ++ one.item ∷ []) =
     grammar.ItemsSpelled.More [] (type_of (type_word kind)) inside
     (with_lines name (λ i. lines (suc i))) comma first one.item begun refl one.spelled in
-    let begun_so : ItemsSpelled Two [] (type_of (type_word item.kind)) inside_next
+    let begun_so : ItemsSpelled version [] (type_of (type_word item.kind)) inside_next
     (first ++ one.item ∷ []) = subst
     (λ (k : DependKind).
-    ItemsSpelled Two [] (type_of (type_word k)) inside_next (first ++ one.item ∷ []))
+    ItemsSpelled version [] (type_of (type_word k)) inside_next (first ++ one.item ∷ []))
     kind_is begun_next in
-    let items_so = items_spelled names item.kind items before inside_next a b c d head
+    let items_so = items_spelled version names item.kind items before inside_next a b c d head
     (first ++ one.item ∷ []) apart.0 clauses begun_so others in
     let tokens_are : before
     ++ depend_front item.kind a b c d (inside_next ++ with_lines after apart.0)
@@ -139,7 +140,7 @@ items_spelled names kind (item ∷ items) before inside a b c d head first lines
       all_are = items_so.all_are
           ∙ ap (λ (is : List LoopItem). head.items ++ is)
           (append_assoc first (one.item ∷ []) items_so.more);
-      spelled = subst (λ (ts : List Token). ClausesSpelled Two true [] ts (record head {
+      spelled = subst (λ (ts : List Token). ClausesSpelled version true [] ts (record head {
         items = items_so.all;
       }))
           tokens_are items_so.spelled;
@@ -148,18 +149,18 @@ items_spelled names kind (item ∷ items) before inside a b c d head first lines
     (λ other.
     let lines_five : ℕ → ℕ = λ i. lines (suc (suc (suc (suc (suc i))))) in
     let apart = lines_apart name after lines_five in
-    let one : ItemIs (type_of (type_word item.kind)) (name_of names item)
+    let one : ItemIs version (type_of (type_word item.kind)) (name_of names item)
     (with_lines name lines_five) =
-    location_item (type_of (type_word item.kind)) (name_of names item) lines_five located in
+    version_item version (type_of (type_word item.kind)) (name_of names item) lines_five located in
     let closes : Token = record { text = codes ")"; line = lines 0 } in
     let before_next : List Token = before ++ depend_front kind a b c d (inside ++ closes ∷ []) in
     let head_next : LoopHead = record head { items = head.items ++ first } in
-    let clauses_next : ClausesSpelled Two true [] before_next head_next =
-    closed_clause kind before inside a b c d (lines 0) head first clauses begun in
-    let begun_next : ItemsSpelled Two [] (type_of (type_word item.kind)) (with_lines name lines_five)
+    let clauses_next : ClausesSpelled version true [] before_next head_next =
+    closed_clause version kind before inside a b c d (lines 0) head first clauses begun in
+    let begun_next : ItemsSpelled version [] (type_of (type_word item.kind)) (with_lines name lines_five)
     (one.item ∷ []) = grammar.ItemsSpelled.First
     [] (type_of (type_word item.kind)) (with_lines name lines_five) one.item one.spelled in
-    let items_so = items_spelled names item.kind items before_next (with_lines name lines_five)
+    let items_so = items_spelled version names item.kind items before_next (with_lines name lines_five)
     (lines 1)
     (lines 2) (lines 3) (lines 4) head_next (one.item ∷ []) apart.0 clauses_next begun_next
     others in
@@ -183,7 +184,7 @@ items_spelled names kind (item ∷ items) before inside a b c d head first lines
       more = one.item ∷ items_so.more;
       all = items_so.all;
       all_are = items_so.all_are ∙ append_assoc head.items first (one.item ∷ items_so.more);
-      spelled = subst (λ (ts : List Token). ClausesSpelled Two true [] ts (record head {
+      spelled = subst (λ (ts : List Token). ClausesSpelled version true [] ts (record head {
         items = items_so.all;
       }))
           tokens_are items_so.spelled;
@@ -201,37 +202,37 @@ pub record IsHead (version : Version) (names : List (List ℕ)) (undeferred : Bo
   pub stand : AllZip (IsItemOf names) items head.items
 
 -- the clauses, after these
-depends_spelled : (names : List (List ℕ)) (items : List Item) (before : List Token)
+depends_spelled : (version : Version) (names : List (List ℕ)) (items : List Item) (before : List Token)
     (head : LoopHead) (lines : ℕ → ℕ)
-    → ClausesSpelled Two true [] before head
+    → ClausesSpelled version true [] before head
     → head.is_final ≡ false
     → head.items ≡ []
-    → All (IsLocated names) items
-    → IsHead Two names head.undeferred items
+    → All (HasNameIn version names) items
+    → IsHead version names head.undeferred items
     (before ++ with_lines (depend_texts_by (spell false) names items) lines)
 unfolding with_lines
-depends_spelled names [] before head lines clauses not_final none all = record {
+depends_spelled version names [] before head lines clauses not_final none all = record {
   head = head;
   spelled =
-      subst (λ (ts : List Token). ClausesSpelled Two true [] ts head) (sym (append-nil before)) clauses;
+      subst (λ (ts : List Token). ClausesSpelled version true [] ts head) (sym (append-nil before)) clauses;
   undeferred_is = refl;
   not_final = not_final;
   stand = subst (λ (is : List LoopItem). AllZip (IsItemOf names) [] is) (sym none) tt;
 }
-depends_spelled names (item ∷ items) before head lines clauses not_final none all =
+depends_spelled version names (item ∷ items) before head lines clauses not_final none all =
     let name : List (List ℕ) = spell false (name_of names item) in
     let after : List (List ℕ) = after_texts_by (spell false) names item.kind items in
     let lines_four : ℕ → ℕ = λ i. lines (suc (suc (suc (suc i)))) in
     let apart = lines_apart name after lines_four in
-    let one : ItemIs (type_of (type_word item.kind)) (name_of names item)
-    (with_lines name lines_four) = location_item
+    let one : ItemIs version (type_of (type_word item.kind)) (name_of names item)
+    (with_lines name lines_four) = version_item version
     (type_of (type_word item.kind)) (name_of names item) lines_four
-    (All-head (IsLocated names) item items all) in
-    let items_so = items_spelled names item.kind items before (with_lines name lines_four) (lines 0)
+    (All-head (HasNameIn version names) item items all) in
+    let items_so = items_spelled version names item.kind items before (with_lines name lines_four) (lines 0)
     (lines 1) (lines 2) (lines 3) head (one.item ∷ []) apart.0 clauses
     (grammar.ItemsSpelled.First [] (type_of (type_word item.kind)) (with_lines name lines_four)
     one.item one.spelled)
-    (All-tail (IsLocated names) item items all) in
+    (All-tail (HasNameIn version names) item items all) in
     let stands : IsItemOf names item one.item = subst
     (λ (k : DependKind). StandsFor k (name_of names item) one.item) (type_of_word item.kind)
     one.stands in
@@ -240,7 +241,7 @@ depends_spelled names (item ∷ items) before head lines clauses not_final none 
     record {
       head = record head { items = items_so.all };
       spelled = subst
-          (λ (ts : List Token). ClausesSpelled Two true []
+          (λ (ts : List Token). ClausesSpelled version true []
           (before ++ depend_front item.kind (lines 0) (lines 1) (lines 2) (lines 3) ts)
           (record head { items = items_so.all }))
           (sym apart.1) items_so.spelled;
@@ -254,18 +255,18 @@ zero_is : (value_of (codes "0") ≤ 1)
 zero_is = omega arith
 
 -- the clauses of a task are spelled so
-clauses_spelled : (names : List (List ℕ)) (undeferred : Bool) (items : List Item) (lines : ℕ → ℕ)
-    → All (IsLocated names) items
-    → IsHead Two names undeferred items
+clauses_spelled : (version : Version) (names : List (List ℕ)) (undeferred : Bool) (items : List Item) (lines : ℕ → ℕ)
+    → All (HasNameIn version names) items
+    → IsHead version names undeferred items
     (with_lines (if_texts undeferred ++ depend_texts_by (spell false) names items) lines)
 unfolding with_lines
-clauses_spelled names false items lines all =
-    depends_spelled names items [] no_clauses lines (grammar.ClausesSpelled.NoClause []) refl refl
+clauses_spelled version names false items lines all =
+    depends_spelled version names items [] no_clauses lines (grammar.ClausesSpelled.NoClause []) refl refl
     all
-clauses_spelled names true items lines all =
+clauses_spelled version names true items lines all =
     let head : LoopHead = record no_clauses { has_if = true; undeferred = true } in
     let number : grammar.IsNumber true (codes "0") 1 = record { is_number = refl; fits = λ h. zero_is } in
-    let first : ClausesSpelled Two true []
+    let first : ClausesSpelled version true []
     (record { text = codes "if"; line = lines 0 } ∷ record { text = codes "("; line = lines 1 }
     ∷ record { text = codes "0"; line = lines 2 } ∷ record { text = codes ")"; line = lines 3 }
     ∷ [])
@@ -274,7 +275,7 @@ clauses_spelled names true items lines all =
     (record { text = codes "("; line = lines 1 }) (record { text = codes "0"; line = lines 2 })
     (record { text = codes ")"; line = lines 3 }) no_clauses
     (grammar.ClausesSpelled.NoClause []) refl refl refl number refl in
-    depends_spelled names items _ head (λ i. lines (suc (suc (suc (suc i))))) first refl refl all
+    depends_spelled version names items _ head (λ i. lines (suc (suc (suc (suc i))))) first refl refl all
 
 -- ---- a task up to its `{`
 
@@ -288,16 +289,16 @@ pub record IsOpening (version : Version) (names : List (List ℕ)) (undeferred :
   pub stand : AllZip (IsItemOf names) items task.items
 
 -- and a task up to its `{`
-opening_spelled : (names : List (List ℕ)) (undeferred : Bool) (items : List Item) (lines : ℕ → ℕ)
-    → All (IsLocated names) items
-    → IsOpening Two names undeferred items
+opening_spelled : (version : Version) (names : List (List ℕ)) (undeferred : Bool) (items : List Item) (lines : ℕ → ℕ)
+    → All (HasNameIn version names) items
+    → IsOpening version names undeferred items
     (with_lines (line_texts_by (spell false) names (Begins undeferred items)) lines)
 unfolding with_lines
-opening_spelled names undeferred items lines all =
+opening_spelled version names undeferred items lines all =
     let clauses : List (List ℕ) =
     if_texts undeferred ++ depend_texts_by (spell false) names items in
     let apart = lines_apart clauses (codes "{" ∷ []) (λ i. lines (suc i)) in
-    let clauses_so = clauses_spelled names undeferred items (λ i. lines (suc i)) all in
+    let clauses_so = clauses_spelled version names undeferred items (λ i. lines (suc i)) all in
     let word : Token = record { text = codes "task"; line = lines 0 } in
     let brace : Token = record { text = codes "{"; line = apart.0 0 } in
     let grouped : clauses ++ codes "{" ∷ []
@@ -315,7 +316,7 @@ opening_spelled names undeferred items lines all =
       task = task_of clauses_so.head (lines 0) (apart.0 0);
       spelled = subst
           (λ (ts : List Token).
-          OpeningSpelled Two true [] ts (TaskOpening (task_of clauses_so.head (lines 0) (apart.0 0))))
+          OpeningSpelled version true [] ts (TaskOpening (task_of clauses_so.head (lines 0) (apart.0 0))))
           tokens_are
           (grammar.OpeningSpelled.Task [] (with_lines clauses (λ i. lines (suc i))) word brace
           clauses_so.head refl clauses_so.spelled refl);
@@ -360,6 +361,11 @@ abbrev pub HasLocations : List (List ℕ) → Mark → Type 0
 HasLocations names (Works cost) = cost ≤ LARGEST_COST
 HasLocations names (Begins undeferred items) = All (IsLocated names) items
 HasLocations names _ = Unit {0}
+
+abbrev pub HasNamesIn : Version → List (List ℕ) → Mark → Type 0
+HasNamesIn version names (Works cost) = cost ≤ LARGEST_COST
+HasNamesIn version names (Begins undeferred items) = All (HasNameIn version names) items
+HasNamesIn version names _ = Unit {0}
 
 abbrev words_of : List (List ℕ) → Mark → List (List ℕ)
 words_of names mark = line_texts_by (spell false) names mark
@@ -664,23 +670,23 @@ words_spelled version names _ _ (nested.NestsIn.Group room body rest inside n) (
 
 -- ---- the lines of the canonical text
 
-line_spells : (names : List (List ℕ)) (mark : Mark) → HasLocations names mark
-    → Spells Two names (words_of names mark) mark
-line_spells names (Works cost) fits =
+line_spells : (version : Version) (names : List (List ℕ)) (mark : Mark) → HasNamesIn version names mark
+    → Spells version names (words_of names mark) mark
+line_spells version names (Works cost) fits =
     (decimal cost, refl, decimal_number cost fits, decimal_value cost fits, fits)
-line_spells names (Begins undeferred items) all =
-    λ lines. opening_spelled names undeferred items lines all
-line_spells names Waits all = refl
-line_spells names GroupBegins all = refl
-line_spells names Ends all = refl
-line_spells names GroupEnds all = refl
+line_spells version names (Begins undeferred items) all =
+    λ lines. opening_spelled version names undeferred items lines all
+line_spells version names Waits all = refl
+line_spells version names GroupBegins all = refl
+line_spells version names Ends all = refl
+line_spells version names GroupEnds all = refl
 
-lines_spell : (names : List (List ℕ)) (marks : List Mark) → All (HasLocations names) marks
-    → AllZip (Spells Two names) (map (λ mark. words_of names mark) marks) marks
-lines_spell names [] all = tt
-lines_spell names (mark ∷ marks) all = (
-  line_spells names mark (All-head (HasLocations names) mark marks all),
-  lines_spell names marks (All-tail (HasLocations names) mark marks all),
+lines_spell : (version : Version) (names : List (List ℕ)) (marks : List Mark) → All (HasNamesIn version names) marks
+    → AllZip (Spells version names) (map (λ mark. words_of names mark) marks) marks
+lines_spell version names [] all = tt
+lines_spell version names (mark ∷ marks) all = (
+  line_spells version names mark (All-head (HasNamesIn version names) mark marks all),
+  lines_spell version names marks (All-tail (HasNamesIn version names) mark marks all),
 )
 
 joined_lines : (names : List (List ℕ)) (marks : List Mark)
@@ -690,13 +696,13 @@ joined_lines names (mark ∷ marks) =
     ap (λ (ts : List (List ℕ)). words_of names mark ++ ts) (joined_lines names marks)
 
 -- the lines of these marks
-pub lines_spelled : (names : List (List ℕ)) (room : ℕ) (marks : List Mark)
+pub lines_spelled : (version : Version) (names : List (List ℕ)) (room : ℕ) (marks : List Mark)
     → NestsIn room marks
-    → All (HasLocations names) marks
+    → All (HasNamesIn version names) marks
     → (lines : ℕ → ℕ)
-    → HasMarks Two names room (with_lines (flat_map (words_of names) marks) lines) marks
-lines_spelled names room marks n all lines =
-    has_marks_of_same Two names room _ _ marks marks
+    → HasMarks version names room (with_lines (flat_map (words_of names) marks) lines) marks
+lines_spelled version names room marks n all lines =
+    has_marks_of_same version names room _ _ marks marks
     (ap (λ (ts : List (List ℕ)). with_lines ts lines) (joined_lines names marks)) refl
-    (words_spelled Two names room marks n (map (λ mark. words_of names mark) marks)
-    (lines_spell names marks all) [] [] lines (no_marks Two names room))
+    (words_spelled version names room marks n (map (λ mark. words_of names mark) marks)
+    (lines_spell version names marks all) [] [] lines (no_marks version names room))

@@ -27,10 +27,10 @@ use Rattle.loop_text.specs.Loops.Tree.{ThenWork, ThenWait}
 use Rattle.loop_text.specs.OpenBlocks.{variables_of}
 use Rattle.loop_text.specs.FirstPass.{is_allowed, is_variable, after_at, no_bounds}
 use Rattle.loop_text.specs.Parts.{no_clauses}
-use Rattle.task_program.specs.LoopGrammar.{IsNumber, task_of}
-use Rattle.task_program.specs.LoopGrammar.ClausesSpelled.{NoClause, If, Final}
-use Rattle.task_program.specs.LoopGrammar.OpeningSpelled.{Group, Task, For}
-use Rattle.task_program.specs.LoopGrammar.Spelled.{Work, Wait}
+use Rattle.task_program.specs.Grammar.{IsNumber, task_of}
+use Rattle.task_program.specs.Grammar.ClausesSpelled.{NoClause, If, Final}
+use Rattle.task_program.specs.Grammar.OpeningSpelled.{Group, Task, For}
+use Rattle.task_program.specs.Grammar.Spelled.{Work, Wait}
 use Rattle.task_program.proofs.FoundPlaces.{same_text}
 use Rattle.task_program.proofs.LoopParts.{InTask, bounds_of, with_if, with_final, IsNew, state_of}
 use Rattle.task_program.proofs.LoopParts.{Reads, Passes, variables_are, Stands, grow, ends, opens}

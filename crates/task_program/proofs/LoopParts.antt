@@ -38,9 +38,9 @@ use Rattle.loop_text.specs.Parts.{no_clauses}
 use Rattle.loop_text.specs.FirstPass.{is_allowed, is_number_too_large, nests_too_deep}
 use Rattle.loop_text.specs.FirstPass.{after_closing}
 use Rattle.task_program.specs.declared.version.Version.TheVariants.{Two}
-use Rattle.task_program.specs.LoopGrammar.{IsNumber, index_of, IsVariable, IndexSpelled}
-use Rattle.task_program.specs.LoopGrammar.{ItemsSpelled, ClausesSpelled, OpeningSpelled, Spelled}
-use Rattle.task_program.specs.LoopGrammar.Spelled.{Nothing, Block}
+use Rattle.task_program.specs.Grammar.{IsNumber, index_of, IsVariable, IndexSpelled}
+use Rattle.task_program.specs.Grammar.{ItemsSpelled, ClausesSpelled, OpeningSpelled, Spelled}
+use Rattle.task_program.specs.Grammar.Spelled.{Nothing, Block}
 use Rattle.program_text.proofs.FaultRows.{row_passed}
 
 -- ---- what is open, and what of a statement was read

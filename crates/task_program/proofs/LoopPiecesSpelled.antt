@@ -24,15 +24,15 @@ use Rattle.loop_text.specs.Parts.{no_clauses}
 use Rattle.task_program.specs.declared.version.Version.{Version}
 use Rattle.task_program.specs.declared.version.Version.TheVariants.{Two}
 use Rattle.task_program.specs.FirstLoopFault.{IsLoopSentence}
-use Rattle.task_program.specs.LoopGrammar as grammar
-use Rattle.task_program.specs.LoopGrammar.{IndexSpelled, ItemSpelled, ItemsSpelled, ClausesSpelled}
-use Rattle.task_program.specs.LoopGrammar.{OpeningSpelled, Spelled, IsDerived, item_of, task_of}
-use Rattle.task_program.specs.LoopGrammar.IndexSpelled.{Number, Minus, Variable, Plus, Less}
-use Rattle.task_program.specs.LoopGrammar.ItemSpelled.{Plain, Indexed}
-use Rattle.task_program.specs.LoopGrammar.ItemsSpelled.{First, More}
-use Rattle.task_program.specs.LoopGrammar.ClausesSpelled.{NoClause, If, Final, Depend}
-use Rattle.task_program.specs.LoopGrammar.OpeningSpelled.{Group, Task, For}
-use Rattle.task_program.specs.LoopGrammar.Spelled.{Nothing, Work, Wait, Block}
+use Rattle.task_program.specs.Grammar as grammar
+use Rattle.task_program.specs.Grammar.{IndexSpelled, ItemSpelled, ItemsSpelled, ClausesSpelled}
+use Rattle.task_program.specs.Grammar.{OpeningSpelled, Spelled, IsDerived, item_of, task_of}
+use Rattle.task_program.specs.Grammar.IndexSpelled.{Number, Minus, Variable, Plus, Less}
+use Rattle.task_program.specs.Grammar.ItemSpelled.{Plain, Indexed}
+use Rattle.task_program.specs.Grammar.ItemsSpelled.{First, More}
+use Rattle.task_program.specs.Grammar.ClausesSpelled.{NoClause, If, Final, Depend}
+use Rattle.task_program.specs.Grammar.OpeningSpelled.{Group, Task, For}
+use Rattle.task_program.specs.Grammar.Spelled.{Nothing, Work, Wait, Block}
 use Rattle.program_text.proofs.Bools.{or_true_right, bool_cases}
 use Rattle.task_program.proofs.FoundPlaces.{same_text}
 use Rattle.task_program.proofs.ReadPieces.{is_type_word, type_of_word}

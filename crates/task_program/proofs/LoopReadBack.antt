@@ -1,5 +1,5 @@
--- A tree that stands for a program's marks expands to the program; the canonical text of version 2
--- has such a tree.
+-- A tree that stands for a program's marks expands to the program; the canonical text has such a
+-- tree.
 use Rattle.std.proofs.Common.{◌≡◌, ℕ, suc, ◌+◌, ◌*◌, ◌≤◌, true, false, List, [], ◌∷◌, ◌++◌, length, refl}
 use Rattle.std.proofs.Common.{sym, ap, subst, ◌∙◌, arith, codes}
 use Rattle.std.specs.Prelude.{All, drop, fold, sum_by}
@@ -26,9 +26,9 @@ use Rattle.task_program.specs.Grammar.{IsShort}
 use Rattle.task_program.specs.Expanded.{ExpansionState, empty_expansion}
 use Rattle.task_program.specs.ExpandsTo.{state_after_tree, program_of_state, ExpandsTo}
 use Rattle.loop_text.specs.Loops.{Tree}
-use Rattle.task_program.specs.LoopGrammar.{Spelled}
-use Rattle.task_program.proofs.Trees.{HasLoopTree}
-use Rattle.task_program.specs.Versions.{begins_version_two, body_of}
+use Rattle.task_program.specs.Grammar.{Spelled}
+use Rattle.task_program.specs.Trees.{HasTree}
+use Rattle.task_program.specs.Versions.{begins_version, body_of}
 use Rattle.task_program.proofs.Nested.{nests}
 use Rattle.task_program.proofs.NamesOnce.{AreOnce, once_mentioned}
 use Rattle.task_program.proofs.Spelled.{spell, HasName, FitsNames, canonical_spelled, version_text}
@@ -36,7 +36,8 @@ use Rattle.task_program.proofs.Spelled.{line_texts_by}
 use Rattle.task_program.proofs.ReadBack.{AllShort, HasShort, FitsShort, lines_short}
 use Rattle.task_program.proofs.Locations.{with_lines, have_lines, location_written, location_short}
 use Rattle.task_program.proofs.KeptNames.{HasNames, has_names}
-use Rattle.task_program.proofs.LinesSpelled.{IsLocated, HasLocations, HasMarks, Stands}
+use Rattle.task_program.proofs.LinesSpelled.{IsLocated, HasLocations, HasNameIn, HasNamesIn, HasMarks}
+use Rattle.task_program.proofs.LinesSpelled.{Stands}
 use Rattle.task_program.proofs.LinesSpelled.{lines_spelled}
 use Rattle.task_program.proofs.LinesExpand.{Prints, Goes, in_range, expands}
 use Rattle.task_program.proofs.CanonicalBytes.{text_weighs}
@@ -235,29 +236,53 @@ tree_expands program tree fits stands =
       own.short,
     )
 
--- a program of version 2 is the tree of its canonical text
-pub canonical_loops : (program : ProgramMarks)
-    → program.version ≡ Two
+-- the names of a program are of its version
+mark_named : (version : Version) (names : List (List ℕ)) (mark : Mark)
+    → All (IsNameIn version) names
+    → FitsLimits (length names) mark
+    → HasNamesIn version names mark
+mark_named version names (Works cost) names_fit fits = fits
+mark_named version names (Begins undeferred items) names_fit fits =
+    All-weaker (IsNamed (length names)) (HasNameIn version names)
+    (λ item below. names_fit item.name [] below) items fits.1
+mark_named version names _ names_fit fits = tt
+
+program_named : (program : ProgramMarks) → IsProgram program
+    → All (HasNamesIn program.version program.names) program.marks
+program_named program fits =
+    All-weaker (FitsLimits (length program.names)) (HasNamesIn program.version program.names)
+    (λ mark. mark_named program.version program.names mark fits.names_fit) program.marks
+    fits.marks_fit
+
+header_begins : (version : Version) (line later : ℕ) (body : List Token)
+    → begins_version version (record { text = codes "omptasks"; line = line }
+    ∷ record { text = version_text version; line = later } ∷ body) ≡ true
+header_begins One line later body = refl
+header_begins Two line later body = refl
+
+-- a program is the tree of its canonical text
+pub canonical_tree : (program : ProgramMarks)
     → IsProgram program
-    → HasLoopTree (canonical_text program) program
+    → HasTree (canonical_text program) program
     × (length (canonical_text program) ≤ MOST_CANONICAL_BYTES)
-canonical_loops program two fits =
+canonical_tree program fits =
     let names : List (List ℕ) = program.names in
     let marks : List Mark = program.marks in
+    let version : Version = program.version in
     let words : List (List ℕ) = flat_map (line_texts_by (spell false) names) marks in
     let located : All (HasLocations names) marks = program_located program fits in
     let tokens_so : texts (tokens_of (canonical_text program))
-    ≡ codes "omptasks" ∷ codes "2" ∷ words =
-    canonical_spelled program (marks_written names marks located)
-    ∙ ap (λ (v : Version). codes "omptasks" ∷ version_text v ∷ words) two in
+    ≡ codes "omptasks" ∷ version_text version ∷ words =
+    canonical_spelled program (marks_written names marks located) in
     let lines = have_lines (tokens_of (canonical_text program)) in
-    let tokens_are : with_lines (codes "omptasks" ∷ codes "2" ∷ words) lines.0
+    let tokens_are : with_lines (codes "omptasks" ∷ version_text version ∷ words) lines.0
     ≡ tokens_of (canonical_text program) =
     ap (λ (ts : List (List ℕ)). with_lines ts lines.0) (sym tokens_so) ∙ lines.1 in
     let body : List Token = with_lines words (λ i. lines.0 (suc (suc i))) in
-    let has_marks : HasMarks Two names MOST_NESTING body marks = lines_spelled names MOST_NESTING
-    marks (nests program fits) located (λ i. lines.0 (suc (suc i))) in
-    let in_front = front_apart (codes "omptasks") (codes "2") words lines.0
+    let has_marks : HasMarks version names MOST_NESTING body marks = lines_spelled version names
+    MOST_NESTING marks (nests program fits) (program_named program fits)
+    (λ i. lines.0 (suc (suc i))) in
+    let in_front = front_apart (codes "omptasks") (version_text version) words lines.0
     (tokens_of (canonical_text program)) tokens_are in
     let body_is : body ≡ body_of (canonical_text program) =
     sym (ap (λ (ts : List Token). drop 2 ts) in_front) in
@@ -266,16 +291,18 @@ canonical_loops program two fits =
     lines_short (spell false) names marks (marks_short names marks located) in
     let long : length (canonical_text program) ≤ MOST_CANONICAL_BYTES = expanded.1 in (
       record {
-        in_version = two;
-        header = ap (λ (ts : List Token). begins_version_two ts) in_front;
+        header = ap (λ (ts : List Token). begins_version version ts) in_front
+            ∙ header_begins version (lines.0 0) (lines.0 1) body;
         tree = has_marks.tree;
-        spelled = subst (λ (ts : List Token). Spelled Two true [] MOST_NESTING ts has_marks.tree)
-            body_is has_marks.spelled;
-        expanded = subst (λ (v : Version). ExpandsTo v has_marks.tree program) two expanded.0;
+        spelled = subst
+            (λ (ts : List Token). Spelled version true [] MOST_NESTING ts has_marks.tree) body_is
+            has_marks.spelled;
+        expanded = expanded.0;
         text_fits = omega (arith, long);
         words_fit = subst (λ (ts : List Token). All IsShort (texts ts)) body_is
             (subst (λ (ts : List (List ℕ)). All IsShort ts)
             (sym (texts_stay words (λ i. lines.0 (suc (suc i))))) short_words.each);
+        tokens_fit = λ one. fits.size;
       },
       long,
     )

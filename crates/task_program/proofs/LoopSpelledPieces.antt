@@ -19,14 +19,14 @@ use Rattle.program_text.specs.Words.{is_type, type_of, type_word}
 use Rattle.loop_text.specs.Loops.{Tree}
 use Rattle.loop_text.specs.OpenBlocks.{variables_around, variable_number}
 use Rattle.task_program.specs.declared.version.Version.TheVariants.{Two}
-use Rattle.task_program.specs.LoopGrammar.{IndexSpelled, ItemSpelled, ItemsSpelled, ClausesSpelled}
-use Rattle.task_program.specs.LoopGrammar.{OpeningSpelled, Spelled}
-use Rattle.task_program.specs.LoopGrammar.IndexSpelled.{Number, Minus, Variable, Plus, Less}
-use Rattle.task_program.specs.LoopGrammar.ItemSpelled.{Plain, Indexed}
-use Rattle.task_program.specs.LoopGrammar.ItemsSpelled.{First, More}
-use Rattle.task_program.specs.LoopGrammar.ClausesSpelled.{NoClause, If, Final, Depend}
-use Rattle.task_program.specs.LoopGrammar.OpeningSpelled.{Group, Task, For}
-use Rattle.task_program.specs.LoopGrammar.Spelled.{Nothing, Work, Wait, Block}
+use Rattle.task_program.specs.Grammar.{IndexSpelled, ItemSpelled, ItemsSpelled, ClausesSpelled}
+use Rattle.task_program.specs.Grammar.{OpeningSpelled, Spelled}
+use Rattle.task_program.specs.Grammar.IndexSpelled.{Number, Minus, Variable, Plus, Less}
+use Rattle.task_program.specs.Grammar.ItemSpelled.{Plain, Indexed}
+use Rattle.task_program.specs.Grammar.ItemsSpelled.{First, More}
+use Rattle.task_program.specs.Grammar.ClausesSpelled.{NoClause, If, Final, Depend}
+use Rattle.task_program.specs.Grammar.OpeningSpelled.{Group, Task, For}
+use Rattle.task_program.specs.Grammar.Spelled.{Nothing, Work, Wait, Block}
 use Rattle.task_program.specs.FirstLoopFault.{IsLoopSentence}
 use Rattle.task_program.proofs.Found.{type_is}
 use Rattle.task_program.proofs.LoopPieces.{IndexWritten, ItemWritten, LoopClause, LoopPiece}

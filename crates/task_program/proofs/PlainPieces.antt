@@ -1,11 +1,11 @@
 -- What the grammar of version 1 derives is written in pieces, and its expansion is what they mean.
-use Rattle.std.proofs.Common.{◌≡◌, ℕ, suc, ◌+◌, ◌≤◌, Bool, true, false, ◌||◌, cond, List, [], ◌∷◌}
+use Rattle.std.proofs.Common.{◌≡◌, ℕ, suc, ◌≤◌, Bool, true, false, ◌||◌, cond, List, [], ◌∷◌}
 use Rattle.std.proofs.Common.{◌++◌, append_assoc, map, Option, None, refl, sym, ap, subst, ◌∙◌, arith}
 use Rattle.std.proofs.Common.{codes}
 use Rattle.std.specs.Prelude.{All, fold, count_by}
 use Rattle.std.specs.List.{flat_map, list_any, AllZip}
-use Rattle.std.proofs.lemmas.List.{append-nil, map-append, map_push}
-use Rattle.std.proofs.lemmas.List.Sums.{fold-append, sum_by-append}
+use Rattle.std.proofs.lemmas.List.{append-nil, map_push}
+use Rattle.std.proofs.lemmas.List.Sums.{fold-append}
 use Rattle.std.proofs.lemmas.Grind.{flat_map-append}
 use Rattle.std.proofs.lemmas.List.Elements.{All-nil, All-cons, All-append, All-push}
 use Rattle.std.proofs.Math.Bool.{or-false}
@@ -21,7 +21,7 @@ use Rattle.program_text.specs.declared.limits.TheConstants.{LARGEST_COST}
 use Rattle.program_text.specs.Marks.{Mark}
 use Rattle.program_text.specs.Marks.Mark.{Begins, Ends, Works, Waits, GroupBegins, GroupEnds}
 use Rattle.program_text.specs.Tokens.{Token, texts}
-use Rattle.program_text.specs.Words.{is_word, is_number, is_type, type_of, type_word, value_of}
+use Rattle.program_text.specs.Words.{is_word, is_type, type_of, type_word, value_of}
 use Rattle.task_program.specs.Names.{number_of_name, with_name}
 use Rattle.loop_text.specs.Loops.{Tree}
 use Rattle.loop_text.specs.Loops.Tree.{ThenWork, ThenWait, ThenTask}
@@ -32,21 +32,21 @@ use Rattle.task_program.specs.Expansion.{Piece, subscript_of, item_comes, task_p
 use Rattle.task_program.specs.Expansion.Piece.{TaskOpens, GroupComes, GroupOpens, BlockEnds, WorkIs}
 use Rattle.task_program.specs.Expansion.Piece.{WaitIs}
 use Rattle.task_program.specs.Expanded.{ExpansionState, after_piece, after_pieces}
-use Rattle.task_program.specs.LoopGrammar.{ItemSpelled, ItemsSpelled, ClausesSpelled}
-use Rattle.task_program.specs.LoopGrammar.{IsNumber, OpeningSpelled, Spelled, task_of}
-use Rattle.task_program.specs.LoopGrammar.ItemSpelled.{Plain, Indexed}
-use Rattle.task_program.specs.LoopGrammar.ItemsSpelled.{First, More}
-use Rattle.task_program.specs.LoopGrammar.ClausesSpelled.{NoClause, If, Final, Depend}
-use Rattle.task_program.specs.LoopGrammar.OpeningSpelled.{Group, Task, For}
-use Rattle.task_program.specs.LoopGrammar.Spelled.{Nothing, Work, Wait, Block as BlockSpelled}
-use Rattle.task_program.specs.Grammar as plain
-use Rattle.task_program.specs.Grammar.{Written, name_and_comma, clause_texts, texts_of, named_items}
-use Rattle.task_program.specs.Grammar.{is_if, makes_undeferred, IsClause, IsItem, Means}
-use Rattle.task_program.specs.Grammar.{names_of_piece}
-use Rattle.task_program.specs.Grammar.Clause.{IfClause, DependClause}
-use Rattle.task_program.specs.Grammar.Written.{WorkWritten, TaskWritten, WaitWritten, GroupWritten}
-use Rattle.task_program.specs.Grammar.Written.{EndWritten}
-use Rattle.task_program.specs.ViablePrefix.{IsWord, HasClauseForm, HasForm, EndBlocks}
+use Rattle.task_program.specs.Grammar.{ItemSpelled, ItemsSpelled, ClausesSpelled}
+use Rattle.task_program.specs.Grammar.{IsNumber, OpeningSpelled, Spelled, task_of}
+use Rattle.task_program.specs.Grammar.ItemSpelled.{Plain, Indexed}
+use Rattle.task_program.specs.Grammar.ItemsSpelled.{First, More}
+use Rattle.task_program.specs.Grammar.ClausesSpelled.{NoClause, If, Final, Depend}
+use Rattle.task_program.specs.Grammar.OpeningSpelled.{Group, Task, For}
+use Rattle.task_program.specs.Grammar.Spelled.{Nothing, Work, Wait, Block as BlockSpelled}
+use Rattle.task_program.specs.PlainGrammar as plain
+use Rattle.task_program.specs.PlainGrammar.{Written, name_and_comma, clause_texts, texts_of, named_items}
+use Rattle.task_program.specs.PlainGrammar.{is_if, makes_undeferred, IsClause, IsItem, Means}
+use Rattle.task_program.specs.PlainGrammar.{names_of_piece}
+use Rattle.task_program.specs.PlainGrammar.Clause.{IfClause, DependClause}
+use Rattle.task_program.specs.PlainGrammar.Written.{WorkWritten, TaskWritten, WaitWritten, GroupWritten}
+use Rattle.task_program.specs.PlainGrammar.Written.{EndWritten}
+use Rattle.task_program.specs.PlainGrammar.{IsWord, HasClauseForm, HasForm, EndBlocks}
 use Rattle.task_program.proofs.Found.{type_is}
 use Rattle.task_program.proofs.FoundPlaces.{AllZip-more, AllZip-weaker, flat_map-push, own_number}
 use Rattle.task_program.proofs.FoundPlaces.{means_stable, list_any-more, list_any-same, count-push}
@@ -208,8 +208,14 @@ clauses_plain limited _ _ _
       clauses = p.clauses ++ clause ∷ [];
       texts_are = clause_texts_more before
           (word ∷ opens ∷ kind ∷ colon ∷ (inside ++ closes ∷ [])) p.clauses clause p.texts_are
-          (rw (is_word, is_open, is_colon, texts_append inside (closes ∷ []), parts.texts_are,
-          is_close)
+          (rw (
+            is_word,
+            is_open,
+            is_colon,
+            texts_append inside (closes ∷ []),
+            parts.texts_are,
+            is_close,
+          )
           (depend_texts kind.text is_kind (flat_map name_and_comma parts.names) parts.last));
       forms = All-push HasClauseForm p.clauses clause p.forms (parts.words, parts.last_word);
       each = λ is. All-push IsClause p.clauses clause (p.each is) tt;

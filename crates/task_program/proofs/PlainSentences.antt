@@ -1,6 +1,6 @@
 -- What the grammar of version 1 derives is the header and pieces, each of its form, whose blocks
 -- nest.
-use Rattle.std.proofs.Common.{◌≡◌, ℕ, zero, suc, ◌+◌, ◌≤◌, Bool, true, false, List, [], ◌∷◌, ◌++◌}
+use Rattle.std.proofs.Common.{◌≡◌, ℕ, zero, suc, true, false, List, [], ◌∷◌}
 use Rattle.std.proofs.Common.{map, cond, refl, sym, ap, subst, ◌∙◌, arith, codes}
 use Rattle.std.specs.Prelude.{All, count_by}
 use Rattle.std.specs.List.{flat_map}
@@ -8,13 +8,13 @@ use Rattle.std.proofs.lemmas.List.{append-nil}
 use Rattle.std.proofs.lemmas.List.Sums.{sum_by-cons}
 use Rattle.std.proofs.lemmas.List.Elements.{All-nil, All-cons, All-head, All-tail}
 use Rattle.task_program.specs.declared.version.Version.TheVariants.{One}
-use Rattle.task_program.specs.LoopGrammar.{IsDerived}
-use Rattle.task_program.specs.Grammar as plain
-use Rattle.task_program.specs.Grammar.{Written, name_and_comma, texts_of}
-use Rattle.task_program.specs.Grammar.Written.{WorkWritten, TaskWritten, WaitWritten, GroupWritten}
-use Rattle.task_program.specs.Grammar.Written.{EndWritten}
-use Rattle.task_program.specs.ViablePrefix as viable
-use Rattle.task_program.specs.ViablePrefix.{HasForm, EndBlocks}
+use Rattle.program_text.specs.Words.{is_number, value_of}
+use Rattle.task_program.specs.Grammar.{IsDerived}
+use Rattle.task_program.specs.PlainGrammar as plain
+use Rattle.task_program.specs.PlainGrammar.{Written, name_and_comma, texts_of}
+use Rattle.task_program.specs.PlainGrammar.Written.{WorkWritten, TaskWritten, WaitWritten, GroupWritten}
+use Rattle.task_program.specs.PlainGrammar.Written.{EndWritten}
+use Rattle.task_program.specs.PlainGrammar.{HasForm, EndBlocks}
 use Rattle.task_program.specs.FirstPlainFault.{IsSentence}
 use Rattle.task_program.proofs.LoopPieces.{ItemWritten, LoopClause, LoopPiece, item_and_comma}
 use Rattle.task_program.proofs.LoopPieces.{clause_texts, piece_texts, HasItemForm, HasLoopClauseForm}
@@ -24,9 +24,8 @@ use Rattle.task_program.proofs.LoopPieces.ItemWritten.{PlainItem}
 use Rattle.task_program.proofs.LoopPieces.LoopClause.{IfClause, DependClause}
 use Rattle.task_program.proofs.LoopPieces.LoopPiece.{WorkPiece, TaskPiece, WaitPiece, GroupPiece}
 use Rattle.task_program.proofs.LoopPieces.LoopPiece.{EndPiece}
-use Rattle.task_program.proofs.LoopShapes.{Rest}
 use Rattle.task_program.proofs.LoopPiecesSpelled.{derived_of_pieces}
-use Rattle.task_program.proofs.PlainPieces.{IsPlain, tree_plain}
+use Rattle.task_program.proofs.PlainPieces.{tree_plain}
 
 -- ---- the pieces of version 1 among those of version 2
 
@@ -84,18 +83,18 @@ pieces_texts (piece ∷ written) = rw (one_piece_texts piece, pieces_texts writt
 -- ---- their forms
 
 items_forms : (names : List (List ℕ))
-    → All viable.IsWord names
+    → All plain.IsWord names
     → All (HasItemForm []) (loop_items names) × All (IsItemIn One) (loop_items names)
 items_forms [] words = (All-nil (HasItemForm []), All-nil (IsItemIn One))
 items_forms (name ∷ names) words =
-    let later = items_forms names (All-tail viable.IsWord name names words) in (
+    let later = items_forms names (All-tail plain.IsWord name names words) in (
       All-cons (HasItemForm []) (PlainItem name) (loop_items names)
-          (All-head viable.IsWord name names words) later.0,
+          (All-head plain.IsWord name names words) later.0,
       All-cons (IsItemIn One) (PlainItem name) (loop_items names) tt later.1,
     )
 
 clause_form : (clause : plain.Clause)
-    → viable.HasClauseForm clause
+    → plain.HasClauseForm clause
     → HasLoopClauseForm [] (loop_clause clause) × IsClauseIn One (loop_clause clause)
 clause_form (plain.Clause.IfClause number) form = (form, tt)
 clause_form (plain.Clause.DependClause kind names last) form =
@@ -125,7 +124,7 @@ ifs_more (plain.Clause.IfClause number) clauses h = omega (
 )
 ifs_more (plain.Clause.DependClause kind names last) clauses h = h
 
-have_forms : (clauses : List plain.Clause) → All viable.HasClauseForm clauses → HaveForms clauses
+have_forms : (clauses : List plain.Clause) → All plain.HasClauseForm clauses → HaveForms clauses
 have_forms [] forms = record {
   forms = All-nil (HasLoopClauseForm []);
   have = All-nil (IsClauseIn One);
@@ -133,8 +132,8 @@ have_forms [] forms = record {
   finals = refl;
 }
 have_forms (clause ∷ clauses) forms =
-    let later = have_forms clauses (All-tail viable.HasClauseForm clause clauses forms) in
-    let first = clause_form clause (All-head viable.HasClauseForm clause clauses forms) in
+    let later = have_forms clauses (All-tail plain.HasClauseForm clause clauses forms) in
+    let first = clause_form clause (All-head plain.HasClauseForm clause clauses forms) in
     record {
       forms = All-cons (HasLoopClauseForm []) (loop_clause clause) (loop_clauses clauses) first.0
           later.forms;
@@ -191,6 +190,15 @@ pieces_in_one (piece ∷ written) forms =
 
 -- ---- sentences
 
+-- the header, and pieces of their forms that end each block that they begin
+pub record IsWritten (texts : List (List ℕ)) : Type 0 where
+  pub version : List ℕ
+  pub written : List Written
+  pub version_is_one : (is_number version ≡ true) × (value_of version ≡ 1)
+  pub spelled : texts ≡ codes "omptasks" ∷ version ∷ flat_map texts_of written
+  pub forms : All HasForm written
+  pub nested : EndBlocks written 0
+
 -- pieces of their forms, whose blocks nest, are derived by the grammar
 pub derived_of_written : (derived : List (List ℕ)) (written : List Written)
     → derived ≡ flat_map texts_of written
@@ -207,7 +215,7 @@ derived_of_written derived written same forms nested =
     (pieces_in_one written forms)
 
 -- so the header and such pieces are a sentence
-pub sentence_of_written : (texts : List (List ℕ)) → viable.IsSentence texts → IsSentence texts
+pub sentence_of_written : (texts : List (List ℕ)) → IsWritten texts → IsSentence texts
 sentence_of_written texts s = record {
   version = s.version;
   body = flat_map texts_of s.written;
@@ -217,7 +225,7 @@ sentence_of_written texts s = record {
 }
 
 -- and each sentence is the header and such pieces
-pub written_of_sentence : (texts : List (List ℕ)) → IsSentence texts → viable.IsSentence texts
+pub written_of_sentence : (texts : List (List ℕ)) → IsSentence texts → IsWritten texts
 written_of_sentence texts s =
     let derived = s.derived in
     let parts = tree_plain false [] derived.room derived.tokens derived.tree derived.spelled in

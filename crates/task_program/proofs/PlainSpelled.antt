@@ -1,7 +1,7 @@
 -- Pieces of version 1 that mean the marks of a program are spelled as a tree, which expands to the
 -- program.
 use Rattle.std.proofs.Common.{◌≡◌, ℕ, suc, ◌+◌, ◌≤◌, Bool, true, false, ◌||◌, cond, List, [], ◌∷◌}
-use Rattle.std.proofs.Common.{◌++◌, append_assoc, map, Some, None, refl, sym, ap, subst, ◌∙◌, arith}
+use Rattle.std.proofs.Common.{◌++◌, append_assoc, map, None, refl, sym, ap, subst, ◌∙◌, arith}
 use Rattle.std.proofs.Common.{eqb, codes}
 use Rattle.std.specs.Prelude.{All, count_by}
 use Rattle.std.specs.List.{flat_map, list_any, AllZip}
@@ -15,23 +15,21 @@ use Rattle.loop_text.specs.declared.loops.LoopItem.{LoopItem}
 use Rattle.loop_text.specs.declared.loop_reader.LoopHead.{LoopHead}
 use Rattle.loop_text.specs.declared.open_loops.LoopOpening.TheVariants.{TaskOpening}
 use Rattle.task_program.specs.declared.version.Version.TheVariants.{One}
-use Rattle.program_text.specs.declared.limits.TheConstants.{LARGEST_COST}
 use Rattle.program_text.specs.Marks.{Mark}
 use Rattle.program_text.specs.Marks.Mark.{Begins, Ends, Works, Waits, GroupBegins, GroupEnds}
 use Rattle.program_text.specs.Tokens.{Token}
-use Rattle.program_text.specs.Words.{is_word, type_of, type_word, value_of}
+use Rattle.program_text.specs.Words.{type_of, type_word, value_of}
 use Rattle.loop_text.specs.Parts.{no_clauses}
-use Rattle.task_program.specs.Canonical.{name_of}
-use Rattle.task_program.specs.Grammar as plain
-use Rattle.task_program.specs.Grammar.{Written, name_and_comma, clause_texts, texts_of, named_items}
-use Rattle.task_program.specs.Grammar.{is_if, makes_undeferred, IsClause, IsItem, Means}
-use Rattle.task_program.specs.Grammar.{AreClausesOfTask}
-use Rattle.task_program.specs.Grammar.Clause.{IfClause, DependClause}
-use Rattle.task_program.specs.Grammar.Written.{WorkWritten, TaskWritten, WaitWritten, GroupWritten}
-use Rattle.task_program.specs.Grammar.Written.{EndWritten}
-use Rattle.task_program.specs.LoopGrammar as grammar
-use Rattle.task_program.specs.LoopGrammar.{ItemsSpelled, ClausesSpelled, OpeningSpelled, task_of}
-use Rattle.task_program.proofs.Locations.{with_lines, lines_apart, StandsFor}
+use Rattle.task_program.specs.PlainGrammar as plain
+use Rattle.task_program.specs.PlainGrammar.{Written, name_and_comma, clause_texts, texts_of, named_items}
+use Rattle.task_program.specs.PlainGrammar.{is_if, makes_undeferred, IsClause, IsItem, Means}
+use Rattle.task_program.specs.PlainGrammar.{AreClausesOfTask}
+use Rattle.task_program.specs.PlainGrammar.Clause.{IfClause, DependClause}
+use Rattle.task_program.specs.PlainGrammar.Written.{WorkWritten, TaskWritten, WaitWritten, GroupWritten}
+use Rattle.task_program.specs.PlainGrammar.Written.{EndWritten}
+use Rattle.task_program.specs.Grammar as grammar
+use Rattle.task_program.specs.Grammar.{ItemsSpelled, ClausesSpelled, OpeningSpelled, task_of}
+use Rattle.task_program.proofs.Locations.{with_lines, lines_apart}
 use Rattle.task_program.proofs.ReadPieces.{is_type_word, type_of_word, zip_split}
 use Rattle.task_program.proofs.Shorter.{named_is}
 use Rattle.task_program.proofs.LinesSpelled.{IsItemOf, IsHead, IsOpening, Spells}

@@ -1,9 +1,9 @@
 -- The grammar of version 1 by itself, and that of both versions, have the same trees.
-use Rattle.std.proofs.Common.{◌≡◌, ℕ, suc, ◌≤◌, Bool, true, false, not, ◌&&◌, eqb, List, [], ◌∷◌}
+use Rattle.std.proofs.Common.{◌≡◌, ℕ, suc, true, eqb, List, [], ◌∷◌}
 use Rattle.std.proofs.Common.{◌++◌, map, refl, sym, ap, subst, ◌∙◌, arith, codes}
-use Rattle.std.specs.Prelude.{All, drop, fold, sum_by, length}
+use Rattle.std.specs.Prelude.{All, drop, fold, length}
 use Rattle.std.specs.List.{flat_map, AllZip}
-use Rattle.std.proofs.lemmas.Bool.{and_parts, eqb-true, eq-eqb}
+use Rattle.std.proofs.lemmas.Bool.{and_parts, eqb-true}
 use Rattle.std.proofs.lemmas.List.{append-nil}
 use Rattle.std.proofs.lemmas.Option.{slice_get_within}
 use Rattle.std.proofs.lemmas.List.Elements.{All-nil, All-cons, All-tail}
@@ -11,21 +11,21 @@ use Rattle.program_text.specs.declared.statement.DependKind.{DependKind}
 use Rattle.program_text.specs.declared.statement.Item.{Item}
 use Rattle.task_program.specs.declared.version.Version.{Version}
 use Rattle.task_program.specs.declared.version.Version.TheVariants.{One}
-use Rattle.program_text.specs.declared.limits.TheConstants.{MOST_TEXT_BYTES, MOST_NESTING}
-use Rattle.program_text.specs.declared.limits.TheConstants.{MOST_WORD_BYTES}
+use Rattle.program_text.specs.declared.limits.TheConstants.{MOST_NESTING}
 use Rattle.program_text.specs.Marks.{Mark}
 use Rattle.program_text.specs.Marks.Mark.{Begins, Ends, Works, Waits, GroupBegins, GroupEnds}
 use Rattle.program_text.specs.Tokens.{Token, texts, tokens_of}
-use Rattle.program_text.specs.Words.{is_text, is_run, is_word, is_number, begins_with_digit, value_of}
+use Rattle.program_text.specs.Words.{is_text, is_word, is_number, value_of}
 use Rattle.task_program.specs.ProgramMarks.{ProgramMarks}
 use Rattle.task_program.specs.Names.{with_name}
-use Rattle.task_program.specs.Grammar.{Written, texts_of, Means, names_of_piece, IsShort}
-use Rattle.task_program.specs.Grammar.{HasPlainTree, IsItem, named_items}
-use Rattle.task_program.specs.Grammar.Written.{TaskWritten}
+use Rattle.task_program.specs.PlainGrammar.{Written, texts_of, Means, names_of_piece}
+use Rattle.task_program.specs.Grammar.{IsShort}
+use Rattle.task_program.specs.PlainGrammar.{HasPlainTree, IsItem, named_items}
+use Rattle.task_program.specs.PlainGrammar.Written.{TaskWritten}
 use Rattle.task_program.specs.Programs.{IsNamed, names_of_mark}
 use Rattle.task_program.specs.Nested.{IsNested}
 use Rattle.loop_text.specs.Loops.{Tree}
-use Rattle.task_program.specs.LoopGrammar.{Spelled}
+use Rattle.task_program.specs.Grammar.{Spelled}
 use Rattle.task_program.specs.Versions.{number_of, begins_version, body_of}
 use Rattle.task_program.specs.Expanded.{ExpansionState, empty_expansion}
 use Rattle.task_program.specs.ExpandsTo.{ExpandsTo, state_after_tree}
@@ -38,6 +38,7 @@ use Rattle.task_program.proofs.Nested.{nests, room_for}
 use Rattle.task_program.proofs.LinesExpand.{expands}
 use Rattle.task_program.proofs.Locations.{with_lines, have_lines}
 use Rattle.task_program.proofs.LinesSpelled.{HasMarks, joined, words_spelled, no_marks}
+use Rattle.task_program.proofs.ReadBack.{number_short}
 use Rattle.task_program.proofs.LoopReadBack.{texts_stay, front_apart, tree_expands, at_first}
 use Rattle.task_program.proofs.PlainPieces.{tree_plain}
 use Rattle.task_program.proofs.PlainSpelled.{pieces_spell}
@@ -74,16 +75,6 @@ header_begins : (word number : Token) (tokens : List Token)
     → value_of number.text ≡ 1
     → begins_version One (word ∷ number ∷ tokens) ≡ true
 header_begins word number tokens is_word is_num one = rw (is_word, is_num, one) refl
-
--- a number is no word
-digit_first : (run digit all : Bool) → (digit && all) ≡ true → (run && not digit) ≡ true → ⊥
-digit_first true true all h g = cc
-digit_first true false all h g = cc
-digit_first false digit all h g = cc
-
-number_short : (number : List ℕ) → is_number number ≡ true → IsShort number
-number_short number h =
-    λ word. absurd (digit_first (is_run number) (begins_with_digit number) _ h word)
 
 -- ---- trees
 

@@ -18,12 +18,12 @@ use Rattle.program_text.specs.declared.statement.DependKind.{DependKind}
 use Rattle.program_text.specs.declared.statement.DependKind.TheVariants.{DependIn}
 use Rattle.program_text.specs.Words.{is_text, is_number, value_of, type_word, type_of}
 use Rattle.task_program.specs.Faults.{is_header, is_allowed}
-use Rattle.task_program.specs.Grammar as grammar
-use Rattle.task_program.specs.Grammar.{Written, name_and_comma, clause_texts, texts_of, is_if}
-use Rattle.task_program.specs.Grammar.Clause.{IfClause, DependClause}
-use Rattle.task_program.specs.Grammar.Written.{WorkWritten, TaskWritten, WaitWritten, GroupWritten}
-use Rattle.task_program.specs.Grammar.Written.{EndWritten}
-use Rattle.task_program.specs.ViablePrefix.{IsWord, HasClauseForm, HasForm, EndBlocks}
+use Rattle.task_program.specs.PlainGrammar as grammar
+use Rattle.task_program.specs.PlainGrammar.{Written, name_and_comma, clause_texts, texts_of, is_if}
+use Rattle.task_program.specs.PlainGrammar.Clause.{IfClause, DependClause}
+use Rattle.task_program.specs.PlainGrammar.Written.{WorkWritten, TaskWritten, WaitWritten, GroupWritten}
+use Rattle.task_program.specs.PlainGrammar.Written.{EndWritten}
+use Rattle.task_program.specs.PlainGrammar.{IsWord, HasClauseForm, HasForm, EndBlocks}
 use Rattle.task_program.specs.FirstPlainFault.{IsSentence}
 use Rattle.task_program.proofs.FoundPlaces.{same_text}
 use Rattle.task_program.proofs.LoopPieces.{no_more_than_one}

@@ -1,5 +1,5 @@
 -- The tree of a text of version 2.
-use Rattle.std.proofs.Common.{◌≡◌, ℕ, ◌≤◌, true, List, [], length, sym, subst, ◌∙◌}
+use Rattle.std.proofs.Common.{◌≡◌, ℕ, ◌≤◌, true, List, [], length, sym, subst}
 use Rattle.std.specs.Prelude.{All}
 use Rattle.task_program.specs.declared.version.Version.{Version}
 use Rattle.task_program.specs.declared.version.Version.TheVariants.{One, Two}
@@ -8,7 +8,7 @@ use Rattle.program_text.specs.Tokens.{texts, tokens_of}
 use Rattle.task_program.specs.ProgramMarks.{ProgramMarks}
 use Rattle.task_program.specs.Grammar.{IsShort}
 use Rattle.loop_text.specs.Loops.{Tree}
-use Rattle.task_program.specs.LoopGrammar.{Spelled}
+use Rattle.task_program.specs.Grammar.{Spelled}
 use Rattle.task_program.specs.Versions.{begins_version, begins_version_two, body_of}
 use Rattle.task_program.specs.ExpandsTo.{ExpandsTo}
 use Rattle.task_program.specs.Trees.{HasTree}

@@ -15,7 +15,7 @@ use Rattle.task_program.specs.TokenCounts.{is_too_deep, open_braces}
 use Rattle.loop_text.specs.Loops.{Tree}
 use Rattle.loop_text.specs.LoopTokens.{form_fault}
 use Rattle.task_program.specs.Versions.{body_of}
-use Rattle.task_program.specs.LoopGrammar.{Spelled, IsDerived}
+use Rattle.task_program.specs.Grammar.{Spelled, IsDerived}
 use Rattle.task_program.specs.FirstFault.{Rules, AreRightWhole, IsFirstFault}
 use Rattle.task_program.specs.ExpansionFault.{HasExpansionFault}
 

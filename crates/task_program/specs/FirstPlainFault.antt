@@ -9,7 +9,7 @@ use Rattle.program_text.specs.Tokens.{Token}
 use Rattle.task_program.specs.TokenCounts.{too_many_after, limit_fault_after}
 use Rattle.task_program.specs.FirstFault.{Rules}
 use Rattle.program_text.specs.Words.{is_number, value_of}
-use Rattle.task_program.specs.LoopGrammar.{IsDerived}
+use Rattle.task_program.specs.Grammar.{IsDerived}
 
 -- the header, and tokens that the grammar derives, whatever their numbers are and however deep their
 -- blocks
