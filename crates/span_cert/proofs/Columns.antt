@@ -1,7 +1,7 @@
 -- The first broken pair of each column, and of all.
-use Rattle.std.proofs.Common.{◌≡◌, ◌<◌, ◌≤◌, ◌+◌, ◌/◌, ◌%◌, ℕ}
-use Rattle.std.proofs.Common.{List, length, Option, Some, None, MatchOption, arith, inl, inr, subst}
-use Rattle.std.proofs.Common.{sym, get_or, zero, suc, [], ◌∷◌, refl, ap, ◌∙◌}
+use Rattle.std.proofs.Common.{◌≡◌, ◌<◌, ◌≤◌, ◌+◌, ◌/◌, ◌%◌, ℕ, List, length, Option, Some, None}
+use Rattle.std.proofs.Common.{MatchOption, arith, inl, inr, subst, sym, get_or, zero, suc, [], ◌∷◌}
+use Rattle.std.proofs.Common.{refl, ap, ◌∙◌}
 use Rattle.std.proofs.Math.Nat.{mod-add-div', mod-lt}
 use Rattle.std.proofs.lemmas.Bool.{cases_lt, cases_eq}
 use Rattle.std.proofs.lemmas.Option.{slice_get-get_or}

@@ -5,13 +5,13 @@ use Rattle.std.specs.List.{list_any}
 use Rattle.std.proofs.lemmas.Bool.{and_parts, or_cases, or_left, or_right, eqb-true, eq-eqb}
 use Rattle.program_text.specs.Conflict.{conflicts_with, items_conflict, kinds_conflict}
 use Rattle.program_text.specs.declared.statement.DependKind.{DependKind}
-use Rattle.program_text.specs.declared.statement.DependKind.TheVariants.{DependIn}
-use Rattle.program_text.specs.declared.statement.DependKind.TheVariants.{DependInOutSet}
+use Rattle.program_text.specs.declared.statement.DependKind.TheVariants.{DependIn, DependInOutSet}
 use Rattle.program_text.specs.declared.statement.DependKind.TheVariants.{DependOut, DependInOut}
 use Rattle.program_text.specs.declared.statement.Item.{Item}
 use Rattle.task_segments.specs.Schedule.{at}
 use Rattle.span_cert.specs.declared.name_marks.TheConstants.{PLACES}
-use Rattle.span_cert.specs.NameMarks.{AreMarked, IsMarked, is_in, is_set, meets, meets_kind, place_of}
+use Rattle.span_cert.specs.NameMarks.{AreMarked, IsMarked, is_in, is_set, meets, meets_kind}
+use Rattle.span_cert.specs.NameMarks.{place_of}
 use Rattle.span_cert.specs.declared.name_marks.NameMarks.{NameMarks}
 
 -- two types that conflict, of which the second has left its marks

@@ -1,6 +1,5 @@
 -- What a segment can have to wait for, by where it opens.
-use Rattle.std.proofs.Common.{ℕ, ◌+◌, ◌≡◌, ◌⊎◌, true, Some, inl, inr, sym, ◌∙◌, ap, subst}
-use Rattle.std.proofs.Common.{arith}
+use Rattle.std.proofs.Common.{ℕ, ◌+◌, ◌≡◌, ◌⊎◌, true, Some, inl, inr, sym, ◌∙◌, ap, subst, arith}
 use Rattle.std.proofs.lemmas.Option.{same_Some}
 use Rattle.program_text.specs.Conflict.{items_conflict}
 use Rattle.task_segments.specs.Nesting.{IsNestedTable}

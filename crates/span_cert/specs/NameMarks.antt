@@ -11,8 +11,8 @@ use Rattle.task_segments.specs.declared.table.Closing.{Closing}
 use Rattle.task_segments.specs.declared.table.Closing.TheVariants.{Waits, EndsGroup}
 use Rattle.span_cert.specs.declared.name_marks.NameMarks.{NameMarks}
 use Rattle.span_cert.specs.declared.name_marks.TheConstants.{PLACES}
-use Rattle.span_cert.specs.declared.opening.Opening.{Opening}
-use Rattle.span_cert.specs.declared.opening.Opening.TheVariants.{First, AfterChild, AfterCut}
+use Rattle.span_cert.specs.declared.opening.OpensAt.{OpensAt}
+use Rattle.span_cert.specs.declared.opening.OpensAt.TheVariants.{First, AfterChild, AfterCut}
 
 -- ---- marks
 
@@ -71,13 +71,13 @@ pub record OpensAfterChild (table : Table) (t : ℕ) : Type 0 where
   pub no_cut : (before : ℕ) → before + 1 ≡ t → ¬ IsCut (segment table before).closing
 
 -- where t opens
-abbrev pub IsOpening : Table → ℕ → Opening → Type 0
+abbrev pub IsOpening : Table → ℕ → OpensAt → Type 0
 IsOpening table t First = OpensTask table t
 IsOpening table t AfterChild = OpensAfterChild table t
 IsOpening table t AfterCut = Unit {0}
 
 -- the items of the task that t opens are marked
-abbrev pub AreMarkedFor : Table → NameMarks → ℕ → Opening → Type 0
+abbrev pub AreMarkedFor : Table → NameMarks → ℕ → OpensAt → Type 0
 AreMarkedFor table marks t First =
     AreMarked marks t (task table (segment table t).task).items
 AreMarkedFor table marks t AfterChild = Unit {0}

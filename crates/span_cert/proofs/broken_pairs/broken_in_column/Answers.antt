@@ -5,9 +5,8 @@ use Rattle.span_cert.proofs.broken_pairs.broken_in_column.Goals as goal
 
 pub returns-in-Some : goal.returns-in-Some
 returns-in-Some c =
-    let row = c.in-Some.ensures in
     found_in_column c.args.table.now (moments_of_starts c.args.starts.now) c.args.column c.in-Some.s
-    c.loop-t.t c.loop-t.invariant.1 row
+    c.loop-t.t c.loop-t.invariant.1 c.in-Some.ensures
 
 pub loop-t-preserved : goal.loop-t-preserved
 loop-t-preserved c =

@@ -8,15 +8,14 @@ use Rattle.span_cert.proofs.broken_pairs.is_broken.Goals as goal
 
 pub returns-then-is_too_soon : goal.returns-then-is_too_soon
 returns-then-is_too_soon c =
-    let table = c.args.table.now in
     let starts = c.args.starts.now in
     let none : Start = record { segment = 0; moment = 0 } in
     let to = moment-at starts c.args.t none (omega (arith, c.requires.each, c.requires.to)) in
     let from = moment-at starts c.args.s none (omega (arith, c.requires.each, c.requires.from)) in
-    let cost : at (costs_of table) c.args.s ≡ c.cost.result =
-    cost-at table c.args.s c.requires.from ∙ sym c.cost.ensures in
+    let cost : at (costs_of c.args.table.now) c.args.s ≡ c.cost.result =
+    cost-at c.args.table.now c.args.s c.requires.from ∙ sym c.cost.ensures in
     let less : at (moments_of_starts starts) c.args.t
-    < at (moments_of_starts starts) c.args.s + at (costs_of table) c.args.s =
+    < at (moments_of_starts starts) c.args.s + at (costs_of c.args.table.now) c.args.s =
     omega (arith, c.is_too_soon.ensures.0 c.if-is_too_soon.true) in (
       λ yes. record {
         is_segment = c.requires.to;
