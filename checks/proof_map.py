@@ -15,8 +15,8 @@ PAGE = TOP / "docs" / "PROOFS.md"
 IMPORT = re.compile(r"^(?:pub )?use Rattle\.(\w+)\.proofs\.(\w+)\b", re.M)
 HEAD = """# The map of the proofs
 
-For each crate its lemma files, in the order of `proofs/Lib.antt`: what each is for, the lemma files that it stands on,
-and the functions and laws whose written proofs cite it. A `+` stands before functions that call one another. What
+For each crate its lemma files, in the order and under the headings of `proofs/Lib.antt`: what each is for, the lemma
+files that it stands on, and the functions and laws whose written proofs cite it. A `+` stands before functions that call one another. What
 another crate cites is named with that crate. A function that is not here needs no written proof, or none with a lemma
 of its own. `checks/proof_map.py` compares this page with the files, and `checks/proof_map.py --write` makes it anew.
 """
@@ -45,20 +45,32 @@ def function_of(path):
     return "::".join(dict.fromkeys(named))
 
 
-class Crate:
-    """The lemma files of a crate in their order, and the written proofs of its functions."""
+def rooms_of(library):
+    """The headings of a proofs/Lib.antt, each with the names of the lemma files under it."""
+    rooms = [("", [])]
+    for line in library.splitlines():
+        named = re.match(r"(?:pub )?mod (\w+)", line)
+        if named:
+            rooms[-1][1].append(named[1])
+        elif line.startswith("-- "):
+            rooms.append((line.removeprefix("-- "), []))
+    return [(heading, names) for heading, names in rooms if names]
 
-    def __init__(self, name, order, files):
-        """Of the names in proofs/Lib.antt, and of the texts of all files below proofs/ by their path."""
+
+class Crate:
+    """The lemma files of a crate, room by room, and the written proofs of its functions."""
+
+    def __init__(self, name, files):
+        """Of the texts of all files below proofs/ by their path."""
         self.name = name
-        self.lemmas = {one: files[one + ".antt"] for one in order if one + ".antt" in files}
+        self.rooms = rooms_of(files.get("Lib.antt", ""))
+        self.lemmas = {one: files[one + ".antt"] for _, names in self.rooms for one in names}
         self.proofs = {path: text for path, text in files.items() if "/" in path}
 
 
 def crate_at(folder):
     files = {str(path.relative_to(folder)): path.read_text() for path in sorted(folder.rglob("*.antt"))}
-    order = re.findall(r"^(?:pub )?mod (\w+)", files.get("Lib.antt", ""), re.M)
-    return Crate(folder.parent.name, order, files)
+    return Crate(folder.parent.name, files)
 
 
 def served_by(crates):
@@ -78,14 +90,20 @@ def listed(crate, pairs):
     return ", ".join(own + others)
 
 
+def row(crate, name, served, own):
+    below = imports_of(crate.lemmas[name], own)
+    serves = served.get((crate.name, name), set())
+    purpose = purpose_of(crate.lemmas[name]).replace("|", "\\|")
+    return "| " + " | ".join([f"`{name}`", purpose, listed(crate.name, below), listed(crate.name, serves)]) + " |"
+
+
 def section(crate, served, own):
-    lines = [f"## `{crate.name}`", "", "| File | What it is for | Stands on | Serves |", "|---|---|---|---|"]
-    for name, text in crate.lemmas.items():
-        below = imports_of(text, own)
-        serves = served.get((crate.name, name), set())
-        cells = [f"`{name}`", purpose_of(text).replace("|", "\\|"), listed(crate.name, below), listed(crate.name, serves)]
-        lines.append("| " + " | ".join(cells) + " |")
-    return "\n".join(lines)
+    parts = [f"## `{crate.name}`"]
+    for heading, names in crate.rooms:
+        table = ["| File | What it is for | Stands on | Serves |", "|---|---|---|---|"]
+        table += [row(crate, name, served, own) for name in names]
+        parts += [f"### {heading}"] * bool(heading) + ["\n".join(table)]
+    return "\n\n".join(parts)
 
 
 def page_of(crates):

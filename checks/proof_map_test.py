@@ -6,13 +6,14 @@ import unittest
 sys.path.insert(0, str(pathlib.Path(__file__).resolve().parent))
 from proof_map import Crate, function_of, page_of, purpose_of
 
-LOW = Crate("low", ["Lists", "Sums"], {
+LOW = Crate("low", {
+    "Lib.antt": "pub mod Lists\n\n-- Sums of lists\nmod Sums\n",
     "Lists.antt": "-- Lists that ascend. Each is short.\nuse Rattle.std.proofs.Common.{refl}\n",
     "Sums.antt": "-- The sum of a list\n-- from a place on.\nuse Rattle.low.proofs.Lists.{ascends}\n",
     "table/Table/push/Answers.antt": "use Rattle.low.proofs.Sums.{one_more}\n",
     "laws/one_sum/Answers.antt": "use Rattle.low.proofs.Lists.{ascends}\n",
 })
-HIGH = Crate("high", [], {"run/+walking/Invariants.antt": "use Rattle.low.proofs.Lists.{ascends}\n"})
+HIGH = Crate("high", {"run/+walking/Invariants.antt": "use Rattle.low.proofs.Lists.{ascends}\n"})
 
 
 class ProofMap(unittest.TestCase):
@@ -31,6 +32,10 @@ class ProofMap(unittest.TestCase):
         page = page_of([LOW, HIGH])
         self.assertIn("| `Lists` | Lists that ascend |  | `laws::one_sum`, `high::+walking` |", page)
         self.assertIn("| `Sums` | The sum of a list from a place on | `Lists` | `Table::push` |", page)
+
+    def test_comments_of_the_library_are_headings(self):
+        self.assertEqual(LOW.rooms, [("", ["Lists"]), ("Sums of lists", ["Sums"])])
+        self.assertIn("\n\n### Sums of lists\n\n| File |", page_of([LOW, HIGH]))
 
     def test_a_crate_without_lemmas_has_no_section(self):
         self.assertNotIn("## `high`", page_of([LOW, HIGH]))
