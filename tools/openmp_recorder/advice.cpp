@@ -25,37 +25,45 @@ class Adviser {
   Region &region;
   int64_t unit;
   Size whole;
+  Trial tried;  // the last one
 
-  bool fits(const Folds &folds) { return over_the_limits(fold(region, folds, most_tasks), unit).empty(); }
-  void offer(std::vector<Offer> &out, const Folds &folds, const std::string &setting);
-  Folds by_depth();
-  Folds by_chunk();
-  Folds by_cost();
+  bool fits(const Folds &folds);
+  Offer offer(const char *setting, uint64_t value) const;
+  uint64_t depth();
+  uint64_t chunk();
+  int64_t cost();  // in units
 };
 
-void Adviser::offer(std::vector<Offer> &out, const Folds &folds, const std::string &setting) {
-  Size left = fold(region, folds);
-  out.push_back({setting, left.tasks, span_of(region)});
+bool Adviser::fits(const Folds &folds) {
+  tried = try_fold(region, folds, most_tasks);
+  return over_the_limits(tried.size, unit).empty();
 }
 
-// The deepest one that fits; depth 0 where none does.
-Folds Adviser::by_depth() {
-  if (!fits({1, 0, 0})) return {};
+// The fold that was tried last.
+Offer Adviser::offer(const char *setting, uint64_t value) const {
+  return {std::string("SPANPROF_FOLD_") + setting + "=" + std::to_string(value), tried.size.tasks,
+          span_of(tried.written)};
+}
+
+// The deepest one that fits; 0 where none does.
+uint64_t Adviser::depth() {
+  if (!fits({1, 0, 0})) return 0;
   uint64_t depth = 1, too_deep = most_blocks;  // what lies deeper than that many blocks never fits
   while (too_deep - depth > 1) {
     uint64_t middle = (depth + too_deep) / 2;
     (fits({middle, 0, 0}) ? depth : too_deep) = middle;
   }
-  return {depth, 0, 0};
+  return fits({depth, 0, 0}) ? depth : 0;
 }
 
 // A small one that fits: more tasks in a row than the limit allows need that many in each chunk at least.
-Folds Adviser::by_chunk() {
-  if (!fits({0, 0, 2 * whole.tasks})) return {};
-  uint64_t chunk = std::max<uint64_t>(2, (whole.tasks + most_tasks - 1) / most_tasks);
-  for (; chunk < 2 * whole.tasks; chunk += 1 + chunk / 8)
-    if (fits({0, 0, chunk})) return {0, 0, chunk};
-  return {};
+uint64_t Adviser::chunk() {
+  uint64_t chunk = std::max<uint64_t>(2, (whole.tasks + most_tasks - 1) / most_tasks), largest = 2 * whole.tasks;
+  if (fits({0, 0, chunk})) return chunk;
+  if (!fits({0, 0, largest})) return 0;
+  for (; chunk < largest; chunk += 1 + chunk / 8)
+    if (fits({0, 0, chunk})) return chunk;
+  return 0;
 }
 
 int64_t in_two_digits(int64_t number) {
@@ -77,24 +85,25 @@ int64_t cost_in_a_gap(std::vector<int64_t> &costs) {
   return static_cast<int64_t>(cost(best) * std::sqrt(gap(best)));
 }
 
-Folds Adviser::by_cost() {
+int64_t Adviser::cost() {
   std::vector<int64_t> costs;
   for (const Task &t : region.tasks)
     if (t.parent && !t.part) costs.push_back(t.total);
-  if (costs.size() <= most_tasks || !fits({0, INT64_MAX, 0})) return {};
-  for (int64_t units = cost_in_a_gap(costs) / unit + 1; units <= 2 * (whole.total / unit + 1); units += 1 + units / 4) {
-    Folds folds{0, in_two_digits(units) * unit, 0};
-    if (fits(folds)) return folds;
-  }
-  return {};
+  if (costs.size() <= most_tasks) return 0;
+  auto fits_below = [&](int64_t units) { return fits({0, in_two_digits(units) * unit, 0}); };
+  int64_t units = cost_in_a_gap(costs) / unit + 1, most = 2 * (whole.total / unit + 1);
+  if (fits_below(units)) return in_two_digits(units);
+  if (!fits({0, INT64_MAX, 0})) return 0;
+  for (; units <= most; units += 1 + units / 4)
+    if (fits_below(units)) return in_two_digits(units);
+  return 0;
 }
 
 std::vector<Offer> Adviser::offers() {
   std::vector<Offer> out;
-  if (Folds folds = by_depth(); folds.depth) offer(out, folds, "SPANPROF_FOLD_DEPTH=" + std::to_string(folds.depth));
-  if (Folds folds = by_chunk(); folds.chunk) offer(out, folds, "SPANPROF_FOLD_CHUNK=" + std::to_string(folds.chunk));
-  if (Folds folds = by_cost(); folds.below)
-    offer(out, folds, "SPANPROF_FOLD_COST=" + std::to_string(folds.below / unit));
+  if (uint64_t deepest = depth()) out.push_back(offer("DEPTH", deepest));
+  if (uint64_t tasks = chunk()) out.push_back(offer("CHUNK", tasks));
+  if (int64_t units = cost()) out.push_back(offer("COST", static_cast<uint64_t>(units)));
   std::stable_sort(out.begin(), out.end(), [](auto &a, auto &b) { return a.span < b.span; });
   // What leaves less than half of the best one's parallelism is no advice.
   while (out.size() > 1 && out.back().span / 2 > out.front().span) out.pop_back();

@@ -213,6 +213,7 @@ bool best(Region &region, int64_t unit, Region &made, Size &size) {
     span_of(region);
   }
   for (uint64_t together = 2; together < 2 * region.root->size; together += 1 + together / 4) {
+    if (together * most_tasks + 1 < region.root->size) continue;  // each task that is left holds so many at most
     made = Region();
     if (fold_together(region, together, made) && fits(made, unit, size)) return true;
   }

@@ -56,7 +56,8 @@ void separate(Region &region) {
   region.joined = false;
 }
 
-void count(const Task &t, const Folds &folds, Size &size) {
+// All but the largest piece.
+void count(const Task &t, Size &size) {
   if (t.parent) {
     size.tasks++;
     size.segments += 2;
@@ -65,7 +66,30 @@ void count(const Task &t, const Folds &folds, Size &size) {
   bool steps = t.fold == Fold::No;
   size.blocks = std::max<uint64_t>(size.blocks, t.blocks + (steps ? t.inner_groups : 0));
   size.segments += steps ? t.waits : 0;
-  size.largest = std::max(size.largest, steps ? largest_piece(t, folds) : t.total);
+}
+
+void count_piece(const Task &t, const Folds &folds, Size &size) {
+  size.largest = std::max(size.largest, t.fold == Fold::No ? largest_piece(t, folds) : t.total);
+}
+
+void separate_children(const Task &maker) {
+  for (const Step &step : maker.steps) {
+    if (step.kind != Kind::Create) continue;
+    step.child()->fold = Fold::No;
+    step.child()->joined = step.child()->joined_tasks = 0;
+  }
+}
+
+// Adds what is left of the tasks that a task makes, up to so many in all.
+void try_children(const Task &maker, const Folds &folds, uint64_t most, std::vector<Task *> &written) {
+  for (const Step &step : maker.steps) {
+    if (written.size() == most) return;
+    if (step.kind != Kind::Create || step.child()->fold == Fold::Joined) continue;
+    Task &child = *step.child();
+    child.fold = fold_of(child, folds);
+    child.blocks = maker.blocks + child.outer_groups + 1;
+    if (child.fold != Fold::Whole) written.push_back(&child);
+  }
 }
 
 // The steps of a task, without those of the tasks that it makes.
@@ -92,7 +116,7 @@ void add_up(Region &region) {
     if (t->parent) t->parent->total += t->total, t->parent->size += t->size;
 }
 
-Size fold(Region &region, const Folds &folds, uint64_t enough) {
+Size fold(Region &region, const Folds &folds) {
   Size size;
   separate(region);
   region.joined = folds.chunk > 1;
@@ -104,11 +128,30 @@ Size fold(Region &region, const Folds &folds, uint64_t enough) {
     if (!is_written(t)) continue;
     t.blocks = parent ? parent->blocks + t.outer_groups + 1 : 0;
     if (region.joined && t.fold == Fold::No && t.children > 1) join_neighbours(t, folds.chunk);
-    count(t, folds, size);
-    if (size.tasks > enough) break;
+    count(t, size);
+    count_piece(t, folds, size);
   }
   size.total = region.root->total;
   return size;
+}
+
+Trial try_fold(Region &region, const Folds &folds, uint64_t enough) {
+  Trial trial;
+  bool pieces = region.root->total >= most_work;  // else none is too large in any unit
+  region.joined = region.joined || folds.chunk > 1;
+  region.root->fold = Fold::No;
+  trial.written.push_back(region.root);
+  for (size_t i = 0; i < trial.written.size() && trial.size.tasks <= enough; i++) {
+    const Task &t = *trial.written[i];
+    count(t, trial.size);
+    if (pieces) count_piece(t, folds, trial.size);
+    if (t.fold != Fold::No || !t.children) continue;
+    if (region.joined) separate_children(t);
+    if (folds.chunk > 1) join_neighbours(t, folds.chunk);
+    try_children(t, folds, enough + 2, trial.written);  // the root too, and one that is too many
+  }
+  trial.size.total = region.root->total;
+  return trial;
 }
 
 std::string over_the_limits(const Size &size, int64_t unit, const Limits &limits) {

@@ -170,11 +170,17 @@ void keep_the_heaviest(std::vector<Region *> &regions, const Options &options) {
   regions.resize(options.regions);
   std::sort(regions.begin(), regions.end(), [](auto *a, auto *b) { return a->place < b->place; });
 }
+
+// The most tasks of a region that may get a replay document; with folds any number may.
+uint64_t most_to_replay(const Options &options) {
+  bool folds = options.fold_depth || options.fold_chunk || options.fold_cost;
+  return folds ? UINT64_MAX : most_tasks;
+}
 }  // namespace
 
 void report(const Job &job, const Ending &ending) {
   std::vector<const Log *> logs = all_logs();
-  Run &run = *new Run(read_run(logs, ending));  // given back by the end of the process
+  Run &run = *new Run(read_run(logs, ending, most_to_replay(job.options)));  // given back by the end of the process
   std::vector<Region *> with_tasks;
   for (auto &[number, region] : run.regions)
     if (compose(*region)) {

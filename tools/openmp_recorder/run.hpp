@@ -12,23 +12,25 @@
 struct Task;
 struct Region;
 
-enum class Kind : uint8_t { Work, Create, Wait, GroupBegin, GroupEnd };
+enum class Kind : uint64_t { Work, Create, Wait, GroupBegin, GroupEnd };
 
+// In eight bytes, since a run has millions: no cost is negative or takes two years, and no address has more bits.
 class Step {
  public:
-  Kind kind;
+  Kind kind : 8;
   static Step work(int64_t cost) { return {Kind::Work, static_cast<uint64_t>(cost)}; }
   static Step create(Task *child) { return {Kind::Create, reinterpret_cast<uint64_t>(child)}; }
   static Step at(Kind kind, const void *code) { return {kind, reinterpret_cast<uint64_t>(code)}; }
-  int64_t cost() const { return static_cast<int64_t>(value); }               // of Work, in nanoseconds
-  Task *child() const { return reinterpret_cast<Task *>(value); }            // of Create
-  const void *code() const { return reinterpret_cast<const void *>(value); }  // of Wait and the groups
+  int64_t cost() const { return static_cast<int64_t>(value); }                          // of Work, in nanoseconds
+  Task *child() const { return reinterpret_cast<Task *>(uint64_t{value}); }             // of Create
+  const void *code() const { return reinterpret_cast<const void *>(uint64_t{value}); }  // of Wait and the groups
   void add_cost(int64_t more) { value += static_cast<uint64_t>(more); }
 
  private:
-  uint64_t value;
+  uint64_t value : 56;
   Step(Kind what, uint64_t that) : kind(what), value(that) {}
 };
+static_assert(sizeof(Step) == 8, "a task has one to several");
 
 enum class Fold : uint8_t {
   No,
@@ -46,42 +48,43 @@ struct DependWait {
   bool is_over = false;
 };
 
+// What passes over all tasks look at comes first, so that it lies together.
 struct Task {
-  Region *region = nullptr;
-  Task *parent = nullptr;
   bool part = false;  // the code of an implicit task between two barriers
-  const void *code = nullptr;
   bool undeferred = false, untied = false;
-  std::vector<DependItem> items;
-  std::vector<Step> steps;
   unsigned segment = 0;  // the one that is open, counted within the task
   unsigned children = 0;
-
-  // while the records are read
-  bool running = false, waiting = false, over = false;
-  const Log *on = nullptr;     // of the thread that runs it, or last did
-  int64_t since = 0;           // on that thread's clock
-  uint32_t interrupted = 0;    // the task that the thread left for it, by number
-  size_t started = 0;          // the event with which the running segment began
-  std::unique_ptr<DependWait> wait;  // for dependences, and not settled
-  const void *loop = nullptr;  // the taskloop that it is in
+  std::vector<Step> steps;
+  std::vector<DependItem> items;
+  const void *code = nullptr;
 
   // while it is written
+  Fold fold = Fold::No;
+  bool shown = true;
   unsigned depth = 0;         // of tasks within each other; 0 for a part
   unsigned outer_groups = 0;  // of the parent, open where the task is created
+  unsigned joined_tasks = 0;
+  int64_t joined = 0;         // the cost of siblings that are `work` of it
+  int64_t total = 0;          // `work` with everything below it
+  Task *parent = nullptr;
+  int64_t end = 0, end_below = 0;  // of its code and of all below it, from its start on as many threads as can be used
+  int64_t largest = 0;             // `work` of its own code
   unsigned inner_groups = 0;  // the most that are open at once in its own code
   unsigned blocks = 0;        // open in its own code outside its own groups
   unsigned waits = 0;         // and ends of groups in its own code
-  int64_t largest = 0;        // `work` of its own code, and with everything below it:
-  int64_t total = 0;
-  Fold fold = Fold::No;
-  int64_t joined = 0;         // the cost of siblings that are `work` of it
-  unsigned joined_tasks = 0;
   unsigned size = 1;          // tasks, with all below it
   unsigned stands_for = 0;    // tasks, where it or the row that it begins is an exact fold
-  int64_t end = 0, end_below = 0;  // of its code and of all below it, from its start on as many threads as can be used
-  bool shown = true;
   std::vector<uint32_t> numbers;  // of its segments in the text; none where a segment is part of a later one
+
+  // while the records are read
+  Region *region = nullptr;
+  bool running = false, waiting = false, over = false;
+  uint32_t interrupted = 0;    // the task that the thread left for it, by number
+  const Log *on = nullptr;     // of the thread that runs it, or last did
+  int64_t since = 0;           // on that thread's clock
+  size_t started = 0;          // the event with which the running segment began
+  std::unique_ptr<DependWait> wait;  // for dependences, and not settled
+  const void *loop = nullptr;  // the taskloop that it is in
 };
 
 constexpr uint32_t none = UINT32_MAX;
@@ -112,6 +115,8 @@ struct Region {
   std::deque<Task> tasks;  // in the order of creation, each before those that it makes
   std::vector<Part> parts;
   std::vector<Event> events;
+  bool has_events = true;  // else they are given up, since it has more tasks than a replay document holds
+  uint64_t created = 0;    // tasks
   std::map<LockName, LockUse> locks;
   Remarks remarks;
   Task *root = nullptr;           // what is written
@@ -131,4 +136,5 @@ struct Ending {
   bool full = false;  // there was no room for more records
 };
 
-Run read_run(const std::vector<const Log *> &logs, const Ending &ending);
+// Of a region with more tasks than these no events are kept.
+Run read_run(const std::vector<const Log *> &logs, const Ending &ending, uint64_t most_replayed = UINT64_MAX);

@@ -91,3 +91,8 @@ int64_t span_of(Region &region) {
   for (auto task = region.tasks.rbegin(); task != region.tasks.rend(); ++task) Timeline().follow(*task);
   return region.root->end_below;
 }
+
+int64_t span_of(const std::vector<Task *> &written) {
+  for (auto task = written.rbegin(); task != written.rend(); ++task) Timeline().follow(**task);
+  return written.front()->end_below;
+}

@@ -3,3 +3,4 @@
 #include "run.hpp"
 
 int64_t span_of(Region &region);  // in nanoseconds
+int64_t span_of(const std::vector<Task *> &written);  // of what a fold leaves, each after its maker

@@ -3,13 +3,14 @@
 #include <omp-tools.h>
 
 #include <charconv>
+#include <set>
 #include <string_view>
 #include <unordered_map>
 #include <utility>
 
 namespace {
 constexpr size_t longest_piece = 1 << 20;
-const char *const of_a_thread = "one of the region's threads";
+constexpr std::string_view of_a_thread = "one of the region's threads";
 
 // Where the writer is in a task's own code.
 struct Place {
@@ -39,15 +40,16 @@ class Writer {
 
   void begin_line(unsigned indent);
   void number(uint64_t value);
-  void end_line(const std::string &comment = {});
-  void line(unsigned indent, const char *words, const std::string &comment = {});
+  void end_line(std::string_view comment = {});
+  void line(unsigned indent, const char *words, std::string_view comment = {});
   void items(const Task &t);
   void flush(Place &p);
   void open(Place &p);
   void step(Place &p, const Step &step);
   void leave_out(Place &p, const Task &child);
   void create(Place &p, Task &child);
-  std::string comment_of(const Task &t) const;
+  std::string_view place_of(const Task &t) const;
+  void end_task_line(const Task &t);
   void enter(Task &t, unsigned indent);
   void leave();
 };
@@ -91,7 +93,7 @@ void Writer::number(uint64_t value) {
   piece.append(digits, std::to_chars(digits, digits + sizeof digits, value).ptr);
 }
 
-void Writer::end_line(const std::string &comment) {
+void Writer::end_line(std::string_view comment) {
   if (!comment.empty()) piece.append("  # ").append(comment);
   piece += '\n';
   if (piece.size() < longest_piece) return;
@@ -99,7 +101,7 @@ void Writer::end_line(const std::string &comment) {
   piece.clear();
 }
 
-void Writer::line(unsigned indent, const char *words, const std::string &comment) {
+void Writer::line(unsigned indent, const char *words, std::string_view comment) {
   begin_line(indent);
   piece += words;
   end_line(comment);
@@ -111,7 +113,7 @@ void Writer::items(const Task &t) {
     std::string_view type = type_of(item.type, style.exclusion_as_order);
     if (type == last) piece += ", a";
     else piece.append(last.empty() ? " depend(" : ") depend(").append(type).append(": a");
-    number(names.emplace(item.address, names.size()).first->second);
+    number(names.try_emplace(uint64_t{item.address}, names.size()).first->second);
     last = type;
   }
   if (!last.empty()) piece += ')';
@@ -145,10 +147,14 @@ void Writer::leave_out(Place &p, const Task &child) {
   p.task.numbers[p.segment - 1] = none;
 }
 
-std::string Writer::comment_of(const Task &t) const {
-  std::string at = t.part ? of_a_thread : places.at(t.code);
-  if (!t.stands_for) return at;
-  return at + (at.empty() ? "" : ", ") + std::to_string(t.stands_for) + " tasks folded exactly";
+std::string_view Writer::place_of(const Task &t) const {
+  return t.part ? of_a_thread : std::string_view(places.at(t.code));
+}
+
+void Writer::end_task_line(const Task &t) {
+  if (!t.stands_for) return end_line(place_of(t));
+  std::string at(place_of(t));
+  end_line(at + (at.empty() ? "" : ", ") + std::to_string(t.stands_for) + " tasks folded exactly");
 }
 
 void Writer::create(Place &p, Task &child) {
@@ -158,7 +164,7 @@ void Writer::create(Place &p, Task &child) {
   piece += child.undeferred ? "task if(0)" : "task";
   items(child);
   piece += " {";
-  end_line(comment_of(child));
+  end_task_line(child);
   enter(child, p.indent + 1);
 }
 
@@ -230,6 +236,7 @@ int64_t own_work(const Task &t, int64_t unit) {
 }  // namespace
 
 int64_t work_in_units(const Region &region, int64_t unit) {
+  if (unit == 1) return region.root->total;  // nothing is rounded
   int64_t work = 0;
   for (const Task &t : region.tasks)
     if (is_written(t)) work += own_work(t, unit);
@@ -248,16 +255,16 @@ Text program_text(Region &region, const Style &style, const Places &places) {
 }
 
 std::vector<const void *> codes_of(const Region &region) {
-  std::vector<const void *> codes{region.code};
+  std::set<const void *> codes{region.code};
   for (const Task &t : region.tasks) {
     if (!is_written(t)) continue;
-    codes.push_back(t.code);
+    codes.insert(t.code);
     for (const Step &step : t.steps)
-      if (step.kind != Kind::Work && step.kind != Kind::Create) codes.push_back(step.code());
+      if (step.kind != Kind::Work && step.kind != Kind::Create) codes.insert(step.code());
   }
-  for (auto &[what, seen] : region.remarks) codes.push_back(seen.code);
-  for (auto &[name, use] : region.locks) codes.push_back(use.code);
-  return codes;
+  for (auto &[what, seen] : region.remarks) codes.insert(seen.code);
+  for (auto &[name, use] : region.locks) codes.insert(use.code);
+  return {codes.begin(), codes.end()};
 }
 
 std::string over_the_length(const std::string &words) {

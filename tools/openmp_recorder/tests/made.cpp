@@ -70,11 +70,11 @@ Made &Made::barrier(unsigned thread, uint32_t task) {
   return add(thread, Told::SyncBegin, task, 0, ompt_sync_region_barrier_implicit_parallel);
 }
 
-Run Made::read(const Ending &ending) {
+Run Made::read(const Ending &ending, uint64_t most_replayed) {
   if (!ending.wall) logs[0]->regions[0].end = time;
   std::vector<const Log *> all;
   for (auto &log : logs) all.push_back(log.get());
-  return read_run(all, ending);
+  return read_run(all, ending, most_replayed);
 }
 
 DependItem item(ompt_dependence_type_t type, uint64_t address) { return {address, static_cast<uint64_t>(type)}; }

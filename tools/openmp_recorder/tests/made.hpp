@@ -22,7 +22,7 @@ class Made {
   Made &run(unsigned thread, uint32_t from, uint32_t task, int64_t nanoseconds);  // begins, costs so much, and ends
   Made &sync(unsigned thread, uint32_t task, ompt_sync_region_t kind);            // begins and ends at once
   Made &barrier(unsigned thread, uint32_t task);                                  // begins
-  Run read(const Ending &ending = {});
+  Run read(const Ending &ending = {}, uint64_t most_replayed = UINT64_MAX);
 
  private:
   std::vector<std::unique_ptr<Log>> logs;

@@ -114,6 +114,32 @@ TEST(limits_of_any_size_are_told) {
   EXPECT_PART(over_the_limits({1, 1, 1, 1, 1, 1000000000000000}, 1, of_any_size), "units of work");
 }
 
+TEST(a_fold_that_is_tried_leaves_what_the_fold_leaves) {
+  std::vector<int64_t> costs;
+  for (int64_t i = 0; i < 300; i++) costs.push_back(i * 37 % 101);
+  Run row = in_a_row(costs, 2), pairs = nested_in_pairs(20, 10);
+  for (Run *run : {&row, &pairs})
+    for (const Folds &folds : {Folds{}, {1, 0, 0}, {7, 0, 0}, {0, 50, 0}, {0, 0, 3}, {0, 0, 1000}, {0, 15, 0}}) {
+      Region &region = *run->regions.begin()->second;
+      if (!region.root) only_region(*run);
+      Trial tried = try_fold(region, folds, most_tasks);
+      int64_t span = span_of(tried.written);
+      Size size = fold(region, folds);
+      EXPECT(tried.size.tasks, size.tasks);
+      EXPECT(tried.size.segments, size.segments);
+      EXPECT(tried.size.blocks, size.blocks);
+      EXPECT(tried.written.size(), size.tasks + 1);
+      EXPECT(span, span_of(region));
+    }
+}
+
+TEST(a_fold_that_leaves_too_much_is_tried_no_further) {
+  Run run = in_a_row(std::vector<int64_t>(300, 50));
+  Trial tried = try_fold(only_region(run), {}, 100);
+  EXPECT(tried.size.tasks, 101u);
+  EXPECT(tried.written.size(), 102u);
+}
+
 TEST(many_tasks_in_a_row_are_advised_to_be_chunks) {
   Run run = in_a_row(std::vector<int64_t>(9000, 50));
   Region &region = only_region(run);
