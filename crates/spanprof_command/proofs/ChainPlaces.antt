@@ -1,7 +1,6 @@
 -- Whether a segment stands in an ascending chain is seen at one place of it.
 use Rattle.std.proofs.Common.{◌≡◌, ◌≢◌, ◌∙◌, refl, sym, subst, ap, ℕ, zero, suc, ◌+◌, ◌<◌, true}
 use Rattle.std.proofs.Common.{false, eqb, List, [], ◌∷◌, length, get_or, inl, inr, arith}
-use Rattle.std.specs.List.{list_any}
 use Rattle.std.specs.List.Sorted.{IsStrictlyIncreasing}
 use Rattle.std.proofs.lemmas.Bool.{cases_eq, cases_lt}
 use Rattle.std.proofs.lemmas.Bool.Decides.{nat_tests}
@@ -40,8 +39,7 @@ stands_in_chain : (chain : List ℕ) (s place : ℕ) → place < length chain �
     → in_chain chain s ≡ 1
 stands_in_chain chain s place within at =
     let here : eqb (get_or chain place 0) s ≡ true = grind (arith, nat_tests) in
-    let some : list_any (λ member. eqb member s) chain ≡ true =
-    list_any_at (λ member. eqb member s) chain place 0 within here in
+    let some = list_any_at (λ member. eqb member s) chain place 0 within here in
     rw some refl
 
 -- a segment that is not at its place in an ascending chain is not on it
@@ -55,8 +53,7 @@ stands_not chain s place up is other =
     let same = get_or_default chain k d 0 l in
     let apart : get_or chain k 0 ≢ s = λ e. by_place k l e in
     grind (arith, nat_tests)) in
-    let none : list_any (λ member. eqb member s) chain ≡ false =
-    list_any_none (λ member. eqb member s) chain each in
+    let none = list_any_none (λ member. eqb member s) chain each in
     rw none refl
   where
     by_place : (k : ℕ) → k < length chain → get_or chain k 0 ≡ s → ⊥

@@ -46,8 +46,7 @@ pub record IsAnalysed (table : Table) : Type 0 where
 pub some_analysed : (table : Table) → IsWhole table → IsAnalysed table
 some_analysed table whole =
     let graph : (graph : RecordedGraph) × IsGraphOf table graph = some_graph table whole.sound in
-    let found : (found : Findings) × IsAnalysis graph.0 found =
-    some_analysis graph.0 (graph_of_program table graph.0 whole.sound graph.1) in
+    let found = some_analysis graph.0 (graph_of_program table graph.0 whole.sound graph.1) in
     record {
       graph = graph.0;
       found = found.0;

@@ -91,8 +91,7 @@ some_rows table [] sound =
     ([], record { are = refl; kept = λ row h. absurd (let within = h.1 in omega (arith, within)) })
 some_rows table (s ∷ segments) sound =
     let rest : (rows : List Row) × AreRowsOf table segments rows = some_rows table segments sound in
-    let preds : (list : List ℕ) × Lists (λ p. IsKeptEdge table p s) list =
-    kept_list table sound s in
+    let preds = kept_list table sound s in
     let first : Row = record { segment = s; preds = preds.0 } in (
       first ∷ rest.0,
       record {
@@ -120,16 +119,15 @@ some_recount table events sound legal =
     let count : ℕ = length table.segments in
     let F : ℕ → Type 0 = λ s. IsSegment table s × HasFinished events s in
     let O : ℕ → Type 0 = λ s. IsSegment table s × IsOpen table events s in
-    let finished : (list : List ℕ) × Lists F list =
-    some_list F count (λ s. decide_both (IsSegment table s) (HasFinished events s) (decide_less s
+    let finished = some_list F count
+    (λ s. decide_both (IsSegment table s) (HasFinished events s) (decide_less s
     count)
     (decide_finished events s)) (λ s h. h.0) in
-    let opened : (list : List ℕ) × Lists O list =
-    some_list O count (λ s. decide_both (IsSegment table s) (IsOpen table events s) (decide_less s
+    let opened = some_list O count
+    (λ s. decide_both (IsSegment table s) (IsOpen table events s) (decide_less s
     count)
     (decide_open table events s sound)) (λ s h. h.0) in
-    let rows : (rows : List Row) × AreRowsOf table opened.0 rows =
-    some_rows table opened.0 sound in (
+    let rows = some_rows table opened.0 sound in (
       record {
         text = number_line (codes "events") (length events) ++
             (number_line (codes "finished") (length finished.0) ++ flat_map preds_line rows.0);
@@ -154,8 +152,7 @@ some_replay : (table : Table) (events : List Event) → IsSoundTable table
     → (output : Report) × Replays table events output
 some_replay table events sound = elim (legal_or_refused table events sound) [
   | inl legal ↦
-      let told : (output : Report) × Recounts table events output =
-      some_recount table events sound legal in
+      let told = some_recount table events sound legal in
       (told.0, inl told.1)
   | inr refused ↦ (
     event_refusal refused.0 refused.1,
@@ -172,8 +169,7 @@ some_said None program whole =
 some_said (Some text) program whole =
     elim (events_of text (all_steps (step_by word_says step) begin (words_of text)) refl) [
       | inl read ↦
-          let told : (output : Report) × Replays (table_of program.marks) read.0 output =
-          some_replay (table_of program.marks) read.0 whole.sound in (
+          let told = some_replay (table_of program.marks) read.0 whole.sound in (
             told.0,
             inr (record {
               events = read.0;

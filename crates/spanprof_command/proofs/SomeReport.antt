@@ -25,7 +25,6 @@ use Rattle.task_segments.proofs.SameSchedules.{same_legal, same_span}
 use Rattle.task_segments.proofs.StartsAndTails.{IsSpan-earliest}
 use Rattle.task_segments.specs.Precedence.{MustPrecede}
 use Rattle.task_segments.specs.Schedule.{IsSpan, end_of}
-use Rattle.task_segments.specs.StartsAndTails.{IsEarliest}
 use Rattle.task_segments.specs.Table.{Table, costs_of, table_of}
 use Rattle.depend_table.proofs.Chains.{edge_reaches}
 use Rattle.depend_table.specs.Kept.{IsKeptEdge}
@@ -59,8 +58,8 @@ use Rattle.dispatch_core.proofs.Decisions.{decide_most}
 use Rattle.spanprof_command.proofs.Bounds.{carried_run}
 use Rattle.spanprof_command.proofs.OneReport.{span_output}
 use Rattle.spanprof_command.proofs.SomeAnalysis.{IsAnalysed, some_analysed}
-use Rattle.dispatch_core.proofs.SomeGraph.{AreFirstValues, IsWhole, first_values, some_graph}
-use Rattle.dispatch_core.proofs.SomeGraph.{tree_fits, whole_table}
+use Rattle.dispatch_core.proofs.SomeGraph.{IsWhole, first_values, some_graph, tree_fits}
+use Rattle.dispatch_core.proofs.SomeGraph.{whole_table}
 use Rattle.dispatch_core.specs.declared.event.TheConstants.{MOST_WORKERS}
 use Rattle.spanprof_command.proofs.SomeReplay.{some_said}
 use Rattle.spanprof_command.proofs.TriedSpans.{same_as, tells_trial}
@@ -90,11 +89,12 @@ on_read : (Says : ProgramMarks → Report → Type 0) → SaysSome Says
     → (output : Report) × OnProgram Says input output
 on_read Says some input (Ok program) is =
     let tree : HasTree input program = found_tree_of input program is in
-    let said : (output : Report) × Says program output =
-    some program (whole_table program (tree_fits input program tree)) in
+    let said = some program (whole_table program (tree_fits input program tree)) in
     (said.0, inl (record { program = program; tree = tree; says = said.1 }))
-on_read Says some input (Err fault) is =
-    (program_refusal fault, inr (record { fault = fault; is_fault = read_as input (Err fault) is; says = refl }))
+on_read Says some input (Err fault) is = (
+  program_refusal fault,
+  inr (record { fault = fault; is_fault = read_as input (Err fault) is; says = refl }),
+)
 
 on_program : (Says : ProgramMarks → Report → Type 0) → SaysSome Says → (input : List ℕ)
     → (output : Report) × OnProgram Says input output
@@ -141,8 +141,7 @@ some_slacks program whole =
 -- and to `certify`
 some_certificate : SaysSome Certifies
 some_certificate program whole =
-    let analysed : IsAnalysed (table_of program.marks) =
-    some_analysed (table_of program.marks) whole in (
+    let analysed = some_analysed (table_of program.marks) whole in (
       record { text = certificate program (claim_of analysed.found); status = Done },
       record {
         graph = analysed.graph;
@@ -182,8 +181,7 @@ all_values : (table : Table) (value_of : ℕ → ℕ → ℕ → ℕ) → IsSoun
     → (values : List ℕ) × AreAllValues table value_of values
 all_values table value_of sound =
     let count : ℕ = length table.segments in
-    let all : (values : List ℕ) × AreFirstValues table value_of count values =
-    first_values table value_of sound count
+    let all = first_values table value_of sound count
     (omega arith) in (
       all.0,
       record {
@@ -191,9 +189,8 @@ all_values table value_of sound =
         are_values = λ s value is.
             let within : s < length all.0 = slice_get_within all.0 s value is in
             let same : get_or all.0 s 0 ≡ value = get_or_from_slice_get all.0 s value 0 is in
-            let each = all.1.each in
             subst (λ (v : ℕ). IsValue table value_of s v) same
-            (all.1.are s (omega (arith, within, each)));
+            (all.1.are s (omega (arith, within, all.1.each)));
       },
     )
 
@@ -211,10 +208,8 @@ some_worker_run workers program whole =
     elim (decide_workers workers) [
       | inr outside ↦ (worker_count, inl (record { outside = outside; says = refl }))
       | inl within ↦
-          let graph : (graph : RecordedGraph) × IsGraphOf table graph =
-          some_graph table whole.sound in
-          let values : (values : List ℕ) × AreAllValues table mix_value values =
-          all_values table mix_value whole.sound in (
+          let graph = some_graph table whole.sound in
+          let values = all_values table mix_value whole.sound in (
             run_told graph.0 values.0,
             inr
                 (record {
@@ -276,8 +271,7 @@ some_greedy count program whole =
     elim (thread_count_or_not count) [
       | inl outside ↦ (thread_count, inl (record { outside = outside; says = refl }))
       | inr within ↦
-          let some = within.some in
-          let run = some_greedy_run table count whole (omega (arith, some)) in (
+          let run = some_greedy_run table count whole (omega (arith, within.some)) in (
             record {
               text = numbered_table greedy_header (greedy_row (costs_of table) run.0 run.1) 0
                   (length table.segments);
@@ -314,14 +308,13 @@ some_ends costs R (suc n) some_end_on =
         each = length_push before.0 next.0 ∙ omega (arith, each);
         at_each = λ k less. elim (cases_lt k n) [
           | inl below ↦
-              let same : get_or (before.0 ++ next.0 ∷ []) k 0 ≡ get_or before.0 k 0 =
-              get_or_append_left before.0 (next.0 ∷ []) 0 k (omega (arith, below, each)) in
+              let same = get_or_append_left before.0 (next.0 ∷ []) 0 k (omega (arith, below, each))
+              in
               subst (λ (e : ℕ). IsGreedyEnd costs R (k + 1) e) (sym same)
               (before.1.at_each k below)
           | inr last ↦
               let is_last : n ≡ k = omega (arith, less, last) in
-              let same : get_or (before.0 ++ next.0 ∷ []) n 0 ≡ next.0 =
-              get_or_push before.0 next.0 0 n each in
+              let same = get_or_push before.0 next.0 0 n each in
               let P : ℕ → Type 0 =
               λ j. IsGreedyEnd costs R (j + 1) (get_or (before.0 ++ next.0 ∷ []) j 0) in
               subst P is_last (subst (λ (e : ℕ). IsGreedyEnd costs R (n + 1) e) (sym same) next.1)
@@ -338,8 +331,7 @@ some_curve upto program whole =
       | inr within ↦
           let analysed : IsAnalysed table = some_analysed table whole in
           let span : ℕ = analysed.found.span in
-          let ends : (ends : List ℕ) × IsCurve (costs_of table) (MustPrecede table) upto ends =
-          some_ends (costs_of table) (MustPrecede table) upto
+          let ends = some_ends (costs_of table) (MustPrecede table) upto
           (λ p some. some_end table p whole some) in (
             record {
               text = numbered_table curve_header
@@ -375,13 +367,11 @@ changed_graph : (graph : RecordedGraph) (s cost : ℕ)
     → refusal_of graph s cost ≡ None
     → IsGraph (with_cost graph s cost)
 changed_graph graph s cost is allowed =
-    let each : length (with_cost graph s cost).costs ≡ length graph.costs =
-    length-set graph.costs s cost in
-    let all = is.each in
+    let each = length-set graph.costs s cost in
     let some = is.some in
     let few = is.few in
     record {
-      each = all ∙ sym each;
+      each = is.each ∙ sym each;
       some = omega (arith, each, some);
       few = omega (arith, each, few);
       small = ltb-false MOST_WORK (sum (with_cost graph s cost).costs)
@@ -411,8 +401,7 @@ some_span : (graph : RecordedGraph)
     → IsGraph graph
     → (span : ℕ) × IsSpan graph.costs (Precedes graph) span
 some_span graph is =
-    let starts : (starts : List ℕ) × IsEarliest graph.costs (Precedes graph) starts =
-    earliest_exists graph is in (
+    let starts = earliest_exists graph is in (
       end_of graph.costs starts.0,
       IsSpan-earliest graph.costs (Precedes graph) starts.0
           (IsAscending-graph graph is) starts.1 is.some,
@@ -435,8 +424,7 @@ tries table graph changes (Err why) whole of all = (
 )
 tries table graph changes (Ok tried) whole of all =
     let is : IsGraph graph = graph_of_program table graph whole.sound of in
-    let span : (span : ℕ) × IsSpan tried.costs (Precedes tried) span =
-    some_span tried (tried_graph graph tried changes is all) in
+    let span = some_span tried (tried_graph graph tried changes is all) in
     let was : (span : ℕ) × IsSpan graph.costs (Precedes graph) span = some_span graph is in
     let spans =
     same_span (MustPrecede table) (IsKeptEdge table) whole.sound.goes_up.ascending

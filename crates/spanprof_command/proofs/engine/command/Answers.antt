@@ -8,12 +8,11 @@ pub returns-in-Ok-clause-answers : goal.returns-in-Ok-clause-answers
 returns-in-Ok-clause-answers g c =
     let paid = c.in-Ok.ensures.paid (λ e. cc) in
     let left = c.prepare.ensures.retried in
-    let left_after = c.send.ensures.retried in
     record {
       output = record { text = c.text.result.now; status = c.status.result };
       reads_again = 1000 - c.prepare.new.retries;
       writes_again = c.prepare.new.retries - c.send.new.retries;
-      few = omega (arith, left, left_after);
+      few = omega (arith, left, c.send.ensures.retried);
       intended = inl (record {
         faults = omega (arith, paid, left);
         says = inl (subst (ReportsInput _ _ _)
@@ -27,12 +26,11 @@ pub returns-in-Err-OutOfMemory-clause-answers : goal.returns-in-Err-OutOfMemory-
 returns-in-Err-OutOfMemory-clause-answers g c =
     let paid = c.in-Err-OutOfMemory.ensures.paid (λ e. cc) in
     let left = c.prepare.ensures.retried in
-    let left_after = c.send-in-Err-OutOfMemory.ensures.retried in
     record {
       output = out_of_memory;
       reads_again = 1000 - c.prepare.new.retries;
       writes_again = c.prepare.new.retries - c.send-in-Err-OutOfMemory.new.retries;
-      few = omega (arith, left, left_after);
+      few = omega (arith, left, c.send-in-Err-OutOfMemory.ensures.retried);
       intended = inl (record { faults = omega (arith, paid, left); says = inr refl });
       sent = c.send-in-Err-OutOfMemory.ensures.sends;
     }
@@ -41,12 +39,11 @@ pub returns-in-Err-ReadFault-clause-answers : goal.returns-in-Err-ReadFault-clau
 returns-in-Err-ReadFault-clause-answers g c =
     let failed = c.in-Err-ReadFault.ensures.failed (search rules) in
     let left = c.prepare.ensures.retried in
-    let left_after = c.send-in-Err-ReadFault.ensures.retried in
     record {
       output = read_fault;
       reads_again = 1000 - c.prepare.new.retries;
       writes_again = c.prepare.new.retries - c.send-in-Err-ReadFault.new.retries;
-      few = omega (arith, left, left_after);
+      few = omega (arith, left, c.send-in-Err-ReadFault.ensures.retried);
       intended = inr (record { faults = omega (arith, failed, left); says = refl });
       sent = c.send-in-Err-ReadFault.ensures.sends;
     }
