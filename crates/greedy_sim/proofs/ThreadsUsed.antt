@@ -1,5 +1,5 @@
 -- A run whose last threads have no segment is the run on fewer threads too.
-use Rattle.std.proofs.Common.{◌≡◌, ℕ, zero, suc, ◌+◌, ◌<◌, ◌≤◌, inl, inr, Bool, true, false, List}
+use Rattle.std.proofs.Common.{◌≡◌, ℕ, suc, ◌+◌, ◌<◌, ◌≤◌, inl, inr, true, false, List}
 use Rattle.std.proofs.Common.{[], ◌∷◌, length, Option, Some, None, slice_index_or, refl, ap, sym}
 use Rattle.std.proofs.Common.{◌∙◌, arith, subst, eqb}
 use Rattle.std.specs.List.{list_any, AllByRecursion, IsDistinct}
@@ -7,7 +7,7 @@ use Rattle.std.proofs.lemmas.Bool.{cases_Bool, cases_lt, or_parts, and_parts, eq
 use Rattle.std.proofs.lemmas.Bool.{leb-true, ltb-true}
 use Rattle.std.proofs.lemmas.Map.Steps.{length-le_from_distinct_below}
 use Rattle.task_segments.specs.Schedule.{at}
-use Rattle.greedy_sim.specs.Greedy.{IsGreedyRun, IsThreadOf, runs_at, running_count}
+use Rattle.greedy_sim.specs.Greedy.{IsGreedyRun, runs_at, running_count}
 use Rattle.greedy_sim.specs.Simulation.{UsesBelow}
 use Rattle.greedy_sim.proofs.Sums.{one_if}
 
