@@ -141,7 +141,7 @@ again:  /* Crew::work */
     if :: over -> goto leave :: else fi;
     seen = news;
 #else
-    /* crew.rt: let Some(turn) = signal.turn(signal.news()) else { */
+    /* crew.rt: let turn = match signal.turn(signal.news()) { */
     /* signal.rt: count: self.news.load(Ordering::SeqCst), */
     seen = news;
     /* signal.rt: if self.is_over() { */
@@ -254,7 +254,7 @@ kernel:
     /* dispatcher.rt: match core.finish(worker, outcome) { */
     if
     :: faults > 0 -> faults--;
-        /* dispatcher.rt: self.signal.end(); */
+        /* dispatcher.rt: let ended = self.signal.end(); */
         end_all();
         locked = false;
         goto leave
@@ -281,7 +281,7 @@ kernel:
     fi;
     locked = false;
     at = 0;
-    /* crew.rt: if !station.put(*segment) { */
+    /* station.rt: if !self.put(*token) { */
     do
     :: at < tokens -> d_step { back[me]++; at++ }
     :: else -> break

@@ -75,11 +75,7 @@ alone kind = cond (is_kind kind DependIn) (Some DependIn)
 sharing_alone : (item : Item) (items : List Item) → Contains items item
     → ascend_from 0 items ≡ true
     → sharing_at item.name items ≡ alone item.kind
-sharing_alone item items at_place e =
-    let i = at_place.0 in
-    let each = has_only_its 0 i item in
-    subst (λ (x : Item). sharing_at x.name items ≡ alone x.kind) at_place.2
-    (rw (each DependIn items e at_place.1, each DependInOutSet items e at_place.1) refl)
+sharing_alone item items at_place e = grind (arith, has_only_its)
 
 pub shares_its_kind : (item : Item) (items : List Item) → Contains items item
     → ascend_from 0 items ≡ true

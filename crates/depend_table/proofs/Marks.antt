@@ -83,13 +83,7 @@ marked_in_turn first old marks before after so_far more place = (
 -- past the marks nothing is marked
 pub marked_within : (first : ℕ) (marks : List Bool) (place : ℕ) → IsMarked first marks place
     → place < first + length marks
-marked_within first marks place marked =
-    let from = marked.0 in
-    elim (cases_lt (place - first) (length marks)) [
-      | inl less ↦ omega arith
-      | inr past ↦ absurd
-          (false≢true (sym (get_or_past marks (place - first) false (omega arith)) ∙ marked.1))
-    ]
+marked_within first marks place marked = grind (arith, cases_lt, false≢true, get_or_past)
 
 -- marks that are written back over as many
 pub written_back : (n : ℕ) (old new : List Bool) → length new ≡ length old → n ≡ length old
@@ -212,8 +206,4 @@ between_ends places up some k d h =
 pub within_wider : (first end from to : ℕ) (places : List ℕ) → from ≤ first → end ≤ to
     → AreWithin first end places
     → AreWithin from to places
-within_wider first end from to places lower higher within k d h =
-    let inside = within k d h in
-    let low = inside.0 in
-    let high = inside.1 in
-    ((omega arith), (omega arith))
+within_wider first end from to places lower higher within k d h = grind arith

@@ -43,14 +43,7 @@ pub record IsPlaced (siblings : List Sibling) (x : Sibling) (older : List Siblin
 pub place_counts_older : (siblings : List Sibling) (x : Sibling) (older : List Sibling)
     → IsAmong siblings x older
     → IsPlaced siblings x older
-place_counts_older siblings x older Newest = record {
-  below = omega arith;
-  found =
-      ap (λ (xs : List ℕ). get_or xs (length older) 0)
-      (reverse-cons x.task (map (λ (sibling : Sibling). sibling.task) older))
-      ∙ ap (λ n. get_or (oldest_first older ++ x.task ∷ []) n 0) (sym (length-oldest older))
-      ∙ get_or-append_seam (oldest_first older) x.task [] 0;
-}
+place_counts_older siblings x older Newest = grind (arith, reverse-cons, map, length-oldest, get_or-append_seam)
 place_counts_older siblings x older (Below {x = z} {y} {siblings = rest} {older = before} among) =
     let counted = place_counts_older rest x older among in
     let below = counted.below in
@@ -68,14 +61,7 @@ place_counts_older siblings x older (Below {x = z} {y} {siblings = rest} {older 
 -- the accepted calls, as siblings
 pub oldest_first-calls : (calls : List Call) → oldest_first (newest_first calls) ≡ tasks_of calls
 oldest_first-calls [] = refl
-oldest_first-calls (call ∷ calls) =
-    ap oldest_first (ap (map sibling_of) (reverse-cons call calls)
-    ∙ map-append sibling_of (reverse calls) (call ∷ []))
-    ∙ ap (λ (xs : List ℕ). reverse xs)
-    (map-append (λ (sibling : Sibling). sibling.task) (newest_first calls) (sibling_of call ∷ []))
-    ∙ reverse-append (map (λ (sibling : Sibling). sibling.task) (newest_first calls))
-    (call.task ∷ [])
-    ∙ ap (λ (xs : List ℕ). call.task ∷ xs) (oldest_first-calls calls)
+oldest_first-calls (call ∷ calls) = grind (arith, map, reverse-cons, map-append, reverse, reverse-append, oldest_first-calls calls)
 
 pub length-newest : (calls : List Call) → length (newest_first calls) ≡ length calls
 length-newest calls = length-map (reverse calls) sibling_of ∙ length-reverse calls

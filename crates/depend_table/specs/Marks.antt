@@ -1,4 +1,4 @@
--- Marks on places from some first one on: the mark at place first + k stands at k.
+-- Carried out: marks on places from some first one on: the mark at place first + k stands at k.
 use Rattle.std.specs.Prelude.{ℕ, ◌-◌, ◌≡◌, ◌<◌, ◌≤◌, ◌⊎◌, ◌↔◌, Bool, true, false, List, length, All}
 use Rattle.std.specs.Prelude.{Contains, slice_index_or}
 

@@ -29,8 +29,7 @@ use Rattle.dispatch_core.proofs.DecidedEdges.{decide_kept_edge}
 use Rattle.dispatch_core.proofs.Decisions.{some_list}
 
 pub tree_fits : (text : List ℕ) (program : ProgramMarks) → HasTree text program → IsProgram program
-tree_fits text program (inl h) = h.program_fits
-tree_fits text program (inr h) = h.expanded.program_fits
+tree_fits text program h = h.expanded.program_fits
 
 -- what holds of a program's table
 pub record IsWhole (table : Table) : Type 0 where

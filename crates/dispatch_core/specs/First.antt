@@ -1,4 +1,4 @@
--- What a core keeps at the start of a run.
+-- Carried out: what a core keeps at the start of a run.
 use Rattle.std.specs.Prelude.{◌*◌, ◌≤◌, ◌≡◌, false, None, [], length, replicate, vec_capacity}
 use Rattle.task_segments.specs.Table.{Table, costs_of}
 use Rattle.dispatch_core.specs.declared.event.TheConstants.{MOST_WORKERS}

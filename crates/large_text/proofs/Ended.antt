@@ -1,5 +1,5 @@
 -- Where the text ends: it is whole, or it ends too early.
-use Rattle.std.proofs.Common.{◌≡◌, ℕ, Bool, List, [], ◌∷◌, length, Some, None, ap}
+use Rattle.std.proofs.Common.{◌≡◌, ℕ, Bool, List, [], ◌∷◌, length, Some, None, sym, ap}
 use Rattle.std.proofs.Common.{subst, ◌∙◌, codes}
 use Rattle.std.specs.Prelude.{fold}
 use Rattle.std.specs.List.{flat_map}
@@ -11,11 +11,12 @@ use Rattle.task_program.specs.declared.place.Place.{Place}
 use Rattle.task_program.specs.declared.place.Place.TheVariants.{Header, Version, Statement}
 use Rattle.task_program.specs.Faults.{State, end_at}
 use Rattle.task_program.specs.FirstFault.IsFirstFault.{AtEnd}
-use Rattle.task_program.specs.Grammar.{texts_of, names_of_piece}
+use Rattle.task_program.specs.PlainGrammar.{texts_of, names_of_piece}
 use Rattle.task_program.specs.Names.{with_name}
 use Rattle.task_program.specs.TreeSoFar.{Block}
-use Rattle.task_program.specs.ViablePrefix.{IsSentence}
+use Rattle.task_program.specs.FirstPlainFault.{IsSentence}
 use Rattle.task_program.proofs.FoundPlaces.{Explained}
+use Rattle.task_program.proofs.PlainTrees.{any_tree_of_plain}
 use Rattle.task_program.proofs.Begun.{LengthAt, is_not_viable, viable_next, whole_now}
 use Rattle.task_program.proofs.Tallies.{Tally}
 use Rattle.task_program.proofs.FaultFound.{end_by, whole_ends, texts_long}
@@ -40,17 +41,21 @@ whole_at : (before : List (List ℕ)) (state : State) (place : Place) (blocks : 
 whole_at before state Statement [] marks line e o h =
     let parts = e.0 in
     let explains = e.1 in
+    let nested = none_open marks o in
+    let whole = any_tree_of_plain parts.written state.names marks explains.means
+    (explains.names_are ∙ ap (λ (ns : List (List ℕ)). fold with_name [] ns)
+    (append-nil (flat_map names_of_piece parts.written))) nested in
     record {
       version = parts.version;
-      written = parts.written;
-      names = state.names;
+      body = whole.body;
+      room = whole.room;
+      tree = whole.tree;
       version_is_one = explains.version;
-      spelled = explains.spelled ∙ ap (λ (ts : List (List ℕ)). codes "omptasks" ∷ parts.version ∷ ts)
-          (append-nil (flat_map texts_of parts.written));
-      means = explains.means;
-      names_are = explains.names_are ∙ ap (λ (ns : List (List ℕ)). fold with_name [] ns)
-          (append-nil (flat_map names_of_piece parts.written));
-      nested = none_open marks o;
+      header = explains.spelled ∙ ap (λ (ts : List (List ℕ)). codes "omptasks" ∷ parts.version ∷ ts)
+          (append-nil (flat_map texts_of parts.written) ∙ sym whole.texts_are);
+      spelled = whole.spelled;
+      marks_are = whole.marks_are;
+      nested = nested;
     }
 whole_at before state Statement (block ∷ blocks) marks line e o h = absurd cc
 whole_at before state Header blocks marks line e o h = absurd cc

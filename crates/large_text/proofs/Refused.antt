@@ -13,7 +13,7 @@ use Rattle.task_program.specs.Faults.{State}
 use Rattle.task_program.specs.FirstFault.{IsViable, IsWrong}
 use Rattle.task_program.specs.FirstFault.IsFirstFault.{AtToken}
 use Rattle.task_program.specs.FirstFault.IsWrong.{ByItself, PastLimit}
-use Rattle.task_program.specs.ViablePrefix.{IsSentence}
+use Rattle.task_program.specs.FirstPlainFault.{IsSentence}
 use Rattle.task_program.proofs.Machines.{WrongSo}
 use Rattle.task_program.proofs.Begun.{Began, viable_next}
 use Rattle.task_program.proofs.Begun.{fits_of, closes_same}

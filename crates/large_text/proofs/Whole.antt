@@ -7,7 +7,7 @@ use Rattle.program_text.specs.Marks.{Mark}
 use Rattle.program_text.specs.Tokens.{Token, texts}
 use Rattle.task_program.specs.FirstFault.{IsRight}
 use Rattle.task_program.specs.Faults.{State, start, end_at}
-use Rattle.task_program.specs.ViablePrefix.{IsSentence}
+use Rattle.task_program.specs.FirstPlainFault.{IsSentence}
 use Rattle.task_program.proofs.Machines.{Machine, WrongSo, EndsSo, ends_whole}
 use Rattle.large_text.specs.LargeReading.{large_step}
 use Rattle.large_text.specs.LargeTrees.{HasLargeTree, large_rules, IsLargeRightWhole}

@@ -1,5 +1,5 @@
--- What a reader of marks tests of a token at its place: what it is by itself, whether the grammar has
--- it there, and which limit it passes.
+-- Carried out: what a reader of marks tests of a token at its place: what it is by itself, whether
+-- the grammar has it there, and which limit it passes.
 use Rattle.std.specs.Prelude.{ℕ, Bool, true, false, not, ◌&&◌, ◌==◌, nat_lt}
 use Rattle.std.specs.Prelude.{if◌then◌else◌, List, Option, Some, None, codes}
 use Rattle.program_text.specs.declared.fault.ReadKind.{ReadKind}

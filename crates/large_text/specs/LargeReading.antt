@@ -1,4 +1,4 @@
--- What a reader of marks holds of the tokens and the marks so far.
+-- Carried out: what a reader of marks holds of the tokens and the marks so far.
 use Rattle.std.specs.Prelude.{◌≡◌, ℕ, ◌+◌, ◌≤◌, true, List, [], ◌∷◌, ◌++◌, length, map, reverse}
 use Rattle.std.specs.Prelude.{Option, Some, None, Result, Ok}
 use Rattle.program_text.specs.declared.fault.ReadFault.{ReadFault}

@@ -1,29 +1,30 @@
 -- What a text of any size stands for, and its first fault, apart from any reading.
-use Rattle.std.specs.Prelude.{◌≡◌, ℕ, true, List, [], ◌∷◌, fold, None, codes}
-use Rattle.std.specs.List.{flat_map, AllZip}
+use Rattle.std.specs.Prelude.{◌≡◌, ℕ, true, List, [], ◌∷◌, None, codes}
 use Rattle.program_text.specs.declared.fault.ReadFault.{ReadFault}
 use Rattle.program_text.specs.Marks.{Mark}
 use Rattle.program_text.specs.Tokens.{Token, texts}
 use Rattle.program_text.specs.Words.{is_number, value_of}
 use Rattle.task_program.specs.FirstFault.{Rules, AreRightWhole, IsFirstFault}
 use Rattle.task_program.specs.FirstPlainFault.{plain_rules}
-use Rattle.task_program.specs.Grammar.{Written, texts_of, Means, names_of_piece}
-use Rattle.task_program.specs.Names.{with_name}
+use Rattle.task_program.specs.Loops.{Tree}
+use Rattle.task_program.specs.declared.version.Version.TheVariants.{One}
+use Rattle.task_program.specs.Grammar.{Spelled}
+use Rattle.task_program.specs.ExpandsTo.{state_after_tree}
 use Rattle.task_program.specs.Nested.{IsNested}
 use Rattle.large_text.specs.declared.limits.TheConstants.{MOST_LARGE_TOKEN_BYTES}
 use Rattle.large_text.specs.declared.limits.TheConstants.{MOST_LARGE_NESTING}
 
 -- these tokens are a text of version 1 that stands for these marks, whatever its size
-pub record HasLargeTree (texts : List (List ℕ)) (marks : List Mark) : Type 0 where
+pub record HasLargeTree (all : List (List ℕ)) (marks : List Mark) : Type 0 where
   pub version : List ℕ
-  pub written : List Written
-  pub names : List (List ℕ)
+  pub body : List Token
+  pub room : ℕ
+  pub tree : Tree
   pub version_is_one : (is_number version ≡ true) × (value_of version ≡ 1)
-  -- they are the header and the pieces, which mean the marks
-  pub spelled : texts ≡ codes "omptasks" ∷ version ∷ flat_map texts_of written
-  pub means : AllZip (Means names) written marks
-  -- names are numbered in the order of their first mention
-  pub names_are : names ≡ fold with_name [] (flat_map names_of_piece written)
+  -- they are the header and what is spelled as a tree, the expansion of which has the marks
+  pub header : all ≡ codes "omptasks" ∷ version ∷ texts body
+  pub spelled : Spelled One true [] room body tree
+  pub marks_are : marks ≡ (state_after_tree tree).tree.marks
   -- tasks and groups stand one inside another
   pub nested : IsNested marks
 

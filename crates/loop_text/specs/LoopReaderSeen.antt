@@ -1,4 +1,4 @@
--- The parts of the reader of version 2 as a state of the first pass.
+-- Carried out: the parts of the reader of version 2 as a state of the first pass.
 use Rattle.loop_text.specs.declared.loop_place.LoopPlace.{LoopPlace}
 use Rattle.loop_text.specs.declared.loop_reader.LoopReader.{LoopReader}
 use Rattle.loop_text.specs.FirstPass.{State}

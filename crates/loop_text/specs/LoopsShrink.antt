@@ -1,4 +1,4 @@
--- A body that stands in a statement has fewer statements than the list that holds it.
+-- Carried out: a body that stands in a statement has fewer statements than the list that holds it.
 use Rattle.std.specs.Prelude.{◌≤◌, max, List, [], ◌∷◌, fold}
 use Rattle.std.proofs.Common.{arith}
 use denote.Param.Weighed.{most}

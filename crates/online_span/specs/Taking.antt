@@ -1,4 +1,5 @@
--- The meter over the statements of a program: what it has room for, and what it has taken.
+-- Carried out: the meter over the statements of a program: what it has room for, and what it has
+-- taken.
 use Rattle.std.specs.Prelude.{◌+◌, ◌<◌, ◌≡◌, ◌^◌, List, [], ◌∷◌, ◌++◌, count_by}
 use Rattle.program_text.specs.declared.statement.TaskStmt.{TaskStmt}
 use Rattle.task_program.specs.Limits.{work_of}

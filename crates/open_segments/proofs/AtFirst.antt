@@ -83,21 +83,7 @@ counts_first values n = record {
 
 successors_first : (values : List (Option ℕ)) (n : ℕ)
     → AreSuccessors values (replicate n []) (replicate n [])
-successors_first values n = record {
-  each = refl;
-  listed = λ s list is none t. (
-    λ h. let within = (subst (λ (l : List ℕ). Contains l t) (sym (get-replicate n [] list s is))
-        h).1 in
-        absurd (omega (arith, within)),
-    λ h. let within =
-        (subst (λ (l : List ℕ). Contains l s) (sym (get-replicate n [] h.list t h.is_list))
-        h.has).1 in
-        absurd (omega (arith, within)),
-  );
-  once = λ s list is none. subst (λ (l : List ℕ). AllPairs (λ x y. x ≢ y) l)
-      (get-replicate n [] list s is)
-      (λ i j d less within. let is_within = within in absurd (omega (arith, is_within)));
-}
+successors_first values n = grind (arith, get-replicate)
 
 pub up_to_date_first : (table : Table) (counters : Counters)
     → IsSoundTable table

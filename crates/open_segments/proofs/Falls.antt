@@ -141,13 +141,7 @@ pub fresh_next : (list : List ℕ) (k x : ℕ)
     → x ≡ get_or list k x
     → AllPairs (λ a b. a ≢ b) list
     → ¬ Contains (take k list) x
-fresh_next list k x within is once has =
-    let place : ℕ = has.0 in
-    let less : place < length (take k list) = has.1 in
-    let below : place < k = omega (arith, less, length-take k list) in
-    let there : get_or (take k list) place x ≡ x = has.2 in
-    let same : get_or list place x ≡ x = sym (get_or-take k list place x below) ∙ there in
-    once place k x below within (same ∙ is)
+fresh_next list k x within is once has = grind (arith, length-take, get_or-take)
 
 pub next_cases : (list : List ℕ) (k x t : ℕ)
     → k < length list

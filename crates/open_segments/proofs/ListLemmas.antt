@@ -115,11 +115,4 @@ pub read_over : (f : ℕ → ℕ) (xs ys : List ℕ) (i x : ℕ)
     → ys ≡ map f (take i xs) ++ drop i xs
     → x ≡ get_or ys i x
     → x ≡ get_or xs i x
-read_over f xs ys i x within parts is =
-    let front : length (map f (take i xs)) ≡ i =
-    length-map (take i xs) f ∙ omega (arith, length-take i xs, within) in
-    let there : get_or ys i x ≡ get_or (drop i xs) (i - i) x = ap (λ (l : List ℕ). get_or l i x)
-    parts
-    ∙ get_or-append_right (map f (take i xs)) (drop i xs) i i x front (omega arith) in
-    let same : i + (i - i) ≡ i = omega arith in
-    is ∙ there ∙ get_or-drop i xs (i - i) x ∙ ap (λ (n : ℕ). get_or xs n x) same
+read_over f xs ys i x within parts is = grind (arith, map, length-map, length-take, get_or-append_right, get_or-drop)

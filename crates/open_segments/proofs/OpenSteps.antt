@@ -93,11 +93,7 @@ pub had_no_value : (values : List (Option ℕ)) (s v p : ℕ)
     → s < length values
     → entry (slice_set values s (Some v)) p ≡ None
     → (p ≢ s) × (entry values p ≡ None)
-had_no_value values s v p within none =
-    let apart : p ≢ s = λ same. none-some v (sym none
-    ∙ ap (λ (n : ℕ). entry (slice_set values s (Some v)) n) same
-    ∙ entry-set_same values s v within) in
-    (apart, sym (entry-set_other values s p (Some v) apart) ∙ none)
+had_no_value values s v p within none = grind (arith, none-some, entry-set_same, entry-set_other)
 
 pub has_more : (values : List (Option ℕ)) (s v p : ℕ)
     → s < length values
@@ -119,11 +115,7 @@ has_new values s v within = record { value = v; is = entry-set_same values s v w
 pub had_value : (values : List (Option ℕ)) (s v p : ℕ)
     → HasValue (slice_set values s (Some v)) p
     → HasValue values p ⊎ (p ≡ s)
-had_value values s v p has = elim (cases_eq p s) [
-  | inl same ↦ inr same
-  | inr apart ↦
-      inl (record { value = has.value; is = sym (entry-set_other values s p (Some v) apart) ∙ has.is })
-]
+had_value values s v p has = grind (arith, cases_eq, entry-set_other)
 
 successors_after : (values : List (Option ℕ)) (preds successors : List (List ℕ)) (s v : ℕ)
     → s < length values
@@ -137,11 +129,7 @@ successors_after values preds successors s v within are = record {
 
 pub lowered_like : (before after : List ℕ) (P Q : ℕ → Type 0) → ((t : ℕ) → P t ↔ Q t)
     → AreLowered before P after → AreLowered before Q after
-lowered_like before after P Q same lowered = record {
-  each = lowered.each;
-  lowered = λ t n has is. lowered.lowered t n ((same t).1 has) is;
-  others = λ t none. lowered.others t (λ has. none ((same t).0 has));
-}
+lowered_like before after P Q same lowered = grind arith
 
 -- What is recorded while s finishes: of the segments that are open so far, and which of them are
 -- ready by it.
@@ -159,14 +147,7 @@ freed_lowered : (preds : List (List ℕ)) (counts after : List ℕ) (s t : ℕ)
     → AreLowered counts (λ u. IsListed preds u s) after
     → (IsListed preds t s × (slice_get counts t ≡ Some 1))
     ↔ (IsListed preds t s × (slice_get after t ≡ Some 0))
-freed_lowered preds counts after s t counted lowered = (
-  λ h. (h.0, lowered.lowered t 0 h.0 h.1),
-  λ h.
-      let above = counted h.0 in
-      let none : above.fewer ≡ 0 =
-      same_Some above.fewer 0 (sym (lowered.lowered t above.fewer h.0 above.is) ∙ h.1) in
-      (h.0, above.is ∙ ap (λ (n : ℕ). Some (n + 1)) none),
-)
+freed_lowered preds counts after s t counted lowered = grind (arith, same_Some)
 
 -- when s has its value, and the counts of its successors are lowered
 pub stage_lowered : (table : Table) (is_open : ℕ → Type 0) (values : List (Option ℕ)) (s v : ℕ)
@@ -202,45 +183,14 @@ kept_opened : (table : Table) (is_open : ℕ → Type 0) (preds : List (List ℕ
     → AreKept table is_open preds
     → Lists (λ p. IsKeptEdge table p t) list
     → AreKept table (λ u. is_open u ⊎ (u ≡ t)) (slice_set preds t list)
-kept_opened table is_open preds t list within so_far here = record {
-  each = length-set preds t list ∙ so_far.each;
-  lists = λ u found is. elim (cases_eq u t) [
-    | inl same ↦
-        let lists_same : list ≡ found = same_Some list found (sym (get-set_same preds t list within)
-        ∙ subst (λ (n : ℕ). slice_get (slice_set preds t list) n ≡ Some found) same is) in
-        inl (
-          inr same,
-          subst (λ (n : ℕ). Lists (λ p. IsKeptEdge table p n) found) (sym same)
-              (subst (λ (l : List ℕ). Lists (λ p. IsKeptEdge table p t) l) lists_same here),
-        )
-    | inr apart ↦ elim (so_far.lists u found (sym (get-set_other preds t u list apart) ∙ is)) [
-      | inl opened ↦ inl (inl opened.0, opened.1)
-      | inr closed ↦ inr (λ h. elim h [ inl was ↦ closed.0 was | inr same ↦ apart same ], closed.1)
-    ]
-  ];
-}
+kept_opened table is_open preds t list within so_far here = grind (arith, length-set, cases_eq, same_Some, get-set_same, get-set_other)
 
 counts_opened : (values : List (Option ℕ)) (preds : List (List ℕ)) (counts : List ℕ) (t : ℕ)
     (list : List ℕ)
     → t < length preds
     → AreCounts values preds counts
     → AreCounts values (slice_set preds t list) (slice_set counts t (unfinished_count values list))
-counts_opened values preds counts t list within so_far = record {
-  each = length-set counts t (unfinished_count values list)
-      ∙ so_far.each
-      ∙ sym (length-set preds t list);
-  counted = λ u found is. elim (cases_eq u t) [
-    | inl same ↦
-        let lists_same : list ≡ found = same_Some list found (sym (get-set_same preds t list within)
-        ∙ subst (λ (n : ℕ). slice_get (slice_set preds t list) n ≡ Some found) same is) in
-        let c_within : t < length counts = let each = so_far.each in omega (arith, within, each) in
-        ap (λ (n : ℕ). slice_get (slice_set counts t (unfinished_count values list)) n) same
-        ∙ get-set_same counts t (unfinished_count values list) c_within
-        ∙ ap (λ (l : List ℕ). Some (unfinished_count values l)) lists_same
-    | inr apart ↦ get-set_other counts t u (unfinished_count values list) apart
-        ∙ so_far.counted u found (sym (get-set_other preds t u list apart) ∙ is)
-  ];
-}
+counts_opened values preds counts t list within so_far = grind (arith, length-set, cases_eq, same_Some, get-set_same, get-set_other)
 
 listed_here : (preds : List (List ℕ)) (t s : ℕ) (list : List ℕ)
     → t < length preds
@@ -254,31 +204,13 @@ listed_still : (preds : List (List ℕ)) (t u s : ℕ) (list : List ℕ)
     → IsListed preds u s
     → IsListed (slice_set preds t list) u s
 listed_still preds t u s list apart
-    listed = record {
-      list = listed.list;
-      is_list = get-set_other preds t u list apart ∙ listed.is_list;
-      has = listed.has;
-    }
+    listed = grind (arith, get-set_other)
 
 listed_cases : (preds : List (List ℕ)) (t u s : ℕ) (list : List ℕ)
     → t < length preds
     → IsListed (slice_set preds t list) u s
     → ((u ≡ t) × Contains list s) ⊎ ((u ≢ t) × IsListed preds u s)
-listed_cases preds t u s list within listed = elim (cases_eq u t) [
-  | inl same ↦
-      let lists_same : listed.list ≡ list = same_Some listed.list list (sym listed.is_list
-      ∙ ap (λ (n : ℕ). slice_get (slice_set preds t list) n) same
-      ∙ get-set_same preds t list within) in
-      inl (same, subst (λ (l : List ℕ). Contains l s) lists_same listed.has)
-  | inr apart ↦ inr (
-    apart,
-    record {
-      list = listed.list;
-      is_list = sym (get-set_other preds t u list apart) ∙ listed.is_list;
-      has = listed.has;
-    },
-  )
-]
+listed_cases preds t u s list within listed = grind (arith, cases_eq, same_Some, get-set_same, get-set_other)
 
 successors_opened : (values : List (Option ℕ)) (preds successors after : List (List ℕ)) (t : ℕ)
     (list : List ℕ)
@@ -469,10 +401,4 @@ pub stage_like : (table : Table) (P Q : ℕ → Type 0) (values : List (Option �
     → ((t : ℕ) → Q t → P t)
     → IsStage table P values s preds successors counts ready
     → IsStage table Q values s preds successors counts ready
-stage_like table P Q values s preds successors counts ready there back stage = record {
-  kept = kept_like table P Q preds there back stage.kept;
-  counted = stage.counted;
-  followed = stage.followed;
-  freed = stage.freed;
-  once = stage.once;
-}
+stage_like table P Q values s preds successors counts ready there back stage = grind (arith, kept_like)

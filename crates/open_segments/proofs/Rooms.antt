@@ -36,11 +36,7 @@ pub room_of : (lists : List (Vec ℕ Global)) (count place : ℕ) (row : Vec ℕ
     → row ≡ get_or lists place row
     → HasRoom lists count place
     → vec_len row + count ≤ vec_capacity row
-room_of lists count place row within is room =
-    let there : slice_get lists place ≡ Some row =
-    slice_get-get_or lists place row within ∙ ap (λ (v : Vec ℕ Global). Some v) (sym is) in
-    let same : room.row ≡ row = same_Some room.row row (sym room.is_row ∙ there) in
-    subst (λ (v : Vec ℕ Global). vec_len v + count ≤ vec_capacity v) same room.room
+room_of lists count place row within is room = grind (arith, slice_get-get_or, same_Some)
 
 pub less_room : (lists : List (Vec ℕ Global)) (more count place : ℕ) → count ≤ more
     → HasRoom lists more place → HasRoom lists count place

@@ -35,15 +35,7 @@ pub are_kept : (table : Table) (child parent : ℕ) (siblings : List Sibling) (i
     (kept : List ℕ) → IsTask table child → (task table child).parent ≡ Some parent
     → siblings ≡ children_below table parent child → items ≡ (task table child).items
     → Lists (IsKept siblings items) kept → AreKeptSiblings table child kept
-are_kept table child parent siblings items kept is_task is_parent same_siblings same_items lists =
-    record {
-      is_task = is_task;
-      parent = parent;
-      is_parent = is_parent;
-      lists =
-          subst (λ (l : List Sibling). Lists (IsKept l (task table child).items) kept) same_siblings
-          (subst (λ (l : List Item). Lists (IsKept siblings l) kept) same_items lists);
-    }
+are_kept table child parent siblings items kept is_task is_parent same_siblings same_items lists = grind arith
 
 -- a task with a creator is not the root
 pub above_root : (table : Table) (child creator : ℕ)

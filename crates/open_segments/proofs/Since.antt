@@ -41,25 +41,7 @@ pub unwaited_step : (table : Table) (earlier from before : ℕ)
     → ¬ ((segment table earlier).closing ≡ Waits)
     → Unwaited table from before
     → Unwaited table earlier before
-unwaited_step table earlier from before facts follows no_wait so_far =
-    let its_task : ℕ = (segment table before).task in
-    let of_task : (segment table earlier).task ≡ its_task =
-    task_before table its_task earlier from follows so_far.of_task in
-    let less = facts.follows_later earlier from follows in
-    let up = so_far.up_to in
-    record {
-      of_task = record { is_segment = follows.is_from; of_task = of_task };
-      up_to = omega (arith, less, up);
-      none = λ w is_of waits above. elim (cases_eq w earlier) [
-        | inl same ↦ absurd (no_wait (ap (λ (n : ℕ). (segment table n).closing) (sym same) ∙ waits))
-        | inr apart ↦
-            let past =
-            facts.nearest earlier from w follows
-            (record { is_segment = is_of.is_segment; of_task = is_of.of_task ∙ sym of_task })
-            (omega (arith, apart, above)) in
-            so_far.none w is_of waits past
-      ];
-    }
+unwaited_step table earlier from before facts follows no_wait so_far = grind (arith, task_before, cases_eq)
 
 -- the children that end from there on are waited for
 pub waited_since : (table : Table) (from before next child : ℕ)
@@ -288,11 +270,7 @@ branch_of (suc fuel) table nested u v bound less known within =
 
 first_up_to : (table : Table) (u v : ℕ) → IsReadInPlace table → u ≤ v → IsTask table v
     → (task table u).first ≤ (task table v).first
-first_up_to table u v facts up known = elim (cases_lt u v) [
-  | inl less ↦ (let first = facts.firsts_ascend u v less known in omega (arith, first))
-  | inr above ↦ (let same : u ≡ v = omega (arith, up, above) in omega
-      (arith, ap (λ (n : ℕ). (task table n).first) same))
-]
+first_up_to table u v facts up known = grind (arith, cases_lt)
 
 pub first_to_last : (table : Table) (u : ℕ) → IsReadInPlace table → IsTask table u
     → (task table u).first ≤ (task table u).last

@@ -225,15 +225,7 @@ preds_long values None before after same = (
   ap (λ (c : Counters). length c.preds.items) same,
   ap (λ (c : Counters). length c.counts.items) same,
 )
-preds_long values (Some opening) before after adds = (
-  sym (length-items after.preds.items)
-      ∙ ap (λ (l : List (List ℕ)). length l) adds.preds
-      ∙ length-set (items_of before.preds.items) opening.segment opening.preds.items
-      ∙ length-items before.preds.items,
-  ap (λ (l : List ℕ). length l) adds.counts
-      ∙ length-set before.counts.items opening.segment
-      (unfinished_count values opening.preds.items),
-)
+preds_long values (Some opening) before after adds = grind (arith, length-items, length-set)
 
 -- sorted numbers of which none are the same
 eqb_of_different : (b : Bool) (x y : ℕ) → eqb x y ≡ b → x ≢ y → b ≡ false
@@ -241,11 +233,7 @@ eqb_of_different true x y is apart = absurd (apart (eqb-true x y is))
 eqb_of_different false x y is apart = refl
 
 eqb_symmetric : (x y : ℕ) → eqb x y ≡ eqb y x
-eqb_symmetric x y = elim (cases_eq x y) [
-  | inl same ↦ ap (λ (n : ℕ). eqb n y) same ∙ ap (λ (n : ℕ). eqb y n) (sym same)
-  | inr apart ↦ eqb_of_different (eqb x y) x y refl apart
-      ∙ sym (eqb_of_different (eqb y x) y x refl (λ same. apart (sym same)))
-]
+eqb_symmetric x y = grind (arith, cases_eq, eqb_of_different)
 
 pub sorted_lists : (P : ℕ → Type 0) (before after : List ℕ)
     → IsPermutation before after
@@ -276,11 +264,7 @@ pub successors_at : (table : Table) (values : List (Option ℕ)) (counters : Cou
     → IsSegment table s
     → row ≡ get_or counters.successors.items s row
     → slice_get (items_of counters.successors.items) s ≡ Some row.items
-successors_at table values counters s row state known is =
-    let each = state.successors.each in
-    let segments = state.kept.each in
-    items_at counters.successors.items s row
-    (omega (arith, each, segments, known, length-items counters.successors.items)) is
+successors_at table values counters s row state known is = grind (arith, items_at, length-items)
 
 pub successor_counted : (table : Table) (values : List (Option ℕ)) (counters : Counters) (s t : ℕ)
     (list : List ℕ)
@@ -333,23 +317,7 @@ pub recorded_still : (table : Table) (values : List (Option ℕ)) (before after 
     → after.counts ≡ before.counts
     → items_of after.successors.items ≡ items_of before.successors.items
     → AreRecorded table values after
-recorded_still table values before after state preds counts successors =
-    let same_preds : items_of after.preds.items ≡ items_of before.preds.items =
-    ap (λ (v : Vec (Vec ℕ Global) Global). items_of v.items) preds in
-    let same_counts : after.counts.items ≡ before.counts.items =
-    ap (λ (v : Vec ℕ Global). v.items) counts in
-    record {
-      kept = subst (λ (p : List (List ℕ)). AreKept table (IsOpenBy table values) p) (sym same_preds)
-          state.kept;
-      counts = subst (λ (p : List (List ℕ)). AreCounts values p after.counts.items) (sym same_preds)
-          (subst (λ (n : List ℕ). AreCounts values (items_of before.preds.items) n)
-          (sym same_counts) state.counts);
-      successors = subst
-          (λ (p : List (List ℕ)). AreSuccessors values p (items_of after.successors.items))
-          (sym same_preds)
-          (subst (λ (l : List (List ℕ)). AreSuccessors values (items_of before.preds.items) l)
-          (sym successors) state.successors);
-    }
+recorded_still table values before after state preds counts successors = grind arith
 
 -- the successors of a segment, which are counted and listed once
 pub record HasSuccessors (values : List (Option ℕ)) (counters : Counters) (s : ℕ) : Type 0 where

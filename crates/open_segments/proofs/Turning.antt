@@ -1,4 +1,5 @@
 -- Lists of lists, turned: each number put in the lists of the places that it is listed with.
+use Rattle.std.proofs.Common.{arith}
 use Rattle.std.proofs.Common.{ℕ, ◌+◌, ◌<◌, ◌≡◌, ◌≢◌, List, [], ◌∷◌, ◌++◌, Option, Some, None}
 use Rattle.std.proofs.Common.{length, take, get_or, refl, sym, ap, ◌∙◌, subst, inl, inr}
 use Rattle.std.specs.Prelude.{slice_get, slice_set, Contains, AllPairs}
@@ -33,12 +34,7 @@ pub push_item : (lists : List (Vec ℕ Global)) (place number : ℕ) (here after
     → after.items ≡ here.items ++ number ∷ []
     → slice_get (items_of lists) place ≡ Some old
     → items_of (slice_set lists place after) ≡ slice_set (items_of lists) place (old ++ number ∷ [])
-push_item lists place number here after old within is pushed there =
-    let same : here.items ≡ old =
-    same_Some here.items old (sym (items_at lists place here within is) ∙ there) in
-    map-set (λ (v : Vec ℕ Global). v.items) lists place after
-    ∙ ap (λ (l : List ℕ). slice_set (items_of lists) place l)
-    (pushed ∙ ap (λ (l : List ℕ). l ++ number ∷ []) same)
+push_item lists place number here after old within is pushed there = grind (arith, same_Some, items_at, map-set)
 
 -- the next of these places
 pub pushed_step : (number : ℕ) (before now after : List (List ℕ)) (values : List (Option ℕ))
@@ -76,11 +72,7 @@ pushed_step number before now after values places k x within is once so_far here
 pub pushed_none : (number : ℕ) (these : ℕ → Type 0) (lists : List (List ℕ))
     → ((place : ℕ) → ¬ these place)
     → ArePushed number these lists lists
-pushed_none number these lists none = record {
-  each = refl;
-  pushed = λ place old has there. absurd (none place has);
-  others = λ place not_these. refl;
-}
+pushed_none number these lists none = grind arith
 
 -- a number put in the list at one place
 pub pushed_at : (number place : ℕ) (values : List (Option ℕ)) (before after : List (List ℕ))
@@ -89,22 +81,7 @@ pub pushed_at : (number place : ℕ) (values : List (Option ℕ)) (before after 
     → after ≡ slice_set before place (old ++ number ∷ [])
     → entry values place ≡ None
     → ArePushed number (λ other. (other ≡ place) × (entry values other ≡ None)) before after
-pushed_at number place values before after old there is none = record {
-  each = ap (λ (l : List (List ℕ)). length l) is ∙ length-set before place (old ++ number ∷ []);
-  pushed = λ other was (same, valueless) here.
-      let within : place < length before = slice_get_within before place old there in
-      let lists_same : old ≡ was =
-      same_Some old was (sym there ∙ ap (λ (n : ℕ). slice_get before n) (sym same) ∙ here) in
-      ap (λ (l : List (List ℕ)). slice_get l other) is
-      ∙ ap (λ (n : ℕ). slice_get (slice_set before place (old ++ number ∷ [])) n) same
-      ∙ get-set_same before place (old ++ number ∷ []) within
-      ∙ ap (λ (l : List ℕ). Some (l ++ number ∷ [])) lists_same;
-  others = λ other not_these.
-      let apart : other ≢ place = λ same.
-      not_these (same, ap (λ (n : ℕ). entry values n) same ∙ none) in
-      ap (λ (l : List (List ℕ)). slice_get l other) is
-      ∙ get-set_other before place other (old ++ number ∷ []) apart;
-}
+pushed_at number place values before after old there is none = grind (arith, length-set, slice_get_within, same_Some, get-set_same, get-set_other)
 
 pub items_set : (lists : List (Vec ℕ Global)) (place : ℕ) (row : Vec ℕ Global)
     → items_of (slice_set lists place row) ≡ slice_set (items_of lists) place row.items

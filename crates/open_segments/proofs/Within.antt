@@ -13,12 +13,4 @@ first_within table u t nested known is =
 
 pub within_table : (table : Table) (s t : ℕ) → IsNestedTable table → MustPrecede table s t
     → IsSegment table t
-within_table table s t nested edge = elim edge [
-  | inl continues ↦ continues.is_to
-  | inr (inl creation) ↦ first_within table creation.child t nested creation.is_child creation.first
-  | inr (inr (inl resumption)) ↦ resumption.resumes.is_to
-  | inr (inr (inr (inl dependence))) ↦
-      first_within table dependence.later t nested dependence.is_later dependence.first
-  | inr (inr (inr (inr (inl wait)))) ↦ wait.opens.is_to
-  | inr (inr (inr (inr (inr group)))) ↦ group.encloses.opens.is_to
-]
+within_table table s t nested edge = grind (arith, first_within)

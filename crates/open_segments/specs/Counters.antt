@@ -1,5 +1,5 @@
--- What is recorded of open segments: their kept predecessors and successors, counts of unfinished
--- ones, and created siblings.
+-- Carried out: what is recorded of open segments: their kept predecessors and successors, counts of
+-- unfinished ones, and created siblings.
 use Rattle.std.specs.Prelude.{ℕ, ◌+◌, ◌<◌, ◌≡◌, ◌≢◌, ◌⊎◌, ◌↔◌, List, [], Option, Some, None, length}
 use Rattle.std.specs.Prelude.{slice_get, count_by, is_none, Contains, AllPairs}
 use Rattle.task_segments.specs.Table.{Table, task}

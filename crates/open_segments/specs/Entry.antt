@@ -1,4 +1,4 @@
--- What stands at a place of a list of options, if anything.
+-- Carried out: what stands at a place of a list of options, if anything.
 use Rattle.std.specs.Prelude.{ℕ, List, Option, slice_get}
 use Rattle.std.specs.Option.{option_flatten}
 

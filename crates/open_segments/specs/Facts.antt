@@ -1,4 +1,4 @@
--- What holds of every table, as the steps of a run ask for it.
+-- Carried out: what holds of every table, as the steps of a run ask for it.
 use Rattle.std.specs.Prelude.{◌+◌, ◌<◌, ◌≤◌, length, sum}
 use Rattle.program_text.specs.declared.limits.TheConstants.{MOST_SEGMENTS, MOST_TASKS, MOST_WORK}
 use Rattle.task_segments.specs.Table.{Table, costs_of}

@@ -1,4 +1,5 @@
--- The kept predecessors of the first segments, and the siblings that are entered by then.
+-- Carried out: the kept predecessors of the first segments, and the siblings that are entered by
+-- then.
 use Rattle.std.specs.Prelude.{ℕ, ◌<◌, ◌≡◌, List, [], Option, length, slice_index_or}
 use Rattle.task_segments.specs.Table.{Table}
 use Rattle.depend_table.specs.Kept.{IsKeptEdge}

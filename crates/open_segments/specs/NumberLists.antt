@@ -1,4 +1,4 @@
--- Lists of numbers with a place for each number.
+-- Carried out: lists of numbers with a place for each number.
 use Rattle.std.specs.Prelude.{ℕ, ◌++◌, ◌∷◌, [], ◌≡◌, List, Some, Vec, length, map, slice_get}
 use Rattle.std.specs.Prelude.{Contains}
 use Rattle.std.specs.declared.alloc.Global.{Global}

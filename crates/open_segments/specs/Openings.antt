@@ -1,4 +1,4 @@
--- What opens at the finish of a segment, and how it is entered.
+-- Carried out: what opens at the finish of a segment, and how it is entered.
 use Rattle.std.specs.Prelude.{ℕ, ◌+◌, ◌<◌, ◌≤◌, ◌≡◌, ◌≢◌, ◌↔◌, ◌++◌, ◌∷◌, [], List, Option, Some}
 use Rattle.std.specs.Prelude.{None, Vec, length, slice_get, slice_set, Contains, AllPairs, vec_len}
 use Rattle.std.specs.Prelude.{vec_capacity}

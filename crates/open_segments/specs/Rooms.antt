@@ -1,4 +1,4 @@
--- Room for more in lists of numbers with a place for each number.
+-- Carried out: room for more in lists of numbers with a place for each number.
 use Rattle.std.specs.Prelude.{ℕ, ◌+◌, ◌≤◌, ◌≡◌, List, Some, Vec, slice_get, vec_len, vec_capacity}
 use Rattle.std.specs.declared.alloc.Global.{Global}
 use Rattle.open_segments.specs.NumberLists.{items_of}

@@ -1,4 +1,4 @@
--- What a core has recorded agrees with what is finished.
+-- Carried out: what a core has recorded agrees with what is finished.
 use Rattle.std.specs.Prelude.{ℕ, ◌≡◌, List, Option, Some, slice_get}
 use Rattle.task_segments.specs.Table.{Table}
 use Rattle.open_segments.specs.declared.counters.Counters.{Counters}

@@ -1,4 +1,4 @@
--- Which kept edges lead to a segment, by how it opens.
+-- Carried out: which kept edges lead to a segment, by how it opens.
 use Rattle.std.specs.Prelude.{ℕ, ◌≡◌, ◌⊎◌, Some, List}
 use Rattle.task_segments.specs.Table.{Table, task}
 use Rattle.task_segments.specs.Precedence.{IsTask}

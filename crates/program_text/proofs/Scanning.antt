@@ -1,11 +1,12 @@
 -- How the scanner goes on from byte to byte, and from token to token.
-use Rattle.std.proofs.Common.{◌≡◌, ℕ, suc, ◌-◌, ◌<◌, ◌≤◌, Bool, true, false, ◌&&◌, cond, List}
+use Rattle.std.proofs.Common.{◌≡◌, ℕ, suc, ◌-◌, ◌<◌, ◌≤◌, Bool, true, false, not, ◌&&◌, cond, List}
 use Rattle.std.proofs.Common.{[], ◌∷◌, length, take, drop, max, get_or, refl, sym, ap, ◌∙◌, arith}
 use Rattle.std.proofs.Common.{eqb, ltb, false-eqb}
 use Rattle.std.specs.Prelude.{count_by}
 use Rattle.std.specs.List.{list_all, prefix_len}
+use Rattle.std.proofs.lemmas.Bool.Decides.{nat_tests}
 use Rattle.std.proofs.lemmas.Bool.{eqb-true, lt-ltb, ne_eqb, or_parts}
-use Rattle.std.proofs.lemmas.List.{take_all}
+use Rattle.std.proofs.lemmas.List.{take_all, length-drop}
 use Rattle.std.proofs.lemmas.List.Sums.{prefix_len-le-length}
 use Rattle.std.proofs.lemmas.Grind.{common_steps}
 use Rattle.program_text.specs.Tokens.{is_gap, in_comment_after, is_blank, is_line_feed, is_run_byte}
@@ -19,16 +20,21 @@ pub rest_of_cons : (b : ℕ) (bytes : List ℕ)
     → take (length (b ∷ bytes) - 1) (drop 1 (b ∷ bytes)) ≡ bytes
 rest_of_cons b bytes = take_all _ _ (omega arith)
 
--- a byte of a gap adds no token
-pub gap_goes_on : (c : Bool) (line : ℕ) (bytes : List ℕ)
+blank_is_no_hash : (b : ℕ) → is_blank b ≡ true → in_comment_after false b ≡ false
+blank_is_no_hash b h = grind (arith, nat_tests)
+
+-- a blank adds no token
+pub blank_goes_on : (line : ℕ) (bytes : List ℕ)
     → 1 ≤ length bytes
-    → is_gap c (get_or bytes 0 0) ≡ true
-    → tokens_from (in_comment_after c (get_or bytes 0 0)) (line_after (get_or bytes 0 0) line)
+    → is_blank (get_or bytes 0 0) ≡ true
+    → tokens_from false (line_after (get_or bytes 0 0) line)
     (take (length bytes - 1) (drop 1 bytes))
-    ≡ tokens_from c line bytes
+    ≡ tokens_from false line bytes
 unfolding tokens_from
-gap_goes_on c line [] some h = absurd (omega arith)
-gap_goes_on c line (b ∷ bytes) some h = rw (rest_of_cons b bytes, h) refl
+blank_goes_on line [] some h = absurd (omega arith)
+blank_goes_on line (b ∷ bytes) some h =
+    let outside : in_comment_after false b ≡ false = blank_is_no_hash b h in
+    rw (rest_of_cons b bytes, h, outside) refl
 
 pub line_goes_on : (line : ℕ) (bytes : List ℕ) → 1 ≤ length bytes
     → line_at_end (line_after (get_or bytes 0 0) line) (take (length bytes - 1) (drop 1 bytes))
@@ -36,27 +42,75 @@ pub line_goes_on : (line : ℕ) (bytes : List ℕ) → 1 ≤ length bytes
 line_goes_on line [] some = absurd (omega arith)
 line_goes_on line (b ∷ bytes) some = rw (rest_of_cons b bytes) (grind (arith, common_steps))
 
-comment_goes_on : (c : Bool) → in_comment_after c 32 ≡ c
-comment_goes_on true = refl
-comment_goes_on false = refl
-
--- nor does a space, after which the line and the comment are the same
-pub space_goes_on : (c : Bool) (line : ℕ) (bytes : List ℕ)
-    → 1 ≤ length bytes
-    → get_or bytes 0 0 ≡ 32
-    → is_gap c (get_or bytes 0 0) ≡ true
-    → (tokens_from c line (take (length bytes - 1) (drop 1 bytes)) ≡ tokens_from c line bytes)
+-- nor does a space, after which the line is the same
+pub space_goes_on : (line : ℕ) (bytes : List ℕ) → 1 ≤ length bytes → get_or bytes 0 0 ≡ 32
+    → (tokens_from false line (take (length bytes - 1) (drop 1 bytes)) ≡ tokens_from false line bytes)
     × (line_at_end line (take (length bytes - 1) (drop 1 bytes)) ≡ line_at_end line bytes)
-space_goes_on c line bytes some space gap =
+space_goes_on line bytes some space =
     let rest = take (length bytes - 1) (drop 1 bytes) in
-    let after = in_comment_after c (get_or bytes 0 0) in
-    let same_comment : after ≡ c = ap (in_comment_after c) space ∙ comment_goes_on c in
     let same_line : line_after (get_or bytes 0 0) line ≡ line =
     ap (λ (b : ℕ). line_after b line) space in (
-      sym (ap (λ (d : Bool). tokens_from d line rest) same_comment)
-          ∙ sym (ap (λ (n : ℕ). tokens_from after n rest) same_line)
-          ∙ gap_goes_on c line bytes some gap,
+      sym (ap (λ (n : ℕ). tokens_from false n rest) same_line)
+          ∙ blank_goes_on line bytes some (ap is_blank space),
       sym (ap (λ (n : ℕ). line_at_end n rest) same_line) ∙ line_goes_on line bytes some,
+    )
+
+one_more : (p : ℕ → Bool) (b : ℕ) (bytes : List ℕ) → p b ≡ true
+    → prefix_len p (b ∷ bytes) ≡ suc (prefix_len p bytes)
+one_more p b bytes h = rw h (omega arith)
+
+-- a comment ends before the next LF
+comment_ends : (line : ℕ) (bytes : List ℕ)
+    → tokens_from true line bytes
+    ≡ tokens_from false line (drop (prefix_len (λ b. not (is_line_feed b)) bytes) bytes)
+unfolding tokens_from
+comment_ends line [] = refl
+comment_ends line (b ∷ bytes) =
+    bool_cases (is_line_feed b)
+    (λ feed. rw (eqb-true b 10 feed) refl)
+    (λ other. rw (one_more (λ b. not (is_line_feed b)) b bytes (ap not other), other)
+    (comment_ends line bytes))
+
+comment_has_no_feed : (bytes : List ℕ)
+    → count_by is_line_feed (drop (prefix_len (λ b. not (is_line_feed b)) bytes) bytes)
+    ≡ count_by is_line_feed bytes
+comment_has_no_feed [] = refl
+comment_has_no_feed (b ∷ bytes) =
+    bool_cases (is_line_feed b)
+    (λ feed. rw (eqb-true b 10 feed) refl)
+    (λ other. rw (one_more (λ b. not (is_line_feed b)) b bytes (ap not other), other)
+    (comment_has_no_feed bytes))
+
+hash_begins : (line b : ℕ) (bytes : List ℕ) → b ≡ 35
+    → tokens_from true line bytes ≡ tokens_from false line (b ∷ bytes)
+unfolding tokens_from
+hash_begins line b bytes hash = rw hash refl
+
+-- what a slice `[n..]` is
+slice_is_drop : (n : ℕ) (bytes : List ℕ) → take (length bytes - n) (drop n bytes) ≡ drop n bytes
+slice_is_drop n bytes = take_all _ _ (omega (arith, length-drop n bytes))
+
+-- and adds no token; `rest` is what stands behind its `#`, and `n` how far the comment goes there
+pub comment_goes_on : (line : ℕ) (bytes : List ℕ) (n : ℕ)
+    → 1 ≤ length bytes
+    → get_or bytes 0 0 ≡ 35
+    → let rest = take (length bytes - 1) (drop 1 bytes) in
+    n ≡ prefix_len (λ b. not (is_line_feed b)) rest
+    → (tokens_from false line (take (length rest - n) (drop n rest)) ≡ tokens_from false line bytes)
+    × (line_at_end line (take (length rest - n) (drop n rest)) ≡ line_at_end line bytes)
+    × (length (take (length rest - n) (drop n rest)) ≤ length bytes)
+comment_goes_on line [] n some hash n_is = absurd (omega arith)
+comment_goes_on line (b ∷ bytes) n some hash n_is =
+    let rest = take (length (b ∷ bytes) - 1) (drop 1 (b ∷ bytes)) in
+    let all : rest ≡ bytes = rest_of_cons b bytes in
+    let n_there : n ≡ prefix_len (λ b. not (is_line_feed b)) bytes =
+    n_is ∙ ap (λ bytes. prefix_len (λ b. not (is_line_feed b)) bytes) all in
+    let same : take (length rest - n) (drop n rest)
+    ≡ drop (prefix_len (λ b. not (is_line_feed b)) bytes) bytes =
+    slice_is_drop n rest ∙ rw (all, n_there) refl in (
+      rw same (sym (comment_ends line bytes) ∙ hash_begins line b bytes hash),
+      rw (same, comment_has_no_feed bytes, hash) refl,
+      rw same (omega (arith, length-drop (prefix_len (λ b. not (is_line_feed b)) bytes) bytes)),
     )
 
 -- nothing is left
@@ -103,11 +157,6 @@ run_is_no_gap b h =
     )
     refl
 
-one_more : (b : ℕ) (bytes : List ℕ)
-    → is_run_byte b ≡ true
-    → prefix_len is_run_byte (b ∷ bytes) ≡ suc (prefix_len is_run_byte bytes)
-one_more b bytes h = rw h (omega arith)
-
 -- a byte that is no run byte, and belongs to no gap, is a token
 pub single_token : (line b : ℕ) (bytes : List ℕ) → is_gap false b ≡ false → is_run_byte b ≡ false
     → tokens_from false line (b ∷ bytes)
@@ -130,7 +179,7 @@ run_token line b (d ∷ bytes) h =
       tokens_step line b (d ∷ bytes) no_gap,
       no_hash b no_gap,
       no_feed b line no_gap,
-      one_more b (d ∷ bytes) h,
+      one_more is_run_byte b (d ∷ bytes) h,
       run_token line d bytes more,
       h,
       more,
@@ -163,7 +212,7 @@ run_has_no_feed [] = refl
 run_has_no_feed (b ∷ bytes) =
     bool_cases (is_run_byte b)
     (λ run.
-    rw (one_more b bytes run, feed_free b (run_is_no_gap b run), run_has_no_feed bytes) refl)
+    rw (one_more is_run_byte b bytes run, feed_free b (run_is_no_gap b run), run_has_no_feed bytes) refl)
     (λ other. rw other refl)
 
 -- at a token, the scanner takes that token and leaves the rest
@@ -173,7 +222,7 @@ takes_token line [] some stands = absurd (omega arith)
 takes_token line (b ∷ bytes) some stands =
     bool_cases (is_run_byte b)
     (λ run. let long : max (prefix_len is_run_byte (b ∷ bytes)) 1
-    ≡ prefix_len is_run_byte (b ∷ bytes) = omega (arith, one_more b bytes run) in
+    ≡ prefix_len is_run_byte (b ∷ bytes) = omega (arith, one_more is_run_byte b bytes run) in
     record {
       within = rw long (prefix_len-le-length is_run_byte (b ∷ bytes));
       first = rw long
@@ -211,7 +260,7 @@ run_bytes_alone : (bytes : List ℕ)
 run_bytes_alone [] = refl
 run_bytes_alone (b ∷ bytes) =
     bool_cases (is_run_byte b)
-    (λ run. rw (one_more b bytes run, run, run_bytes_alone bytes) refl)
+    (λ run. rw (one_more is_run_byte b bytes run, run, run_bytes_alone bytes) refl)
     (λ other. rw other refl)
 
 first_is_run : (bytes : List ℕ) → 0 < length bytes
@@ -220,13 +269,13 @@ first_is_run [] some = absurd (omega arith)
 first_is_run (b ∷ bytes) some =
     bool_cases (is_run_byte b)
     (λ run. let long : token_length (b ∷ bytes) ≡ suc (prefix_len is_run_byte bytes) =
-    omega (arith, one_more b bytes run) in
+    omega (arith, one_more is_run_byte b bytes run) in
     let further = prefix_len is_run_byte bytes in
     let size : length (take (suc further) (b ∷ bytes)) ≡ suc (length (take further bytes)) = refl in
     let full : eqb (length (take (suc further) (b ∷ bytes))) 0 ≡ false =
     ne_eqb (length (take (suc further) (b ∷ bytes))) 0 (λ none. omega (arith, size, none)) in
     let one : ltb 0 (prefix_len is_run_byte (b ∷ bytes)) ≡ true =
-    lt-ltb 0 (prefix_len is_run_byte (b ∷ bytes)) (omega (arith, one_more b bytes run)) in
+    lt-ltb 0 (prefix_len is_run_byte (b ∷ bytes)) (omega (arith, one_more is_run_byte b bytes run)) in
     rw (one, long, full, run, run_bytes_alone bytes) refl)
     (λ other. let none : prefix_len is_run_byte (b ∷ bytes) ≡ 0 = rw other refl in
     let long : token_length (b ∷ bytes) ≡ 1 = rw none refl in

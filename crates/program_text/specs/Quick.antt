@@ -1,5 +1,5 @@
--- Lists of depend items that do not conflict, as a quick look shows: both only read, or their names
--- are numbered apart.
+-- Carried out: lists of depend items that do not conflict, as a quick look shows: both only read,
+-- or their names are numbered apart.
 use Rattle.std.specs.Prelude.{ℕ, ◌<◌, ◌≤◌, ◌⊎◌, Bool, true, false, List, length, slice_index_or}
 use Rattle.program_text.specs.declared.statement.DependKind.{DependKind}
 use Rattle.program_text.specs.declared.statement.DependKind.TheVariants.{DependIn}

@@ -1,4 +1,4 @@
--- A body that stands in a statement has fewer marks than the statements.
+-- Carried out: a body that stands in a statement has fewer marks than the statements.
 use Rattle.std.specs.Prelude.{◌≤◌, max, List, [], ◌∷◌, length}
 use Rattle.std.proofs.Common.{arith, length-append}
 use denote.Param.Weighed.{most}

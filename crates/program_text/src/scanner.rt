@@ -1,8 +1,8 @@
 //! The tokens of a text, one after another.
-ghost use Rattle.std.specs.Prelude.{◌≡◌, ◌+◌, ◌<◌, ◌≤◌, ◌^◌, ◌∷◌, [], length, true, false};
+ghost use Rattle.std.specs.Prelude.{◌≡◌, ◌+◌, ◌<◌, ◌≤◌, ◌^◌, ◌∷◌, [], length, true, false, not};
 ghost use Rattle.std.specs.Prelude.{count_by};
 ghost use Rattle.std.specs.List.{prefix_len};
-ghost use Rattle.program_text.specs.Tokens.{is_gap, in_comment_after, is_blank, is_run_byte};
+ghost use Rattle.program_text.specs.Tokens.{is_blank, is_run_byte};
 ghost use Rattle.program_text.specs.Tokens.{tokens_from, line_at_end, line_after, is_line_feed};
 ghost use Rattle.program_text.specs.Tokens.{StandsAtToken};
 ghost use Rattle.program_text.specs.Words.{is_number, is_run};
@@ -118,19 +118,27 @@ impl<'a> Scanner<'a> {
         ensures stops { StandsAtToken self.new.rest.now }
         ensures shrinks { length self.new.rest.now ≤ length self.old.rest.now }
     {
-        let mut in_comment = false;
         'gap: while let [byte, rest @ ..] = self.rest {
-            if !is_gap(in_comment, *byte) {
+            if *byte == b' ' {
+                self.rest = rest;
+            } else if *byte == b'#' {
+                self.rest = &rest[comment_length(rest)..];
+            } else if is_blank(*byte) {
+                self.rest = rest;
+                self.line = line_after(*byte, self.line);
+            } else {
                 return;
             }
-            self.rest = rest;
-            if *byte == b' ' {
-                continue 'gap;
-            }
-            in_comment = in_comment_after(in_comment, *byte);
-            self.line = line_after(*byte, self.line);
         }
     }
+}
+
+/// How many bytes stand before the next LF, or before the end of the text where there is none.
+fn comment_length(bytes: &[u8]) -> usize
+    ensures comment { result ≡ prefix_len (λ byte. not (is_line_feed byte)) bytes.now }
+    ensures within { result ≤ length bytes.now }
+{
+    bytes.iter().take_while(|byte| **byte != b'\n').count()
 }
 
 /// How many run bytes the text begins with.
@@ -138,22 +146,6 @@ fn run_length(bytes: &[u8]) -> usize
     ensures { result ≡ prefix_len is_run_byte bytes.now }
 {
     bytes.iter().take_while(|byte| is_run_byte(**byte)).count()
-}
-
-fn is_gap(in_comment: bool, byte: u8) -> bool
-    ensures { result ≡ is_gap in_comment byte }
-{
-    in_comment || is_blank(byte) || byte == b'#'
-}
-
-fn in_comment_after(in_comment: bool, byte: u8) -> bool
-    ensures { result ≡ in_comment_after in_comment byte }
-{
-    if in_comment {
-        byte != b'\n'
-    } else {
-        byte == b'#'
-    }
 }
 
 fn line_after(byte: u8, line: u32) -> u32

@@ -18,7 +18,7 @@ use Rattle.span_analysis.proofs.Existence.{earliest_exists}
 use Rattle.span_analysis.proofs.PassSteps.{AreRaised-keep, AreRaised-none, AreRaised-set}
 use Rattle.span_analysis.proofs.PassSteps.{AreTailsFrom-more, AreTailsFrom-none, IsAscending-graph}
 use Rattle.span_analysis.proofs.PassSteps.{IsTails-all}
-use Rattle.span_analysis.specs.Critical.{Delays, DelaysFirst, EndsLast, IsSmallest, LeadsTo}
+use Rattle.span_analysis.specs.Critical.{Delays, EndsLast, IsSmallest, LeadsTo}
 use Rattle.span_analysis.specs.Findings.{Findings, IsAnalysis}
 use Rattle.span_analysis.specs.Passes.{AreRaised, AreTailsFrom}
 use Rattle.dispatch_core.proofs.Decisions.{IsDecided, IsFirst, decided_by_equivalent, decide_below}
@@ -34,10 +34,7 @@ some_raised : (places : List ℕ) (floor : ℕ) (old : List ℕ)
     → (new : List ℕ) × (length new ≡ length old) × AreRaised (take i places) floor old new
 some_raised places floor old inside zero all = (old, refl, AreRaised-none places floor old)
 some_raised places floor old inside (suc i) all =
-    let before : (new : List ℕ)
-    × (length new ≡ length old)
-    × AreRaised (take i places) floor old new =
-    some_raised places floor old inside i (omega (arith, all)) in
+    let before = some_raised places floor old inside i (omega (arith, all)) in
     let place : ℕ = get_or places i 0 in
     let within : i < length places = omega (arith, all) in
     let known : place < length old = inside place (Contains-get_or places i 0 within) in
@@ -77,18 +74,13 @@ some_tails_from graph is zero low all =
           (AreTailsFrom-none graph none (length-replicate (length graph.costs) 0) zeros),
     )
 some_tails_from graph is (suc d) low all =
-    let later : (tails : List ℕ) × AreTailsFrom graph (low + 1) tails =
-    some_tails_from graph is d (low + 1) (omega (arith, all)) in
+    let later = some_tails_from graph is d (low + 1) (omega (arith, all)) in
     let places : List ℕ = predecessors_of graph low in
     let floor : ℕ = at graph.costs low + at later.0 low in
-    let each = later.1.each in
     let inside : (s : ℕ) → Contains places s → s < length later.0 =
-    λ s h. let less = is.smaller s low h in omega (arith, less, each, all) in
-    let raised : (new : List ℕ) × (length new ≡ length later.0) × AreRaised
-    (take (length places) places) floor later.0 new =
-    some_raised places floor later.0 inside (length places) (omega arith) in
-    let whole : take (length places) places ≡ places =
-    take_all (length places) places (omega arith) in (
+    λ s h. let less = is.smaller s low h in omega (arith, less, later.1.each, all) in
+    let raised = some_raised places floor later.0 inside (length places) (omega arith) in
+    let whole = take_all (length places) places (omega arith) in (
       raised.0,
       AreTailsFrom-more graph low later.0 raised.0 is (omega (arith, all)) raised.1 later.1
           (subst (λ (ps : List ℕ). AreRaised ps floor later.0 raised.0) whole raised.2),
@@ -98,8 +90,7 @@ some_tails : (graph : RecordedGraph)
     → IsGraph graph
     → (tails : List ℕ) × IsTails graph.costs (Precedes graph) tails
 some_tails graph is =
-    let all : (tails : List ℕ) × AreTailsFrom graph 0 tails =
-    some_tails_from graph is (length graph.costs) 0 (omega arith) in
+    let all = some_tails_from graph is (length graph.costs) 0 (omega arith) in
     (all.0, IsTails-all graph all.0 all.1)
 
 -- ---- the chain
@@ -159,15 +150,12 @@ leads_from graph starts is earliest last (suc bound) member chain below from =
     elim
     (find_first (Delays graph starts member) member (λ s. decide_delays graph starts member s)) [
       | inr found ↦
-          let first : DelaysFirst graph starts found.0 member =
-          is_smallest (Delays graph starts member) member found.0 found.1 in
-          let lower = found.1.below in
+          let first = is_smallest (Delays graph starts member) member found.0 found.1 in
           leads_from graph starts is earliest last bound found.0 (found.0 ∷ chain)
-          (omega (arith, lower, below))
+          (omega (arith, found.1.below, below))
           (IsChainFrom-more graph starts last member found.0 chain is from first)
       | inl none ↦
-          let first : member ≡ 0 =
-          first_of_all graph starts member is earliest from.inside
+          let first = first_of_all graph starts member is earliest from.inside
           (λ s h. none s (is.smaller s member h.precedes) h) in
           (chain, LeadsTo-all graph starts last member chain first from)
     ]
@@ -179,15 +167,12 @@ pub some_analysis : (graph : RecordedGraph)
     → IsGraph graph
     → (found : Findings) × IsAnalysis graph found
 some_analysis graph is =
-    let starts : (starts : List ℕ) × IsEarliest graph.costs (Precedes graph) starts =
-    earliest_exists graph is in
-    let tails : (tails : List ℕ) × IsTails graph.costs (Precedes graph) tails =
-    some_tails graph is in
-    let last : (last : ℕ) × IsSmallest (EndsLast graph starts.0) last =
-    some_last graph starts.0 is starts.1.legal.each in
+    let starts = earliest_exists graph is in
+    let tails = some_tails graph is in
+    let last = some_last graph starts.0 is starts.1.legal.each in
     let inside : last.0 < length graph.costs = last.1.holds.is_segment in
-    let chain : (chain : List ℕ) × LeadsTo graph starts.0 last.0 chain =
-    leads_from graph starts.0 is starts.1 last.0 (suc last.0) last.0 (last.0 ∷ []) (omega arith)
+    let chain = leads_from graph starts.0 is starts.1 last.0 (suc last.0) last.0 (last.0 ∷ [])
+    (omega arith)
     (IsChainFrom-one graph starts.0 last.0 inside) in
     let end : ℕ = end_of graph.costs starts.0 in
     let room : ℕ → ℕ = λ s. end - (at starts.0 s + at graph.costs s + at tails.0 s) in
@@ -202,8 +187,8 @@ some_analysis graph is =
     } in
     let fits : (s : ℕ) → s < length graph.costs
     → at starts.0 s + at slacks s + at graph.costs s + at tails.0 s ≡ end = λ s known.
-    let within : at starts.0 s + at graph.costs s + at tails.0 s ≤ end =
-    tail-fits graph.costs (Precedes graph) tails.0 starts.0 end (IsAscending-graph graph is) tails.1
+    let within = tail-fits graph.costs (Precedes graph) tails.0 starts.0 end
+    (IsAscending-graph graph is) tails.1
     starts.1.legal
     (omega arith) s known in
     let same : at slacks s ≡ room s = at-by_rule room (length graph.costs) s known in

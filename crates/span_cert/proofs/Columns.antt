@@ -1,14 +1,14 @@
 -- The first broken pair of each column, and of all.
-use Rattle.std.proofs.Common.{◌≡◌, ◌<◌, ◌≤◌, ◌+◌, ◌/◌, ◌%◌, ℕ}
-use Rattle.std.proofs.Common.{List, length, Option, Some, None, MatchOption, arith, inl, inr, subst}
-use Rattle.std.proofs.Common.{sym, get_or, zero, suc, [], ◌∷◌, refl, ap, ◌∙◌}
+use Rattle.std.proofs.Common.{◌≡◌, ◌<◌, ◌≤◌, ◌+◌, ◌/◌, ◌%◌, ℕ, List, length, Option, Some, None}
+use Rattle.std.proofs.Common.{MatchOption, arith, inl, inr, subst, sym, get_or, zero, suc, [], ◌∷◌}
+use Rattle.std.proofs.Common.{refl, ap, ◌∙◌}
 use Rattle.std.proofs.Math.Nat.{mod-add-div', mod-lt}
 use Rattle.std.proofs.lemmas.Bool.{cases_lt, cases_eq}
 use Rattle.std.proofs.lemmas.Option.{slice_get-get_or}
 use Rattle.std.specs.List.{AllZip, range_with_len}
 use Rattle.std.specs.Prelude.{slice_get}
 use Rattle.task_segments.specs.Table.{Table}
-use Rattle.span_cert.specs.Rows.{AreColumns, InColumn, IsColumn, IsEarliestPair, IsRow}
+use Rattle.span_cert.specs.BrokenPairs.{AreColumns, InColumn, IsColumn, IsEarliestPair, IsRow}
 use Rattle.span_cert.specs.Tests.{FirstBroken, IsBroken, NoneIsBroken}
 
 -- ---- one column

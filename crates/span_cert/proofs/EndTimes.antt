@@ -1,9 +1,8 @@
 -- The ends of segments one by one, and what has ended by a start.
-use Rattle.std.proofs.Common.{ℕ, ◌<◌, ◌≤◌, ◌≡◌, List, length, min}
-use Rattle.std.proofs.Common.{arith}
+use Rattle.std.proofs.Common.{ℕ, ◌<◌, ◌≤◌, ◌≡◌, List, length, min, arith}
 use Rattle.task_segments.specs.Schedule.{at}
 use Rattle.task_segments.specs.Table.{Table}
-use Rattle.span_cert.specs.Rows.{AreEnds}
+use Rattle.span_cert.specs.BrokenPairs.{AreEnds}
 use Rattle.span_cert.specs.Tests.{IsBroken}
 
 -- a segment does not start before the end of one that has ended by then

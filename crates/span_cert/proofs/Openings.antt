@@ -1,13 +1,12 @@
 -- What a segment can have to wait for, by where it opens.
-use Rattle.std.proofs.Common.{ℕ, ◌+◌, ◌≡◌, ◌⊎◌, true, Some, inl, inr, sym, ◌∙◌, ap, subst}
-use Rattle.std.proofs.Common.{arith}
+use Rattle.std.proofs.Common.{ℕ, ◌+◌, ◌≡◌, ◌⊎◌, true, Some, inl, inr, sym, ◌∙◌, ap, subst, arith}
 use Rattle.std.proofs.lemmas.Option.{same_Some}
 use Rattle.program_text.specs.Conflict.{items_conflict}
 use Rattle.task_segments.specs.Nesting.{IsNestedTable}
 use Rattle.task_segments.specs.Precedence.{Continues, IsTask, MustPrecede}
 use Rattle.task_segments.specs.Table.{Table, segment, task}
 use Rattle.task_segments.proofs.Order.{continues_up, depends_parts, not_root_made, one_next}
-use Rattle.span_cert.specs.Marks.{IsCut, OpensAfterChild, OpensTask}
+use Rattle.span_cert.specs.NameMarks.{IsCut, OpensAfterChild, OpensTask}
 
 -- a segment that opens its task is no next one
 opens_no_next : (table : Table) → IsNestedTable table → (s t : ℕ) → OpensTask table t

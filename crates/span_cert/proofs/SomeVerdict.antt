@@ -22,7 +22,7 @@ use Rattle.dispatch_core.specs.Facts.{IsSoundTable}
 use Rattle.span_cert.proofs.Broken.{legal_kept}
 use Rattle.span_cert.proofs.Counting.{bad_step, count_of, length-moments, one_link, one_link_more}
 use Rattle.span_cert.proofs.Spelling.{reads_spelled, spelled_reads}
-use Rattle.span_cert.specs.Certificates.{Claims, HasClaim, IsChecked}
+use Rattle.span_cert.specs.Acceptance.{Claims, HasClaim, IsChecked}
 use Rattle.span_cert.specs.Claims.{Claim, HasForm, moments_of_starts, segments_of_starts, word_says}
 use Rattle.span_cert.specs.OneVerdict.{HasVerdict}
 use Rattle.span_cert.specs.Steps.{Progress, begin, step}
@@ -38,7 +38,7 @@ use Rattle.dispatch_core.proofs.DecidedEdges.{decide_precedes}
 use Rattle.dispatch_core.proofs.Decisions.{IsDecided, decided_by_equivalent, decide_below}
 use Rattle.dispatch_core.proofs.Decisions.{decide_both, decide_each, decide_less, decide_same}
 use Rattle.dispatch_core.proofs.Decisions.{find_first}
-use Rattle.dispatch_core.proofs.SomeGraph.{IsWhole, tree_fits, whole_table}
+use Rattle.dispatch_core.proofs.SomeGraph.{tree_fits, whole_table}
 
 -- ---- the form
 
@@ -72,8 +72,7 @@ form_of text (Some p) is fits = elim (decide_link p.next) [
     )
     | inr none ↦ inr (λ claim form.
         let same : p.claim ≡ claim = ap claim_in (sym is ∙ spelled_reads text claim form) in
-        let some = form.some in
-        absurd (omega (arith, none, some, ap (λ (c : Claim). length c.chain) same)))
+        absurd (omega (arith, none, form.some, ap (λ (c : Claim). length c.chain) same)))
   ]
 ]
 
@@ -137,8 +136,7 @@ kept_or_broken table starts sound =
     let B : ℕ → ℕ → Type 0 = λ t s. IsBroken table starts s t in
     let known : (s t : ℕ) → IsBroken table starts s t → s < count = λ s t b.
     let up = sound.goes_up.ascending s t b.precedes in
-    let inside = b.is_segment in
-    omega (arith, up, inside) in
+    omega (arith, up, b.is_segment) in
     let decided : (t s : ℕ) → IsDecided (B t s) = λ t s. decide_broken table starts s t sound in
     elim (find_first (λ t. (s : ℕ) × (s < count) × B t s) count
     (λ t. decide_below (B t) count (decided t))) [
@@ -276,8 +274,7 @@ checks_claim : (document : List ℕ) (program : ProgramMarks) (claim : Claim)
     → HasVerdict document
 checks_claim document program claim tree has =
     let table : Table = table_of program.marks in
-    let whole : IsWhole table =
-    whole_table program (tree_fits (program_part document) program tree) in
+    let whole = whole_table program (tree_fits (program_part document) program tree) in
     elim (verdict_on table claim whole.sound has.has_form.some) [
       | inl good ↦ (
         Ok good.0,

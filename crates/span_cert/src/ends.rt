@@ -1,7 +1,7 @@
 //! The ends of segments.
 ghost use Rattle.std.specs.Prelude.{◌≡◌, IfOk, length};
 ghost use Rattle.span_cert.specs.Claims.{moments_of_starts};
-ghost use Rattle.span_cert.specs.Rows.{AreEnds};
+ghost use Rattle.span_cert.specs.BrokenPairs.{AreEnds};
 
 use crate::claim::Start;
 use std::alloc::Global;

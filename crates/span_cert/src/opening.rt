@@ -2,15 +2,15 @@
 ghost use Rattle.std.specs.Prelude.{◌≡◌, ◌<◌, ◌↔◌, ◌⊎◌, IsTrue};
 ghost use Rattle.task_segments.specs.Nesting.{IsNestedTable};
 ghost use Rattle.task_segments.specs.Precedence.{IsSegment, MustPrecede};
-ghost use Rattle.span_cert.specs.Marks.{AreMarkedFor, IsCut, IsOpening};
+ghost use Rattle.span_cert.specs.NameMarks.{AreMarkedFor, IsCut, IsOpening};
 
-use crate::names::NameMarks;
+use crate::name_marks::NameMarks;
 use task_segments::laws::nests;
 use task_segments::table::{Closing, SegTable};
 
 /// Where a segment opens.
 #[derive(Clone, Copy, Debug, PartialEq, Eq)]
-pub enum Opening {
+pub enum OpensAt {
     /// With its task: it can wait for its creator and for siblings of its task that conflict.
     First,
     /// Where its task goes on after it created another: it can wait for a segment of its task and
@@ -21,7 +21,7 @@ pub enum Opening {
 }
 
 /// Where a segment opens; where that is with its task, the task's items are marked.
-pub(crate) fn opening_of(table: &SegTable, marks: &mut NameMarks, t: u32) -> Opening
+pub(crate) fn opening_of(table: &SegTable, marks: &mut NameMarks, t: u32) -> OpensAt
     requires { IsSegment table.now t }
     ensures opening { IsOpening table.now t result }
     ensures marks { AreMarkedFor table.now marks.new t result }
@@ -30,12 +30,12 @@ pub(crate) fn opening_of(table: &SegTable, marks: &mut NameMarks, t: u32) -> Ope
     let task = table.task_of(t);
     if table.first(task) == t {
         marks.put(t, table.items(task));
-        return Opening::First;
+        return OpensAt::First;
     }
     if t > 0 && is_cut(table.closing(t - 1)) {
-        Opening::AfterCut
+        OpensAt::AfterCut
     } else {
-        Opening::AfterChild
+        OpensAt::AfterChild
     }
 }
 
@@ -50,7 +50,7 @@ fn is_cut(closing: Closing) -> bool
 pub(crate) fn may_wait(
     table: &SegTable,
     marks: &NameMarks,
-    opening: Opening,
+    opening: OpensAt,
     s: u32,
     t: u32,
 ) -> bool
@@ -65,8 +65,8 @@ pub(crate) fn may_wait(
     let task = table.task_of(t);
     let other = table.task_of(s);
     match opening {
-        Opening::First => table.creator(task) == Some(s) || marks.meet(t, table.items(other)),
-        Opening::AfterChild => t - s == 1 || other == task,
-        Opening::AfterCut => true,
+        OpensAt::First => table.creator(task) == Some(s) || marks.meet(t, table.items(other)),
+        OpensAt::AfterChild => t - s == 1 || other == task,
+        OpensAt::AfterCut => true,
     }
 }

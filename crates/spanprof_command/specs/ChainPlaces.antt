@@ -1,4 +1,4 @@
--- Where a segment stands in an ascending chain.
+-- Carried out: where a segment stands in an ascending chain.
 use Rattle.std.specs.Prelude.{ℕ, ◌<◌, ◌≤◌, List, length, slice_index}
 
 -- the members before the place are below the segment, and those from it on are not

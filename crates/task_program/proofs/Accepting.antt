@@ -15,12 +15,14 @@ use Rattle.task_program.specs.declared.place.Place.TheVariants.{DependOpens, Dep
 use Rattle.task_program.specs.declared.place.Place.TheVariants.{DependColon, DependName, DependMore}
 use Rattle.program_text.specs.declared.statement.DependKind.{DependKind}
 use Rattle.program_text.specs.Words.{is_text, is_number, value_of, type_word, is_statement_word}
-use Rattle.task_program.specs.Grammar as grammar
-use Rattle.task_program.specs.Grammar.{Written, name_and_comma, clause_texts, texts_of, is_if}
-use Rattle.task_program.specs.Grammar.Clause.{IfClause, DependClause}
-use Rattle.task_program.specs.Grammar.Written.{WorkWritten, TaskWritten, WaitWritten, GroupWritten}
-use Rattle.task_program.specs.Grammar.Written.{EndWritten}
-use Rattle.task_program.specs.ViablePrefix.{IsWord, HasClauseForm, HasForm, EndBlocks, IsSentence}
+use Rattle.task_program.specs.PlainGrammar as grammar
+use Rattle.task_program.specs.PlainGrammar.{Written, name_and_comma, clause_texts, texts_of, is_if}
+use Rattle.task_program.specs.PlainGrammar.Clause.{IfClause, DependClause}
+use Rattle.task_program.specs.PlainGrammar.Written.{WorkWritten, TaskWritten, WaitWritten, GroupWritten}
+use Rattle.task_program.specs.PlainGrammar.Written.{EndWritten}
+use Rattle.task_program.specs.PlainGrammar.{IsWord, HasClauseForm, HasForm, EndBlocks}
+use Rattle.task_program.specs.FirstPlainFault.{IsSentence}
+use Rattle.task_program.proofs.PlainSentences.{written_of_sentence}
 use Rattle.task_program.proofs.Shapes.{Shape, shape_at, fits_at, fits, lead_at, lead, depend_texts}
 use Rattle.task_program.proofs.ReadPieces.{is_type_word, type_of_word}
 
@@ -220,7 +222,8 @@ version_fits false one h g = absurd cc
 pub sentence_accepted : (texts : List (List ℕ))
     → IsSentence texts
     → accepts (shape_at Header false 0) texts ≡ true
-sentence_accepted texts s =
+sentence_accepted texts sentence =
+    let s = written_of_sentence texts sentence in
     let later = pieces_accepted s.written 0 s.forms s.nested in
     let rest = flat_map texts_of s.written in
     subst (λ (ts : List (List ℕ)). accepts (shape_at Header false 0) ts ≡ true) (sym s.spelled)

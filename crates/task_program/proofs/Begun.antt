@@ -20,7 +20,7 @@ use Rattle.task_program.specs.TreeSoFar.{Block}
 use Rattle.task_program.specs.Faults.{closes_nothing, is_allowed, step, after_at}
 use Rattle.task_program.specs.TreeSoFar.{after_end_of}
 use Rattle.task_program.specs.FirstFault.{IsViable}
-use Rattle.task_program.specs.ViablePrefix.{IsSentence}
+use Rattle.task_program.specs.FirstPlainFault.{IsSentence}
 use Rattle.task_program.proofs.Keeping.{at, passes, unless_ok, ok_is}
 use Rattle.task_program.proofs.FoundPlaces.{same_text}
 use Rattle.task_program.proofs.FoundWhole.{bytes_stay}

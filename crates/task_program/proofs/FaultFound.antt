@@ -32,7 +32,7 @@ use Rattle.task_program.specs.Versions.{begins_version_two}
 use Rattle.task_program.specs.TokenCounts.{open_braces, too_many_after, limit_fault_after}
 use Rattle.task_program.specs.TokenCounts.{tasks_in, segments_in}
 use Rattle.task_program.proofs.TokenLimits.{too_many_so}
-use Rattle.task_program.specs.ViablePrefix.{IsSentence}
+use Rattle.task_program.specs.FirstPlainFault.{IsSentence}
 use Rattle.task_program.specs.FirstFault.{Rules, IsViable, IsWrong, IsRight, EndsEarly}
 use Rattle.task_program.specs.FirstPlainFault.{plain_rules, program_rules}
 use Rattle.task_program.proofs.MachineFaults.{IsToldApart, FaultIsFirst, HasPlainFault}

@@ -5,7 +5,7 @@ use Rattle.std.proofs.Common.{refl, sym, ap, subst, ◌∙◌, arith, codes}
 use Rattle.std.specs.Prelude.{All, fold, count_by, slice_get}
 use Rattle.std.specs.List.{list_any, flat_map, AllZip}
 use Rattle.std.specs.Str.{bytes_eq}
-use Rattle.std.proofs.lemmas.Bool.{eqb-true, and_parts, not-false}
+use Rattle.std.proofs.lemmas.Bool.{eqb-true, and_parts, not-false, ltb-false}
 use Rattle.std.proofs.lemmas.Slice.Eq.{bytes_eq-Decides}
 use Rattle.std.proofs.lemmas.List.{append-nil, map_push}
 use Rattle.std.proofs.lemmas.List.Sums.{fold-append, sum_by-append}
@@ -20,16 +20,17 @@ use Rattle.task_program.specs.declared.place.Place.TheVariants.{DependOpens, Dep
 use Rattle.task_program.specs.declared.place.Place.TheVariants.{DependColon, DependName, DependMore}
 use Rattle.program_text.specs.declared.statement.DependKind.{DependKind}
 use Rattle.program_text.specs.declared.statement.Item.{Item}
+use Rattle.program_text.specs.declared.limits.TheConstants.{LARGEST_COST}
 use Rattle.program_text.specs.Marks.{Mark}
 use Rattle.program_text.specs.Marks.Mark.{Begins, Works, GroupBegins}
 use Rattle.task_program.specs.Names.{number_of_name, with_name}
 use Rattle.program_text.specs.Words.{is_text, is_word, is_number, value_of, type_word}
-use Rattle.task_program.specs.Grammar as grammar
-use Rattle.task_program.specs.Grammar.{Written, name_and_comma, clause_texts, texts_of, named_items}
-use Rattle.task_program.specs.Grammar.{is_if, makes_undeferred, IsClause, IsItem, Means}
-use Rattle.task_program.specs.Grammar.{names_of_piece}
-use Rattle.task_program.specs.Grammar.Clause.{IfClause, DependClause}
-use Rattle.task_program.specs.Grammar.Written.{WorkWritten, TaskWritten, GroupWritten}
+use Rattle.task_program.specs.PlainGrammar as grammar
+use Rattle.task_program.specs.PlainGrammar.{Written, name_and_comma, clause_texts, texts_of, named_items}
+use Rattle.task_program.specs.PlainGrammar.{is_if, makes_undeferred, IsClause, IsItem, Means}
+use Rattle.task_program.specs.PlainGrammar.{names_of_piece}
+use Rattle.task_program.specs.PlainGrammar.Clause.{IfClause, DependClause}
+use Rattle.task_program.specs.PlainGrammar.Written.{WorkWritten, TaskWritten, GroupWritten}
 use Rattle.task_program.specs.Faults.{State, Head, after_at, no_clauses}
 use Rattle.task_program.specs.TreeSoFar.{Block}
 use Rattle.task_program.specs.TreeSoFar.Block.{GroupBlock}
@@ -137,7 +138,7 @@ Explained texts state = (p : Parts) × Explains texts state p
 pub same_text : (text word : List ℕ) → is_text text word ≡ true → text ≡ word
 same_text text word h = (bytes_eq-Decides text word).0 h
 
-AllZip-more : {A B : Type 0} (R : A → B → Type 0) (xs : List A) (ys : List B) (x : A) (y : B)
+pub AllZip-more : {A B : Type 0} (R : A → B → Type 0) (xs : List A) (ys : List B) (x : A) (y : B)
     → AllZip R xs ys
     → R x y
     → AllZip R (xs ++ x ∷ []) (ys ++ y ∷ [])
@@ -146,7 +147,7 @@ AllZip-more R [] (b ∷ ys) x y all one = absurd all
 AllZip-more R (a ∷ xs) [] x y all one = absurd all
 AllZip-more R (a ∷ xs) (b ∷ ys) x y all one = (all.0, AllZip-more R xs ys x y all.1 one)
 
-AllZip-weaker : {A B : Type 0} (R Q : A → B → Type 0)
+pub AllZip-weaker : {A B : Type 0} (R Q : A → B → Type 0)
     → ((x : A) (y : B) → R x y → Q x y)
     → (xs : List A) (ys : List B)
     → AllZip R xs ys
@@ -167,7 +168,7 @@ flat_map-push f xs x = flat_map-append f xs (x ∷ []) ∙ ap (λ ys. flat_map f
 abbrev pub some : List ℕ → Option (List ℕ)
 some x = Some x
 
-get_stable : (names : List (List ℕ)) (name other : List ℕ) (n : ℕ)
+pub get_stable : (names : List (List ℕ)) (name other : List ℕ) (n : ℕ)
     → slice_get names n ≡ Some name
     → slice_get (names ++ other ∷ []) n ≡ Some name
 get_stable [] name other n h = absurd cc
@@ -221,7 +222,7 @@ item_stable : (names : List (List ℕ)) (other : List ℕ) (named : DependKind �
     → IsItem (with_name names other) named item
 item_stable names other named item h = (h.0, name_stable names named.1 other item.name h.1, h.2)
 
-means_stable : (names : List (List ℕ)) (other : List ℕ) (written : Written) (mark : Mark)
+pub means_stable : (names : List (List ℕ)) (other : List ℕ) (written : Written) (mark : Mark)
     → Means names written mark
     → Means (with_name names other) written mark
 means_stable names other (TaskWritten clauses) (Begins undeferred items) h = record {
@@ -323,14 +324,15 @@ pub work_goes : (state : State) (text : List ℕ) (line : ℕ) (before : List (L
     → Goes state WorkNumber text line before p
 unfolding with_piece
 work_goes state text line before p passes e =
-    let number = not-false _ passes.allowed in (
+    let number = not-false _ passes.allowed in
+    let few = ltb-false LARGEST_COST (value_of text) passes.number in (
       with_piece p (WorkWritten text),
       record {
         spelled = one_more before p (codes "work" ∷ []) text text e.spelled refl
             ∙ piece_done p (WorkWritten text);
         version = e.version;
         means = AllZip-more (Means state.names) p.written state.tree.marks (WorkWritten text)
-            (Works (value_of text)) e.means (number, refl);
+            (Works (value_of text)) e.means (number, refl, few);
         names_are = e.names_are ∙ simp (flat_map-append, append-nil);
         items_are = e.items_are;
         clauses = e.clauses;
@@ -349,7 +351,7 @@ or_assoc : (a b c : Bool) → (a || (b || c)) ≡ ((a || b) || c)
 or_assoc true b c = refl
 or_assoc false b c = refl
 
-list_any-push : (test : grammar.Clause → Bool) (clauses : List grammar.Clause)
+pub list_any-push : (test : grammar.Clause → Bool) (clauses : List grammar.Clause)
     (clause : grammar.Clause)
     → list_any test (clauses ++ clause ∷ []) ≡ (list_any test clauses || test clause)
 list_any-push test [] clause = or-false (test clause)
@@ -358,7 +360,7 @@ list_any-push test (first ∷ clauses) clause =
     ∙ or_assoc (test first) (list_any test clauses) (test clause)
 
 -- a clause whose test comes after others that fail it
-list_any-more : (test : grammar.Clause → Bool) (clauses : List grammar.Clause)
+pub list_any-more : (test : grammar.Clause → Bool) (clauses : List grammar.Clause)
     (clause : grammar.Clause)
     → list_any test clauses ≡ false
     → list_any test (clauses ++ clause ∷ []) ≡ test clause
@@ -366,7 +368,7 @@ list_any-more test clauses clause h =
     list_any-push test clauses clause ∙ ap (λ b. b || test clause) h
 
 -- a clause that fails the test changes nothing
-list_any-same : (test : grammar.Clause → Bool) (clauses : List grammar.Clause)
+pub list_any-same : (test : grammar.Clause → Bool) (clauses : List grammar.Clause)
     (clause : grammar.Clause)
     → test clause ≡ false
     → list_any test (clauses ++ clause ∷ []) ≡ list_any test clauses
@@ -375,12 +377,12 @@ list_any-same test clauses clause h =
     ∙ ap (λ b. list_any test clauses || b) h
     ∙ or-false (list_any test clauses)
 
-count-push : (clauses : List grammar.Clause) (clause : grammar.Clause)
+pub count-push : (clauses : List grammar.Clause) (clause : grammar.Clause)
     → count_by is_if (clauses ++ clause ∷ [])
     ≡ count_by is_if clauses + count_by is_if (clause ∷ [])
 count-push clauses clause = sum_by-append (λ c. cond (is_if c) 1 0) clauses (clause ∷ [])
 
-items-if : (clauses : List grammar.Clause) (number : List ℕ)
+pub items-if : (clauses : List grammar.Clause) (number : List ℕ)
     → flat_map named_items (clauses ++ IfClause number ∷ []) ≡ flat_map named_items clauses
 items-if clauses number =
     flat_map-push named_items clauses (IfClause number) ∙ append-nil (flat_map named_items clauses)

@@ -10,7 +10,7 @@ use Rattle.std.proofs.lemmas.List.{append-nil}
 use Rattle.std.proofs.Math.ListN.{get_or-append}
 use Rattle.std.proofs.lemmas.List.Sums.{sum_by-append}
 use Rattle.std.proofs.lemmas.List.Concat.{flat_map-append}
-use Rattle.std.proofs.lemmas.List.Elements.{All-head, All-tail, All-push}
+use Rattle.std.proofs.lemmas.List.Elements.{All-head, All-tail, All-push, All-weaker}
 use Rattle.program_text.specs.declared.fault.ReadKind.{ReadKind}
 use Rattle.program_text.specs.declared.fault.ReadFault.{ReadFault}
 use Rattle.program_text.specs.declared.statement.DependKind.{DependKind}
@@ -111,12 +111,27 @@ clauses_stay names name (item ∷ items) all =
     ∙ ap (λ (ts : List ℕ). name_of names item ++ ts)
     (after_stays names name item.kind items (All-tail (IsNamed (length names)) item items all)))
 
+-- the items of the mark name some of so many names
+abbrev pub HasNames : ℕ → Mark → Type 0
+HasNames names (Begins undeferred items) = All (IsNamed names) items
+HasNames names _ = Unit {0}
+
+pub has_names : (names : ℕ) (mark : Mark) → FitsLimits names mark → HasNames names mark
+has_names names (Begins undeferred items) h = h.1
+has_names names _ h = tt
+
+pub has_names_more : (few many : ℕ) → few ≤ many → (mark : Mark) → HasNames few mark
+    → HasNames many mark
+has_names_more few many le (Begins undeferred items) h =
+    All-weaker (IsNamed few) (IsNamed many) (λ item below. omega (arith, below)) items h
+has_names_more few many le _ h = tt
+
 pub line_stays : (names : List (List ℕ)) (name : List ℕ) (mark : Mark)
-    → FitsLimits (length names) mark
+    → HasNames (length names) mark
     → line_of_mark (with_name names name) mark ≡ line_of_mark names mark
 line_stays names name (Begins undeferred items) h =
     ap (λ (ts : List ℕ). codes "task" ++ ((if_text undeferred) ++ (ts ++ codes " {\n")))
-    (clauses_stay names name items h.1)
+    (clauses_stay names name items h)
 line_stays names name _ h = refl
 
 pub lines_stay : (names : List (List ℕ)) (name : List ℕ) (marks : List Mark)
@@ -125,7 +140,8 @@ pub lines_stay : (names : List (List ℕ)) (name : List ℕ) (marks : List Mark)
 lines_stay names name [] all = refl
 lines_stay names name (mark ∷ marks) all =
     ap (λ (ts : List ℕ). ts ++ flat_map (line_of_mark (with_name names name)) marks)
-    (line_stays names name mark (All-head (FitsLimits (length names)) mark marks all))
+    (line_stays names name mark
+    (has_names (length names) mark (All-head (FitsLimits (length names)) mark marks all)))
     ∙ ap (λ (ts : List ℕ). line_of_mark names mark ++ ts)
     (lines_stay names name marks (All-tail (FitsLimits (length names)) mark marks all))
 

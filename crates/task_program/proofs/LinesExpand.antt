@@ -19,7 +19,7 @@ use Rattle.program_text.specs.Marks.Mark.{Begins, Ends, Works, Waits, GroupBegin
 use Rattle.program_text.proofs.FrontsAndBacks.{all_front, all_back}
 use Rattle.task_program.specs.Names.{number_of_name, with_name}
 use Rattle.task_program.specs.Canonical.{name_of, line_of_mark, header_line, solid_bytes}
-use Rattle.task_program.specs.Programs.{IsNamed, FitsLimits, names_of_mark}
+use Rattle.task_program.specs.Programs.{IsNamed, names_of_mark}
 use Rattle.task_program.specs.TreeSoFar.{Block, after_end_of, end_mark_of}
 use Rattle.task_program.specs.TreeSoFar.Block.{TaskBlock, GroupBlock}
 use Rattle.loop_text.specs.Loops as loops
@@ -30,8 +30,8 @@ use Rattle.task_program.specs.Expanded.{ExpansionState, after_piece, bytes_after
 use Rattle.task_program.specs.ExpandsTo.{HasIndexInRange}
 use Rattle.task_program.specs.Expanded.{after_pieces}
 use Rattle.task_program.proofs.FoundPlaces.{own_number}
-use Rattle.task_program.proofs.Sound.{fits_more, kept_names}
-use Rattle.task_program.proofs.KeptNames.{line_stays}
+use Rattle.task_program.proofs.Sound.{kept_names}
+use Rattle.task_program.proofs.KeptNames.{HasNames, has_names_more, line_stays}
 use Rattle.task_program.proofs.NamesOnce.{AreOnce, number_is, names_stay}
 use Rattle.task_program.proofs.LinesSpelled as lines
 use Rattle.task_program.proofs.LinesSpelled.{IsItemOf, Stands}
@@ -95,12 +95,12 @@ in_range _ in_final _ _ (lines.Stands.Group names marks inside tree body line br
 
 -- the line is the same with names that came later
 line_grows : (names later : List (List ℕ)) (mark : Mark)
-    → FitsLimits (length names) mark
+    → HasNames (length names) mark
     → line_of_mark (fold with_name names later) mark ≡ line_of_mark names mark
 line_grows names [] mark h = refl
 line_grows names (name ∷ later) mark h =
     line_grows (with_name names name) later mark
-    (fits_more (length names) (length (with_name names name)) (kept_names names name) mark h)
+    (has_names_more (length names) (length (with_name names name)) (kept_names names name) mark h)
     ∙ line_stays names name mark h
 
 -- the names and items of a state after these items
@@ -327,7 +327,7 @@ task_opens : (whole : List (List ℕ))
     → AreOnce whole
     → (done later : List Mark) (task : LoopTask) (items : List Item) (state : ExpansionState)
     → AllZip (IsItemOf whole) items task.items
-    → FitsLimits (length whole) (Begins task.undeferred items)
+    → HasNames (length whole) (Begins task.undeferred items)
     → whole
     ≡ fold with_name []
     (flat_map (names_of_mark whole) (done ++ Begins task.undeferred items ∷ later))
@@ -340,13 +340,13 @@ task_opens whole once done later task items state all fits whole_is p =
     let after : List (List ℕ) = flat_map (names_of_mark whole) later in
     let left : whole ≡ fold with_name state.names (mentions ++ after) =
     names_left whole done (mark ∷ later) state p whole_is in
-    let expanded = items_expand whole once items task.items all fits.1 after state left in
+    let expanded = items_expand whole once items task.items all fits after state left in
     let middle : ExpansionState = with_items state mentions items in
     let named : List (List ℕ) = middle.names in
     let whole_named : fold with_name named after ≡ whole =
     sym (left ∙ fold-append with_name state.names mentions after) in
     let line : line_of_mark named mark ≡ line_of_mark whole mark = sym
-    (line_grows named after mark (fits.0, expanded.below))
+    (line_grows named after mark expanded.below)
     ∙ ap (λ (ns : List (List ℕ)). line_of_mark ns mark) whole_named in
     let solids : solid_bytes (line_of_mark named mark) ≡ solid_bytes (line_of_mark whole mark) =
     ap solid_bytes line in
@@ -394,7 +394,7 @@ goes_so whole done other blocks state next same equal g =
     subst (λ (s : ExpansionState). Goes whole other blocks s) equal
     (subst (λ (ms : List Mark). Goes whole ms blocks state) same g)
 
-in_four : (state : ExpansionState) (one two three four : List Piece)
+pub in_four : (state : ExpansionState) (one two three four : List Piece)
     → after_pieces (after_pieces (after_pieces (after_pieces state one) two) three) four
     ≡ after_pieces state (one ++ (two ++ (three ++ four)))
 in_four state one two three four =
@@ -429,7 +429,7 @@ pub expands : (whole : List (List ℕ))
     → AreOnce whole
     → (marks : List Mark) (tree : loops.Tree)
     → Stands whole marks tree
-    → All (FitsLimits (length whole)) marks
+    → All (HasNames (length whole)) marks
     → (done later : List Mark) (state : ExpansionState)
     → AllNames whole (done ++ (marks ++ later))
     → Prints whole done state
@@ -442,7 +442,7 @@ expands _ once _ _ (lines.Stands.Work whole marks tree cost line s) fits done la
     p =
     let middle : ExpansionState = after_pieces state (expansion [] false tree) in
     let before : Goes whole (done ++ marks) state.tree.blocks middle = expands whole once marks tree
-    s (all_front (FitsLimits (length whole)) marks (Works cost ∷ []) fits) done
+    s (all_front (HasNames (length whole)) marks (Works cost ∷ []) fits) done
     (Works cost ∷ later) state
     (append_of_block whole (done ++ ((marks ++ Works cost ∷ []) ++ later))
     (done ++ (marks ++ Works cost ∷ later)) (all_but_last done marks (Works cost ∷ []) later)
@@ -462,7 +462,7 @@ expands _ once _ _ (lines.Stands.Work whole marks tree cost line s) fits done la
 expands _ once _ _ (lines.Stands.Wait whole marks tree line s) fits done later state whole_is p =
     let middle : ExpansionState = after_pieces state (expansion [] false tree) in
     let before : Goes whole (done ++ marks) state.tree.blocks middle = expands whole once marks tree
-    s (all_front (FitsLimits (length whole)) marks (Waits ∷ []) fits) done (Waits ∷ later) state
+    s (all_front (HasNames (length whole)) marks (Waits ∷ []) fits) done (Waits ∷ later) state
     (append_of_block whole (done ++ ((marks ++ Waits ∷ []) ++ later))
     (done ++ (marks ++ Waits ∷ later)) (all_but_last done marks (Waits ∷ []) later) whole_is)
     p in
@@ -477,7 +477,7 @@ expands _ once _ _ (lines.Stands.Wait whole marks tree line s) fits done later s
     })
 expands _ once _ _ (lines.Stands.Task whole marks inside tree body task items s b not_final all)
     fits done later state whole_is p =
-    let F : Mark → Type 0 = FitsLimits (length whole) in
+    let F : Mark → Type 0 = HasNames (length whole) in
     let begins : Mark = Begins task.undeferred items in
     let block : List Mark = begins ∷ (inside ++ Ends ∷ []) in
     let fits_block : All F block = all_back F marks block fits in
@@ -527,7 +527,7 @@ expands _ once _ _ (lines.Stands.Task whole marks inside tree body task items s 
     four
 expands _ once _ _ (lines.Stands.Group whole marks inside tree body line brace_line s b) fits done
     later state whole_is p =
-    let F : Mark → Type 0 = FitsLimits (length whole) in
+    let F : Mark → Type 0 = HasNames (length whole) in
     let block : List Mark = GroupBegins ∷ (inside ++ GroupEnds ∷ []) in
     let fits_block : All F block = all_back F marks block fits in
     let fits_inside : All F inside = all_front F inside (GroupEnds ∷ [])

@@ -1,11 +1,11 @@
--- The lines of the canonical text are spelled as a tree without loops.
+-- Words that spell marks are spelled as a tree without loops, and so are the lines of the canonical
+-- text.
 use Rattle.std.proofs.Common.{◌≡◌, ℕ, suc, ◌≤◌, Bool, true, false, List, [], ◌∷◌, ◌++◌}
-use Rattle.std.proofs.Common.{append_assoc, refl, sym, ap, subst, ◌∙◌, arith, codes}
+use Rattle.std.proofs.Common.{append_assoc, map, refl, sym, ap, subst, ◌∙◌, arith, codes}
 use Rattle.std.specs.Prelude.{All}
 use Rattle.std.specs.List.{flat_map, AllZip}
 use Rattle.std.specs.Fmt.{decimal}
 use Rattle.std.proofs.lemmas.List.{append-nil}
-use Rattle.std.proofs.lemmas.List.Concat.{flat_map-append}
 use Rattle.std.proofs.lemmas.List.Elements.{All-head, All-tail}
 use Rattle.program_text.specs.declared.statement.DependKind.{DependKind}
 use Rattle.program_text.specs.declared.statement.Item.{Item}
@@ -17,23 +17,23 @@ use Rattle.program_text.specs.declared.limits.TheConstants.{LARGEST_COST}
 use Rattle.program_text.specs.Marks.{Mark}
 use Rattle.program_text.specs.Marks.Mark.{Begins, Ends, Works, Waits, GroupBegins, GroupEnds}
 use Rattle.task_program.specs.Canonical.{same_kind, name_of}
-use Rattle.task_program.specs.Programs.{IsLocation}
+use Rattle.task_program.specs.Programs.{IsLocation, IsNameIn}
 use Rattle.program_text.specs.Tokens.{Token}
-use Rattle.program_text.specs.Words.{type_word, value_of, type_of}
+use Rattle.program_text.specs.Words.{is_number, type_word, value_of, type_of}
 use Rattle.loop_text.specs.Parts.{no_clauses}
 use Rattle.loop_text.specs.Loops.{Tree}
 use Rattle.loop_text.specs.Loops.Tree.{NoStatement, ThenWork, ThenWait, ThenGroup, ThenTask}
-use Rattle.task_program.specs.LoopGrammar as grammar
-use Rattle.task_program.specs.LoopGrammar.{ItemsSpelled, ClausesSpelled, OpeningSpelled, Spelled}
-use Rattle.task_program.specs.LoopGrammar.{task_of}
+use Rattle.task_program.specs.declared.version.Version.{Version}
+use Rattle.task_program.specs.Grammar as grammar
+use Rattle.task_program.specs.Grammar.{ItemsSpelled, ClausesSpelled, OpeningSpelled, Spelled}
+use Rattle.task_program.specs.Grammar.{task_of}
 use Rattle.task_program.proofs.Nested as nested
 use Rattle.task_program.proofs.Nested.{NestsIn}
 use Rattle.task_program.proofs.ReadBack.{same_is}
 use Rattle.task_program.proofs.Spelled.{spell, decimal_value, decimal_number, after_texts_by}
 use Rattle.task_program.proofs.Spelled.{depend_texts_by, if_texts, line_texts_by}
-use Rattle.task_program.proofs.Locations.{with_lines, lines_apart, StandsFor, ItemIs, location_item}
+use Rattle.task_program.proofs.Locations.{with_lines, lines_apart, StandsFor, ItemIs, version_item}
 use Rattle.program_text.proofs.Bools.{bool_cases}
-use Rattle.program_text.proofs.FrontsAndBacks.{all_front, all_back}
 use Rattle.task_program.proofs.ReadPieces.{is_type_word, type_of_word}
 
 -- ---- items
@@ -44,14 +44,17 @@ IsItemOf names item loop = StandsFor item.kind (name_of names item) loop
 abbrev pub IsLocated : List (List ℕ) → Item → Type 0
 IsLocated names item = IsLocation (name_of names item)
 
+abbrev pub HasNameIn : Version → List (List ℕ) → Item → Type 0
+HasNameIn version names item = IsNameIn version (name_of names item)
+
 -- the clauses before are followed by these items, and then by more that stand for the rest
-record Clauses (names : List (List ℕ)) (tokens : List Token) (head : LoopHead)
+record Clauses (version : Version) (names : List (List ℕ)) (tokens : List Token) (head : LoopHead)
     (first : List LoopItem) (items : List Item)
     : Type 0 where
   more : List LoopItem
   all : List LoopItem
   all_are : all ≡ head.items ++ (first ++ more)
-  spelled : ClausesSpelled true [] tokens (record head { items = all })
+  spelled : ClausesSpelled version true [] tokens (record head { items = all })
   stand : AllZip (IsItemOf names) items more
 
 abbrev depend_front : DependKind → (a b c d : ℕ) → List Token → List Token
@@ -59,63 +62,63 @@ depend_front kind a b c d inside = record { text = codes "depend"; line = a }
     ∷ record { text = codes "("; line = b } ∷ record { text = type_word kind; line = c }
     ∷ record { text = codes ":"; line = d } ∷ inside
 
-closed_clause : (kind : DependKind) (before inside : List Token) (a b c d e : ℕ) (head : LoopHead)
+closed_clause : (version : Version) (kind : DependKind) (before inside : List Token) (a b c d e : ℕ) (head : LoopHead)
     (items : List LoopItem)
-    → ClausesSpelled true [] before head
-    → ItemsSpelled [] (type_of (type_word kind)) inside items
-    → ClausesSpelled true []
+    → ClausesSpelled version true [] before head
+    → ItemsSpelled version [] (type_of (type_word kind)) inside items
+    → ClausesSpelled version true []
     (before ++ depend_front kind a b c d (inside ++ record { text = codes ")"; line = e } ∷ []))
     (record head { items = head.items ++ items })
-closed_clause kind before inside a b c d e head items clauses all =
+closed_clause version kind before inside a b c d e head items clauses all =
     grammar.ClausesSpelled.Depend [] before inside (record { text = codes "depend"; line = a })
     (record { text = codes "("; line = b }) (record { text = type_word kind; line = c })
     (record { text = codes ":"; line = d }) (record { text = codes ")"; line = e })
     head items clauses refl refl (is_type_word kind) refl all refl
 
 -- the rest of the items of a task is spelled as the grammar with loops has it
-items_spelled : (names : List (List ℕ)) (kind : DependKind) (items : List Item)
+items_spelled : (version : Version) (names : List (List ℕ)) (kind : DependKind) (items : List Item)
     (before inside : List Token) (a b c d : ℕ) (head : LoopHead) (first : List LoopItem)
     (lines : ℕ → ℕ)
-    → ClausesSpelled true [] before head
-    → ItemsSpelled [] (type_of (type_word kind)) inside first
-    → All (IsLocated names) items
-    → Clauses names
+    → ClausesSpelled version true [] before head
+    → ItemsSpelled version [] (type_of (type_word kind)) inside first
+    → All (HasNameIn version names) items
+    → Clauses version names
     (before
     ++ depend_front kind a b c d
     (inside ++ with_lines (after_texts_by (spell false) names kind items) lines))
     head first items
 unfolding with_lines
-items_spelled names kind [] before inside a b c d head first lines clauses begun all = record {
+items_spelled version names kind [] before inside a b c d head first lines clauses begun all = record {
   more = [];
   all = head.items ++ first;
   all_are = ap (λ (is : List LoopItem). head.items ++ is) (sym (append-nil first));
-  spelled = closed_clause kind before inside a b c d (lines 0) head first clauses begun;
+  spelled = closed_clause version kind before inside a b c d (lines 0) head first clauses begun;
   stand = tt;
 }
-items_spelled names kind (item ∷ items) before inside a b c d head first lines clauses begun all =
+items_spelled version names kind (item ∷ items) before inside a b c d head first lines clauses begun all =
     let name : List (List ℕ) = spell false (name_of names item) in
     let after : List (List ℕ) = after_texts_by (spell false) names item.kind items in
-    let located : IsLocation (name_of names item) = All-head (IsLocated names) item items all in
-    let others : All (IsLocated names) items = All-tail (IsLocated names) item items all in
+    let located : IsNameIn version (name_of names item) = All-head (HasNameIn version names) item items all in
+    let others : All (HasNameIn version names) items = All-tail (HasNameIn version names) item items all in
     bool_cases (same_kind kind item.kind)
     (λ same.
     let kind_is : kind ≡ item.kind = same_is kind item.kind same in
     let apart = lines_apart name after (λ i. lines (suc i)) in
-    let one : ItemIs (type_of (type_word kind)) (name_of names item)
+    let one : ItemIs version (type_of (type_word kind)) (name_of names item)
     (with_lines name (λ i. lines (suc i))) =
-    location_item (type_of (type_word kind)) (name_of names item) (λ i. lines (suc i)) located in
+    version_item version (type_of (type_word kind)) (name_of names item) (λ i. lines (suc i)) located in
     let comma : Token = record { text = codes ","; line = lines 0 } in
     let inside_next : List Token = inside ++ comma ∷ with_lines name (λ i. lines (suc i)) in
-    let begun_next : ItemsSpelled [] (type_of (type_word kind)) inside_next
+    let begun_next : ItemsSpelled version [] (type_of (type_word kind)) inside_next
     (first ++ one.item ∷ []) =
     grammar.ItemsSpelled.More [] (type_of (type_word kind)) inside
     (with_lines name (λ i. lines (suc i))) comma first one.item begun refl one.spelled in
-    let begun_so : ItemsSpelled [] (type_of (type_word item.kind)) inside_next
+    let begun_so : ItemsSpelled version [] (type_of (type_word item.kind)) inside_next
     (first ++ one.item ∷ []) = subst
     (λ (k : DependKind).
-    ItemsSpelled [] (type_of (type_word k)) inside_next (first ++ one.item ∷ []))
+    ItemsSpelled version [] (type_of (type_word k)) inside_next (first ++ one.item ∷ []))
     kind_is begun_next in
-    let items_so = items_spelled names item.kind items before inside_next a b c d head
+    let items_so = items_spelled version names item.kind items before inside_next a b c d head
     (first ++ one.item ∷ []) apart.0 clauses begun_so others in
     let tokens_are : before
     ++ depend_front item.kind a b c d (inside_next ++ with_lines after apart.0)
@@ -137,7 +140,7 @@ items_spelled names kind (item ∷ items) before inside a b c d head first lines
       all_are = items_so.all_are
           ∙ ap (λ (is : List LoopItem). head.items ++ is)
           (append_assoc first (one.item ∷ []) items_so.more);
-      spelled = subst (λ (ts : List Token). ClausesSpelled true [] ts (record head {
+      spelled = subst (λ (ts : List Token). ClausesSpelled version true [] ts (record head {
         items = items_so.all;
       }))
           tokens_are items_so.spelled;
@@ -146,18 +149,18 @@ items_spelled names kind (item ∷ items) before inside a b c d head first lines
     (λ other.
     let lines_five : ℕ → ℕ = λ i. lines (suc (suc (suc (suc (suc i))))) in
     let apart = lines_apart name after lines_five in
-    let one : ItemIs (type_of (type_word item.kind)) (name_of names item)
+    let one : ItemIs version (type_of (type_word item.kind)) (name_of names item)
     (with_lines name lines_five) =
-    location_item (type_of (type_word item.kind)) (name_of names item) lines_five located in
+    version_item version (type_of (type_word item.kind)) (name_of names item) lines_five located in
     let closes : Token = record { text = codes ")"; line = lines 0 } in
     let before_next : List Token = before ++ depend_front kind a b c d (inside ++ closes ∷ []) in
     let head_next : LoopHead = record head { items = head.items ++ first } in
-    let clauses_next : ClausesSpelled true [] before_next head_next =
-    closed_clause kind before inside a b c d (lines 0) head first clauses begun in
-    let begun_next : ItemsSpelled [] (type_of (type_word item.kind)) (with_lines name lines_five)
+    let clauses_next : ClausesSpelled version true [] before_next head_next =
+    closed_clause version kind before inside a b c d (lines 0) head first clauses begun in
+    let begun_next : ItemsSpelled version [] (type_of (type_word item.kind)) (with_lines name lines_five)
     (one.item ∷ []) = grammar.ItemsSpelled.First
     [] (type_of (type_word item.kind)) (with_lines name lines_five) one.item one.spelled in
-    let items_so = items_spelled names item.kind items before_next (with_lines name lines_five)
+    let items_so = items_spelled version names item.kind items before_next (with_lines name lines_five)
     (lines 1)
     (lines 2) (lines 3) (lines 4) head_next (one.item ∷ []) apart.0 clauses_next begun_next
     others in
@@ -181,7 +184,7 @@ items_spelled names kind (item ∷ items) before inside a b c d head first lines
       more = one.item ∷ items_so.more;
       all = items_so.all;
       all_are = items_so.all_are ∙ append_assoc head.items first (one.item ∷ items_so.more);
-      spelled = subst (λ (ts : List Token). ClausesSpelled true [] ts (record head {
+      spelled = subst (λ (ts : List Token). ClausesSpelled version true [] ts (record head {
         items = items_so.all;
       }))
           tokens_are items_so.spelled;
@@ -190,46 +193,46 @@ items_spelled names kind (item ∷ items) before inside a b c d head first lines
 
 -- ---- the clauses of a task
 
-record IsHead (names : List (List ℕ)) (undeferred : Bool) (items : List Item) (tokens : List Token)
+pub record IsHead (version : Version) (names : List (List ℕ)) (undeferred : Bool) (items : List Item) (tokens : List Token)
     : Type 0 where
-  head : LoopHead
-  spelled : ClausesSpelled true [] tokens head
-  undeferred_is : head.undeferred ≡ undeferred
-  not_final : head.is_final ≡ false
-  stand : AllZip (IsItemOf names) items head.items
+  pub head : LoopHead
+  pub spelled : ClausesSpelled version true [] tokens head
+  pub undeferred_is : head.undeferred ≡ undeferred
+  pub not_final : head.is_final ≡ false
+  pub stand : AllZip (IsItemOf names) items head.items
 
 -- the clauses, after these
-depends_spelled : (names : List (List ℕ)) (items : List Item) (before : List Token)
+depends_spelled : (version : Version) (names : List (List ℕ)) (items : List Item) (before : List Token)
     (head : LoopHead) (lines : ℕ → ℕ)
-    → ClausesSpelled true [] before head
+    → ClausesSpelled version true [] before head
     → head.is_final ≡ false
     → head.items ≡ []
-    → All (IsLocated names) items
-    → IsHead names head.undeferred items
+    → All (HasNameIn version names) items
+    → IsHead version names head.undeferred items
     (before ++ with_lines (depend_texts_by (spell false) names items) lines)
 unfolding with_lines
-depends_spelled names [] before head lines clauses not_final none all = record {
+depends_spelled version names [] before head lines clauses not_final none all = record {
   head = head;
   spelled =
-      subst (λ (ts : List Token). ClausesSpelled true [] ts head) (sym (append-nil before)) clauses;
+      subst (λ (ts : List Token). ClausesSpelled version true [] ts head) (sym (append-nil before)) clauses;
   undeferred_is = refl;
   not_final = not_final;
   stand = subst (λ (is : List LoopItem). AllZip (IsItemOf names) [] is) (sym none) tt;
 }
-depends_spelled names (item ∷ items) before head lines clauses not_final none all =
+depends_spelled version names (item ∷ items) before head lines clauses not_final none all =
     let name : List (List ℕ) = spell false (name_of names item) in
     let after : List (List ℕ) = after_texts_by (spell false) names item.kind items in
     let lines_four : ℕ → ℕ = λ i. lines (suc (suc (suc (suc i)))) in
     let apart = lines_apart name after lines_four in
-    let one : ItemIs (type_of (type_word item.kind)) (name_of names item)
-    (with_lines name lines_four) = location_item
+    let one : ItemIs version (type_of (type_word item.kind)) (name_of names item)
+    (with_lines name lines_four) = version_item version
     (type_of (type_word item.kind)) (name_of names item) lines_four
-    (All-head (IsLocated names) item items all) in
-    let items_so = items_spelled names item.kind items before (with_lines name lines_four) (lines 0)
+    (All-head (HasNameIn version names) item items all) in
+    let items_so = items_spelled version names item.kind items before (with_lines name lines_four) (lines 0)
     (lines 1) (lines 2) (lines 3) head (one.item ∷ []) apart.0 clauses
     (grammar.ItemsSpelled.First [] (type_of (type_word item.kind)) (with_lines name lines_four)
     one.item one.spelled)
-    (All-tail (IsLocated names) item items all) in
+    (All-tail (HasNameIn version names) item items all) in
     let stands : IsItemOf names item one.item = subst
     (λ (k : DependKind). StandsFor k (name_of names item) one.item) (type_of_word item.kind)
     one.stands in
@@ -238,7 +241,7 @@ depends_spelled names (item ∷ items) before head lines clauses not_final none 
     record {
       head = record head { items = items_so.all };
       spelled = subst
-          (λ (ts : List Token). ClausesSpelled true []
+          (λ (ts : List Token). ClausesSpelled version true []
           (before ++ depend_front item.kind (lines 0) (lines 1) (lines 2) (lines 3) ts)
           (record head { items = items_so.all }))
           (sym apart.1) items_so.spelled;
@@ -252,18 +255,18 @@ zero_is : (value_of (codes "0") ≤ 1)
 zero_is = omega arith
 
 -- the clauses of a task are spelled so
-clauses_spelled : (names : List (List ℕ)) (undeferred : Bool) (items : List Item) (lines : ℕ → ℕ)
-    → All (IsLocated names) items
-    → IsHead names undeferred items
+clauses_spelled : (version : Version) (names : List (List ℕ)) (undeferred : Bool) (items : List Item) (lines : ℕ → ℕ)
+    → All (HasNameIn version names) items
+    → IsHead version names undeferred items
     (with_lines (if_texts undeferred ++ depend_texts_by (spell false) names items) lines)
 unfolding with_lines
-clauses_spelled names false items lines all =
-    depends_spelled names items [] no_clauses lines (grammar.ClausesSpelled.NoClause []) refl refl
+clauses_spelled version names false items lines all =
+    depends_spelled version names items [] no_clauses lines (grammar.ClausesSpelled.NoClause []) refl refl
     all
-clauses_spelled names true items lines all =
+clauses_spelled version names true items lines all =
     let head : LoopHead = record no_clauses { has_if = true; undeferred = true } in
     let number : grammar.IsNumber true (codes "0") 1 = record { is_number = refl; fits = λ h. zero_is } in
-    let first : ClausesSpelled true []
+    let first : ClausesSpelled version true []
     (record { text = codes "if"; line = lines 0 } ∷ record { text = codes "("; line = lines 1 }
     ∷ record { text = codes "0"; line = lines 2 } ∷ record { text = codes ")"; line = lines 3 }
     ∷ [])
@@ -272,30 +275,30 @@ clauses_spelled names true items lines all =
     (record { text = codes "("; line = lines 1 }) (record { text = codes "0"; line = lines 2 })
     (record { text = codes ")"; line = lines 3 }) no_clauses
     (grammar.ClausesSpelled.NoClause []) refl refl refl number refl in
-    depends_spelled names items _ head (λ i. lines (suc (suc (suc (suc i))))) first refl refl all
+    depends_spelled version names items _ head (λ i. lines (suc (suc (suc (suc i))))) first refl refl all
 
 -- ---- a task up to its `{`
 
-record IsOpening (names : List (List ℕ)) (undeferred : Bool) (items : List Item)
+pub record IsOpening (version : Version) (names : List (List ℕ)) (undeferred : Bool) (items : List Item)
     (tokens : List Token)
     : Type 0 where
-  task : LoopTask
-  spelled : OpeningSpelled true [] tokens (TaskOpening task)
-  undeferred_is : task.undeferred ≡ undeferred
-  not_final : task.is_final ≡ false
-  stand : AllZip (IsItemOf names) items task.items
+  pub task : LoopTask
+  pub spelled : OpeningSpelled version true [] tokens (TaskOpening task)
+  pub undeferred_is : task.undeferred ≡ undeferred
+  pub not_final : task.is_final ≡ false
+  pub stand : AllZip (IsItemOf names) items task.items
 
 -- and a task up to its `{`
-opening_spelled : (names : List (List ℕ)) (undeferred : Bool) (items : List Item) (lines : ℕ → ℕ)
-    → All (IsLocated names) items
-    → IsOpening names undeferred items
+opening_spelled : (version : Version) (names : List (List ℕ)) (undeferred : Bool) (items : List Item) (lines : ℕ → ℕ)
+    → All (HasNameIn version names) items
+    → IsOpening version names undeferred items
     (with_lines (line_texts_by (spell false) names (Begins undeferred items)) lines)
 unfolding with_lines
-opening_spelled names undeferred items lines all =
+opening_spelled version names undeferred items lines all =
     let clauses : List (List ℕ) =
     if_texts undeferred ++ depend_texts_by (spell false) names items in
     let apart = lines_apart clauses (codes "{" ∷ []) (λ i. lines (suc i)) in
-    let clauses_so = clauses_spelled names undeferred items (λ i. lines (suc i)) all in
+    let clauses_so = clauses_spelled version names undeferred items (λ i. lines (suc i)) all in
     let word : Token = record { text = codes "task"; line = lines 0 } in
     let brace : Token = record { text = codes "{"; line = apart.0 0 } in
     let grouped : clauses ++ codes "{" ∷ []
@@ -313,7 +316,7 @@ opening_spelled names undeferred items lines all =
       task = task_of clauses_so.head (lines 0) (apart.0 0);
       spelled = subst
           (λ (ts : List Token).
-          OpeningSpelled true [] ts (TaskOpening (task_of clauses_so.head (lines 0) (apart.0 0))))
+          OpeningSpelled version true [] ts (TaskOpening (task_of clauses_so.head (lines 0) (apart.0 0))))
           tokens_are
           (grammar.OpeningSpelled.Task [] (with_lines clauses (λ i. lines (suc i))) word brace
           clauses_so.head refl clauses_so.spelled refl);
@@ -348,10 +351,10 @@ pub data Stands : (names : List (List ℕ)) → List Mark → Tree → Type 0 wh
       → Stands names (marks ++ (GroupBegins ∷ (inside ++ GroupEnds ∷ [])))
       (ThenGroup tree line brace_line body)
 
-pub record HasMarks (names : List (List ℕ)) (room : ℕ) (tokens : List Token) (marks : List Mark)
+pub record HasMarks (version : Version) (names : List (List ℕ)) (room : ℕ) (tokens : List Token) (marks : List Mark)
     : Type 0 where
   pub tree : Tree
-  pub spelled : Spelled true [] room tokens tree
+  pub spelled : Spelled version true [] room tokens tree
   pub stands : Stands names marks tree
 
 abbrev pub HasLocations : List (List ℕ) → Mark → Type 0
@@ -359,50 +362,57 @@ HasLocations names (Works cost) = cost ≤ LARGEST_COST
 HasLocations names (Begins undeferred items) = All (IsLocated names) items
 HasLocations names _ = Unit {0}
 
+abbrev pub HasNamesIn : Version → List (List ℕ) → Mark → Type 0
+HasNamesIn version names (Works cost) = cost ≤ LARGEST_COST
+HasNamesIn version names (Begins undeferred items) = All (HasNameIn version names) items
+HasNamesIn version names _ = Unit {0}
+
 abbrev words_of : List (List ℕ) → Mark → List (List ℕ)
 words_of names mark = line_texts_by (spell false) names mark
 
-has_marks_of_same : (names : List (List ℕ)) (room : ℕ) (tokens other : List Token)
+has_marks_of_same : (version : Version) (names : List (List ℕ)) (room : ℕ) (tokens other : List Token)
     (marks more : List Mark)
     → tokens ≡ other
     → marks ≡ more
-    → HasMarks names room tokens marks
-    → HasMarks names room other more
-has_marks_of_same names room tokens other marks more same equal h = record {
+    → HasMarks version names room tokens marks
+    → HasMarks version names room other more
+has_marks_of_same version names room tokens other marks more same equal h = record {
   tree = h.tree;
-  spelled = subst (λ (ts : List Token). Spelled true [] room ts h.tree) same h.spelled;
+  spelled = subst (λ (ts : List Token). Spelled version true [] room ts h.tree) same h.spelled;
   stands = subst (λ (ms : List Mark). Stands names ms h.tree) equal h.stands;
 }
 
 -- statements with a `work` behind them
-work_added : (names : List (List ℕ)) (room cost a b : ℕ) (before : List Token) (done : List Mark)
+work_added : (version : Version) (names : List (List ℕ)) (room cost a b : ℕ) (text : List ℕ)
+    (before : List Token) (done : List Mark)
+    → is_number text ≡ true
+    → value_of text ≡ cost
     → cost ≤ LARGEST_COST
-    → HasMarks names room before done
-    → HasMarks names room
-    (before ++ record { text = codes "work"; line = a } ∷ record { text = decimal cost; line = b }
-    ∷ [])
+    → HasMarks version names room before done
+    → HasMarks version names room
+    (before ++ record { text = codes "work"; line = a } ∷ record { text = text; line = b } ∷ [])
     (done ++ Works cost ∷ [])
-work_added names room cost a b before done fits h =
+work_added version names room cost a b text before done is_num is fits h =
     let word : Token = record { text = codes "work"; line = a } in
-    let number : Token = record { text = decimal cost; line = b } in
-    let is : value_of (decimal cost) ≡ cost = decimal_value cost fits in
-    let within : grammar.IsNumber true (decimal cost) LARGEST_COST = record {
-      is_number = decimal_number cost fits;
+    let number : Token = record { text = text; line = b } in
+    let within : grammar.IsNumber true text LARGEST_COST = record {
+      is_number = is_num;
       fits = λ h. omega (arith, is, fits);
     } in
     record {
       tree = ThenWork h.tree cost b;
       spelled = subst
-          (λ (n : ℕ). Spelled true [] room (before ++ word ∷ number ∷ []) (ThenWork h.tree n b)) is
+          (λ (n : ℕ). Spelled version true [] room (before ++ word ∷ number ∷ [])
+          (ThenWork h.tree n b)) is
           (grammar.Spelled.Work [] room before word number h.tree h.spelled refl within);
       stands = Work names done h.tree cost b h.stands;
     }
 
-wait_added : (names : List (List ℕ)) (room a : ℕ) (before : List Token) (done : List Mark)
-    → HasMarks names room before done
-    → HasMarks names room (before ++ record { text = codes "taskwait"; line = a } ∷ [])
+wait_added : (version : Version) (names : List (List ℕ)) (room a : ℕ) (before : List Token) (done : List Mark)
+    → HasMarks version names room before done
+    → HasMarks version names room (before ++ record { text = codes "taskwait"; line = a } ∷ [])
     (done ++ Waits ∷ [])
-wait_added names room a before done h = record {
+wait_added version names room a before done h = record {
   tree = ThenWait h.tree a;
   spelled = grammar.Spelled.Wait [] room before (record { text = codes "taskwait"; line = a })
       h.tree h.spelled refl;
@@ -410,16 +420,16 @@ wait_added names room a before done h = record {
 }
 
 -- statements with a `taskgroup` behind them
-group_added : (names : List (List ℕ)) (room a b c : ℕ) (before body : List Token)
+group_added : (version : Version) (names : List (List ℕ)) (room a b c : ℕ) (before body : List Token)
     (done inside : List Mark)
-    → HasMarks names (suc room) before done
-    → HasMarks names room body inside
-    → HasMarks names (suc room)
+    → HasMarks version names (suc room) before done
+    → HasMarks version names room body inside
+    → HasMarks version names (suc room)
     (before
     ++ ((record { text = codes "taskgroup"; line = a } ∷ record { text = codes "{"; line = b } ∷ [])
     ++ (body ++ record { text = codes "}"; line = c } ∷ [])))
     (done ++ (GroupBegins ∷ (inside ++ GroupEnds ∷ [])))
-group_added names room a b c before body done inside h g =
+group_added version names room a b c before body done inside h g =
     let word : Token = record { text = codes "taskgroup"; line = a } in
     let brace : Token = record { text = codes "{"; line = b } in
     record {
@@ -431,15 +441,15 @@ group_added names room a b c before body done inside h g =
     }
 
 -- statements with a task behind them
-task_added : (names : List (List ℕ)) (room c : ℕ) (before opens body : List Token)
+task_added : (version : Version) (names : List (List ℕ)) (room c : ℕ) (before opens body : List Token)
     (done inside : List Mark) (undeferred : Bool) (items : List Item)
-    → HasMarks names (suc room) before done
-    → IsOpening names undeferred items opens
-    → HasMarks names room body inside
-    → HasMarks names (suc room)
+    → HasMarks version names (suc room) before done
+    → IsOpening version names undeferred items opens
+    → HasMarks version names room body inside
+    → HasMarks version names (suc room)
     (before ++ (opens ++ (body ++ record { text = codes "}"; line = c } ∷ [])))
     (done ++ (Begins undeferred items ∷ (inside ++ Ends ∷ [])))
-task_added names room c before opens body done inside undeferred items h o g = record {
+task_added version names room c before opens body done inside undeferred items h o g = record {
   tree = ThenTask h.tree o.task g.tree;
   spelled = grammar.Spelled.Block [] room before opens body (record { text = codes "}"; line = c })
       (TaskOpening o.task) h.tree g.tree h.spelled o.spelled g.spelled refl;
@@ -450,8 +460,8 @@ task_added names room c before opens body done inside undeferred items h o g = r
       (Task names done inside h.tree g.tree o.task items h.stands g.stands o.not_final o.stand);
 }
 
-pub no_marks : (names : List (List ℕ)) (room : ℕ) → HasMarks names room [] []
-no_marks names
+pub no_marks : (version : Version) (names : List (List ℕ)) (room : ℕ) → HasMarks version names room [] []
+no_marks version names
     room = record {
       tree = NoStatement;
       spelled = grammar.Spelled.Nothing [] room;
@@ -488,100 +498,211 @@ block_lines opens inside rest lines =
       tokens_are = one.1 ∙ ap (λ (ts : List Token). with_lines opens lines ++ ts) two.1;
     }
 
--- the lines of these marks, after what is spelled already
-pub lines_spelled : (names : List (List ℕ)) (room : ℕ) (marks : List Mark)
+-- ---- words that spell marks
+
+-- these words spell the mark, or what it begins up to its `{`
+abbrev pub Spells : Version → List (List ℕ) → List (List ℕ) → Mark → Type 0
+Spells version names words (Works cost) =
+    (number : List ℕ)
+    × (words ≡ codes "work" ∷ number ∷ [])
+    × (is_number number ≡ true)
+    × (value_of number ≡ cost)
+    × (cost ≤ LARGEST_COST)
+Spells version names words (Begins undeferred items) =
+    (lines : ℕ → ℕ) → IsOpening version names undeferred items (with_lines words lines)
+Spells version names words Waits = words ≡ codes "taskwait" ∷ []
+Spells version names words GroupBegins = words ≡ codes "taskgroup" ∷ codes "{" ∷ []
+Spells version names words Ends = words ≡ codes "}" ∷ []
+Spells version names words GroupEnds = words ≡ codes "}" ∷ []
+
+abbrev pub joined : List (List (List ℕ)) → List (List ℕ)
+joined all = flat_map (λ words. words) all
+
+-- what spells a block and what follows it, in parts
+record BlockWords (version : Version) (names : List (List ℕ)) (all : List (List (List ℕ)))
+    (body : List Mark) (end : Mark) (rest : List Mark)
+    : Type 0 where
+  inside : List (List (List ℕ))
+  closes : List (List ℕ)
+  after : List (List (List ℕ))
+  all_are : joined all ≡ joined inside ++ (closes ++ joined after)
+  spell_body : AllZip (Spells version names) inside body
+  spells_end : Spells version names closes end
+  spell_rest : AllZip (Spells version names) after rest
+
+block_words : (version : Version) (names : List (List ℕ)) (all : List (List (List ℕ)))
+    (body : List Mark) (end : Mark) (rest : List Mark)
+    → AllZip (Spells version names) all (body ++ end ∷ rest)
+    → BlockWords version names all body end rest
+block_words version names [] [] end rest h = absurd h
+block_words version names (words ∷ all) [] end rest h = record {
+  inside = [];
+  closes = words;
+  after = all;
+  all_are = refl;
+  spell_body = tt;
+  spells_end = h.0;
+  spell_rest = h.1;
+}
+block_words version names [] (mark ∷ body) end rest h = absurd h
+block_words version names (words ∷ all) (mark ∷ body) end rest h =
+    let later = block_words version names all body end rest h.1 in
+    record {
+      inside = words ∷ later.inside;
+      closes = later.closes;
+      after = later.after;
+      all_are = ap (λ (ts : List (List ℕ)). words ++ ts) later.all_are
+          ∙ sym (append_assoc words (joined later.inside) (later.closes ++ joined later.after));
+      spell_body = (h.0, later.spell_body);
+      spells_end = later.spells_end;
+      spell_rest = later.spell_rest;
+    }
+
+-- the texts of a block and of what follows it
+block_texts : (first inside closes after all : List (List ℕ))
+    → all ≡ inside ++ (closes ++ after)
+    → closes ≡ codes "}" ∷ []
+    → first ++ (inside ++ codes "}" ∷ after) ≡ first ++ all
+block_texts first inside closes after all all_are is_close =
+    ap (λ (end : List (List ℕ)). first ++ (inside ++ (end ++ after))) (sym is_close)
+    ∙ ap (λ (ts : List (List ℕ)). first ++ ts) (sym all_are)
+
+-- these words spell the marks, after what is spelled already
+pub words_spelled : (version : Version) (names : List (List ℕ)) (room : ℕ) (marks : List Mark)
     → NestsIn room marks
-    → All (HasLocations names) marks
+    → (all : List (List (List ℕ)))
+    → AllZip (Spells version names) all marks
     → (before : List Token) (done : List Mark) (lines : ℕ → ℕ)
-    → HasMarks names room before done
-    → HasMarks names room (before ++ with_lines (flat_map (words_of names) marks) lines)
-    (done ++ marks)
+    → HasMarks version names room before done
+    → HasMarks version names room (before ++ with_lines (joined all) lines) (done ++ marks)
 unfolding with_lines
-lines_spelled names _ _ (nested.NestsIn.Nothing room) all before done lines h =
-    has_marks_of_same names room before (before ++ []) done (done ++ []) (sym (append-nil before))
-    (sym (append-nil done)) h
-lines_spelled names _ _ (nested.NestsIn.Work room cost rest n) all before done lines h =
-    let later = lines_spelled names room rest n
-    (All-tail (HasLocations names) (Works cost) rest all)
-    (before ++ record { text = codes "work"; line = lines 0 }
-    ∷ record { text = decimal cost; line = lines 1 } ∷ [])
-    (done ++ Works cost ∷ []) (λ i. lines (suc (suc i)))
-    (work_added names room cost (lines 0) (lines 1) before done
-    (All-head (HasLocations names) (Works cost) rest all) h) in
-    has_marks_of_same names room _ _ _ _
-    (append_assoc before
-    (record { text = codes "work"; line = lines 0 } ∷ record { text = decimal cost; line = lines 1 }
-    ∷ [])
-    _)
-    (append_assoc done (Works cost ∷ []) rest) later
-lines_spelled names _ _ (nested.NestsIn.Wait room rest n) all before done lines h =
-    let later = lines_spelled names room rest n (All-tail (HasLocations names) Waits rest all)
-    (before ++ record { text = codes "taskwait"; line = lines 0 } ∷ []) (done ++ Waits ∷ [])
-    (λ i. lines (suc i))
-    (wait_added names room (lines 0) before done h) in
-    has_marks_of_same names room _ _ _ _
-    (append_assoc before (record { text = codes "taskwait"; line = lines 0 } ∷ []) _)
-    (append_assoc done (Waits ∷ []) rest) later
-lines_spelled names _ _ (nested.NestsIn.Task room undeferred items body rest inside n) all before
+words_spelled version names _ _ (nested.NestsIn.Nothing room) [] spell before done lines h =
+    has_marks_of_same version names room before (before ++ []) done (done ++ [])
+    (sym (append-nil before)) (sym (append-nil done)) h
+words_spelled version names _ _ (nested.NestsIn.Nothing room) (words ∷ all) spell before done lines
+    h =
+    absurd spell
+words_spelled version names _ _ (nested.NestsIn.Work room cost rest n) [] spell before done lines h =
+    absurd spell
+words_spelled version names _ _ (nested.NestsIn.Work room cost rest n) (words ∷ all) spell before
     done lines h =
-    let opens : List (List ℕ) = words_of names (Begins undeferred items) in
-    let within : List (List ℕ) = flat_map (words_of names) body in
-    let after : List (List ℕ) = flat_map (words_of names) rest in
-    let others : All (HasLocations names) (body ++ Ends ∷ rest) =
-    All-tail (HasLocations names) (Begins undeferred items) (body ++ Ends ∷ rest) all in
+    let own = spell.0 in
+    let number : List ℕ = own.0 in
+    let front : List Token = record { text = codes "work"; line = lines 0 }
+    ∷ record { text = number; line = lines 1 } ∷ [] in
+    let later = words_spelled version names room rest n all spell.1 (before ++ front)
+    (done ++ Works cost ∷ []) (λ i. lines (suc (suc i)))
+    (work_added version names room cost (lines 0) (lines 1) number before done own.2 own.3 own.4 h)
+    in
+    has_marks_of_same version names room _ _ _ _
+    (append_assoc before front (with_lines (joined all) (λ i. lines (suc (suc i))))
+    ∙ ap (λ (ts : List (List ℕ)). before ++ with_lines (ts ++ joined all) lines) (sym own.1))
+    (append_assoc done (Works cost ∷ []) rest) later
+words_spelled version names _ _ (nested.NestsIn.Wait room rest n) [] spell before done lines h =
+    absurd spell
+words_spelled version names _ _ (nested.NestsIn.Wait room rest n) (words ∷ all) spell before done
+    lines h =
+    let front : List Token = record { text = codes "taskwait"; line = lines 0 } ∷ [] in
+    let later = words_spelled version names room rest n all spell.1 (before ++ front)
+    (done ++ Waits ∷ []) (λ i. lines (suc i))
+    (wait_added version names room (lines 0) before done h) in
+    has_marks_of_same version names room _ _ _ _
+    (append_assoc before front (with_lines (joined all) (λ i. lines (suc i)))
+    ∙ ap (λ (ts : List (List ℕ)). before ++ with_lines (ts ++ joined all) lines) (sym spell.0))
+    (append_assoc done (Waits ∷ []) rest) later
+words_spelled version names _ _ (nested.NestsIn.Task room undeferred items body rest inside n) []
+    spell before done lines h =
+    absurd spell
+words_spelled version names _ _ (nested.NestsIn.Task room undeferred items body rest inside n)
+    (opens ∷ all) spell before done lines h =
+    let parts = block_words version names all body Ends rest spell.1 in
+    let within : List (List ℕ) = joined parts.inside in
+    let after : List (List ℕ) = joined parts.after in
     let numbering = block_lines opens within after lines in
     let closes : Token = record { text = codes "}"; line = numbering.close_line } in
-    let opening = opening_spelled names undeferred items lines
-    (All-head (HasLocations names) (Begins undeferred items) (body ++ Ends ∷ rest) all) in
-    let in_body = lines_spelled names room body inside
-    (all_front (HasLocations names) body (Ends ∷ rest) others) [] [] numbering.inside_lines
-    (no_marks names room) in
-    let front = task_added names room numbering.close_line before (with_lines opens lines)
-    (with_lines within numbering.inside_lines) done body undeferred items h opening in_body in
-    let later = lines_spelled names (suc room) rest n
-    (All-tail (HasLocations names) Ends rest
-    (all_back (HasLocations names) body (Ends ∷ rest) others))
+    let in_body = words_spelled version names room body inside parts.inside parts.spell_body [] []
+    numbering.inside_lines (no_marks version names room) in
+    let front = task_added version names room numbering.close_line before (with_lines opens lines)
+    (with_lines within numbering.inside_lines) done body undeferred items h (spell.0 lines) in_body
+    in
+    let later = words_spelled version names (suc room) rest n parts.after parts.spell_rest
     (before ++ (with_lines opens lines ++ (with_lines within numbering.inside_lines ++ closes ∷
     [])))
     (done ++ (Begins undeferred items ∷ (body ++ Ends ∷ []))) numbering.rest_lines front in
-    let texts_are : opens ++ (within ++ codes "}" ∷ after)
-    ≡ flat_map (words_of names) (Begins undeferred items ∷ (body ++ Ends ∷ rest)) = ap
-    (λ (ts : List (List ℕ)). opens ++ ts)
-    (sym (flat_map-append (words_of names) body (Ends ∷ rest))) in
-    has_marks_of_same names (suc room) _ _ _ _
+    has_marks_of_same version names (suc room) _ _ _ _
     (append_of_block before (with_lines opens lines) (with_lines within numbering.inside_lines)
     closes
     (with_lines after numbering.rest_lines)
     ∙ ap (λ (ts : List Token). before ++ ts)
-    (sym numbering.tokens_are ∙ ap (λ (ts : List (List ℕ)). with_lines ts lines) texts_are))
+    (sym numbering.tokens_are
+    ∙ ap (λ (ts : List (List ℕ)). with_lines ts lines)
+    (block_texts opens within parts.closes after (joined all) parts.all_are parts.spells_end)))
     (append_of_block done (Begins undeferred items ∷ []) body Ends rest) later
-lines_spelled names _ _ (nested.NestsIn.Group room body rest inside n) all before done lines h =
-    let opens : List (List ℕ) = words_of names GroupBegins in
-    let within : List (List ℕ) = flat_map (words_of names) body in
-    let after : List (List ℕ) = flat_map (words_of names) rest in
-    let others : All (HasLocations names) (body ++ GroupEnds ∷ rest) =
-    All-tail (HasLocations names) GroupBegins (body ++ GroupEnds ∷ rest) all in
+words_spelled version names _ _ (nested.NestsIn.Group room body rest inside n) [] spell before done
+    lines h =
+    absurd spell
+words_spelled version names _ _ (nested.NestsIn.Group room body rest inside n) (words ∷ all) spell
+    before done lines h =
+    let opens : List (List ℕ) = codes "taskgroup" ∷ codes "{" ∷ [] in
+    let parts = block_words version names all body GroupEnds rest spell.1 in
+    let within : List (List ℕ) = joined parts.inside in
+    let after : List (List ℕ) = joined parts.after in
     let numbering = block_lines opens within after lines in
     let closes : Token = record { text = codes "}"; line = numbering.close_line } in
-    let in_body = lines_spelled names room body inside
-    (all_front (HasLocations names) body (GroupEnds ∷ rest) others) [] [] numbering.inside_lines
-    (no_marks names room) in
-    let front = group_added names room (lines 0) (lines 1) numbering.close_line before
+    let in_body = words_spelled version names room body inside parts.inside parts.spell_body [] []
+    numbering.inside_lines (no_marks version names room) in
+    let front = group_added version names room (lines 0) (lines 1) numbering.close_line before
     (with_lines within numbering.inside_lines) done body h in_body in
-    let later = lines_spelled names (suc room) rest n
-    (All-tail (HasLocations names) GroupEnds rest
-    (all_back (HasLocations names) body (GroupEnds ∷ rest) others))
+    let later = words_spelled version names (suc room) rest n parts.after parts.spell_rest
     (before ++ (with_lines opens lines ++ (with_lines within numbering.inside_lines ++ closes ∷
     [])))
     (done ++ (GroupBegins ∷ (body ++ GroupEnds ∷ []))) numbering.rest_lines front in
-    let texts_are : opens ++ (within ++ codes "}" ∷ after)
-    ≡ flat_map (words_of names) (GroupBegins ∷ (body ++ GroupEnds ∷ rest)) = ap
-    (λ (ts : List (List ℕ)). opens ++ ts)
-    (sym (flat_map-append (words_of names) body (GroupEnds ∷ rest))) in
-    has_marks_of_same names (suc room) _ _ _ _
+    has_marks_of_same version names (suc room) _ _ _ _
     (append_of_block before (with_lines opens lines) (with_lines within numbering.inside_lines)
     closes
     (with_lines after numbering.rest_lines)
     ∙ ap (λ (ts : List Token). before ++ ts)
-    (sym numbering.tokens_are ∙ ap (λ (ts : List (List ℕ)). with_lines ts lines) texts_are))
+    (sym numbering.tokens_are
+    ∙ ap (λ (ts : List (List ℕ)). with_lines ts lines)
+    (block_texts opens within parts.closes after (joined all) parts.all_are parts.spells_end
+    ∙ ap (λ (ts : List (List ℕ)). ts ++ joined all) (sym spell.0))))
     (append_of_block done (GroupBegins ∷ []) body GroupEnds rest) later
+
+-- ---- the lines of the canonical text
+
+line_spells : (version : Version) (names : List (List ℕ)) (mark : Mark) → HasNamesIn version names mark
+    → Spells version names (words_of names mark) mark
+line_spells version names (Works cost) fits =
+    (decimal cost, refl, decimal_number cost fits, decimal_value cost fits, fits)
+line_spells version names (Begins undeferred items) all =
+    λ lines. opening_spelled version names undeferred items lines all
+line_spells version names Waits all = refl
+line_spells version names GroupBegins all = refl
+line_spells version names Ends all = refl
+line_spells version names GroupEnds all = refl
+
+lines_spell : (version : Version) (names : List (List ℕ)) (marks : List Mark) → All (HasNamesIn version names) marks
+    → AllZip (Spells version names) (map (λ mark. words_of names mark) marks) marks
+lines_spell version names [] all = tt
+lines_spell version names (mark ∷ marks) all = (
+  line_spells version names mark (All-head (HasNamesIn version names) mark marks all),
+  lines_spell version names marks (All-tail (HasNamesIn version names) mark marks all),
+)
+
+joined_lines : (names : List (List ℕ)) (marks : List Mark)
+    → joined (map (λ mark. words_of names mark) marks) ≡ flat_map (words_of names) marks
+joined_lines names [] = refl
+joined_lines names (mark ∷ marks) =
+    ap (λ (ts : List (List ℕ)). words_of names mark ++ ts) (joined_lines names marks)
+
+-- the lines of these marks
+pub lines_spelled : (version : Version) (names : List (List ℕ)) (room : ℕ) (marks : List Mark)
+    → NestsIn room marks
+    → All (HasNamesIn version names) marks
+    → (lines : ℕ → ℕ)
+    → HasMarks version names room (with_lines (flat_map (words_of names) marks) lines) marks
+lines_spelled version names room marks n all lines =
+    has_marks_of_same version names room _ _ marks marks
+    (ap (λ (ts : List (List ℕ)). with_lines ts lines) (joined_lines names marks)) refl
+    (words_spelled version names room marks n (map (λ mark. words_of names mark) marks)
+    (lines_spell version names marks all) [] [] lines (no_marks version names room))

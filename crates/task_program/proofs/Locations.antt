@@ -8,7 +8,7 @@ use Rattle.std.proofs.lemmas.Bool.{le-leb, lt-ltb}
 use Rattle.std.proofs.lemmas.List.{append-nil}
 use Rattle.program_text.specs.declared.statement.DependKind.{DependKind}
 use Rattle.loop_text.specs.declared.loops.LoopItem.{LoopItem}
-use Rattle.task_program.specs.Programs.{IsLocation}
+use Rattle.task_program.specs.Programs.{IsLocation, IsNameIn}
 use Rattle.task_program.specs.Programs.IsLocation.{Plain, Indexed}
 use Rattle.task_program.specs.Subscripts.{subscript}
 use Rattle.program_text.specs.declared.limits.TheConstants.{LARGEST_INDEX, LARGEST_STEP}
@@ -16,8 +16,10 @@ use Rattle.program_text.specs.Tokens.{Token, texts, starts_with_run_byte}
 use Rattle.program_text.specs.Words.{is_word}
 use Rattle.task_program.specs.Expansion.{subscript_of, index_fits}
 use Rattle.loop_text.specs.Parts.{step_of}
-use Rattle.task_program.specs.LoopGrammar as grammar
-use Rattle.task_program.specs.LoopGrammar.{index_of, ItemSpelled}
+use Rattle.task_program.specs.declared.version.Version.{Version}
+use Rattle.task_program.specs.declared.version.Version.TheVariants.{One, Two}
+use Rattle.task_program.specs.Grammar as grammar
+use Rattle.task_program.specs.Grammar.{index_of, ItemSpelled}
 use Rattle.task_program.proofs.Spelled.{spell, word_then, number_then, decimal_value}
 use Rattle.task_program.proofs.Spelled.{decimal_number, IsWritten}
 use Rattle.task_program.proofs.ReadBack.{AllShort, none_short, cons_short, number_short, is_short}
@@ -172,9 +174,9 @@ pub record StandsFor (kind : DependKind) (name : List ℕ) (item : LoopItem) : T
   pub location_is : item.name ++ subscript_of [] item.index ≡ name
   pub in_range : index_fits [] item.index ≡ true
 
-pub record ItemIs (kind : DependKind) (name : List ℕ) (tokens : List Token) : Type 0 where
+pub record ItemIs (version : Version) (kind : DependKind) (name : List ℕ) (tokens : List Token) : Type 0 where
   pub item : LoopItem
-  pub spelled : ItemSpelled [] kind tokens item
+  pub spelled : ItemSpelled version [] kind tokens item
   pub stands : StandsFor kind name item
 
 step_is : (size : ℕ) → size ≤ LARGEST_INDEX → step_of (decimal size) ≡ size
@@ -182,10 +184,10 @@ step_is size fits =
     ap (λ (n : ℕ). min n LARGEST_STEP) (decimal_value size (omega (arith, fits)))
     ∙ omega (arith, fits)
 
-plain_item : (kind : DependKind) (word : List ℕ) (line : ℕ)
+plain_item : (version : Version) (kind : DependKind) (word : List ℕ) (line : ℕ)
     → is_word word ≡ true
-    → ItemIs kind word (record { text = word; line = line } ∷ [])
-plain_item kind word line h =
+    → ItemIs version kind word (record { text = word; line = line } ∷ [])
+plain_item version kind word line h =
     let token : Token = record { text = word; line = line } in
     record {
       item = grammar.item_of kind token None;
@@ -197,7 +199,7 @@ plain_item kind word line h =
 positive_item : (kind : DependKind) (word : List ℕ) (size a b c d : ℕ)
     → is_word word ≡ true
     → size ≤ LARGEST_INDEX
-    → ItemIs kind (word ++ subscript false size) (record { text = word; line = a }
+    → ItemIs Two kind (word ++ subscript false size) (record { text = word; line = a }
     ∷ record { text = codes "["; line = b } ∷ record { text = decimal size; line = c }
     ∷ record { text = codes "]"; line = d } ∷ [])
 positive_item kind word size a b c d h fits =
@@ -208,7 +210,7 @@ positive_item kind word size a b c d h fits =
       item = grammar.item_of kind token (Some (index_of None false (step_of (decimal size)) c));
       spelled = grammar.ItemSpelled.Indexed [] kind token (record { text = codes "["; line = b })
           (record { text = codes "]"; line = d }) (number ∷ [])
-          (index_of None false (step_of (decimal size)) c) h refl
+          (index_of None false (step_of (decimal size)) c) refl h refl
           (grammar.IndexSpelled.Number [] number (decimal_number size (omega (arith, fits)))) refl;
       stands = record {
         kind_is = refl;
@@ -222,7 +224,7 @@ negative_item : (kind : DependKind) (word : List ℕ) (size a b c d e : ℕ)
     → is_word word ≡ true
     → size ≤ LARGEST_INDEX
     → 1 ≤ size
-    → ItemIs kind (word ++ subscript true size) (record { text = word; line = a }
+    → ItemIs Two kind (word ++ subscript true size) (record { text = word; line = a }
     ∷ record { text = codes "["; line = b } ∷ record { text = codes "-"; line = c }
     ∷ record { text = decimal size; line = d } ∷ record { text = codes "]"; line = e } ∷ [])
 negative_item kind word size a b c d e h fits some =
@@ -235,7 +237,7 @@ negative_item kind word size a b c d e h fits some =
     record {
       item = grammar.item_of kind token (Some (index_of None true by c));
       spelled = grammar.ItemSpelled.Indexed [] kind token (record { text = codes "["; line = b })
-          (record { text = codes "]"; line = e }) (minus ∷ number ∷ []) (index_of None true by c) h
+          (record { text = codes "]"; line = e }) (minus ∷ number ∷ []) (index_of None true by c) refl h
           refl
           (grammar.IndexSpelled.Minus [] minus number refl
           (decimal_number size (omega (arith, fits))))
@@ -248,20 +250,29 @@ negative_item kind word size a b c d e h fits some =
     }
 
 -- every location is spelled as an item
-pub location_item : (kind : DependKind) (name : List ℕ) (lines : ℕ → ℕ)
+location_item : (kind : DependKind) (name : List ℕ) (lines : ℕ → ℕ)
     → IsLocation name
-    → ItemIs kind name (with_lines (spell false name) lines)
+    → ItemIs Two kind name (with_lines (spell false name) lines)
 unfolding with_lines
 location_item kind _ lines (Plain word is) =
-    let P : List (List ℕ) → Type 0 = λ ts. ItemIs kind word (with_lines ts lines) in
-    subst P (sym (word_alone word is.0)) (plain_item kind word (lines 0) is.0)
+    let P : List (List ℕ) → Type 0 = λ ts. ItemIs Two kind word (with_lines ts lines) in
+    subst P (sym (word_alone word is.0)) (plain_item Two kind word (lines 0) is.0)
 location_item kind _ lines (Indexed word false size is fits some) =
     let P : List (List ℕ) → Type 0 = λ ts.
-    ItemIs kind (word ++ subscript false size) (with_lines ts lines) in
+    ItemIs Two kind (word ++ subscript false size) (with_lines ts lines) in
     subst P (sym (indexed_alone word false size is.0 fits))
     (positive_item kind word size (lines 0) (lines 1) (lines 2) (lines 3) is.0 fits)
 location_item kind _ lines (Indexed word true size is fits some) =
     let P : List (List ℕ) → Type 0 = λ ts.
-    ItemIs kind (word ++ subscript true size) (with_lines ts lines) in
+    ItemIs Two kind (word ++ subscript true size) (with_lines ts lines) in
     subst P (sym (indexed_alone word true size is.0 fits)) (negative_item kind word size (lines 0)
     (lines 1) (lines 2) (lines 3) (lines 4) is.0 fits (some refl))
+
+pub version_item : (version : Version) (kind : DependKind) (name : List ℕ) (lines : ℕ → ℕ)
+    → IsNameIn version name
+    → ItemIs version kind name (with_lines (spell false name) lines)
+unfolding with_lines
+version_item One kind name lines is =
+    let P : List (List ℕ) → Type 0 = λ ts. ItemIs One kind name (with_lines ts lines) in
+    subst P (sym (word_alone name is.0)) (plain_item One kind name (lines 0) is.0)
+version_item Two kind name lines is = location_item kind name lines is

@@ -14,7 +14,7 @@ use Rattle.loop_text.specs.LoopTokens.{form_fault}
 use Rattle.task_program.specs.ReadInVersion.{then_second, two_passes}
 use Rattle.task_program.specs.Versions.{begins_version_two}
 use Rattle.task_program.specs.ReadInVersion.{program_of}
-use Rattle.task_program.specs.LoopGrammar.{IsSpelled}
+use Rattle.task_program.specs.Grammar.{IsSpelled}
 use Rattle.task_program.specs.FirstFault.{AreRight, AreRightWhole}
 use Rattle.task_program.specs.FirstFault.AreRight.{Nothing, More}
 use Rattle.task_program.specs.Versions.{body_of}

@@ -27,10 +27,10 @@ use Rattle.loop_text.specs.Loops.Tree.{ThenWork, ThenWait}
 use Rattle.loop_text.specs.OpenBlocks.{variables_of}
 use Rattle.loop_text.specs.FirstPass.{is_allowed, is_variable, after_at, no_bounds}
 use Rattle.loop_text.specs.Parts.{no_clauses}
-use Rattle.task_program.specs.LoopGrammar.{IsNumber, task_of}
-use Rattle.task_program.specs.LoopGrammar.ClausesSpelled.{NoClause, If, Final}
-use Rattle.task_program.specs.LoopGrammar.OpeningSpelled.{Group, Task, For}
-use Rattle.task_program.specs.LoopGrammar.Spelled.{Work, Wait}
+use Rattle.task_program.specs.Grammar.{IsNumber, task_of}
+use Rattle.task_program.specs.Grammar.ClausesSpelled.{NoClause, If, Final}
+use Rattle.task_program.specs.Grammar.OpeningSpelled.{Group, Task, For}
+use Rattle.task_program.specs.Grammar.Spelled.{Work, Wait}
 use Rattle.task_program.proofs.FoundPlaces.{same_text}
 use Rattle.task_program.proofs.LoopParts.{InTask, bounds_of, with_if, with_final, IsNew, state_of}
 use Rattle.task_program.proofs.LoopParts.{Reads, Passes, variables_are, Stands, grow, ends, opens}
@@ -173,7 +173,7 @@ for_goes blocks tree variables pending word variable first last is_new is_first 
     opens blocks tree variables room around here (word ∷ variable ∷ first ∷ last ∷ []) token
     (ForOpening variable.text (value_of first.text) (value_of last.text) word.line token.line)
     pending no_bounds s.around_is s.here_is
-    (For variables word variable first last token is_new.is_for is_new.is_word is_new.is_new
+    (For variables word variable first last token refl is_new.is_for is_new.is_word is_new.is_new
     is_first is_last (same_text token.text (codes "{") p.allowed))
     p.nesting
 
@@ -349,6 +349,6 @@ final_closes_goes blocks tree variables pending bounds word clauses head w brack
     (with_final head (value_of number.text))
     (record {
       is_task = t.is_task;
-      clauses_are = Final variables clauses w bracket number token head t.clauses_are none is_if
+      clauses_are = Final variables clauses w bracket number token head refl t.clauses_are none is_if
           is_bracket is_num (same_text token.text (codes ")") p.allowed);
     }))

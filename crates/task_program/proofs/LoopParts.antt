@@ -37,9 +37,10 @@ use Rattle.loop_text.specs.FirstPass.{State, no_index, place_fault, closes_nothi
 use Rattle.loop_text.specs.Parts.{no_clauses}
 use Rattle.loop_text.specs.FirstPass.{is_allowed, is_number_too_large, nests_too_deep}
 use Rattle.loop_text.specs.FirstPass.{after_closing}
-use Rattle.task_program.specs.LoopGrammar.{IsNumber, index_of, IsVariable, IndexSpelled}
-use Rattle.task_program.specs.LoopGrammar.{ItemsSpelled, ClausesSpelled, OpeningSpelled, Spelled}
-use Rattle.task_program.specs.LoopGrammar.Spelled.{Nothing, Block}
+use Rattle.task_program.specs.declared.version.Version.TheVariants.{Two}
+use Rattle.task_program.specs.Grammar.{IsNumber, index_of, IsVariable, IndexSpelled}
+use Rattle.task_program.specs.Grammar.{ItemsSpelled, ClausesSpelled, OpeningSpelled, Spelled}
+use Rattle.task_program.specs.Grammar.Spelled.{Nothing, Block}
 use Rattle.program_text.proofs.FaultRows.{row_passed}
 
 -- ---- what is open, and what of a statement was read
@@ -55,8 +56,8 @@ pub data Around : List LoopBlock
   Inside : (blocks : List LoopBlock) (variables : List (List ℕ)) (room : ℕ)
       (around before opens : List Token) (tree : Tree) (opening : LoopOpening)
       → Around blocks variables (suc room) around
-      → Spelled true variables (suc room) before tree
-      → OpeningSpelled true variables opens opening
+      → Spelled Two true variables (suc room) before tree
+      → OpeningSpelled Two true variables opens opening
       → Around (record { before = tree; opening = opening } ∷ blocks)
       (variables_around opening variables) room (around ++ (before ++ opens))
 
@@ -70,7 +71,7 @@ pub data Front : (variables : List (List ℕ)) (kind : DependKind) → LoopHead 
       → Front variables kind head [] head
   AndComma : (variables : List (List ℕ)) (kind : DependKind) (head : LoopHead) (before : List Token)
       (comma : Token) (items : List LoopItem)
-      → ItemsSpelled variables kind before items
+      → ItemsSpelled Two variables kind before items
       → comma.text ≡ codes ","
       → Front variables kind head (before ++ comma ∷ []) (head_with_items head items)
 
@@ -123,7 +124,7 @@ pub record InTask (variables : List (List ℕ)) (word : Token) (clauses : List T
     (head : LoopHead)
     : Type 0 where
   pub is_task : word.text ≡ codes "task"
-  pub clauses_are : ClausesSpelled true variables clauses head
+  pub clauses_are : ClausesSpelled Two true variables clauses head
 
 -- a `depend` up to its `:`
 pub data Heading : DependKind → List Token → Type 0 where
@@ -260,7 +261,7 @@ pub data Part : (variables : List (List ℕ)) → LoopPlace → (word_line : ℕ
       → Part vs place word.line after p b (word ∷ (clauses ++ (heading ++ (front ++ item))))
   AtMore : (vs : List (List ℕ)) (p : Pending) (b : Bounds) (word : Token) (clauses : List Token)
       (head : LoopHead) (kind : DependKind) (heading inside : List Token) (items : List LoopItem)
-      → InTask vs word clauses head → Heading kind heading → ItemsSpelled vs kind inside items
+      → InTask vs word clauses head → Heading kind heading → ItemsSpelled Two vs kind inside items
       → Part vs (DependMore kind) word.line (head_with_items head items) p b
       (word ∷ (clauses ++ (heading ++ inside)))
 
@@ -284,7 +285,7 @@ pub record Reads (tokens : List Token) (state : State) : Type 0 where
   pub part : List Token
   pub tokens_are : tokens ≡ around ++ (here ++ part)
   pub around_is : Around state.tree.blocks variables room around
-  pub here_is : Spelled true variables room here state.tree.statements
+  pub here_is : Spelled Two true variables room here state.tree.statements
   pub part_is : Part variables state.place state.word_line state.head state.pending state.bounds
       part
 
@@ -339,7 +340,7 @@ pub record Stands (blocks : List LoopBlock) (tree : Tree) (variables : List (Lis
     (around here : List Token)
     : Type 0 where
   pub around_is : Around blocks variables room around
-  pub here_is : Spelled true variables room here tree
+  pub here_is : Spelled Two true variables room here tree
 
 -- one token more in the statement that is being read
 pub grow : (blocks : List LoopBlock) (tree : Tree) (variables : List (List ℕ)) (room : ℕ)
@@ -369,7 +370,7 @@ pub ends : (blocks : List LoopBlock) (tree : Tree) (variables : List (List ℕ))
     (around here part : List Token) (token : Token) (word_line : ℕ) (pending : Pending)
     (bounds : Bounds)
     → Around blocks variables room around
-    → Spelled true variables room (here ++ (part ++ token ∷ [])) tree
+    → Spelled Two true variables room (here ++ (part ++ token ∷ [])) tree
     → Reads ((around ++ (here ++ part)) ++ token ∷ [])
     (state_of Statement word_line no_clauses pending bounds blocks tree)
 ends blocks tree variables room around here part token word_line pending bounds a s = record {
@@ -390,8 +391,8 @@ pub opens : (blocks : List LoopBlock) (tree : Tree) (variables : List (List ℕ)
     (around here part : List Token) (token : Token) (opening : LoopOpening) (pending : Pending)
     (bounds : Bounds)
     → Around blocks variables room around
-    → Spelled true variables room here tree
-    → OpeningSpelled true variables (part ++ token ∷ []) opening
+    → Spelled Two true variables room here tree
+    → OpeningSpelled Two true variables (part ++ token ∷ []) opening
     → nat_le MOST_NESTING (length blocks) ≡ false
     → Reads ((around ++ (here ++ part)) ++ token ∷ []) (state_of Statement 0 no_clauses pending
     bounds (record { before = tree; opening = opening } ∷ blocks) NoStatement)
@@ -422,7 +423,7 @@ closed_state blocks tree word_line pending bounds =
 pub closes : (blocks : List LoopBlock) (tree : Tree) (variables : List (List ℕ)) (room : ℕ)
     (around here : List Token) (token : Token) (word_line : ℕ) (pending : Pending) (bounds : Bounds)
     → Around blocks variables room around
-    → Spelled true variables room here tree
+    → Spelled Two true variables room here tree
     → closes_nothing Statement blocks token.text ≡ false
     → token.text ≡ codes "}"
     → Reads ((around ++ (here ++ [])) ++ token ∷ [])

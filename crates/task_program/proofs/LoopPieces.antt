@@ -1,9 +1,14 @@
 -- What a text of version 2 spells, piece by piece as it is written.
-use Rattle.std.specs.Prelude.{◌≡◌, ℕ, ◌≤◌, Bool, true, false, List, [], ◌∷◌, ◌++◌, All, count_by}
+use Rattle.std.proofs.Common.{◌≡◌, ℕ, ◌+◌, ◌≤◌, Bool, true, false, cond, List, [], ◌∷◌, ◌++◌, refl}
+use Rattle.std.proofs.Common.{arith}
+use Rattle.std.specs.Prelude.{All, count_by}
+use Rattle.std.proofs.lemmas.List.Elements.{All-nil, All-cons}
 use Rattle.std.specs.Prelude.{codes}
 use Rattle.std.specs.List.{flat_map, list_any}
 use Rattle.std.specs.Str.{bytes_eq}
 use Rattle.program_text.specs.declared.statement.DependKind.{DependKind}
+use Rattle.task_program.specs.declared.version.Version.{Version}
+use Rattle.task_program.specs.declared.version.Version.TheVariants.{Two}
 use Rattle.loop_text.specs.LoopTokens.{is_plus_or_minus}
 use Rattle.program_text.specs.Words.{is_word, is_number, type_word}
 
@@ -134,3 +139,48 @@ HaveLoopForms (ForPiece variable first last ∷ pieces) variables around =
     × HaveLoopForms pieces (variable ∷ variables) (variables ∷ around)
 HaveLoopForms (EndPiece ∷ pieces) variables [] = ⊥
 HaveLoopForms (EndPiece ∷ pieces) variables (outer ∷ around) = HaveLoopForms pieces outer around
+
+-- however the task began, it has one `if` at most
+pub no_more_than_one : (has_if : Bool) (count : ℕ) → cond has_if 1 0 + count ≤ 1 → count ≤ 1
+no_more_than_one true count h = omega (arith, h)
+no_more_than_one false count h = omega (arith, h)
+
+-- ---- what a version has: loops, indices and `final` are of version 2
+
+abbrev pub IsItemIn : Version → ItemWritten → Type 0
+IsItemIn version (PlainItem name) = Unit {0}
+IsItemIn version (IndexedItem name index) = version ≡ Two
+
+abbrev pub IsClauseIn : Version → LoopClause → Type 0
+IsClauseIn version (IfClause number) = Unit {0}
+IsClauseIn version (FinalClause number) = version ≡ Two
+IsClauseIn version (DependClause kind items last) =
+    All (IsItemIn version) items × IsItemIn version last
+
+abbrev pub IsPieceIn : Version → LoopPiece → Type 0
+IsPieceIn version (TaskPiece clauses) = All (IsClauseIn version) clauses
+IsPieceIn version (ForPiece variable first last) = version ≡ Two
+IsPieceIn version _ = Unit {0}
+
+all_of : {A : Type 0} (P : A → Type 0) → ((x : A) → P x) → (xs : List A) → All P xs
+all_of P every [] = All-nil P
+all_of P every (x ∷ xs) = All-cons P x xs (every x) (all_of P every xs)
+
+item_in_two : (item : ItemWritten) → IsItemIn Two item
+item_in_two (PlainItem name) = tt
+item_in_two (IndexedItem name index) = refl
+
+clause_in_two : (clause : LoopClause) → IsClauseIn Two clause
+clause_in_two (IfClause number) = tt
+clause_in_two (FinalClause number) = refl
+clause_in_two (DependClause kind items last) =
+    (all_of (IsItemIn Two) item_in_two items, item_in_two last)
+
+piece_in_two : (piece : LoopPiece) → IsPieceIn Two piece
+piece_in_two (TaskPiece clauses) = all_of (IsClauseIn Two) clause_in_two clauses
+piece_in_two (ForPiece variable first last) = refl
+piece_in_two _ = tt
+
+-- version 2 has all pieces
+pub all_in_two : (pieces : List LoopPiece) → All (IsPieceIn Two) pieces
+all_in_two pieces = all_of (IsPieceIn Two) piece_in_two pieces

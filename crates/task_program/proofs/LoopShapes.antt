@@ -36,7 +36,7 @@ use Rattle.task_program.proofs.LoopPieces.LoopClause.{IfClause, FinalClause}
 use Rattle.task_program.proofs.LoopPieces.LoopPiece.{TaskPiece, WaitPiece, EndPiece}
 use Rattle.task_program.proofs.FoundPlaces.{same_text}
 use Rattle.program_text.proofs.Bools.{bool_cases}
-use Rattle.task_program.proofs.Shapes.{no_more_than_one}
+use Rattle.task_program.proofs.LoopPieces.{no_more_than_one}
 
 -- the place, the clauses that the task has, the variable of the `for` that is read, those of the
 -- loops around, and for each open block those of the loops around it

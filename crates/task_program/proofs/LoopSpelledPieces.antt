@@ -18,14 +18,15 @@ use Rattle.program_text.specs.Tokens.{Token, texts}
 use Rattle.program_text.specs.Words.{is_type, type_of, type_word}
 use Rattle.loop_text.specs.Loops.{Tree}
 use Rattle.loop_text.specs.OpenBlocks.{variables_around, variable_number}
-use Rattle.task_program.specs.LoopGrammar.{IndexSpelled, ItemSpelled, ItemsSpelled, ClausesSpelled}
-use Rattle.task_program.specs.LoopGrammar.{OpeningSpelled, Spelled}
-use Rattle.task_program.specs.LoopGrammar.IndexSpelled.{Number, Minus, Variable, Plus, Less}
-use Rattle.task_program.specs.LoopGrammar.ItemSpelled.{Plain, Indexed}
-use Rattle.task_program.specs.LoopGrammar.ItemsSpelled.{First, More}
-use Rattle.task_program.specs.LoopGrammar.ClausesSpelled.{NoClause, If, Final, Depend}
-use Rattle.task_program.specs.LoopGrammar.OpeningSpelled.{Group, Task, For}
-use Rattle.task_program.specs.LoopGrammar.Spelled.{Nothing, Work, Wait, Block}
+use Rattle.task_program.specs.declared.version.Version.TheVariants.{Two}
+use Rattle.task_program.specs.Grammar.{IndexSpelled, ItemSpelled, ItemsSpelled, ClausesSpelled}
+use Rattle.task_program.specs.Grammar.{OpeningSpelled, Spelled}
+use Rattle.task_program.specs.Grammar.IndexSpelled.{Number, Minus, Variable, Plus, Less}
+use Rattle.task_program.specs.Grammar.ItemSpelled.{Plain, Indexed}
+use Rattle.task_program.specs.Grammar.ItemsSpelled.{First, More}
+use Rattle.task_program.specs.Grammar.ClausesSpelled.{NoClause, If, Final, Depend}
+use Rattle.task_program.specs.Grammar.OpeningSpelled.{Group, Task, For}
+use Rattle.task_program.specs.Grammar.Spelled.{Nothing, Work, Wait, Block}
 use Rattle.task_program.specs.FirstLoopFault.{IsLoopSentence}
 use Rattle.task_program.proofs.Found.{type_is}
 use Rattle.task_program.proofs.LoopPieces.{IndexWritten, ItemWritten, LoopClause, LoopPiece}
@@ -40,7 +41,7 @@ use Rattle.task_program.proofs.LoopPieces.LoopPiece.{WorkPiece, TaskPiece, WaitP
 use Rattle.task_program.proofs.LoopPieces.LoopPiece.{ForPiece, EndPiece}
 use Rattle.task_program.proofs.LoopShapes.{Rest}
 
-texts_append : (one other : List Token) → texts (one ++ other) ≡ texts one ++ texts other
+pub texts_append : (one other : List Token) → texts (one ++ other) ≡ texts one ++ texts other
 texts_append one other = map-append (λ (token : Token). token.text) one other
 
 -- ---- items
@@ -94,14 +95,14 @@ record ItemParts (variables : List (List ℕ)) (tokens : List Token) : Type 0 wh
   pub form : HasItemForm variables item
 
 item_parts : (variables : List (List ℕ)) (kind : DependKind) (tokens : List Token) (item : LoopItem)
-    → ItemSpelled variables kind tokens item
+    → ItemSpelled Two variables kind tokens item
     → ItemParts variables tokens
 item_parts _ _ _ _ (Plain variables kind name word) = record {
   item = PlainItem name.text;
   texts_are = refl;
   form = word;
 }
-item_parts _ _ _ _ (Indexed variables kind name opens closes inside index word is_open i is_close) =
+item_parts _ _ _ _ (Indexed variables kind name opens closes inside index two word is_open i is_close) =
     let parts = index_parts variables inside index i in
     record {
       item = IndexedItem name.text parts.index;
@@ -118,7 +119,7 @@ record ItemsParts (variables : List (List ℕ)) (tokens : List Token) : Type 0 w
 
 items_parts : (variables : List (List ℕ)) (kind : DependKind) (tokens : List Token)
     (items : List LoopItem)
-    → ItemsSpelled variables kind tokens items
+    → ItemsSpelled Two variables kind tokens items
     → ItemsParts variables tokens
 items_parts _ _ _ _ (First variables kind tokens item i) =
     let parts = item_parts variables kind tokens item i in
@@ -198,7 +199,7 @@ depend_texts kind is_kind before last =
     ∷ codes ":" ∷ inside) (append_assoc before last (codes ")" ∷ []))
 
 clauses_parts : (variables : List (List ℕ)) (tokens : List Token) (head : LoopHead)
-    → ClausesSpelled false variables tokens head
+    → ClausesSpelled Two false variables tokens head
     → ClausesParts variables tokens head
 clauses_parts _ _ _ (NoClause variables) = record {
   clauses = [];
@@ -213,7 +214,7 @@ clauses_parts _ _ _
     (IfClause number.text) (clauses_parts variables before head c)
     (rw (is_word, is_open, is_close) refl) is_num.is_number (rw no_such (omega arith)) (omega arith)
 clauses_parts _ _ _
-    (Final variables before word opens number closes head c no_such is_word is_open is_num is_close)
+    (Final variables before word opens number closes head two c no_such is_word is_open is_num is_close)
     =
     clause_more variables before (word ∷ opens ∷ number ∷ closes ∷ []) head _
     (FinalClause number.text) (clauses_parts variables before head c)
@@ -244,7 +245,7 @@ at_most_one true n h = h
 at_most_one false n h = omega (arith, h)
 
 opening_parts : (variables : List (List ℕ)) (tokens : List Token) (opening : LoopOpening)
-    → OpeningSpelled false variables tokens opening
+    → OpeningSpelled Two false variables tokens opening
     → OpeningParts variables tokens opening
 opening_parts _ _ _ (Group variables word brace is_word is_brace) = record {
   piece = GroupPiece;
@@ -266,7 +267,7 @@ opening_parts _ _ _ (Task variables clauses word brace head is_word c is_brace) 
       );
     }
 opening_parts _ _ _
-    (For variables word variable first last brace is_for is_var is_new is_first is_last is_brace) =
+    (For variables word variable first last brace two is_for is_var is_new is_first is_last is_brace) =
     record {
       piece = ForPiece variable.text first.text last.text;
       texts_are = rw (is_for, is_brace) refl;
@@ -305,7 +306,7 @@ parts_more variables before tokens pieces parts same forms = record {
 }
 
 tree_parts : (variables : List (List ℕ)) (room : ℕ) (tokens : List Token) (tree : Tree)
-    → Spelled false variables room tokens tree
+    → Spelled Two false variables room tokens tree
     → TreeParts variables tokens
 tree_parts _ _ _ _ (Nothing variables room) = record {
   pieces = [];

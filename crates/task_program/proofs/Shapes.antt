@@ -18,13 +18,16 @@ use Rattle.program_text.specs.declared.statement.DependKind.{DependKind}
 use Rattle.program_text.specs.declared.statement.DependKind.TheVariants.{DependIn}
 use Rattle.program_text.specs.Words.{is_text, is_number, value_of, type_word, type_of}
 use Rattle.task_program.specs.Faults.{is_header, is_allowed}
-use Rattle.task_program.specs.Grammar as grammar
-use Rattle.task_program.specs.Grammar.{Written, name_and_comma, clause_texts, texts_of, is_if}
-use Rattle.task_program.specs.Grammar.Clause.{IfClause, DependClause}
-use Rattle.task_program.specs.Grammar.Written.{WorkWritten, TaskWritten, WaitWritten, GroupWritten}
-use Rattle.task_program.specs.Grammar.Written.{EndWritten}
-use Rattle.task_program.specs.ViablePrefix.{IsWord, HasClauseForm, HasForm, EndBlocks, IsSentence}
+use Rattle.task_program.specs.PlainGrammar as grammar
+use Rattle.task_program.specs.PlainGrammar.{Written, name_and_comma, clause_texts, texts_of, is_if}
+use Rattle.task_program.specs.PlainGrammar.Clause.{IfClause, DependClause}
+use Rattle.task_program.specs.PlainGrammar.Written.{WorkWritten, TaskWritten, WaitWritten, GroupWritten}
+use Rattle.task_program.specs.PlainGrammar.Written.{EndWritten}
+use Rattle.task_program.specs.PlainGrammar.{IsWord, HasClauseForm, HasForm, EndBlocks}
+use Rattle.task_program.specs.FirstPlainFault.{IsSentence}
 use Rattle.task_program.proofs.FoundPlaces.{same_text}
+use Rattle.task_program.proofs.LoopPieces.{no_more_than_one}
+use Rattle.task_program.proofs.PlainSentences.{derived_of_written}
 use Rattle.task_program.proofs.Found.{type_is, first_if, is_depend, is_end}
 use Rattle.program_text.proofs.Bools.{or_true_right, bool_cases}
 
@@ -183,11 +186,6 @@ piece_rest depth after piece texts form nests r = record {
   forms = All-cons HasForm piece r.written form r.forms;
   nested = nests r.written r.nested;
 }
-
--- however the task began, it has one `if` at most
-pub no_more_than_one : (has_if : Bool) (count : ℕ) → cond has_if 1 0 + count ≤ 1 → count ≤ 1
-no_more_than_one true count h = omega (arith, h)
-no_more_than_one false count h = omega (arith, h)
 
 -- clauses, a `{` and what follows make a task with what follows
 task_rest : (has_if : Bool) (depth : ℕ) (texts : List (List ℕ)) → ClausesRest has_if depth texts
@@ -389,11 +387,10 @@ version_back : (depth : ℕ) (text : List ℕ) (texts : List (List ℕ))
     → SentenceAt depth (codes "omptasks" ∷ text ∷ texts)
 version_back zero text texts h r = record {
   version = text;
-  written = r.written;
+  body = texts;
   version_is_one = ((and_parts _ _ h).0, eqb-true _ _ (and_parts (is_number text) _ h).1);
-  spelled = ap (λ (ts : List (List ℕ)). codes "omptasks" ∷ text ∷ ts) r.texts_are;
-  forms = r.forms;
-  nested = r.nested;
+  spelled = refl;
+  derived = derived_of_written texts r.written r.texts_are r.forms r.nested;
 }
 version_back (suc depth) text texts h r = tt
 

@@ -1,4 +1,4 @@
--- How many names an expansion has: a task mentions so many at most.
+-- Carried out: how many names an expansion has: a task mentions so many at most.
 use Rattle.std.specs.Prelude.{◌+◌, ◌*◌, ◌≤◌, length}
 use Rattle.program_text.specs.Limits.{tasks_of}
 use Rattle.program_text.specs.declared.limits.TheConstants.{MOST_ITEMS}

@@ -1,8 +1,9 @@
 -- The fault of a text of version 2, apart from any reading of its tokens: the first of them at
 -- which something is wrong, and what it is; or else the fault of its expansion.
-use Rattle.std.specs.Prelude.{◌≡◌, ℕ, Bool, true, false, ◌&&◌, ◌||◌, ◌⊎◌, nat_lt}
+use Rattle.std.specs.Prelude.{ℕ, Bool, true, ◌&&◌, ◌||◌, ◌⊎◌, nat_lt}
 use Rattle.std.specs.Prelude.{slice_index_or, if◌then◌else◌, List, [], length, reverse, Option}
 use Rattle.std.specs.Prelude.{Some, None, codes}
+use Rattle.task_program.specs.declared.version.Version.TheVariants.{Two}
 use Rattle.program_text.specs.declared.fault.ReadKind.{ReadKind}
 use Rattle.program_text.specs.declared.fault.ReadKind.TheVariants.{BadNumber, TooDeep}
 use Rattle.program_text.specs.declared.fault.ReadFault.{ReadFault}
@@ -14,18 +15,13 @@ use Rattle.task_program.specs.TokenCounts.{is_too_deep, open_braces}
 use Rattle.loop_text.specs.Loops.{Tree}
 use Rattle.loop_text.specs.LoopTokens.{form_fault}
 use Rattle.task_program.specs.Versions.{body_of}
-use Rattle.task_program.specs.LoopGrammar.{Spelled}
+use Rattle.task_program.specs.Grammar.{Spelled, IsDerived}
 use Rattle.task_program.specs.FirstFault.{Rules, AreRightWhole, IsFirstFault}
 use Rattle.task_program.specs.ExpansionFault.{HasExpansionFault}
 
--- the texts of the tokens after the header are derived by the grammar, whatever its numbers are and
--- however deep its blocks
-pub record IsLoopSentence (derived : List (List ℕ)) : Type 0 where
-  pub tokens : List Token
-  pub room : ℕ
-  pub tree : Tree
-  pub texts_are : derived ≡ texts tokens
-  pub spelled : Spelled false [] room tokens tree
+-- the texts of the tokens after the header are derived by the grammar
+abbrev pub IsLoopSentence : List (List ℕ) → Type 0
+IsLoopSentence derived = IsDerived Two derived
 
 -- ---- what is asked of a token
 
@@ -72,7 +68,7 @@ loop_rules = record {
 -- these are a sentence, each token right, and spell this tree
 pub record IsTreeOf (tokens : List Token) (tree : Tree) : Type 0 where
   pub whole : AreRightWhole loop_rules tokens
-  pub spelled : Spelled true [] MOST_NESTING tokens tree
+  pub spelled : Spelled Two true [] MOST_NESTING tokens tree
 
 -- the first fault of the tokens after the header of version 2, or else that of the expansion of the
 -- tree that they spell

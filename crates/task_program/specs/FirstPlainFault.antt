@@ -1,5 +1,6 @@
 -- The rules of a text of version 1.
-use Rattle.std.specs.Prelude.{ℕ, List, length, sum_by, Option}
+use Rattle.std.specs.Prelude.{◌≡◌, ℕ, true, List, ◌∷◌, length, sum_by, Option, codes}
+use Rattle.task_program.specs.declared.version.Version.TheVariants.{One}
 use Rattle.program_text.specs.declared.fault.ReadKind.{ReadKind}
 use Rattle.program_text.specs.declared.limits.TheConstants.{MOST_TOKEN_BYTES}
 use Rattle.program_text.specs.declared.limits.TheConstants.{MOST_NESTING}
@@ -7,7 +8,17 @@ use Rattle.program_text.specs.TokenFaults.{form_fault_within}
 use Rattle.program_text.specs.Tokens.{Token}
 use Rattle.task_program.specs.TokenCounts.{too_many_after, limit_fault_after}
 use Rattle.task_program.specs.FirstFault.{Rules}
-use Rattle.task_program.specs.ViablePrefix.{IsSentence}
+use Rattle.program_text.specs.Words.{is_number, value_of}
+use Rattle.task_program.specs.Grammar.{IsDerived}
+
+-- the header, and tokens that the grammar derives, whatever their numbers are and however deep their
+-- blocks
+pub record IsSentence (texts : List (List ℕ)) : Type 0 where
+  pub version : List ℕ
+  pub body : List (List ℕ)
+  pub version_is_one : (is_number version ≡ true) × (value_of version ≡ 1)
+  pub spelled : texts ≡ codes "omptasks" ∷ version ∷ body
+  pub derived : IsDerived One body
 
 -- the rules where all tokens have so many bytes at most, so many blocks may be open, and this tells
 -- whether there are too many tasks or segments; the header is a word and a number

@@ -2,6 +2,7 @@
 use Rattle.std.specs.Prelude.{◌≡◌, ℕ, ◌≤◌, ◌↔◌, true, false, List, length}
 use Rattle.program_text.specs.declared.limits.TheConstants.{MOST_TEXT_BYTES}
 use Rattle.program_text.specs.Tokens.{tokens_of}
+use Rattle.task_program.specs.declared.version.Version.TheVariants.{Two}
 use Rattle.task_program.specs.ProgramMarks.{ProgramMarks}
 use Rattle.task_program.specs.Versions.{begins_version_two}
 use Rattle.task_program.specs.Trees.{HasTree}
@@ -28,7 +29,7 @@ pub record IsRightLoopText (text : List ℕ) (program : ProgramMarks) : Type 0 w
   pub text_fits : length text ≤ MOST_TEXT_BYTES
   pub tree : Tree
   pub whole : IsTreeOf (body_of text) tree
-  pub expanded : ExpandsTo tree program
+  pub expanded : ExpandsTo Two tree program
 
 -- A text of version 2 has a program as its tree exactly where the tokens after its header are a
 -- sentence, each token right, whose tree expands to that program; and each sentence of right tokens

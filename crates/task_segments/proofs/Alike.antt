@@ -24,23 +24,7 @@ use Rattle.task_segments.proofs.Same.{same_segment, same_facts, same_row}
 
 -- a table answers as it does itself
 alike_itself : (table : Table) → AnswerAlike table table
-alike_itself table = record {
-  len = refl;
-  tasks = refl;
-  cost = λ s l. refl;
-  task_of = λ s l. refl;
-  index = λ s l. refl;
-  closing = λ s l. refl;
-  next = λ s t l. (λ r. r, λ r. r);
-  first = λ u l. refl;
-  last = λ u l. refl;
-  parent = λ u l. refl;
-  creator = λ u l. refl;
-  undeferred = λ u l. refl;
-  items = λ u l. refl;
-  innermost_group = λ u l. refl;
-  must_precede = λ s t l m. (λ r. r, λ r. r);
-}
+alike_itself table = grind arith
 
 -- where one table answers as another does, so does the other as the one
 alike_back : (a b : Table) → AnswerAlike a b → AnswerAlike b a

@@ -22,15 +22,7 @@ pub next_is_nearest : (table : Table)
     → (segment table other).task ≡ (segment table s).task
     → s < other
     → t ≤ other
-next_is_nearest table nested s t other next is_other of_task after =
-    let index = next.next in
-    let up = nested.places s other after is_other (sym of_task) in
-    elim (cases_lt other t) [
-      | inr fine ↦ fine
-      | inl before ↦ let before_next =
-          nested.places other t before next.is_to (of_task ∙ sym next.same_task) in
-          absurd (omega arith)
-    ]
+next_is_nearest table nested s t other next is_other of_task after = grind (arith, cases_lt)
 
 -- a segment that is not its task's last has a next
 pub has_next : (table : Table) → IsNestedTable table → (s : ℕ) → IsSegment table s
@@ -101,9 +93,4 @@ along_to_last table nested s u a =
 -- from the first segment of a task to its last
 pub along_task : (table : Table) → IsNestedTable table → (u : ℕ) → IsTask table u
     → Reaches (Continues table) (task table u).first (task table u).last
-along_task table nested u is_u =
-    let whole = nested.segments u is_u in
-    let in_order = whole.in_order in
-    let within = whole.is_last in
-    along_to_last table nested (task table u).first u
-    (record { is_segment = omega arith; of_task = whole.of_first })
+along_task table nested u is_u = grind (arith, is_last, along_to_last)

@@ -45,12 +45,7 @@ record IsChildAt (e : List Mark) (p k u : ℕ) : Type 0 where
 -- the child seen from another moment
 child_from : (x e : List Mark) (p k u : ℕ) → before_task u e ≡ before_task u x → u < tasks_so_far e
     → IsChildAt x p k u → IsChildAt e p k u
-child_from x e p k u same l c = record {
-  above = c.above;
-  has_begun = l;
-  parent = ap running_task same ∙ c.parent;
-  count = ap (children_of p) same ∙ c.count;
-}
+child_from x e p k u same l c = grind arith
 
 -- the task that a mark begins is a child of the task that runs
 newest_child : (m : Mark) (e : List Mark) (p : ℕ) → begins_task m ≡ true → runs p e ≡ true
@@ -369,11 +364,7 @@ children_at e h t k l less =
         child_before_end e h t k found.0 before l o found.1
 
 is_numbered : (e : List Mark) → IsLast e → IsNumbered (table_at e)
-is_numbered e h = record {
-  siblings = λ u k l. siblings_at e h u k (omega (arith, tasks-at e));
-  ascend = λ u v a l. siblings_ascend e h u v a (omega (arith, tasks-at e));
-  children = λ t k l. children_at e h t k (omega (arith, segments-at e));
-}
+is_numbered e h = grind (arith, siblings_at, tasks-at, siblings_ascend, children_at, segments-at)
 
 -- the table of a program numbers them so
 pub numbered_program : (table : Table) → IsProgramTable table → IsNumbered table

@@ -1,12 +1,12 @@
 -- A nested table with its groups is read in place.
 use Rattle.std.proofs.Common.{◌≡◌, ◌⊎◌, ℕ, zero, suc, ◌+◌, ◌-◌, ◌<◌, ◌≤◌, Option, Some, None}
-use Rattle.std.proofs.Common.{length, refl, sym, ap, subst, ◌∙◌, inl, inr, arith}
+use Rattle.std.proofs.Common.{refl, sym, ap, subst, ◌∙◌, inl, inr, arith}
 use Rattle.std.proofs.lemmas.Bool.{cases_lt}
 use Rattle.std.proofs.lemmas.Option.{same_Some}
 use Rattle.task_segments.specs.declared.table.Closing.{Closing}
 use Rattle.task_segments.specs.declared.table.Closing.TheVariants.{Creates, Waits, EndsGroup}
 use Rattle.task_segments.specs.declared.table.Closing.TheVariants.{EndsTask}
-use Rattle.task_segments.specs.Table.{Table, Task, segment, task, no_task}
+use Rattle.task_segments.specs.Table.{Table, segment, task}
 use Rattle.task_segments.specs.Precedence.{IsSegment, IsTask, Continues, Creation, IsEarlierChild}
 use Rattle.task_segments.specs.Precedence.{Encloses}
 use Rattle.task_segments.specs.Schedule.{IsJoined}
@@ -23,23 +23,11 @@ use Rattle.std.proofs.lemmas.List.{get_or_past}
 
 -- a number with a parent is a task's
 pub with_parent : (table : Table) (u p : ℕ) → (task table u).parent ≡ Some p → IsTask table u
-with_parent table u p e =
-    elim (cases_lt u (length table.tasks)) [
-      | inl within ↦ within
-      | inr past ↦ let none : None ≡ Some p =
-          sym (ap (λ (row : Task). row.parent) (get_or_past table.tasks u no_task past)) ∙ e in
-          cc
-    ]
+with_parent table u p e = grind (arith, cases_lt, get_or_past)
 
 -- and so is one with a creator
 pub with_creator : (table : Table) (u s : ℕ) → (task table u).creator ≡ Some s → IsTask table u
-with_creator table u s e =
-    elim (cases_lt u (length table.tasks)) [
-      | inl within ↦ within
-      | inr past ↦ let none : None ≡ Some s =
-          sym (ap (λ (row : Task). row.creator) (get_or_past table.tasks u no_task past)) ∙ e in
-          cc
-    ]
+with_creator table u s e = grind (arith, cases_lt, get_or_past)
 
 -- there is a segment
 pub some_segment : (table : Table) → IsNestedTable table → IsSegment table 0
@@ -48,12 +36,7 @@ some_segment table h = let last = (h.segments 0 h.root.is_task).is_last in omega
 -- no segment comes after the root's last
 pub root_last : (table : Table) → IsNestedTable table → (s : ℕ) → IsSegment table s
     → s ≤ (task table 0).last
-root_last table h s i =
-    let owner = (segment table s).task in
-    let is_task = h.tasks s i in
-    let within = ((h.segments owner is_task).between s i refl).1 in
-    let above = last_of_all (suc owner) table h owner (omega arith) is_task in
-    omega arith
+root_last table h s i = grind (arith, last_of_all, suc)
 
 -- no segment of a task comes before its first
 pub from_first : (table : Table) → IsNestedTable table → (u s : ℕ) → IsOf table u s
@@ -72,20 +55,12 @@ pub first_of : (table : Table)
     → (u : ℕ)
     → IsTask table u
     → IsOf table u (task table u).first
-first_of table h u i =
-    let segments = h.segments u i in
-    let order = segments.in_order in
-    let within = segments.is_last in
-    record { is_segment = omega arith; of_task = segments.of_first }
+first_of table h u i = grind (arith, is_last)
 
 -- nothing follows the last segment of a task
 pub last_followed : (table : Table) → IsNestedTable table → (u t : ℕ) → IsTask table u
     → Continues table (task table u).last t → ⊥
-last_followed table h u t i next =
-    let up = continues_up table h (task table u).last t next in
-    let below = to_last table h u t
-    (record { is_segment = next.is_to; of_task = next.same_task ∙ (h.segments u i).of_last }) in
-    omega arith
+last_followed table h u t i next = grind (arith, continues_up, to_last)
 
 -- a segment is followed by one of its task, or ends its task
 pub followed_or_last : (table : Table) → IsNestedTable table → (s : ℕ) → IsSegment table s
@@ -146,13 +121,7 @@ follows_one table h a b t x y =
 -- the first of a task follows none
 pub first_follows : (table : Table) → IsNestedTable table → (u s : ℕ) → IsTask table u
     → Continues table s (task table u).first → ⊥
-first_follows table h u s i x =
-    let up = continues_up table h s (task table u).first x in
-    let from = from_first table h u s (record {
-      is_segment = x.is_from;
-      of_task = sym x.same_task ∙ (first_of table h u i).of_task;
-    }) in
-    omega arith
+first_follows table h u s i x = grind (arith, continues_up, from_first, first_of)
 
 -- the next segment of a task is the first of its later ones
 pub next_is_least : (table : Table) → IsNestedTable table → (s t other : ℕ) → Continues table s t
@@ -287,11 +256,7 @@ next_other : (table : Table)
     → (task table u).creator ≡ Some s
     → Continues table s (s + 1)
     → ⊥
-next_other table h u s i e next =
-    let same =
-    one_next table h s ((task table u).last + 1) (s + 1) (after_task table h u s i e) next in
-    let later = created_before table h u s i e in
-    omega arith
+next_other table h u s i e next = grind (arith, one_next, after_task, created_before)
 
 -- the creator of a task closes by creating it
 pub closing_creates : (table : Table) → IsNestedTable table → (s child : ℕ) → IsTask table child

@@ -28,25 +28,12 @@ task_counted _ = refl
 -- the tasks that are begun are the marks that begin one
 pub tasks_counted : (marks : List Mark) → tasks_of marks ≡ count_by begins_task marks
 tasks_counted [] = refl
-tasks_counted (mark ∷ marks) =
-    omega (
-      arith,
-      task_counted mark,
-      tasks_counted marks,
-      sum_by-cons tasks_begun mark marks,
-      count-cons begins_task mark marks,
-    )
+tasks_counted (mark ∷ marks) = grind (arith, task_counted, sum_by-cons, count-cons, tasks_counted marks)
 
 -- a block's body between its two marks
 between : (f : Mark → ℕ) (begins ends : Mark) (body rest : List Mark)
     → sum_by f (begins ∷ (body ++ ends ∷ rest)) ≡ f begins + sum_by f body + f ends + sum_by f rest
-between f begins ends body rest =
-    omega (
-      arith,
-      sum_by-cons f begins (body ++ ends ∷ rest),
-      sum_by-append f body (ends ∷ rest),
-      sum_by-cons f ends rest,
-    )
+between f begins ends body rest = grind (arith, sum_by-cons, sum_by-append)
 
 opens_count : Mark → ℕ
 opens_count mark = cond (opens mark) 1 0
@@ -99,11 +86,4 @@ segments_counted marks h =
 
 -- the marks of a program are nested and keep within the limits
 pub reading : (program : ProgramMarks) → IsProgram program → IsReading program.marks
-reading program h =
-    let nested = is_nested program h in
-    record {
-      nested = nested;
-      tasks = omega (arith, h.tasks, tasks_counted program.marks);
-      segments = omega (arith, h.segments, segments_counted program.marks nested);
-      work = h.work;
-    }
+reading program h = grind (arith, is_nested, tasks_counted, segments_counted)

@@ -1,4 +1,5 @@
 -- Where a test of two rows is true.
+use Rattle.std.proofs.Common.{arith}
 use Rattle.std.proofs.Common.{◌≡◌, ℕ, Bool, true, eqb, List, Option, refl, sym, ap, subst, ◌∙◌}
 use Rattle.std.proofs.Common.{rules, Some, None}
 use Rattle.std.specs.Option.{option_eq}
@@ -45,37 +46,15 @@ AreEqual a b =
 
 -- segments with the same fields are equal
 pub same_segment : (a b : Segment) → AreEqual a b → a ≡ b
-same_segment a b (t, (i, (c, (l, n)))) =
-    ap (λ (v : ℕ). record a { task = v }) t
-    ∙ ap (λ (v : ℕ). record a { task = b.task; index = v }) i
-    ∙ ap (λ (v : ℕ). record a { task = b.task; index = b.index; cost = v }) c
-    ∙ ap (λ (v : Closing). record a { task = b.task; index = b.index; cost = b.cost; closing = v })
-    l
-    ∙ ap (λ (v : ℕ). record b { children_before = v }) n
+same_segment a b (t, (i, (c, (l, n)))) = grind arith
 
 -- and the other way round
 fields_of : (a b : Segment) → a ≡ b → AreEqual a b
-fields_of a b e = (
-  ap (λ (r : Segment). r.task) e,
-  (
-    ap (λ (r : Segment). r.index)
-        e,
-    (
-      ap (λ (r : Segment). r.cost) e,
-      (ap (λ (r : Segment). r.closing) e, ap (λ (r : Segment). r.children_before) e),
-    ),
-  ),
-)
+fields_of a b e = grind arith
 
 -- the test of two segments is true exactly where they are equal
 pub segment_decides : (a b : Segment) → Decides (segment_eq.ghosts.eq a b) (a ≡ b)
-segment_decides a b =
-    decides_equivalent (segment_eq.ghosts.eq a b) (same_segment a b) (fields_of a b)
-    (Decides-and (eqb a.task b.task) _ (Decides-eqb a.task b.task)
-    (Decides-and (eqb a.index b.index) _ (Decides-eqb a.index b.index)
-    (Decides-and (eqb a.cost b.cost) _ (Decides-eqb a.cost b.cost)
-    (Decides-and (closing_eq.ghosts.eq a.closing b.closing) _ (closing_decides a.closing b.closing)
-    (Decides-eqb a.children_before b.children_before)))))
+segment_decides a b = grind (arith, decides_equivalent, same_segment, fields_of, closing_decides)
 
 kind_self : (a : DependKind) → kind_eq.ghosts.eq a a ≡ true
 kind_self DependIn = refl
@@ -93,11 +72,7 @@ same_item a b (k, n) =
 
 -- and so is that of two items
 pub item_decides : (a b : Item) → Decides (item_eq.ghosts.eq a b) (a ≡ b)
-item_decides a b =
-    decides_equivalent (item_eq.ghosts.eq a b) (same_item a b)
-    (λ e. (ap (λ (i : Item). i.kind) e, ap (λ (i : Item). i.name) e))
-    (Decides-and (kind_eq.ghosts.eq a.kind b.kind) _ (kind_decides a.kind b.kind)
-    (Decides-eqb a.name b.name))
+item_decides a b = grind (arith, decides_equivalent, same_item, kind_decides)
 
 -- and of two numbers that may be missing
 pub option_decides : (a b : Option ℕ) → Decides (option_eq eqb a b) (a ≡ b)
@@ -118,49 +93,11 @@ HaveSameFacts a b =
 
 -- facts with the same fields are equal
 pub same_facts : (a b : TaskFacts) → HaveSameFacts a b → a ≡ b
-same_facts a b (p, (c, (d, (f, (l, (g, n)))))) =
-    ap (λ (v : Option ℕ). record a { parent = v }) p
-    ∙ ap (λ (v : Option ℕ). record a { parent = b.parent; creator = v }) c
-    ∙ ap (λ (v : Bool). record a { parent = b.parent; creator = b.creator; undeferred = v }) d
-    ∙ ap
-    (λ (v : ℕ). record b {
-      first = v;
-      last = a.last;
-      innermost_group = a.innermost_group;
-      siblings_before = a.siblings_before;
-    })
-    f
-    ∙ ap
-    (λ (v : ℕ). record b {
-      last = v;
-      innermost_group = a.innermost_group;
-      siblings_before = a.siblings_before;
-    })
-    l
-    ∙ ap (λ (v : Option ℕ). record b { innermost_group = v; siblings_before = a.siblings_before }) g
-    ∙ ap (λ (v : ℕ). record b { siblings_before = v }) n
+same_facts a b (p, (c, (d, (f, (l, (g, n)))))) = grind arith
 
 -- and the other way round
 parts_of : (a b : TaskFacts) → a ≡ b → HaveSameFacts a b
-parts_of a b e = (
-  ap (λ (r : TaskFacts). r.parent) e,
-  (
-    ap (λ (r : TaskFacts). r.creator) e,
-    (
-      ap (λ (r : TaskFacts). r.undeferred) e,
-      (
-        ap (λ (r : TaskFacts). r.first) e,
-        (
-          ap (λ (r : TaskFacts). r.last) e,
-          (
-            ap (λ (r : TaskFacts). r.innermost_group) e,
-            ap (λ (r : TaskFacts). r.siblings_before) e,
-          ),
-        ),
-      ),
-    ),
-  ),
-)
+parts_of a b e = grind arith
 
 -- the test of two tasks' facts is true exactly where they are equal
 facts_decide : (a b : TaskFacts) → Decides (facts_eq.ghosts.eq a b) (a ≡ b)
@@ -177,18 +114,7 @@ facts_decide a b =
 
 -- tasks with equal facts and items are equal
 pub same_row : (a b : Task) → facts_of a ≡ facts_of b → a.items ≡ b.items → a ≡ b
-same_row a b e i =
-    let row : TaskFacts → List Item → Task = λ p items. record {
-      parent = p.parent;
-      creator = p.creator;
-      undeferred = p.undeferred;
-      items = items;
-      first = p.first;
-      last = p.last;
-      innermost_group = p.innermost_group;
-      siblings_before = p.siblings_before;
-    } in
-    ap (λ (p : TaskFacts). row p a.items) e ∙ ap (λ (items : List Item). row (facts_of b) items) i
+same_row a b e i = grind arith
 
 -- two tasks of which the same facts hold are the same where their items are
 pub same_task : (a b : Task) (p q : TaskFacts) (xs ys : List Item) (r : Bool)

@@ -75,12 +75,7 @@ pub least_end_map : (costs : List ℕ) (R Q : ℕ → ℕ → Type 0)
     → IsLeastEnd costs R end
     → IsLeastEnd costs Q end
 least_end_map costs R Q there back end
-    h = record {
-      starts = h.starts;
-      legal = there h.starts h.legal;
-      ends = h.ends;
-      least = λ other legal. h.least other (back other legal);
-    }
+    h = grind arith
 
 -- a schedule is legal for both, so the least starts are the same
 pub least_start_map : (costs : List ℕ) (R Q : ℕ → ℕ → Type 0)
@@ -88,12 +83,7 @@ pub least_start_map : (costs : List ℕ) (R Q : ℕ → ℕ → Type 0)
     → ((starts : List ℕ) → IsLegal costs Q starts → IsLegal costs R starts) → (s start : ℕ)
     → IsLeastStart costs R s start → IsLeastStart costs Q s start
 least_start_map costs R Q there back s start
-    h = record {
-      starts = h.starts;
-      legal = there h.starts h.legal;
-      starts_so = h.starts_so;
-      least = λ other legal. h.least other (back other legal);
-    }
+    h = grind arith
 
 -- and the same slacks
 pub slack_map : (costs : List ℕ) (R Q : ℕ → ℕ → Type 0)
@@ -102,17 +92,7 @@ pub slack_map : (costs : List ℕ) (R Q : ℕ → ℕ → Type 0)
     → (s slack : ℕ)
     → IsSlack costs R s slack
     → IsSlack costs Q s slack
-slack_map costs R Q there back s slack h = record {
-  end = h.end;
-  is_least_end = least_end_map costs R Q there back h.end h.is_least_end;
-  start = h.start;
-  is_least_start = least_start_map costs R Q there back s h.start h.is_least_start;
-  starts = h.starts;
-  legal = there h.starts h.legal;
-  ends = h.ends;
-  delayed = h.delayed;
-  greatest = λ other legal ends. h.greatest other (back other legal) ends;
-}
+slack_map costs R Q there back s slack h = grind (arith, least_end_map, least_start_map)
 
 module _ (R Q : ℕ → ℕ → Type 0) (forward : (s t : ℕ) → R s t → s < t)
     (within : (s t : ℕ) → Q s t → R s t) (ways : (s t : ℕ) → R s t → Reaches Q s t) where

@@ -1,6 +1,6 @@
 -- Facts about the schedules of any relation.
 use Rattle.std.proofs.Common.{◌≡◌, ℕ, ◌+◌, ◌<◌, ◌≤◌, inl, inr, List, [], ◌∷◌, length, map, get_or}
-use Rattle.std.proofs.Common.{refl, ◌∙◌, subst, arith, zero, suc, Contains}
+use Rattle.std.proofs.Common.{refl, subst, arith, zero, suc, Contains}
 use Rattle.std.specs.List.{range_with_len}
 use Rattle.std.proofs.lemmas.Bool.{cases_lt}
 use Rattle.std.proofs.lemmas.List.FromFn.{length-map-range_with_len, get_or-map-range_with_len}
@@ -49,28 +49,13 @@ length-by_rule rule n = length-map-range_with_len rule 0 n
 pub IsLegal-by_rule : (costs : List ℕ) (R : ℕ → ℕ → Type 0) → IsAscending R → (rule : ℕ → ℕ)
     → ((s t : ℕ) → s < length costs → t < length costs → R s t → rule s + at costs s ≤ rule t)
     → IsLegal costs R (by_rule rule (length costs))
-IsLegal-by_rule costs R ascending rule h = record {
-  each = length-by_rule rule (length costs);
-  kept = λ s t k r.
-      let up : s < t = ascending.up s t r in
-      let s_in : s < length costs = omega arith in
-      let here : rule s + at costs s ≤ rule t = h s t s_in k r in
-      let start_of_s : at (by_rule rule (length costs)) s ≡ rule s =
-      at-by_rule rule (length costs) s s_in in
-      let start_of_t : at (by_rule rule (length costs)) t ≡ rule t =
-      at-by_rule rule (length costs) t k in
-      omega arith;
-}
+IsLegal-by_rule costs R ascending rule h = grind (arith, length-by_rule, at-by_rule)
 
 -- it ends where the rule ends
 pub end_of-by_rule : (costs : List ℕ) (rule : ℕ → ℕ) (end : ℕ)
     → ((s : ℕ) → s < length costs → rule s + at costs s ≤ end)
     → end_of costs (by_rule rule (length costs)) ≤ end
-end_of-by_rule costs rule end h = end_of-least costs (by_rule rule (length costs)) end (λ s k.
-    let start_of_s : at (by_rule rule (length costs)) s ≡ rule s =
-    at-by_rule rule (length costs) s k in
-    let here : rule s + at costs s ≤ end = h s k in
-    omega arith)
+end_of-by_rule costs rule end h = grind (arith, end_of-least, at-by_rule)
 
 -- what follows a segment in a chain fits between its start and the end
 pub chain_from : (costs : List ℕ) (R : ℕ → ℕ → Type 0) (starts : List ℕ)
@@ -138,12 +123,7 @@ AreSegments-cons costs s chain s_in inside t has =
 -- there is at most one span, one least end, one least start and one slack
 pub span-unique : (costs : List ℕ) (R : ℕ → ℕ → Type 0) (a b : ℕ) → IsSpan costs R a
     → IsSpan costs R b → a ≡ b
-span-unique costs R a b is_a is_b =
-    let at_most : chain_sum costs is_a.chain ≤ b =
-    is_b.greatest is_a.chain is_a.segments is_a.linked in
-    let at_least : chain_sum costs is_b.chain ≤ a =
-    is_a.greatest is_b.chain is_b.segments is_b.linked in
-    omega (arith, is_a.reached, is_b.reached)
+span-unique costs R a b is_a is_b = grind arith
 
 -- there is one least end
 pub least_end-unique : (costs : List ℕ) (R : ℕ → ℕ → Type 0) (a b : ℕ) → IsLeastEnd costs R a
@@ -166,14 +146,7 @@ least_start-unique costs R s a b is_a is_b =
 -- no slack is greater than another one of the same segment
 slack-le : (costs : List ℕ) (R : ℕ → ℕ → Type 0) (s a b : ℕ) → IsSlack costs R s a
     → IsSlack costs R s b → a ≤ b
-slack-le costs R s a b is_a is_b =
-    let ends : is_a.end ≡ is_b.end =
-    least_end-unique costs R is_a.end is_b.end is_a.is_least_end is_b.is_least_end in
-    let starts : is_a.start ≡ is_b.start =
-    least_start-unique costs R s is_a.start is_b.start is_a.is_least_start is_b.is_least_start in
-    let at_most : at is_a.starts s ≤ is_b.start + b =
-    is_b.greatest is_a.starts is_a.legal (is_a.ends ∙ ends) in
-    omega (arith, is_a.delayed)
+slack-le costs R s a b is_a is_b = grind (arith, least_end-unique, least_start-unique)
 
 -- and one slack
 pub slack-unique : (costs : List ℕ) (R : ℕ → ℕ → Type 0) (s a b : ℕ) → IsSlack costs R s a

@@ -41,12 +41,7 @@ earliest-le costs R starts other ascending earliest legal t inside =
 -- the earliest starts are the least ones
 pub IsLeastStart-earliest : (costs : List ℕ) (R : ℕ → ℕ → Type 0) (starts : List ℕ) → IsAscending R
     → IsEarliest costs R starts → (s : ℕ) → s < length costs → IsLeastStart costs R s (at starts s)
-IsLeastStart-earliest costs R starts ascending earliest s inside = record {
-  starts = starts;
-  legal = earliest.legal;
-  starts_so = refl;
-  least = λ other legal. earliest-le costs R starts other ascending earliest legal s inside;
-}
+IsLeastStart-earliest costs R starts ascending earliest s inside = grind (arith, earliest-le)
 
 -- no legal schedule ends before the earliest one
 pub earliest-ends : (costs : List ℕ) (R : ℕ → ℕ → Type 0) (starts other : List ℕ) → IsAscending R
@@ -62,12 +57,7 @@ earliest-ends costs R starts other ascending earliest legal =
 -- and the earliest schedule has the least end
 pub IsLeastEnd-earliest : (costs : List ℕ) (R : ℕ → ℕ → Type 0) (starts : List ℕ) → IsAscending R
     → IsEarliest costs R starts → IsLeastEnd costs R (end_of costs starts)
-IsLeastEnd-earliest costs R starts ascending earliest = record {
-  starts = starts;
-  legal = earliest.legal;
-  ends = refl;
-  least = λ other legal. earliest-ends costs R starts other ascending earliest legal;
-}
+IsLeastEnd-earliest costs R starts ascending earliest = grind (arith, earliest-ends)
 
 -- a chain whose sum is the end of a legal schedule has the greatest sum
 pub IsSpan-reached : (costs : List ℕ) (R : ℕ → ℕ → Type 0) (starts chain : List ℕ)
@@ -76,13 +66,7 @@ pub IsSpan-reached : (costs : List ℕ) (R : ℕ → ℕ → Type 0) (starts cha
     → IsChain R chain
     → chain_sum costs chain ≡ end_of costs starts
     → IsSpan costs R (end_of costs starts)
-IsSpan-reached costs R starts chain legal inside linked reached = record {
-  chain = chain;
-  segments = inside;
-  linked = linked;
-  reached = reached;
-  greatest = λ other in' links. chain-within-end costs R starts other legal in' links;
-}
+IsSpan-reached costs R starts chain legal inside linked reached = grind (arith, chain-within-end)
 
 -- in a legal schedule, the tail of a segment fits between its end and the schedule's
 tail-above : (costs : List ℕ) (R : ℕ → ℕ → Type 0) (tails other : List ℕ) (end : ℕ) → IsAscending R

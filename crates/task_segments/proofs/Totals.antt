@@ -1,5 +1,5 @@
 -- What a program's table adds up to.
-use Rattle.std.proofs.Common.{◌≡◌, ◌+◌, ◌*◌, false, List, [], ◌∷◌, refl, arith}
+use Rattle.std.proofs.Common.{◌≡◌, ◌+◌, ◌*◌, List, [], ◌∷◌, refl, arith}
 use Rattle.std.specs.List.{sum_by}
 use Rattle.std.proofs.lemmas.List.Sums.{sum_by-cons}
 use Rattle.task_program.specs.Limits.{segments_opened}
@@ -8,7 +8,7 @@ use Rattle.task_program.specs.Marks.Mark.{Begins}
 use Rattle.task_program.specs.ProgramMarks.{ProgramMarks}
 use Rattle.task_program.specs.Programs.{IsProgram}
 use Rattle.task_program.proofs.Nested.{is_nested}
-use Rattle.task_segments.specs.Moments.{begins_task, begins_group, opens, last_moment}
+use Rattle.task_segments.specs.Moments.{begins_task, begins_group}
 use Rattle.task_segments.specs.Table.{table_of}
 use Rattle.task_segments.specs.Totals.{is_wait, tasks_in, waits_in, groups_in, HasAllOf}
 use Rattle.task_segments.proofs.Facts.{segments-at, tasks-at}
@@ -46,21 +46,4 @@ opened_in (m ∷ marks) =
 pub has_all : (program : ProgramMarks)
     → IsProgram program
     → HasAllOf program.marks (table_of program.marks)
-has_all program h =
-    let moment = last_moment program.marks in
-    record {
-      tasks =
-          omega (
-            arith,
-            tasks-at moment,
-            count_read begins_task (Begins false [] ∷ []) program.marks,
-          );
-      segments = omega (
-        arith,
-        segments-at moment,
-        count_read opens (Begins false [] ∷ []) program.marks,
-        segments_counted program.marks (is_nested program h),
-        opened_in program.marks,
-      );
-      work = all_work program h;
-    }
+has_all program h = grind (arith, tasks-at, count_read, segments-at, segments_counted, is_nested, opened_in, all_work)

@@ -110,11 +110,7 @@ opens_same : (m : Mark) (e : List Mark)
     → opens m ≡ true
     → ((s : ℕ) → cost_of s (m ∷ e) ≡ cost_of s e)
     → total (m ∷ e) (segments_so_far (m ∷ e)) ≡ total e (segments_so_far e)
-opens_same m e one_more h =
-    let count = segments_so_far e in
-    ap (total (m ∷ e)) (segments_opens m e one_more)
-    ∙ total_more (m ∷ e) count
-    ∙ omega (arith, same m e h count, h count, cost_none e count (omega arith))
+opens_same m e one_more h = grind (arith, total, segments_opens, total_more, same, cost_none)
 
 works : (cost : ℕ) (e : List Mark) (n : ℕ) → segments_so_far e ≡ n + 1
     → total (Works cost ∷ e) (n + 1) ≡ total e (n + 1) + cost
@@ -175,18 +171,7 @@ work_read e (m ∷ marks) =
 -- the limit of the work of a table
 pub little_work : (table : Table) → IsProgramTable table
     → sum (map (λ (row : Segment). row.cost) table.segments) ≤ MOST_WORK
-little_work table h =
-    let moment = last_moment h.program.marks in
-    let same_costs = ap (λ (t : Table). sum (map (λ (row : Segment). row.cost) t.segments)) h.is in
-    omega (
-      arith,
-      same_costs,
-      sum-map (λ (row : Segment). row.cost) (table_at moment).segments,
-      total_is moment (segments_so_far moment),
-      sums moment (segments_so_far moment),
-      work_read (Begins false [] ∷ []) h.program.marks,
-      h.is_program.work,
-    )
+little_work table h = grind (arith, map, sum-map, total_is, sums, work_read)
 
 -- the table at a moment has all work so far
 pub all_work_at : (e : List Mark) → IsProper e → sum (costs_of (table_at e)) ≡ work_of e

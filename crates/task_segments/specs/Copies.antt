@@ -1,4 +1,4 @@
--- What two rows are compared by.
+-- Carried out: what two rows are compared by.
 use Rattle.task_segments.specs.Table.{Task}
 use Rattle.task_segments.specs.declared.copies.TaskFacts.{TaskFacts}
 

@@ -1,4 +1,4 @@
--- What is left in the lanes of a run.
+-- Carried out: what is left in the lanes of a run.
 use Rattle.std.specs.Prelude.{ℕ, ◌≡◌, ◌≢◌, ◌<◌, ◌++◌, ◌==◌, ◌&&◌, List, [], Option, None, MatchOption, map, length}
 use Rattle.std.specs.Prelude.{slice_index_or}
 use Rattle.std.specs.List.{filter}

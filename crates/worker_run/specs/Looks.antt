@@ -1,4 +1,4 @@
--- Looks at lanes, one after another.
+-- Carried out: looks at lanes, one after another.
 use Rattle.std.specs.Prelude.{ℕ, ◌≡◌, ◌++◌, List, [], ◌∷◌, take, drop, ◌⊎◌, Option, Some, None}
 use Rattle.worker_run.specs.declared.look.Found.{Found}
 use Rattle.worker_run.specs.declared.look.Found.TheVariants.{Token, Nothing, Unsure}

@@ -1,4 +1,4 @@
--- How the thieves of all lanes are shared out among the workers.
+-- Carried out: how the thieves of all lanes are shared out among the workers.
 use Rattle.std.specs.Prelude.{ℕ, ◌≡◌, ◌≢◌, ◌<◌, ◌+◌}
 
 -- one of so many lanes, and not the worker's own

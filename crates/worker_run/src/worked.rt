@@ -1,5 +1,6 @@
 //! What the workers of a run leave: the core, and how each of them ended.
 ghost use Rattle.std.specs.Prelude.{◌≡◌, ◌↔◌, IsTrue, IfOk, OnOk, IfErr, IfSome, MatchOption, map};
+ghost use Rattle.std.specs.Prelude.{length};
 ghost use Rattle.worker_run.specs.Answer.{IsWorkerCount, MayAnswer};
 ghost use Rattle.worker_run.specs.Ends.{Tells, TellNothing, IsFirstTold};
 ghost use Rattle.worker_run.specs.Jobs.{AreFinishedBefore, IsJobOf};
@@ -41,6 +42,8 @@ impl<K: Kernel> Worked<K> {
     ) -> Result<Worked<K>, AllocFault>
         ensures table { IfOk result (λ worked. worked.core.table ≡ table) }
         ensures below { IfOk result (λ worked. AreBelow workers worked.core.history) }
+        ensures kept { IfOk result (λ worked. self.core.table ≡ table
+            → AreBelow workers self.core.history → worked.core ≡ self.core) }
         ensures ends { IfOk result (λ worked. worked.ends ≡ self.ends) }
     {
         let Worked { core, ends, left } = self;
@@ -50,7 +53,8 @@ impl<K: Kernel> Worked<K> {
 
     /// The core, where no end counts as a fault, and otherwise the first fault that counts.
     pub(crate) fn into_core(self, workers: u32) -> Result<Core<K>, RunFault>
-        requires { IsWorkerCount workers }
+        requires count { IsWorkerCount workers }
+        requires each { length self.ends.items ≡ workers }
         ensures core { IfOk result (λ core. core ≡ self.core) }
         ensures none { OnOk result (TellNothing self.core.table self.core.history K.value_of
             (map (λ end. end.how) self.ends.items)) }
@@ -77,6 +81,8 @@ fn fitting_core<K: Kernel>(
 ) -> Result<Core<K>, AllocFault>
     ensures table { IfOk result (λ core. core.table ≡ table) }
     ensures below { IfOk result (λ core. AreBelow workers core.history) }
+    ensures kept { IfOk result (λ its. core.table ≡ table → AreBelow workers core.history
+        → its ≡ core) }
 {
     if core.table().same(&table) && are_below(core.history(), workers) {
         return Ok(core);
@@ -89,7 +95,7 @@ fn fitting_core<K: Kernel>(
 
 /// Whether all events are of workers below a number.
 fn are_below(history: &[Event], workers: u32) -> bool
-    ensures { IsTrue result → AreBelow workers history.now }
+    ensures { IsTrue result ↔ AreBelow workers history.now }
 {
     for event in history {
         if worker_of(*event) >= workers {

@@ -23,20 +23,7 @@ predecessors_at-requires-clause-one c =
     Contains-get_or c.args.items.now c.loop-item.item-index no_item c.loop-item-test.true
 
 pub mark-requires : goal.mark-requires
-mark-requires c =
-    let items = c.args.items.now in
-    let first = c.window_on-window.result.first in
-    let end = c.window_on-window.result.end in
-    let marks = c.deref_mut.result.now in
-    let same : length marks ≡ length c.loop-item.marks.items =
-    ap (λ (xs : List Bool). length xs) c.deref_mut.ensures.value in
-    let one_each = c.loop-item.invariant.one_each in
-    let all : first + length marks ≡ end = omega arith in
-    let inside : AreWithin first end
-    (predecessors_for c.args.names.now items (get_or items c.loop-item.item-index no_item)) =
-    c.window_on-window.ensures.all c.loop-item.item-index no_item c.loop-item-test.true in
-    subst (λ n. AreWithin first n c.predecessors_at.result.now) (sym all)
-    (subst (λ (xs : List ℕ). AreWithin first end xs) (sym c.predecessors_at.ensures) inside)
+mark-requires c = grind arith
 
 pub loop-item-preserved : goal.loop-item-preserved
 loop-item-preserved c =

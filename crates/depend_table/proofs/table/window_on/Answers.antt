@@ -28,16 +28,7 @@ with_places-window-requires-clause-ascending c =
     c.args.names.now c.args.calls.now item.name (sharing_at item.name items) c.requires.table)
 
 pub with_places-window-requires-clause-few : goal.with_places-window-requires-clause-few
-with_places-window-requires-clause-few c = λ k d h.
-    let calls = c.args.calls.now in
-    let items = c.args.items.now in
-    let item = get_or items c.loop-item.item-index no_item in
-    let below = subst (λ (xs : List ℕ). All (λ place. place < length calls) xs)
-    (sym c.predecessors_at.ensures)
-    (predecessors_below c.args.names.now calls item.name (sharing_at item.name items) c.requires.table) in
-    let less = below k d h in
-    let fits : length calls < 2 ^ 64 = search rules in
-    omega arith
+with_places-window-requires-clause-few c = grind (arith, predecessors_below)
 
 pub loop-item-preserved : goal.loop-item-preserved
 loop-item-preserved c =

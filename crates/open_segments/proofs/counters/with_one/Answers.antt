@@ -13,19 +13,7 @@ is_one-requires c =
     (Contains-get_or c.args.segments.now c.loop-segment.segment-index 0 c.loop-segment-test.true)
 
 pub loop-segment-init : goal.loop-segment-init
-loop-segment-init c =
-    let P : List ℕ → Type 0 = λ l. (t : ℕ)
-    → Contains l t
-    ↔ (Contains (take 0 c.args.segments.now) t × (slice_get c.args.counts.now t ≡ Some 1)) in
-    let none : P [] = λ t. (
-      λ h. let within = h.1 in absurd (omega (arith, within)),
-      λ h. let within = h.0.1 in absurd (omega (arith, within)),
-    ) in
-    record {
-      each = subst P (sym c.new-ready.ensures.items) none;
-      once = subst (λ (l : List ℕ). AllPairs (λ x y. x ≢ y) l) (sym c.new-ready.ensures.items)
-          (λ i j d less within. let is_within = within in absurd (omega (arith, is_within)));
-    }
+loop-segment-init c = grind arith
 
 pub loop-segment-preserved : goal.loop-segment-preserved
 loop-segment-preserved c =

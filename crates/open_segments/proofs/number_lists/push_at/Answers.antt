@@ -8,34 +8,17 @@ use Rattle.open_segments.specs.NumberLists.{items_of}
 use Rattle.open_segments.proofs.number_lists.push_at.Goals as goal
 
 pub returns-then-is_some-clause-pushed : goal.returns-then-is_some-clause-pushed
-returns-then-is_some-clause-pushed c =
-    pushed_none c.args.number
-    (λ other. (other ≡ c.args.place) × (entry c.args.values.now other ≡ None))
-    (items_of c.args.lists.now.items)
-    (λ other h. is_valued c.value_entry.result c.is_some.result c.is_some.ensures c.if-is_some.true
-    (c.value_entry.ensures ∙ ap (λ (n : ℕ). entry c.args.values.now n) (sym h.0) ∙ h.1))
+returns-then-is_some-clause-pushed c = grind (arith, pushed_none, is_valued)
 
 pub returns-then-is_some-clause-fuller : goal.returns-then-is_some-clause-fuller
 returns-then-is_some-clause-fuller c =
     fuller_same (λ other. other ≡ c.args.place) c.args.lists.now.items
 
 pub index_mut-requires : goal.index_mut-requires
-index_mut-requires c =
-    let none = sym c.value_entry.ensures
-    ∙ is_valueless c.value_entry.result c.is_some.result c.is_some.ensures c.if-is_some.false in
-    let room = c.requires none in
-    let less = slice_get_within c.args.lists.now.items c.args.place room.row room.is_row in
-    omega (arith, less)
+index_mut-requires c = grind (arith, is_valueless, slice_get_within)
 
 pub push_in_room-requires : goal.push_in_room-requires
-push_in_room-requires c =
-    let none = sym c.value_entry.ensures
-    ∙ is_valueless c.value_entry.result c.is_some.result c.is_some.ensures c.if-is_some.false in
-    let room = c.requires none in
-    let within = slice_get_within c.args.lists.now.items c.args.place room.row room.is_row in
-    let enough = room_of c.args.lists.now.items 1 c.args.place c.index_mut.result.now within
-    c.index_mut.ensures.value room in
-    omega (arith, enough)
+push_in_room-requires c = grind (arith, is_valueless, slice_get_within, room_of)
 
 pub returns-clause-pushed : goal.returns-clause-pushed
 returns-clause-pushed c =

@@ -48,16 +48,4 @@ loop-place-preserved c =
     }
 
 pub returns : goal.returns
-returns c =
-    let whole =
-    take_all c.loop-place.place-index c.args.places.now (omega (arith, c.loop-place-test.false)) in
-    record {
-      pushed = subst
-          (λ (l : List ℕ). ArePushed c.args.number
-          (λ place. Contains l place × (entry c.args.values.now place ≡ None))
-          (items_of c.args.lists.now.items) (items_of c.loop-place.lists.items))
-          whole c.loop-place.invariant.pushed;
-      fuller = subst
-          (λ (l : List ℕ). IsFuller (Contains l) c.args.lists.now.items c.loop-place.lists.items)
-          whole c.loop-place.invariant.fuller;
-    }
+returns c = grind (arith, take_all)

@@ -17,38 +17,10 @@ index_mut-requires c =
     omega (arith, within)
 
 pub add-requires : goal.add-requires
-add-requires c =
-    let parent : ℕ = c.in-Some.parent in
-    let there = c.requires.so_far parent (sym c.parent.ensures ∙ c.in-Some.is) in
-    let children = stands_at c.args.siblings.now.items parent c.index_mut.result.now
-    (children_below c.args.table.now parent c.args.child) c.index_mut.ensures.value there in
-    subst (λ (siblings : List Sibling). All (λ (s : Sibling). s.task < c.args.child) siblings)
-    (sym children) (children_small c.args.table.now parent c.args.child)
+add-requires c = grind (arith, stands_at, children_small)
 
 pub returns-clause-added : goal.returns-clause-added
-returns-clause-added c other of_other =
-    let table : Table = c.args.table.now in
-    let child : ℕ = c.args.child in
-    let parent : ℕ = c.in-Some.parent in
-    let is_parent : (task table child).parent ≡ Some parent = sym c.parent.ensures ∙ c.in-Some.is in
-    let there = c.requires.so_far parent is_parent in
-    let children = stands_at c.args.siblings.now.items parent c.index_mut.result.now
-    (children_below table parent child) c.index_mut.ensures.value there in
-    let added : c.add.new.self
-    ≡ record { task = child; items = (task table child).items }
-    ∷ children_below table parent child =
-    c.in_ok-add-in-Some.ensures.accepted
-    ∙ ap (λ (l : List Item). record { task = child; items = l } ∷ c.index_mut.result.now)
-    c.items.ensures
-    ∙ ap (λ (l : List Sibling). record { task = child; items = (task table child).items } ∷ l)
-    children in
-    let same : parent ≡ other = same_Some parent other (sym is_parent ∙ of_other) in
-    subst
-    (λ (p : ℕ). slice_set c.args.siblings.now.items parent c.add.new.self
-    ≡ slice_set c.args.siblings.now.items p
-    (record { task = child; items = (task table child).items } ∷ children_below table p child))
-    same
-    (ap (λ (one : List Sibling). slice_set c.args.siblings.now.items parent one) added)
+returns-clause-added c other of_other = grind (arith, stands_at, same_Some)
 
 pub unreachable-requires : goal.unreachable-requires
 unreachable-requires c =

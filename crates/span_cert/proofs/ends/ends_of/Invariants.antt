@@ -1,5 +1,5 @@
 use Rattle.span_cert.specs.Claims.{moments_of_starts}
-use Rattle.span_cert.specs.Rows.{AreEndsUpTo}
+use Rattle.span_cert.specs.BrokenPairs.{AreEndsUpTo}
 use Rattle.span_cert.proofs.ends.ends_of.Given as goal
 
 -- the ends of the segments so far

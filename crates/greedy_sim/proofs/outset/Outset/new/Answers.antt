@@ -43,8 +43,7 @@ loop-segment-preserved c =
     let segment = c.loop-segment.segment in
     let old = c.loop-segment.waits.items in
     let row = c.preds-preds.result.now in
-    let graph = c.args.graph.now in
-    let rule : ℕ → ℕ = λ s. length (predecessors_of graph s) in
+    let rule : ℕ → ℕ = λ s. length (predecessors_of c.args.graph.now s) in
     let L : List ℕ → Type 0 = λ xs. (s : ℕ) → s < segment + 1 → get_or xs s 0 ≡ rule s in
     let new = c.wait_for_each.new.waiting in
     record {
@@ -55,7 +54,7 @@ loop-segment-preserved c =
           (pushed_rule rule old (length row) segment c.loop-segment.invariant.size
           c.loop-segment.invariant.left (ap length c.preds-preds.ensures));
       waits = λ r. below_more
-          (λ t. times t (get_or new r []) ≡ times r (predecessors_of graph t)) segment
+          (λ t. times t (get_or new r []) ≡ times r (predecessors_of c.args.graph.now t)) segment
           (λ t l. c.in_ok-wait_for_each.ensures.others r t (λ e. absurd (omega (arith, e, l)))
           ∙ c.loop-segment.invariant.waits r t l)
           (omega (

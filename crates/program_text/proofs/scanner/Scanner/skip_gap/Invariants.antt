@@ -4,7 +4,7 @@ use Rattle.program_text.proofs.scanner.Scanner.skip_gap.Given as goal
 
 abbrev pub invariant-gap : goal.invariant-gap
 invariant-gap l = record {
-  same : tokens_from l.in_comment l.self.line l.self.rest.now
+  same : tokens_from false l.self.line l.self.rest.now
       ≡ tokens_from false l.initial.self.line l.initial.self.rest.now;
   line : line_at_end l.self.line l.self.rest.now
       ≡ line_at_end l.initial.self.line l.initial.self.rest.now;
