@@ -1,2 +1,3 @@
 mod Bounds
+mod TextInput
 mod Told

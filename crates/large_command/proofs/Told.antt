@@ -1,15 +1,25 @@
 -- What a meter's calls answer is told in the report.
-use Rattle.std.proofs.Common.{◌≡◌, ◌+◌, ◌∙◌, ℕ, List, ap}
+use Rattle.std.proofs.Common.{◌≡◌, ◌+◌, ◌∙◌, ℕ, List, Option, inl, inr, ap, arith}
+use Rattle.program_text.specs.declared.fault.ReadFault.{ReadFault}
 use Rattle.program_text.specs.Marks.{Mark}
 use Rattle.program_text.specs.Limits.{work_of}
+use Rattle.program_text.specs.Tokens.{line_at_end, tokens_of}
 use Rattle.task_program.specs.Nested.{IsNested}
 use Rattle.task_segments.specs.Moments.{last_moment, segments_so_far, tasks_so_far}
 use Rattle.online_span.specs.declared.meter.Meter.{Meter}
 use Rattle.online_span.specs.Measuring.{Measures}
 use Rattle.online_span.specs.Spans.{IsSpanOf}
-use Rattle.spanprof_command.specs.Report.{Report}
+use Rattle.large_text.specs.LargeTrees.{IsLargeFirstFault}
+use Rattle.large_text.specs.Measured.{MeasuresText}
+use Rattle.large_text.specs.Streamed.{CanTakeBytes, HasTaken}
+use Rattle.large_text.specs.declared.stream.TextMeter.{TextMeter}
+use Rattle.spanprof_command.specs.Report.{Report, program_refusal}
+use Rattle.command_words.specs.declared.large.LargeRequest.{LargeRequest}
 use Rattle.command_words.specs.declared.large.LargeRequest.TheVariants.{Bounds, Numbers}
-use Rattle.large_command.specs.LargeReports.{TellsMeter, bounds_report, numbers_report}
+use Rattle.large_command.specs.LargeCommand.{AnswersText}
+use Rattle.large_command.specs.LargeReports.{Answers, IsOfProgram, TellsMeter, bounds_report}
+use Rattle.large_command.specs.LargeReports.{numbers_report}
+use Rattle.large_command.specs.TextInput.{TakesText}
 
 pub tells_meter : (meter : Meter) (tasks segments work span : ℕ) (report : Report)
     → ((moment : List Mark) → Measures meter moment → tasks + 1 ≡ tasks_so_far moment)
@@ -43,3 +53,60 @@ tells_bounds meter upto work span report all_work whole says =
       is_span = whole marks nested measures;
       says = says ∙ ap (λ w. bounds_report upto w span) (all_work (last_moment marks) measures);
     }
+
+-- ---- a text that a meter has taken
+
+pub is_of_program : (text : List ℕ) (meter : Meter) → MeasuresText (tokens_of text) meter
+    → IsOfProgram meter
+is_of_program text meter h = record {
+  marks = h.marks;
+  nested = h.tree.nested;
+  measures = h.measures;
+}
+
+pub accepts : (asked : LargeRequest) (text : List ℕ) (meter : Meter) (report : Report)
+    → MeasuresText (tokens_of text) meter
+    → TellsMeter asked meter report
+    → Answers asked text report
+accepts asked text meter report h tells = inl (record {
+  marks = h.marks;
+  tree = h.tree;
+  right = h.right;
+  says = tells h.marks h.tree.nested h.measures;
+})
+
+pub refuses : (asked : LargeRequest) (text : List ℕ) (fault : ReadFault) (report : Report)
+    → IsLargeFirstFault (tokens_of text) (line_at_end 1 text) fault
+    → report ≡ program_refusal fault
+    → Answers asked text report
+refuses asked text fault report is_fault says = inr (record {
+  fault = fault;
+  is_fault = is_fault;
+  says = says;
+})
+
+-- ---- a text that was read to its end
+
+pub can_finish : (before after : Option (List ℕ)) (text_meter : TextMeter)
+    → TakesText before after text_meter
+    → CanTakeBytes 0 text_meter
+can_finish before after text_meter h = record {
+  bytes = h.text;
+  taken = h.taken;
+  fits = omega (arith, h.fits);
+}
+
+pub answers_text : (asked : LargeRequest) (before after : Option (List ℕ)) (text_meter : TextMeter)
+    (report : Report)
+    → TakesText before after text_meter
+    → ((bytes : List ℕ) → HasTaken bytes text_meter → Answers asked bytes report)
+    → AnswersText asked before after report
+answers_text asked before after text_meter report h answers = record {
+  text = h.text;
+  read = record {
+    read = h.read;
+    most = omega (arith, h.fits);
+    to_the_end = λ within. h.to_the_end;
+  };
+  answers = inr (record { fits = h.fits; answers = answers h.text h.taken });
+}

@@ -10,7 +10,7 @@ use Rattle.spanprof_command.specs.Command.{ReadsWithin}
 use Rattle.spanprof_command.specs.GreedyRuns.{thread_count}
 use Rattle.spanprof_command.specs.Report.{Report, wrong_words}
 use Rattle.large_command.specs.LargeReports.{AnswersWithin}
-use Rattle.large_command.specs.declared.engine.TheConstants.{LARGEST_TEXT}
+use Rattle.large_command.specs.declared.text_input.TheConstants.{LARGEST_TEXT}
 
 -- bounds are told for 1 to MOST_THREADS threads
 abbrev pub is_in_range : LargeRequest → Bool

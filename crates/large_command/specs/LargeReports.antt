@@ -17,7 +17,7 @@ use Rattle.spanprof_command.specs.GreedyRuns.{bound_of, least_of}
 use Rattle.spanprof_command.specs.Tables.{numbered_table}
 use Rattle.spanprof_command.specs.Report.{Report, input_too_long, number_line, program_refusal}
 use Rattle.spanprof_command.specs.declared.report.Status.TheVariants.{Done}
-use Rattle.large_command.specs.declared.engine.TheConstants.{LARGEST_TEXT}
+use Rattle.large_command.specs.declared.text_input.TheConstants.{LARGEST_TEXT}
 
 -- a number each for the tasks beside the root, the segments, the work and the span
 abbrev pub numbers_report : (tasks segments work span : ℕ) → Report

@@ -1,2 +1,3 @@
+pub mod TextInput
 pub mod LargeReports
 pub mod LargeCommand

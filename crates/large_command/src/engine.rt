@@ -10,19 +10,19 @@ ghost use Rattle.spanprof_command.specs.declared.engine.TheConstants.{MOST_RETRI
 ghost use Rattle.large_command.specs.LargeCommand.{AnswersText, IsReport, is_in_range};
 ghost use Rattle.large_command.specs.LargeCommand.{wants_text};
 ghost use Rattle.large_command.specs.declared.engine.NoReport.TheVariants.{OutOfMemory};
+ghost use Rattle.large_command.specs.declared.text_input.TheConstants.{LARGEST_TEXT};
 
 use crate::numbers::answer;
-use command_io::{InputFault, read_input};
+use crate::text_input::take_input;
+use command_io::InputFault;
 use command_words::large::{LargeRequest, read_large_words};
 use command_words::request::WordsFault;
 use counted_io::Counted;
 use greedy_sim::greedy::MOST_THREADS;
+use large_text::TextMeter;
 use spanprof_command::{MOST_RETRIES, Report, Status, send};
 use std::alloc::{AllocError, Global};
 use std::io::{Read, Write};
-
-/// A longer text is refused: lines and bytes are counted in 32 bits.
-pub const LARGEST_TEXT: usize = 4_294_967_294;
 
 /// Reads a text of version 1 of any size to its end, and writes how many tasks and segments it has,
 /// its work and its span, each on a line of its own. With the words `--upto P` it writes a table of
@@ -143,8 +143,9 @@ fn answer_text<R: Read>(
     ensures failed { result ≡ Err NoReport.ReadFault
         → faults_of reader.new + retries.new ≡ faults_of reader.old + retries.old + 1 }
 {
-    match read_input(alloc, reader, LARGEST_TEXT, retries) {
-        Ok(text) => Ok(answer(alloc, asked, text.as_slice())?),
+    let mut text = TextMeter::new(alloc);
+    match take_input(reader, &mut text, retries) {
+        Ok(()) => Ok(answer(alloc, asked, text)?),
         Err(InputFault::TooLong) => {
             Ok(Report::of_line(alloc, b"error: input too long\n", Status::Refused)?)
         }

@@ -7,6 +7,8 @@ mod engine;
 mod entry;
 pub mod laws;
 mod numbers;
+mod text_input;
 
-pub use engine::{LARGEST_TEXT, command};
+pub use engine::command;
 pub use entry::{run_program, start};
+pub use text_input::LARGEST_TEXT;

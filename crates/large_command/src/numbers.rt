@@ -1,23 +1,29 @@
 //! What the program answers to a text.
-ghost use Rattle.std.specs.Prelude.{◌≡◌, ◌+◌, ◌<◌, ◌^◌, IfOk, length};
+ghost use Rattle.std.specs.Prelude.{◌≡◌, List, ℕ, IfOk};
 ghost use Rattle.command_words.specs.declared.large.LargeRequest.TheVariants.{Numbers};
+ghost use Rattle.large_text.specs.Streamed.{CanTakeBytes, HasTaken};
 ghost use Rattle.large_command.specs.LargeReports.{Answers, IsOfProgram, TellsMeter};
 ghost use Rattle.large_command.specs.LargeReports.{numbers_report};
 
 use crate::bound_rows::bounds;
 use command_words::large::LargeRequest;
-use large_text::measure_text;
+use large_text::TextMeter;
 use online_span::Meter;
 use spanprof_command::{Report, Status, refusal};
 use std::alloc::{AllocError, Global};
 use task_program::fault::ReadKind;
 
-/// What is asked of a text, or the line of its first fault.
-pub(crate) fn answer(alloc: Global, asked: LargeRequest, text: &[u8]) -> Result<Report, AllocError>
-    requires { length text.now + 1 < 2 ^ 32 }
-    ensures { IfOk result (λ report. Answers asked text.now report) }
+/// What is asked of a text that a meter has taken, or the line of its first fault.
+pub(crate) fn answer(
+    alloc: Global,
+    asked: LargeRequest,
+    text: TextMeter,
+) -> Result<Report, AllocError>
+    requires { CanTakeBytes 0 text }
+    ensures { IfOk result (λ report. (bytes : List ℕ) → HasTaken bytes text
+        → Answers asked bytes report) }
 {
-    match measure_text(alloc, text) {
+    match text.finish() {
         Ok(meter) => tell(alloc, asked, &meter),
         Err(fault) => {
             if fault.kind == ReadKind::OutOfMemory {

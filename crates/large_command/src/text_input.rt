@@ -1,0 +1,68 @@
+//! A text that is taken as it comes.
+ghost use Rattle.std.specs.Prelude.{◌≡◌, ◌≢◌, ◌+◌, ◌-◌, ◌^◌, ◌<◌, ◌≤◌, List, ℕ, Err, OnOk, [], length};
+ghost use Rattle.std.specs.Io.KnownBytes.{Consumes};
+ghost use Rattle.counted_io.specs.Counted.{inner_of, faults_of};
+ghost use Rattle.command_io.specs.Input.{ConsumesAtMost};
+ghost use Rattle.large_text.specs.Streamed.{HasTaken};
+ghost use Rattle.large_command.specs.TextInput.{TakesText};
+
+use command_io::{InputFault, read_piece};
+use counted_io::Counted;
+use large_text::TextMeter;
+use std::io::Read;
+
+/// A longer text is refused: lines and bytes are counted in 32 bits.
+pub const LARGEST_TEXT: usize = 4_294_967_294;
+
+/// How many bytes one read asks for at most.
+const PIECE: usize = 65_536;
+
+/// Reads to the end, piece by piece, and hands all that comes to the meter; but it reads at most one
+/// byte more than [`LARGEST_TEXT`], with which the text is `TooLong`. Retries as `read_piece`.
+pub(crate) fn take_input<R: Read>(
+    reader: &mut Counted<R>,
+    text: &mut TextMeter,
+    retries: &mut u32,
+) -> Result<(), InputFault>
+    requires retries { faults_of reader.old + retries.old < 2 ^ 64 - 1 }
+    requires first { HasTaken [] text.old }
+
+    ensures takes { OnOk result (TakesText (R.remaining (inner_of reader.old))
+        (R.remaining (inner_of reader.new)) text.new) }
+
+    // Unless the reader failed, each fault used up one of the retries.
+    ensures paid { result ≢ Err InputFault.ReadFailed
+        → faults_of reader.new + retries.new ≡ faults_of reader.old + retries.old }
+    // Where it failed, each fault but the last did.
+    ensures failed { result ≡ Err InputFault.ReadFailed
+        → faults_of reader.new + retries.new ≡ faults_of reader.old + retries.old + 1 }
+
+    ensures too_long { result ≡ Err InputFault.TooLong →
+        (bytes : List ℕ)
+        × Consumes (R.remaining (inner_of reader.old)) (R.remaining (inner_of reader.new)) bytes
+        × (length bytes ≡ LARGEST_TEXT + 1) }
+
+    // In every case.
+    ensures limited { ConsumesAtMost (LARGEST_TEXT + 1) (R.remaining (inner_of reader.old))
+        (R.remaining (inner_of reader.new)) }
+    ensures retried { retries.new ≤ retries.old }
+{
+    let mut piece = [0u8; PIECE];
+    let mut left = LARGEST_TEXT + 1;
+    'pieces: loop {
+        let next = PIECE.min(left);
+        match read_piece(reader, &mut piece[..next], retries) {
+            Ok(0) => return Ok(()),
+            Ok(taken) => {
+                if taken == left {
+                    return Err(InputFault::TooLong);
+                }
+                match text.take(&piece[..taken]) {
+                    Ok(()) => left -= taken,
+                    Err(_) => return Err(InputFault::OutOfMemory),
+                }
+            }
+            Err(_) => return Err(InputFault::ReadFailed),
+        }
+    }
+}
