@@ -15,10 +15,11 @@ PAGE = TOP / "docs" / "PROOFS.md"
 IMPORT = re.compile(r"^(?:pub )?use Rattle\.(\w+)\.proofs\.(\w+)\b", re.M)
 HEAD = """# The map of the proofs
 
-For each crate its lemma files, in the order and under the headings of `proofs/Lib.antt`: what each is for, the lemma
-files that it stands on, and the functions and laws whose written proofs cite it. A `+` stands before functions that call one another. What
-another crate cites is named with that crate. A function that is not here needs no written proof, or none with a lemma
-of its own. `checks/proof_map.py` compares this page with the files, and `checks/proof_map.py --write` makes it anew.
+For each crate its lemma files, in the order and under the headings of `proofs/Lib.antt`. Of each the table tells what
+it is for, the lemma files that it stands on, and the functions and laws whose written proofs cite it. A `+` stands
+before functions that call one another. What another crate cites is named with that crate. A function that is not here
+needs no written proof, or none with a lemma of its own. `checks/proof_map.py` compares this page with the files, and
+`checks/proof_map.py --write` makes it anew.
 """
 
 
