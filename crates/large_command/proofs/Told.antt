@@ -1,5 +1,6 @@
 -- What a meter's calls answer is told in the report.
-use Rattle.std.proofs.Common.{◌≡◌, ◌+◌, ◌∙◌, ℕ, List, Option, inl, inr, ap, arith}
+use Rattle.std.proofs.Common.{◌≡◌, ◌+◌, ◌∙◌, ℕ, List, length, Option, inl, inr, ap, arith}
+use Rattle.std.specs.Io.KnownBytes.{Consumes}
 use Rattle.program_text.specs.declared.fault.ReadFault.{ReadFault}
 use Rattle.program_text.specs.Marks.{Mark}
 use Rattle.program_text.specs.Limits.{work_of}
@@ -13,13 +14,14 @@ use Rattle.large_text.specs.LargeTrees.{IsLargeFirstFault}
 use Rattle.large_text.specs.Measured.{MeasuresText}
 use Rattle.large_text.specs.Streamed.{CanTakeBytes, HasTaken}
 use Rattle.large_text.specs.declared.stream.TextMeter.{TextMeter}
-use Rattle.spanprof_command.specs.Report.{Report, program_refusal}
+use Rattle.spanprof_command.specs.Report.{Report, input_too_long, program_refusal}
 use Rattle.command_words.specs.declared.large.LargeRequest.{LargeRequest}
 use Rattle.command_words.specs.declared.large.LargeRequest.TheVariants.{Bounds, Numbers}
 use Rattle.large_command.specs.LargeCommand.{AnswersText}
 use Rattle.large_command.specs.LargeReports.{Answers, IsOfProgram, TellsMeter, bounds_report}
 use Rattle.large_command.specs.LargeReports.{numbers_report}
 use Rattle.large_command.specs.TextInput.{TakesText}
+use Rattle.large_command.specs.declared.text_input.TheConstants.{LARGEST_TEXT}
 
 pub tells_meter : (meter : Meter) (tasks segments work span : ℕ) (report : Report)
     → ((moment : List Mark) → Measures meter moment → tasks + 1 ≡ tasks_so_far moment)
@@ -109,4 +111,19 @@ answers_text asked before after text_meter report h answers = record {
     to_the_end = λ within. h.to_the_end;
   };
   answers = inr (record { fits = h.fits; answers = answers h.text h.taken });
+}
+
+-- a text of one byte too many
+pub answers_length : (asked : LargeRequest) (before after : Option (List ℕ)) (report : Report)
+    → ((bytes : List ℕ) × Consumes before after bytes × (length bytes ≡ LARGEST_TEXT + 1))
+    → report ≡ input_too_long
+    → AnswersText asked before after report
+answers_length asked before after report (bytes, read, size) says = record {
+  text = bytes;
+  read = record {
+    read = read;
+    most = omega (arith, size);
+    to_the_end = λ within. absurd (omega (arith, size, within));
+  };
+  answers = inl (record { longer = omega (arith, size); says = says });
 }
