@@ -236,7 +236,6 @@ int64_t own_work(const Task &t, int64_t unit) {
 }  // namespace
 
 int64_t work_in_units(const Region &region, int64_t unit) {
-  if (unit == 1) return region.root->total;  // nothing is rounded
   int64_t work = 0;
   for (const Task &t : region.tasks)
     if (is_written(t)) work += own_work(t, unit);
