@@ -2,6 +2,7 @@
 """Refuses the allocations of a program one by one: the first, the second, .., until a run meets none.
 
     checks/refused_growths.py commands [PROGRAM]    the ten commands of crates/spanprof/out/spanprof, or of this program
+    checks/refused_growths.py large [PROGRAM]       crates/spanprof_large/out/spanprof_large, or this program
     checks/refused_growths.py tests                 the tests of crates/refused_growths, as `rt test` there built them
     checks/refused_growths.py gate                  counts what the same tests refuse by themselves, as in the gate
 
@@ -32,6 +33,9 @@ OUT_OF_MEMORY = b"error: out of memory\n"
 WORKED = "omptasks 1\nwork 5 task { work 3 } work 2 taskwait work 1\n"
 IN_ORDER = "start 0 0 finish 0 0 start 0 2 finish 0 2 start 1 1 finish 1 1 start 0 3 finish 0 3"
 WRONG_CLAIM = "end 9 start 0 0 start 1 5 start 2 5 start 3 7 chain 0 1 3"
+DEEP = ("omptasks 1\nwork 1\ntask depend(in: a, b, c) depend(out: d, e, f) {\ntaskgroup { task if(0) { work 2 } }\n"
+        "task { work 3 task { work 4 task { task { taskgroup { work 5 } } } } }\nwork 13\n}\n"
+        "task depend(in: d) { work 1 }\ntaskwait\n")
 LOOPS = "omptasks 2\nfor i 1 3 { task depend(in: x[i-1]) depend(out: x[i]) { work 2 } }\n"
 
 
@@ -133,6 +137,24 @@ def commands(refuser, program):
         command(refuser, program, words.split(), larger)
 
 
+def large(refuser, program):
+    """The program for texts of any size: both its reports, and every kind of refusal."""
+    larger = (TOP / "examples/matrix_product.tasks").read_text()
+    for words in ("", "--upto 2"):
+        for text in (WORKED, DEEP, larger):
+            command(refuser, program, words.split(), text)
+    for words, text in (
+        ("", "omptasks 1\ntask {"),
+        ("--upto 2", "omptasks 1\ntask {"),
+        ("", LOOPS),
+        ("", ""),
+        ("help", WORKED),
+        ("--upto 0", WORKED),
+        ("--upto 1025", WORKED),
+    ):
+        command(refuser, program, words.split(), text)
+
+
 def named(program, module):
     """The tests of a module."""
     listed = subprocess.run([program, "--list"], capture_output=True, check=True).stdout.decode()
@@ -183,6 +205,7 @@ def main():
     kind, *given = sys.argv[1:] or ["commands"]
     kinds = {
         "commands": (commands, "crates/spanprof/out/spanprof", "`rt run` in crates/spanprof"),
+        "large": (large, "crates/spanprof_large/out/spanprof_large", "`rt run` in crates/spanprof_large"),
         "tests": (tests, "crates/refused_growths/out/refused_growths_tests", "`rt test` in crates/refused_growths"),
         "gate": (gate, "crates/refused_growths/out/refused_growths_tests", "`rt test` in crates/refused_growths"),
     }

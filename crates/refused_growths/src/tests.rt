@@ -2,6 +2,7 @@
 //! has no clauses, so that what comes after them is proved without theirs, and sooner.
 mod certificates;
 mod commands;
+mod large;
 mod little_memory;
 mod one_growth;
 mod programs;
@@ -41,6 +42,9 @@ enum Calls {
     Check,
     Lane,
     Run { workers: u32 },
+    LargeProgram,
+    LargeText,
+    Pieces,
     Of(Command),
 }
 
@@ -67,6 +71,9 @@ fn make<H: AllocGlobal + Threads + Wait + Abort + Sync>(
         Calls::Check => certificates::checked(rt, supply),
         Calls::Lane => runs::lane_of_two(rt, supply),
         Calls::Run { workers } => runs::recorded(rt, supply, workers),
+        Calls::LargeProgram => large::program(rt, supply),
+        Calls::LargeText => large::text(rt, supply),
+        Calls::Pieces => large::pieces(rt, supply),
         Calls::Of(command) => commands::report(rt, supply, command),
     }
 }

@@ -95,6 +95,21 @@ fn two_workers(rt: HostRuntime) -> Result<(), Fail> {
 }
 
 #[test]
+fn large_programs(rt: HostRuntime) -> Result<(), Fail> {
+    refuse_each(&rt, Calls::LargeProgram)
+}
+
+#[test]
+fn large_texts(rt: HostRuntime) -> Result<(), Fail> {
+    refuse_each(&rt, Calls::LargeText)
+}
+
+#[test]
+fn pieces(rt: HostRuntime) -> Result<(), Fail> {
+    refuse_each(&rt, Calls::Pieces)
+}
+
+#[test]
 fn command_span(rt: HostRuntime) -> Result<(), Fail> {
     refuse_each(&rt, Calls::Of(Command::Span))
 }
@@ -142,4 +157,14 @@ fn command_check(rt: HostRuntime) -> Result<(), Fail> {
 #[test]
 fn command_replay(rt: HostRuntime) -> Result<(), Fail> {
     refuse_each(&rt, Calls::Of(Command::Replay))
+}
+
+#[test]
+fn command_large_numbers(rt: HostRuntime) -> Result<(), Fail> {
+    refuse_each(&rt, Calls::Of(Command::LargeNumbers))
+}
+
+#[test]
+fn command_large_bounds(rt: HostRuntime) -> Result<(), Fail> {
+    refuse_each(&rt, Calls::Of(Command::LargeBounds))
 }

@@ -108,6 +108,21 @@ fn two_workers(rt: HostRuntime) -> Result<(), Fail> {
 }
 
 #[test]
+fn large_programs(rt: HostRuntime) -> Result<(), Fail> {
+    make_once(&rt, Calls::LargeProgram)
+}
+
+#[test]
+fn large_texts(rt: HostRuntime) -> Result<(), Fail> {
+    make_once(&rt, Calls::LargeText)
+}
+
+#[test]
+fn pieces(rt: HostRuntime) -> Result<(), Fail> {
+    make_once(&rt, Calls::Pieces)
+}
+
+#[test]
 fn command_span(rt: HostRuntime) -> Result<(), Fail> {
     make_once(&rt, Calls::Of(Command::Span))
 }
@@ -155,4 +170,14 @@ fn command_check(rt: HostRuntime) -> Result<(), Fail> {
 #[test]
 fn command_replay(rt: HostRuntime) -> Result<(), Fail> {
     make_once(&rt, Calls::Of(Command::Replay))
+}
+
+#[test]
+fn command_large_numbers(rt: HostRuntime) -> Result<(), Fail> {
+    make_once(&rt, Calls::Of(Command::LargeNumbers))
+}
+
+#[test]
+fn command_large_bounds(rt: HostRuntime) -> Result<(), Fail> {
+    make_once(&rt, Calls::Of(Command::LargeBounds))
 }

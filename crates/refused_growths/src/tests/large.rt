@@ -1,0 +1,104 @@
+//! Programs of any size, in one pass: over statements, over a text, and over a text in two pieces.
+ghost use Rattle.std.specs.Prelude.{◌+◌, ◌<◌, ◌^◌, length};
+
+use super::supply::Supply;
+use super::texts::program_of;
+use large_text::{TextMeter, measure_text};
+use online_span::{Meter, measure};
+use std::alloc::{AllocGlobal, Global};
+use std::process::Abort;
+use std::test::Fail;
+use task_program::AllocFault;
+use task_program::fault::{ReadFault, ReadKind};
+use task_program::program::Program;
+
+/// Six tasks are open at once, and six names are mentioned.
+const DEEP: &[u8] = b"omptasks 1\nwork 1\ntask depend(in: a, b, c) depend(out: d, e, f) {\n\
+    taskgroup { task if(0) { work 2 } }\n\
+    task { work 3 task { work 4 task { task { taskgroup { work 5 } } } } }\n\
+    work 13\n}\ntask depend(in: d) { work 1 }\ntaskwait\n";
+
+/// Tasks, segments, work and span.
+type Numbers = (u64, u64, u64, u64);
+
+const NUMBERS: Numbers = (7, 18, 29, 17);
+
+fn numbers_of(meter: &Meter) -> Numbers {
+    (
+        meter.tasks(),
+        meter.segments(),
+        meter.total_work(),
+        meter.span(),
+    )
+}
+
+fn of_program(alloc: Global, program: &Program) -> Result<Numbers, AllocFault> {
+    let meter = measure(alloc, program)?;
+    Ok(numbers_of(&meter))
+}
+
+/// The numbers of a program that is read whole.
+pub(super) fn program<H: AllocGlobal + Abort>(rt: &H, supply: &mut Supply) -> Result<(), Fail> {
+    let program = program_of(rt, supply, DEEP)?;
+    supply.before_call();
+    let numbers = match of_program(rt.alloc(), &program) {
+        Ok(numbers) => numbers,
+        Err(_) => {
+            supply.refused();
+            of_program(rt.alloc(), &program)?
+        }
+    };
+    assert_eq!(rt; numbers, NUMBERS);
+    Ok(())
+}
+
+fn of_text(alloc: Global, text: &[u8]) -> Result<Numbers, ReadFault>
+    requires { length text.now + 1 < 2 ^ 32 }
+{
+    let meter = measure_text(alloc, text)?;
+    Ok(numbers_of(&meter))
+}
+
+/// The numbers of a text.
+pub(super) fn text<H: AllocGlobal + Abort>(rt: &H, supply: &mut Supply) -> Result<(), Fail> {
+    supply.before_call();
+    let numbers = match of_text(rt.alloc(), DEEP) {
+        Ok(numbers) => numbers,
+        Err(fault) => {
+            supply.refused();
+            assert_eq!(rt; fault.kind, ReadKind::OutOfMemory);
+            of_text(rt.alloc(), DEEP)?
+        }
+    };
+    assert_eq!(rt; numbers, NUMBERS);
+    Ok(())
+}
+
+fn of_pieces(alloc: Global, supply: &mut Supply, text: &[u8]) -> Result<Numbers, ReadFault>
+    requires { length text.now + 1 < 2 ^ 32 }
+{
+    let (first, rest) = text.split_at(text.len() / 2);
+    let mut pieces = TextMeter::new(alloc);
+    supply.before_call();
+    pieces.take(first)?;
+    supply.before_call();
+    pieces.take(rest)?;
+    supply.before_call();
+    let meter = pieces.finish()?;
+    Ok(numbers_of(&meter))
+}
+
+/// The numbers of a text in pieces. After a refused piece nothing is promised, so that the text is
+/// begun anew.
+pub(super) fn pieces<H: AllocGlobal + Abort>(rt: &H, supply: &mut Supply) -> Result<(), Fail> {
+    let numbers = match of_pieces(rt.alloc(), supply, DEEP) {
+        Ok(numbers) => numbers,
+        Err(fault) => {
+            supply.refused();
+            assert_eq!(rt; fault.kind, ReadKind::OutOfMemory);
+            of_pieces(rt.alloc(), supply, DEEP)?
+        }
+    };
+    assert_eq!(rt; numbers, NUMBERS);
+    Ok(())
+}
