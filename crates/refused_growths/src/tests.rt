@@ -11,6 +11,7 @@ mod schedules;
 mod short;
 mod supply;
 mod texts;
+mod threads;
 mod turns;
 
 use commands::Command;

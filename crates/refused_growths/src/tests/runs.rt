@@ -31,7 +31,8 @@ pub(super) fn lane_of_two<H: AllocGlobal + Abort>(rt: &H, supply: &mut Supply) -
     Ok(())
 }
 
-fn run_table<H: AllocGlobal + Threads + Wait + Sync>(
+/// What a run of a table answers.
+pub(super) fn run_table<H: AllocGlobal + Threads + Wait + Sync>(
     rt: &H,
     table: SegTable,
     workers: u32,

@@ -207,3 +207,50 @@ fn all_workers_overlap(rt: HostRuntime) -> Result<(), Fail> {
     }
     Ok(())
 }
+
+/// A writer and three readers of what it writes, which are segments 1, 3, 5 and 7. Segment 8 is the
+/// root's last.
+const READERS: &str = "task depend(out: a) { } task depend(in: a) { } task depend(in: a) { } task \
+    depend(in: a) { }";
+
+/// How often the writer reads a flag, so that workers without a token fall asleep.
+const PAUSE: u64 = 10_000_000;
+
+/// The writer waits for the end of the root and a while longer, and then the readers for each other.
+#[derive(Drop)]
+struct WriterFirst {
+    root: Meeting,
+    readers: Gathering,
+}
+
+impl Gate for WriterFirst {
+    fn before(&self, segment: u32) {
+        self.root.reach(segment);
+        if segment != 1 {
+            self.readers.before(segment);
+            return;
+        }
+        for _ in 0..PAUSE {
+            self.root.was_seen();
+        }
+    }
+
+    fn after(&self, _segment: u32) {}
+}
+
+/// Three readers become ready by the end of one writer, and each is run by another worker.
+#[test]
+fn readers_overlap(rt: HostRuntime) -> Result<(), Fail> {
+    let gate = WriterFirst {
+        root: Meeting::new(1, 8),
+        readers: Gathering {
+            size: 3,
+            here: AtomicU64::new(0),
+            in_time: AtomicU64::new(0),
+        },
+    };
+    let made = answer_of(&rt, rt.alloc(), READERS, &MixKernel, &gate, 3)?;
+    assert!(rt; made.is_ok() && gate.root.was_seen());
+    assert_eq!(rt; gate.readers.in_time.load(Ordering::SeqCst), 3);
+    Ok(())
+}
