@@ -14,17 +14,19 @@ pub(super) struct Short {
     pub(super) blocks: usize,
     /// So many blocks are there for requests of the next size itself.
     pub(super) spare: usize,
-    /// Longer blocks that are there, one of each.
-    pub(super) long: &'static [usize],
+    /// Whether there are the longer blocks that reading a command's words asks for.
+    pub(super) has_long: bool,
 }
 
-/// What reading a command's words asks for: one of these blocks grows where it lies.
-pub(super) const LONG_OF_WORDS: &[usize] = &[10_752, 2_432, 2_432, 2_432, 2_432];
-
-/// What the list of open tasks grows to, as a program is measured.
-pub(super) const LONG_OF_TASKS: &[usize] = &[1_536];
+/// One of these blocks grows where it lies, and four do not grow.
+const LONG: [usize; 5] = [10_752, 2_432, 2_432, 2_432, 2_432];
 
 impl Short {
+    /// Longer blocks that are there, one of each.
+    pub(super) fn long_blocks(&self) -> &'static [usize] {
+        if self.has_long { &LONG } else { &[] }
+    }
+
     /// The most bytes of a block.
     pub(super) fn request(number: usize) -> usize {
         24 + 16 * number.min(LONGEST)

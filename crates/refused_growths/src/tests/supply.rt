@@ -164,7 +164,7 @@ impl Supply {
         }
         self.hold_everything();
         self.pieces.truncate(0);
-        for size in short.long {
+        for size in short.long_blocks() {
             self.cut_apart(*size, 1);
         }
         for number in 0..LONGEST {

@@ -1,5 +1,5 @@
 //! Calls are made again and again, each time with other memory left.
-use super::short::{LONG_OF_TASKS, LONG_OF_WORDS, LONGEST, Short};
+use super::short::{LONGEST, Short};
 use super::supply::{Left, Supply};
 use super::{Calls, make};
 use std::alloc::AllocGlobal;
@@ -94,13 +94,12 @@ fn refuse_rows<H: AllocGlobal + Threads + Wait + Abort + Sync>(
     Err("refused at every turn".into())
 }
 
-/// The longer blocks that are asked for from a call on.
-fn long_from(calls: Calls, call: usize) -> &'static [usize] {
+/// Whether words are read from a call on.
+fn reads_words(calls: Calls, call: usize) -> bool {
     match calls {
-        Calls::Words => LONG_OF_WORDS,
-        Calls::Of(_) if call == 0 => LONG_OF_WORDS,
-        Calls::LargeProgram | Calls::LargeText | Calls::Pieces => LONG_OF_TASKS,
-        _ => &[],
+        Calls::Words => true,
+        Calls::Of(_) => call == 0,
+        _ => false,
     }
 }
 
@@ -118,7 +117,7 @@ fn refuse_sizes<H: AllocGlobal + Threads + Wait + Abort + Sync>(
                 number,
                 blocks: 0,
                 spare,
-                long: long_from(calls, call),
+                has_long: reads_words(calls, call),
             };
             let turns = refuse_size(rt, calls, supply, call, short)?;
             refusals = refusals.saturating_add(turns);
