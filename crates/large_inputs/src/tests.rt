@@ -3,6 +3,7 @@ mod any_size;
 mod edges;
 mod names;
 mod segments;
+mod streams;
 
 use counted_io::Counted;
 use spanprof_command::{Status, command};
