@@ -18,6 +18,7 @@
  *   ASLEEP_FIRST     who has put tokens asks whether anyone sleeps before it adds the news
  *   PASSED_AS_EMPTY  a worker takes a lane that it passes over for an empty one
  *   BUSY_AS_IDLE     a worker that has started its next segment tells as if it took the first new token itself
+ *   ONE_WOKEN        who has put several tokens for others wakes one worker alone
  */
 #ifndef WORKERS
 #define WORKERS 2
@@ -120,7 +121,11 @@ inline tell(others) {
         /* signal.rt: self.news.wake_one(); */
         :: someone && others == 1 -> atomic { wake_one() }
         /* signal.rt: self.news.wake_all(); */
+#ifdef ONE_WOKEN
+        :: someone && others > 1 -> atomic { wake_one() }
+#else
         :: someone && others > 1 -> d_step { wake_all() }
+#endif
         fi
     fi
 }
