@@ -4,7 +4,7 @@ use Rattle.std.proofs.Common.{ap, subst, sym}
 use Rattle.std.proofs.lemmas.List.{length-append, length-take}
 use Rattle.std.proofs.KnownBytes.{Consumes-kept, Consumes-trans}
 use Rattle.std.specs.Io.KnownBytes.{Consumes, Keeps}
-use Rattle.command_io.specs.Input.{ConsumesAtMost}
+use Rattle.counted_io.specs.Input.{ConsumesAtMost}
 use Rattle.large_text.specs.Streamed.{CanTakeBytes, HasTaken, TakesBytes}
 use Rattle.large_text.specs.declared.stream.TextMeter.{TextMeter}
 use Rattle.large_command.specs.declared.text_input.TheConstants.{LARGEST_TEXT}

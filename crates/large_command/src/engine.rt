@@ -2,7 +2,7 @@
 ghost use Rattle.std.specs.Prelude.{◌≡◌, ◌≢◌, ◌+◌, ◌-◌, ◌^◌, ◌<◌, ◌≤◌, List, ℕ, Err, map};
 ghost use Rattle.std.specs.Prelude.{string_bytes, IfOk, false, true};
 ghost use Rattle.counted_io.specs.Counted.{inner_of, faults_of, flushes_of, is_flushed};
-ghost use Rattle.command_io.specs.Input.{ConsumesAtMost};
+ghost use Rattle.counted_io.specs.Input.{ConsumesAtMost};
 ghost use Rattle.command_words.specs.LargeWords.{large_request_of};
 ghost use Rattle.spanprof_command.specs.Command.{EndsWith, HadFaults};
 ghost use Rattle.spanprof_command.specs.Report.{out_of_memory, read_fault};
@@ -14,7 +14,7 @@ ghost use Rattle.large_command.specs.declared.text_input.TheConstants.{LARGEST_T
 
 use crate::numbers::answer;
 use crate::text_input::take_input;
-use command_io::InputFault;
+use counted_io::InputFault;
 use command_words::large::{LargeRequest, read_large_words};
 use command_words::request::WordsFault;
 use counted_io::Counted;

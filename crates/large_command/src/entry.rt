@@ -6,7 +6,7 @@ ghost use Rattle.std.specs.Prelude.{◌≡◌, ◌≢◌, ◌+◌, ◌<◌, ◌�
 ghost use Rattle.std.specs.Prelude.{string_bytes};
 ghost use Rattle.std.specs.IoError.{error_kind};
 ghost use Rattle.counted_io.specs.Counted.{faults_of, flushes_of, inner_of};
-ghost use Rattle.command_io.specs.Input.{ConsumesAtMost};
+ghost use Rattle.counted_io.specs.Input.{ConsumesAtMost};
 ghost use Rattle.spanprof_command.specs.Command.{ExitsAfter, ExitsWith, HadFaults};
 ghost use Rattle.spanprof_command.specs.Report.{out_of_memory, wrong_words};
 ghost use Rattle.large_command.specs.LargeCommand.{IsReport};

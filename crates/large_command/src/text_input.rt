@@ -2,11 +2,11 @@
 ghost use Rattle.std.specs.Prelude.{◌≡◌, ◌≢◌, ◌+◌, ◌-◌, ◌^◌, ◌<◌, ◌≤◌, List, ℕ, Err, OnOk, [], length};
 ghost use Rattle.std.specs.Io.KnownBytes.{Consumes};
 ghost use Rattle.counted_io.specs.Counted.{inner_of, faults_of};
-ghost use Rattle.command_io.specs.Input.{ConsumesAtMost};
+ghost use Rattle.counted_io.specs.Input.{ConsumesAtMost};
 ghost use Rattle.large_text.specs.Streamed.{HasTaken};
 ghost use Rattle.large_command.specs.TextInput.{TakesText};
 
-use command_io::{InputFault, read_piece};
+use counted_io::{InputFault, read_piece};
 use counted_io::Counted;
 use large_text::TextMeter;
 use std::io::Read;

@@ -76,7 +76,7 @@ use Rattle.spanprof_command.specs.Trials.{Trials, TriesChanges, after_changes, c
 use Rattle.spanprof_command.specs.Trials.{spans_told, unless_refused}
 use Rattle.spanprof_command.specs.WorkerRuns.{WorkerRuns, run_told, worker_count}
 use Rattle.spanprof_command.specs.declared.report.Status.TheVariants.{Done}
-use Rattle.command_io.specs.declared.input.TheConstants.{LARGEST_INPUT}
+use Rattle.counted_io.specs.declared.input.TheConstants.{LARGEST_INPUT}
 
 -- of each program a command says something
 abbrev SaysSome : (ProgramMarks → Report → Type 0) → Type 0

@@ -1,7 +1,7 @@
 //! Texts: programs, words, inputs and rows.
 use super::made_again;
 use super::supply::Supply;
-use command_io::{InputFault, LARGEST_INPUT, read_input};
+use counted_io::{InputFault, LARGEST_INPUT, read_input};
 use command_words::request::{Request, WordsFault, read_words};
 use counted_io::Counted;
 use csv_table::Table;

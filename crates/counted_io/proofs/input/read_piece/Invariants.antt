@@ -1,7 +1,7 @@
 use Rattle.std.proofs.Common.{◌≡◌, ◌+◌, ◌≤◌, length}
 use Rattle.std.specs.Io.KnownBytes.{Keeps}
 use Rattle.counted_io.specs.Counted.{inner_of, faults_of}
-use Rattle.command_io.proofs.input.read_piece.Given as goal
+use Rattle.counted_io.proofs.input.read_piece.Given as goal
 
 -- nothing was read so far, and each interruption was paid for
 abbrev pub invariant-reads : goal.invariant-reads
