@@ -14,10 +14,9 @@ ghost use Rattle.large_command.specs.declared.text_input.TheConstants.{LARGEST_T
 
 use crate::numbers::answer;
 use crate::text_input::take_input;
-use counted_io::InputFault;
 use command_words::large::{LargeRequest, read_large_words};
 use command_words::request::WordsFault;
-use counted_io::Counted;
+use counted_io::{Counted, InputFault};
 use greedy_sim::greedy::MOST_THREADS;
 use large_text::TextMeter;
 use spanprof_command::{MOST_RETRIES, Report, Status, send};

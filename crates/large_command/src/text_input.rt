@@ -6,8 +6,7 @@ ghost use Rattle.counted_io.specs.Input.{ConsumesAtMost};
 ghost use Rattle.large_text.specs.Streamed.{HasTaken};
 ghost use Rattle.large_command.specs.TextInput.{TakesText};
 
-use counted_io::{InputFault, read_piece};
-use counted_io::Counted;
+use counted_io::{Counted, InputFault, read_piece};
 use large_text::TextMeter;
 use std::io::Read;
 

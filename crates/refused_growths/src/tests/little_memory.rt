@@ -1,4 +1,4 @@
-//! All growths are refused from one on, whichever it is.
+//! All allocations from one on are refused. Which one is first differs from turn to turn.
 use super::Calls;
 use super::commands::Command;
 use super::turns::refuse_each;

@@ -1,4 +1,4 @@
-//! One growth is refused, which `checks/refused_growths.py tests` does from outside: the first, the
+//! One allocation is refused, which `checks/refused_growths.py tests` does from outside: the first, the
 //! second, and so on.
 use super::commands::Command;
 use super::supply::Supply;

@@ -1,9 +1,8 @@
 //! Texts: programs, words, inputs and rows.
 use super::made_again;
 use super::supply::Supply;
-use counted_io::{InputFault, LARGEST_INPUT, read_input};
 use command_words::request::{Request, WordsFault, read_words};
-use counted_io::Counted;
+use counted_io::{Counted, InputFault, LARGEST_INPUT, read_input};
 use csv_table::Table;
 use std::alloc::{AllocError, AllocGlobal, Global};
 use std::process::Abort;
