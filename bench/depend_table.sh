@@ -1,5 +1,5 @@
 #!/usr/bin/env bash
-# Times `generate` on the largest lists of siblings. Needs rt.
+# Times `create` on the largest lists of siblings. Needs rt.
 set -euo pipefail
 # shellcheck source=bench/common.sh
 . "$(dirname "$0")/common.sh"

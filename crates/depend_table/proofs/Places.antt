@@ -12,7 +12,7 @@ use Rattle.program_text.specs.declared.statement.DependKind.{DependKind}
 use Rattle.program_text.specs.declared.statement.Item.{Item}
 use Rattle.depend_table.specs.declared.table.Call.{Call}
 use Rattle.depend_table.specs.Lists.{Lists}
-use Rattle.depend_table.specs.Marks.{IsMarked, IsMarkedNumber}
+use Rattle.depend_table.specs.MarkedPlaces.{IsMarked, IsMarkedNumber}
 use Rattle.depend_table.specs.Siblings.{Sibling, IsAmong, IsKept}
 use Rattle.depend_table.specs.Siblings.IsAmong.{Newest, Below}
 use Rattle.depend_table.specs.Generations.{HasRank, AreGenerations, mentions, sharing_at}

@@ -5,14 +5,14 @@ use Rattle.std.proofs.lemmas.Bool.{cases_lt, cases_eq}
 use Rattle.task_segments.specs.Table.{Table}
 use Rattle.task_segments.specs.Precedence.{Continues, Creation, MustPrecede}
 use Rattle.task_segments.proofs.Reaches.{Reaches, reaches_by_one, reach_map, reaches}
-use Rattle.depend_table.specs.Kept.{IsKeptEdge}
+use Rattle.depend_table.specs.KeptEdges.{IsKeptEdge}
 use Rattle.dispatch_core.specs.declared.event.Event.{Event}
 use Rattle.dispatch_core.specs.declared.event.Event.TheVariants.{Start}
 use Rattle.open_segments.specs.Facts.{IsSoundTable}
 use Rattle.dispatch_core.specs.Graph.{IsGraphOf}
 use Rattle.dispatch_core.specs.RecordedGraph.{RecordedGraph, Precedes}
 use Rattle.dispatch_core.specs.Run.{Runs, IsLegalRun, IsOpen, MayRun}
-use Rattle.dispatch_core.proofs.Ends.{no_more}
+use Rattle.dispatch_core.proofs.StartAndEnd.{no_more}
 use Rattle.dispatch_core.proofs.KeptEnough.{precedes_of}
 use Rattle.dispatch_core.proofs.FinishStep.{started_known, started_after_preds}
 

@@ -17,8 +17,8 @@ use Rattle.task_segments.specs.declared.table.Closing.TheVariants.{EndsGroup}
 use Rattle.task_segments.specs.declared.table.Closing.TheVariants.{Waits}
 use Rattle.depend_table.proofs.Conflicts.{Member, Mentions, earlier_mentions}
 use Rattle.depend_table.proofs.Conflicts.Member.{Head, Tail}
-use Rattle.depend_table.specs.Kept.{IsKeptEdge, KeptDependence, KeptGroupEnd, KeptWait}
-use Rattle.depend_table.specs.Kept.{children_below}
+use Rattle.depend_table.specs.KeptEdges.{IsKeptEdge, KeptDependence, KeptGroupEnd, KeptWait}
+use Rattle.depend_table.specs.KeptEdges.{children_below}
 use Rattle.depend_table.specs.Siblings.{IsAmong, IsKept, Sibling, conflict_at, rank}
 use Rattle.depend_table.specs.Siblings.IsAmong.{Below as Older, Newest}
 use Rattle.open_segments.proofs.Edges.{kept_sibling}
@@ -149,12 +149,12 @@ decide_wait table s t =
       waits = wait.2.0;
       opens = wait.2.1;
       child = waited.0;
-      generated = waited.2.0;
+      created = waited.2.0;
       last = waited.2.1;
     })
     (λ w. (
       (w.before, w.opens.is_from, (w.waits, w.opens)),
-      (w.child, w.generated.is_child, (w.generated, w.last)),
+      (w.child, w.created.is_child, (w.created, w.last)),
     ))
     (decide_both Before Child
     (decide_below A (length table.segments) (λ before.
@@ -229,7 +229,7 @@ decide_group table s t facts =
         before = before_of.0;
         ends_group = before_of.2.0;
         opens = before_of.2.1;
-        generated = child_of.2.0;
+        created = child_of.2.0;
         inside = child_of.2.1.0;
       };
       descendant = child_of.2.1.1.0;
@@ -241,9 +241,9 @@ decide_group table s t facts =
       (encloses.before, encloses.opens.is_from, (encloses.ends_group, encloses.opens)),
       (
         g.child,
-        encloses.generated.is_child,
+        encloses.created.is_child,
         (
-          encloses.generated,
+          encloses.created,
           (encloses.inside, (g.descendant, g.is_descendant, (g.descends, g.last))),
         ),
       ),
@@ -441,7 +441,7 @@ decide_kept_wait table s t =
         waits = waits.0;
         opens = waits.1;
         child = child_of.0;
-        generated = record {
+        created = record {
           is_child = child_of.1;
           parent = child_of.2.0;
           creator = creator_of.0;
@@ -454,14 +454,14 @@ decide_kept_wait table s t =
     })
     (λ k.
     let wait = k.wait in
-    let generated = wait.generated in
+    let created = wait.created in
     let made : C wait.before wait.child =
-    (generated.creator, generated.is_creator, (generated.earlier, k.none_between)) in (
+    (created.creator, created.is_creator, (created.earlier, k.none_between)) in (
       wait.before,
       wait.opens.is_from,
       (
         (wait.waits, wait.opens),
-        (wait.child, generated.is_child, (generated.parent, (wait.last, made))),
+        (wait.child, created.is_child, (created.parent, (wait.last, made))),
       ),
     ))
     (decide_below (λ before. A before × D before) (length table.segments) (λ before.

@@ -9,7 +9,7 @@ use Rattle.task_segments.specs.Table.{Table, segment}
 use Rattle.task_segments.specs.InPlace.{IsReadInPlace, IsOf}
 use Rattle.task_segments.specs.Precedence.{Continues, Creation, MustPrecede}
 use Rattle.task_segments.specs.Schedule.{IsChain}
-use Rattle.depend_table.specs.Kept.{IsKeptEdge}
+use Rattle.depend_table.specs.KeptEdges.{IsKeptEdge}
 use Rattle.depend_table.specs.Lists.{Lists}
 use Rattle.depend_table.proofs.Lists.{lists_same, cases_contains}
 use Rattle.dispatch_core.specs.declared.event.Event.{Event}
@@ -19,7 +19,7 @@ use Rattle.open_segments.specs.declared.counters.Counters.{Counters}
 use Rattle.open_segments.specs.Counters.{AreKeptOf, GoesUp, HasValue, IsOpenBy, KeepsChains}
 use Rattle.open_segments.specs.Counters.{unfinished_count}
 use Rattle.dispatch_core.specs.Sound.{TellFinished}
-use Rattle.open_segments.specs.NumberLists.{items_of}
+use Rattle.open_segments.specs.NumberLists.{lists_of}
 use Rattle.open_segments.specs.UpToDate.{IsUpToDate, IsFreed}
 use Rattle.dispatch_core.proofs.Histories.{started_kept, finished_cases, started_was}
 use Rattle.dispatch_core.proofs.Histories.{started_before_finish, legal_push}
@@ -268,7 +268,7 @@ becomes_freed : (table : Table) (history : List Event) (values : List (Option �
     → BecomesReady table history (history ++ Finish worker s ∷ []) t
     → IsFreed s counters t
 becomes_freed table history values counters worker s t up chains legal tell state becomes =
-    let preds : List (List ℕ) = items_of counters.preds.items in
+    let preds : List (List ℕ) = lists_of counters.preds.items in
     let known : t < length preds =
     let is_known = becomes.is_now.known in let each = state.kept.each in
     omega (arith, is_known, each) in
@@ -320,7 +320,7 @@ pub none_counted : (table : Table) (history : List Event) (values : List (Option
     → (slice_get counters.counts.items t ≡ Some 0)
     ↔ ((p : ℕ) → MustPrecede table p t → HasFinished history p)
 none_counted table history values counters t up chains legal tell state known opened =
-    let preds : List (List ℕ) = items_of counters.preds.items in
+    let preds : List (List ℕ) = lists_of counters.preds.items in
     let list : List ℕ = get_or preds t [] in
     let there : slice_get preds t ≡ Some list =
     slice_get-get_or preds t [] (let each = state.kept.each in omega (arith, known, each)) in

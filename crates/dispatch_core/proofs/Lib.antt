@@ -6,7 +6,7 @@ pub mod FinishStep
 pub mod KeptEnough
 pub mod Readiness
 pub mod NeverStuck
-pub mod Ends
+pub mod StartAndEnd
 pub mod GivenRuns
 pub mod Complete
 pub mod Carried

@@ -13,7 +13,7 @@ use Rattle.open_segments.specs.Entry.{entry}
 use Rattle.dispatch_core.specs.Sound.{AreRunning, AreValues}
 use Rattle.open_segments.specs.declared.counters.Counters.{Counters}
 use Rattle.open_segments.specs.Counters.{IsOpenBy}
-use Rattle.open_segments.specs.NumberLists.{items_of}
+use Rattle.open_segments.specs.NumberLists.{lists_of}
 use Rattle.open_segments.specs.UpToDate.{IsUpToDate}
 use Rattle.dispatch_core.proofs.KeptEnough.{kept_at, open_after}
 
@@ -65,7 +65,7 @@ pub input_known : (table : Table) (history : List Event) (value_of : ℕ → ℕ
     → IsUpToDate table values counters
     → s < length table.segments
     → ((pred : ℕ) → MustPrecede table pred s → HasFinished history pred)
-    → slice_get (items_of counters.preds.items) s ≡ Some list
+    → slice_get (lists_of counters.preds.items) s ≡ Some list
     → (input : ℕ)
     → input ≡ sum_by (λ at. unwrap_or (entry values at) 0) list % 2 ^ 64
     → IsInput table value_of s input

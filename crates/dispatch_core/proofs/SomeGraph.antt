@@ -8,16 +8,16 @@ use Rattle.task_program.specs.Programs.{IsProgram}
 use Rattle.task_program.specs.Trees.{HasTree}
 use Rattle.task_segments.proofs.InPlace.{read_in_place, some_segment}
 use Rattle.task_segments.proofs.Order.{goes_up, continues_or_is_created}
-use Rattle.task_segments.proofs.Programs.{few_segments, few_tasks, grouped_program, nested_program}
+use Rattle.task_segments.proofs.LastMoment.{few_segments, few_tasks, grouped_program, nested_program}
 use Rattle.task_segments.proofs.Reaches.{reached_is_joined, reaches_by_one}
 use Rattle.task_segments.proofs.SameSchedules.{same_joined}
 use Rattle.task_segments.proofs.Work.{little_work}
 use Rattle.task_segments.specs.Nesting.{IsGroupedTable, IsNestedTable}
 use Rattle.task_segments.specs.Precedence.{IsSegment, MustPrecede}
-use Rattle.task_segments.specs.Programs.{IsProgramTable}
+use Rattle.task_segments.specs.ProgramTable.{IsProgramTable}
 use Rattle.task_segments.specs.Table.{Table, costs_of, segment, table_of}
 use Rattle.depend_table.proofs.Chains.{edge_reaches, kept_within}
-use Rattle.depend_table.specs.Kept.{IsKeptEdge}
+use Rattle.depend_table.specs.KeptEdges.{IsKeptEdge}
 use Rattle.depend_table.specs.Lists.{Lists}
 use Rattle.open_segments.proofs.Within.{within_table}
 use Rattle.open_segments.specs.Facts.{IsSoundTable}

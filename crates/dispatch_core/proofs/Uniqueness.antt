@@ -2,7 +2,7 @@
 use Rattle.std.proofs.Common.{ℕ, ◌≡◌, ◌%◌, ◌^◌}
 use Rattle.std.proofs.Common.{sym, ap, ◌∙◌}
 use Rattle.task_segments.specs.Table.{Table, segment}
-use Rattle.depend_table.specs.Kept.{IsKeptEdge}
+use Rattle.depend_table.specs.KeptEdges.{IsKeptEdge}
 use Rattle.dispatch_core.specs.Values.{IsValue, IsInput}
 use Rattle.dispatch_core.specs.Values.IsValue.{Computes}
 use Rattle.open_segments.proofs.Ascending.{same_sums}

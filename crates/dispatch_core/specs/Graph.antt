@@ -1,7 +1,7 @@
 -- The graph of a program: its segments' costs, and the kept edges.
 use Rattle.std.specs.Prelude.{ℕ, ◌<◌, ◌≡◌, length, map}
 use Rattle.task_segments.specs.Table.{Table, costs_of}
-use Rattle.depend_table.specs.Kept.{IsKeptEdge}
+use Rattle.depend_table.specs.KeptEdges.{IsKeptEdge}
 use Rattle.depend_table.specs.Lists.{Lists}
 use Rattle.dispatch_core.specs.RecordedGraph.{RecordedGraph, predecessors_of}
 use Rattle.dispatch_core.specs.declared.graph.Graph.TheInside.{Inside}

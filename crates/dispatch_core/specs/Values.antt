@@ -2,7 +2,7 @@
 use Rattle.std.specs.Prelude.{ℕ, ◌≡◌, ◌%◌, ◌^◌, List, sum_by}
 use Rattle.task_segments.specs.Table.{Table, segment}
 use Rattle.task_segments.specs.Precedence.{IsSegment}
-use Rattle.depend_table.specs.Kept.{IsKeptEdge}
+use Rattle.depend_table.specs.KeptEdges.{IsKeptEdge}
 use Rattle.depend_table.specs.Lists.{Lists}
 
 -- The kernel's value of a segment for its cost and its input, which is the sum of the values of its

@@ -4,7 +4,7 @@ ghost use Rattle.std.specs.Prelude.{◌∷◌, ◌*◌, [], length, IsTrue, IsSo
 ghost use Rattle.std.specs.Prelude.{OnErr, OnOk, IsOk, IfSome, MatchOption, MatchResult};
 ghost use Rattle.task_segments.specs.Table.{Table};
 ghost use Rattle.task_segments.specs.Precedence.{MustPrecede};
-ghost use Rattle.depend_table.specs.Kept.{IsKeptEdge};
+ghost use Rattle.depend_table.specs.KeptEdges.{IsKeptEdge};
 ghost use Rattle.depend_table.specs.Lists.{Lists};
 ghost use Rattle.dispatch_core.specs.Run.{Run, HasStarted, HasFinished, Runs, MayStart, MayFollow};
 ghost use Rattle.dispatch_core.specs.Run.{IsLegalRun, IsFinished, IsOpen, IsReady};
@@ -18,7 +18,7 @@ ghost use Rattle.dispatch_core.specs.Graph.{IsGraphOf};
 use crate::event::{Event, FinishKind, FinishRefusal, MOST_WORKERS, StartRefusal};
 use crate::graph::{Graph, make_graph};
 use crate::kernel::{Kernel, SegResult};
-use crate::places::{flag, make_places, push_event, sum_at, worker_entry};
+use crate::places::{flag, make_places, sum_at, worker_entry};
 use open_segments::counters::Counters;
 use open_segments::entries::{push_if, value_entry};
 use open_segments::laws::serves_runs;
@@ -192,7 +192,7 @@ impl<K: Kernel> Core<K> {
     }
 
     /// The cost and the input of the segment that the worker runs, if it runs this one.
-    pub(crate) fn task_of(&self, worker: u32, segment: u32) -> Option<(u64, u64)>
+    pub(crate) fn cost_and_input(&self, worker: u32, segment: u32) -> Option<(u64, u64)>
         ensures { MatchOption result (¬ Runs self.now.history worker segment)
             (λ task. Runs self.now.history worker segment
             × IsCost self.now.table segment task.0
@@ -316,7 +316,7 @@ impl<K: Kernel> Core<K> {
     {
         self.running[worker as usize] = Some(segment);
         self.started[segment as usize] = true;
-        push_event(&mut self.history, Event::Start { worker, segment });
+        self.history.push_reserved(Event::Start { worker, segment });
     }
 
     /// The segments that are not started and of which all that must precede them are finished,
@@ -419,7 +419,8 @@ impl<K: Kernel> Core<K> {
             .counters
             .finish(self.alloc, &self.table, &mut self.values, segment, value)?;
         self.running[worker as usize] = None;
-        push_event(&mut self.history, Event::Finish { worker, segment });
+        self.history
+            .push_reserved(Event::Finish { worker, segment });
         Ok(ready)
     }
 }

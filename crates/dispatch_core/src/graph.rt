@@ -75,6 +75,13 @@ impl Graph {
         self.costs[segment as usize]
     }
 
+    /// The costs of all segments, in their order.
+    pub fn costs(&self) -> &[u64]
+        ensures { result.now ≡ self.now.costs }
+    {
+        self.costs.as_slice()
+    }
+
     /// The predecessors of a segment, ascending.
     pub fn preds(&self, segment: u32) -> &[u32]
         requires { segment < length self.now.costs }

@@ -5,16 +5,17 @@ ghost use Rattle.task_program.specs.Programs.{IsProgram};
 ghost use Rattle.task_segments.specs.Table.{Table, table_of};
 ghost use Rattle.task_segments.specs.Precedence.{IsSegment, MustPrecede};
 ghost use Rattle.task_segments.specs.Schedule as schedule;
-ghost use Rattle.depend_table.specs.Kept.{IsKeptEdge};
+ghost use Rattle.depend_table.specs.KeptEdges.{IsKeptEdge};
 ghost use Rattle.dispatch_core.specs.declared.event.Event.{Event};
 ghost use Rattle.dispatch_core.specs.Graph.{IsGraphOf};
-ghost use Rattle.dispatch_core.specs.RecordedGraph.{RecordedGraph, Precedes};
+ghost use Rattle.dispatch_core.specs.RecordedGraph.{RecordedGraph, IsGraph, Precedes};
 ghost use Rattle.dispatch_core.specs.Run.{Runs, IsFinished, IsReady, IsLegalRun, MayRun};
 ghost use Rattle.dispatch_core.specs.Replays.{IsFirstRefused};
 ghost use Rattle.dispatch_core.specs.Values.{IsValue, IsInput};
 ghost use Rattle.dispatch_core.specs.declared.replay.ReplayRefusal.{ReplayRefusal};
 
 use crate::dispatch::Core;
+use crate::graph::Graph;
 use crate::kernel::Kernel;
 use open_segments::laws::serves_runs;
 use task_segments::table::SegTable;
@@ -61,6 +62,14 @@ pub fn what_runs(table: &SegTable)
         → Runs history worker s → MayRun table.now history worker s }
 {
     serves_runs(table);
+}
+
+/// What every graph keeps: it is within the limits, each predecessor has a smaller number than its
+/// segment, and every segment but the first has one.
+pub fn is_graph(graph: &Graph)
+    ensures { IsGraph graph.now }
+{
+    graph.len();
 }
 
 /// The history of a core is legal.

@@ -14,18 +14,6 @@ use std::alloc::Global;
 use task_program::AllocFault;
 use task_segments::table::SegTable;
 
-/// Adds an event to a history that has room for it.
-pub fn push_event(history: &mut Vec<Event>, event: Event)
-    requires { vec_len history.old < vec_capacity history.old }
-    ensures items { history.new.items ≡ history.old.items ++ event ∷ [] }
-    ensures capacity { vec_capacity history.old ≤ vec_capacity history.new }
-{
-    match history.push(event) {
-        Ok(()) => {}
-        Err(_) => unreachable!(),
-    }
-}
-
 /// What stands at a place, if anything.
 pub fn worker_entry(list: &[Option<u32>], at: u32) -> Option<u32>
     ensures { result ≡ entry list.now at }

@@ -166,7 +166,7 @@ fn make_finish(core: &mut Core<MixKernel>, worker: u32, segment: u32) -> Result<
         (Event.Finish worker segment)) }
     ensures same { OnErr result (core.new ≡ core.old) }
 {
-    match core.task_of(worker, segment) {
+    match core.cost_and_input(worker, segment) {
         None => Err(StepFault::Refused(ReplayRefusal::NotRunning)),
         Some((cost, input)) => {
             match finish_computed(core, &MixKernel, worker, segment, cost, input) {

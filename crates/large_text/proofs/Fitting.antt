@@ -14,7 +14,7 @@ use Rattle.task_program.specs.TreeSoFar.Block.{TaskBlock, GroupBlock}
 use Rattle.task_segments.specs.Moments.{begins_task, opens, open_groups, moment_after, last_moment}
 use Rattle.task_segments.specs.Moments.{IsProper}
 use Rattle.task_segments.proofs.Grouping.{IsGrouped, Closes}
-use Rattle.task_segments.proofs.Programs.{last_of_nested, moment_after-append, count_read}
+use Rattle.task_segments.proofs.LastMoment.{last_of_nested, moment_after-append, count_read}
 use Rattle.task_segments.proofs.Walks.{grows}
 use Rattle.online_span.specs.declared.meter.Meter.{Meter}
 use Rattle.online_span.specs.Measuring.{Measures, Fits, CanTake, groups_ended}

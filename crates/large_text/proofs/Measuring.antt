@@ -9,7 +9,7 @@ use Rattle.program_text.specs.Marks.Mark.{Begins}
 use Rattle.program_text.specs.ScannerSeen.{tokens_left, end_line}
 use Rattle.program_text.specs.Tokens.{Token, texts, tokens_from, line_at_end}
 use Rattle.task_segments.specs.Moments.{last_moment}
-use Rattle.task_segments.proofs.Programs.{moment_after-append}
+use Rattle.task_segments.proofs.LastMoment.{moment_after-append}
 use Rattle.online_span.specs.declared.meter.Meter.{Meter}
 use Rattle.online_span.specs.Measuring.{Measures}
 use Rattle.large_text.specs.declared.marks.TextMark.{TextMark}

@@ -14,10 +14,10 @@ use Rattle.open_segments.specs.declared.counters.Counters.{Counters}
 use Rattle.open_segments.specs.Counters.{unfinished_count, AreCounts, AreKept, AreKeptOf}
 use Rattle.open_segments.specs.Counters.{AreSiblings, AreSuccessors, HasValue, IsOpenBy}
 use Rattle.depend_table.specs.Siblings.{Sibling}
-use Rattle.depend_table.specs.Kept.{IsKeptEdge}
+use Rattle.depend_table.specs.KeptEdges.{IsKeptEdge}
 use Rattle.open_segments.proofs.ListLemmas.{Lists-none}
 use Rattle.open_segments.proofs.SiblingSteps.{siblings_first}
-use Rattle.open_segments.specs.NumberLists.{items_of}
+use Rattle.open_segments.specs.NumberLists.{lists_of}
 use Rattle.open_segments.specs.UpToDate.{IsUpToDate}
 use Rattle.open_segments.proofs.PlaceLemmas.{get-replicate}
 
@@ -87,8 +87,8 @@ successors_first values n = grind (arith, get-replicate)
 
 pub up_to_date_first : (table : Table) (counters : Counters)
     → IsSoundTable table
-    → items_of counters.preds.items ≡ replicate (length table.segments) []
-    → items_of counters.successors.items ≡ replicate (length table.segments) []
+    → lists_of counters.preds.items ≡ replicate (length table.segments) []
+    → lists_of counters.successors.items ≡ replicate (length table.segments) []
     → counters.counts.items ≡ replicate (length table.segments) 0
     → counters.siblings.items ≡ replicate (length table.tasks) []
     → IsUpToDate table (replicate (length table.segments) None) counters
@@ -102,7 +102,7 @@ up_to_date_first table counters sound preds successors counts siblings =
           (subst (λ (k : List ℕ). AreCounts values (replicate count []) k) (sym counts)
           (counts_first values count));
       successors = subst
-          (λ (p : List (List ℕ)). AreSuccessors values p (items_of counters.successors.items))
+          (λ (p : List (List ℕ)). AreSuccessors values p (lists_of counters.successors.items))
           (sym preds)
           (subst (λ (l : List (List ℕ)). AreSuccessors values (replicate count []) l)
           (sym successors)

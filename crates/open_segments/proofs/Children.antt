@@ -4,7 +4,7 @@ use Rattle.std.specs.Prelude.{All, if◌then◌else◌}
 use Rattle.std.proofs.lemmas.List.Elements.{All-nil, All-cons, All-weaker}
 use Rattle.task_segments.specs.Table.{Table, Task, task}
 use Rattle.depend_table.specs.Siblings.{Sibling}
-use Rattle.depend_table.specs.Kept.{children_below, is_some_of}
+use Rattle.depend_table.specs.KeptEdges.{children_below, is_some_of}
 
 with_or_without : (b : Bool) (row : Task) (u : ℕ) (older : List Sibling)
     → All (λ (s : Sibling). s.task < u) older

@@ -13,7 +13,7 @@ use Rattle.task_segments.specs.declared.table.Closing.TheVariants.{EndsTask}
 use Rattle.task_segments.specs.Precedence.{IsSegment, IsTask, Continues, Creation, Resumption}
 use Rattle.depend_table.specs.Siblings.{Sibling, IsAmong, IsKept}
 use Rattle.depend_table.specs.Siblings.IsAmong.{Newest, Below}
-use Rattle.depend_table.specs.Kept.{children_below, is_some_of, KeptDependence, IsKeptEdge}
+use Rattle.depend_table.specs.KeptEdges.{children_below, is_some_of, KeptDependence, IsKeptEdge}
 use Rattle.depend_table.specs.Lists.{Lists}
 use Rattle.depend_table.proofs.Children.{some_of}
 use Rattle.depend_table.proofs.Lists.{lists_push}
@@ -139,7 +139,7 @@ pub join_before : (table : Table) (p b t : ℕ) → IsReadInPlace table → Cont
     → Joins table p t → p < b
 join_before table p b t facts follows (inl waits) =
     let wait = waits.wait in
-    let less = facts.waited wait.child wait.before t wait.generated wait.opens wait.waits in
+    let less = facts.waited wait.child wait.before t wait.created wait.opens wait.waits in
     omega (arith, less, wait.last, facts.follows_one wait.before b t wait.opens follows)
 join_before table p b t facts follows (inr group) =
     let ends = facts.group group.inside t group.is_inside group.innermost in

@@ -7,7 +7,7 @@ use Rattle.task_segments.specs.Table.{Table, segment, task}
 use Rattle.task_segments.specs.InPlace.{IsOf, IsReadInPlace}
 use Rattle.task_segments.specs.declared.table.Closing.TheVariants.{Creates, Waits}
 use Rattle.task_segments.specs.Precedence.{Continues, IsEarlierChild, IsSegment}
-use Rattle.depend_table.specs.Kept.{IsKeptEdge, KeptGroupEnd, KeptWait}
+use Rattle.depend_table.specs.KeptEdges.{IsKeptEdge, KeptGroupEnd, KeptWait}
 use Rattle.depend_table.specs.Lists.{Lists}
 use Rattle.open_segments.specs.WaysToOpen.{Joins}
 use Rattle.open_segments.proofs.ListLemmas.{Below, Lists-all, Lists-further, Lists-none}
@@ -68,8 +68,8 @@ joins_between table before next s later p facts follows waits of_task on joins a
     elim joins [
       | inr group ↦ absurd (wait_no_group table before next p facts follows waits group)
       | inl kept ↦
-          let generated = kept.wait.generated in
-          let creator : ℕ = generated.creator in
+          let created = kept.wait.created in
+          let creator : ℕ = created.creator in
           let child : ℕ = kept.wait.child in
           let last = kept.wait.last in
           let made = creator_precedes table before next p facts follows kept in
@@ -78,8 +78,8 @@ joins_between table before next s later p facts follows waits of_task on joins a
             | inl under ↦
                 let ended =
                 facts.children child (segment table before).task creator s
-                (generated.parent ∙ ap (λ (n : ℕ). Some n) follows.same_task)
-                generated.is_creator of_task under in
+                (created.parent ∙ ap (λ (n : ℕ). Some n) follows.same_task)
+                created.is_creator of_task under in
                 absurd (omega (arith, ended, last, above))
             | inr upto ↦ elim (cases_lt s creator) [
               | inl after ↦
@@ -95,8 +95,8 @@ joins_between table before next s later p facts follows waits of_task on joins a
                   let same : creator ≡ s = omega (arith, upto, down) in
                   record {
                     child = child;
-                    creates = (facts.created s child generated.is_child
-                        (generated.is_creator ∙ ap (λ (n : ℕ). Some n) same)).1;
+                    creates = (facts.created s child created.is_child
+                        (created.is_creator ∙ ap (λ (n : ℕ). Some n) same)).1;
                     last = last;
                   }
             ]
@@ -161,7 +161,7 @@ walk_on table before next s later list all facts follows on less walked lists =
       };
       up_to = facts.nearest s later before on
           (record { is_segment = follows.is_from; of_task = sym walked.of_task.of_task }) less;
-      waited = λ c generated above. walked.waited c generated (omega (arith, above, further));
+      waited = λ c created above. walked.waited c created (omega (arith, above, further));
       lists = lists;
     }
 

@@ -12,11 +12,11 @@ use Rattle.task_segments.specs.Precedence.{IsSegment}
 use Rattle.task_segments.specs.InPlace.{IsReadInPlace}
 use Rattle.depend_table.specs.Siblings.{Sibling}
 use Rattle.depend_table.specs.Lists.{Lists}
-use Rattle.depend_table.specs.Kept.{IsKeptEdge, children_below}
+use Rattle.depend_table.specs.KeptEdges.{IsKeptEdge, children_below}
 use Rattle.open_segments.specs.Entry.{entry}
 use Rattle.open_segments.specs.Facts.{IsSoundTable}
 use Rattle.open_segments.specs.Counters.{HasValue}
-use Rattle.open_segments.specs.NumberLists.{items_of}
+use Rattle.open_segments.specs.NumberLists.{lists_of}
 use Rattle.open_segments.specs.KeptLists.{AreEntered, AreFirstLists}
 use Rattle.open_segments.proofs.AtFirst.{entry-replicate}
 use Rattle.open_segments.proofs.ListLemmas.{Lists-none}
@@ -150,11 +150,11 @@ pub first_pushed : (table : Table) (lists after : List (Vec ℕ Global)) (row : 
     → lists ≡ []
     → row.items ≡ []
     → after ≡ lists ++ row ∷ []
-    → AreFirstLists table 1 (items_of after)
+    → AreFirstLists table 1 (lists_of after)
 first_pushed table lists after row sound none empty is =
     subst (λ (l : List (List ℕ)). AreFirstLists table 1 l)
-    (sym (ap (λ (l : List (Vec ℕ Global)). items_of l) is
-    ∙ ap (λ (l : List (Vec ℕ Global)). items_of (l ++ row ∷ [])) none
+    (sym (ap (λ (l : List (Vec ℕ Global)). lists_of l) is
+    ∙ ap (λ (l : List (Vec ℕ Global)). lists_of (l ++ row ∷ [])) none
     ∙ ap (λ (l : List ℕ). l ∷ []) empty))
     (first_list table sound)
 
@@ -184,11 +184,11 @@ one_list_more table n lists list before next =
 
 pub list_pushed : (table : Table) (n : ℕ) (lists after : List (Vec ℕ Global)) (row : Vec ℕ Global)
     → after ≡ lists ++ row ∷ []
-    → AreFirstLists table n (items_of lists)
+    → AreFirstLists table n (lists_of lists)
     → Lists (λ s. IsKeptEdge table s n) row.items
-    → AreFirstLists table (n + 1) (items_of after)
+    → AreFirstLists table (n + 1) (lists_of after)
 list_pushed table n lists after row is before next =
     subst (λ (l : List (List ℕ)). AreFirstLists table (n + 1) l)
-    (sym (ap (λ (l : List (Vec ℕ Global)). items_of l) is
+    (sym (ap (λ (l : List (Vec ℕ Global)). lists_of l) is
     ∙ map-append (λ (v : Vec ℕ Global). v.items) lists (row ∷ [])))
-    (one_list_more table n (items_of lists) row.items before next)
+    (one_list_more table n (lists_of lists) row.items before next)

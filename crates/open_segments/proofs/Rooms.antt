@@ -9,7 +9,7 @@ use Rattle.std.proofs.lemmas.Bool.{cases_eq, both_ways}
 use Rattle.std.proofs.lemmas.Option.{same_Some, none-some, slice_get-get_or}
 use Rattle.std.proofs.lemmas.List.{map-set, length_push}
 use Rattle.open_segments.specs.Entry.{entry}
-use Rattle.open_segments.specs.NumberLists.{items_of}
+use Rattle.open_segments.specs.NumberLists.{lists_of}
 use Rattle.open_segments.specs.Rooms.{HasRoom, IsRoomier, IsFuller}
 use Rattle.open_segments.proofs.PlaceLemmas.{get-set_same, get-set_other}
 use Rattle.open_segments.proofs.Falls.{next_cases, next_has, still_has, fresh_next}
@@ -90,8 +90,8 @@ pub roomier_at : (lists : List (Vec ℕ Global)) (place : ℕ) (row after : Vec 
     → IsRoomier lists (slice_set lists place after)
 roomier_at lists place row after within is items more = record {
   same = map-set (λ (v : Vec ℕ Global). v.items) lists place after
-      ∙ ap (λ (l : List ℕ). slice_set (items_of lists) place l) items
-      ∙ set_there (items_of lists) place row.items (items_at lists place row within is);
+      ∙ ap (λ (l : List ℕ). slice_set (lists_of lists) place l) items
+      ∙ set_there (lists_of lists) place row.items (items_at lists place row within is);
   still = λ count other room. elim (cases_eq other place) [
     | inl same ↦
         let enough = room_of lists count place row within is

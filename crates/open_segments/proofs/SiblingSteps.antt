@@ -14,10 +14,10 @@ use Rattle.task_segments.specs.InPlace.{IsReadInPlace, IsOf}
 use Rattle.program_text.specs.declared.statement.Item.{Item}
 use Rattle.depend_table.specs.Siblings.{Sibling, IsKept}
 use Rattle.depend_table.specs.Lists.{Lists}
-use Rattle.depend_table.specs.Kept.{children_below, is_some_of}
+use Rattle.depend_table.specs.KeptEdges.{children_below, is_some_of}
 use Rattle.open_segments.specs.Entry.{entry}
 use Rattle.open_segments.specs.WaysToOpen.{AreKeptSiblings}
-use Rattle.open_segments.specs.Counters.{HasValue, AreGenerated, AreSiblingsOf, AreSiblings}
+use Rattle.open_segments.specs.Counters.{HasValue, AreCreated, AreSiblingsOf, AreSiblings}
 use Rattle.open_segments.proofs.PlaceLemmas.{get-set_same, get-set_other, get-replicate}
 use Rattle.open_segments.proofs.Children.{children_more}
 use Rattle.open_segments.proofs.Edges.{creates_one}
@@ -127,7 +127,7 @@ siblings_first table count values is none = record {
   lists = λ p list there. record {
     below = 0;
     are = sym (get-replicate count [] list p there);
-    generated = record {
+    created = record {
       begun = λ child s of_p by below. absurd (omega (arith, below));
       finished = λ child s of_p by has. absurd (none s has);
     };
@@ -135,12 +135,12 @@ siblings_first table count values is none = record {
 }
 
 -- of the children of a task of which none is created by s
-generated_still : (table : Table) (values : List (Option ℕ)) (s v p n : ℕ)
+created_still : (table : Table) (values : List (Option ℕ)) (s v p n : ℕ)
     → s < length values
     → ((child : ℕ) → (task table child).parent ≡ Some p → ¬ ((task table child).creator ≡ Some s))
-    → AreGenerated table values p n
-    → AreGenerated table (slice_set values s (Some v)) p n
-generated_still table values s v p n within none so_far = record {
+    → AreCreated table values p n
+    → AreCreated table (slice_set values s (Some v)) p n
+created_still table values s v p n within none so_far = record {
   begun = λ child t of_p by below.
       has_more values s v t within (so_far.begun child t of_p by below);
   finished = λ child t of_p by has. elim (had_value values s v t has) [
@@ -158,7 +158,7 @@ siblings_of_still table values s v p list within none so_far =
     record {
       below = so_far.below;
       are = so_far.are;
-      generated = generated_still table values s v p so_far.below within none so_far.generated;
+      created = created_still table values s v p so_far.below within none so_far.created;
     }
 
 -- where s creates no task
@@ -227,7 +227,7 @@ sibling_before table values s c p d t next of_p by less =
 
 no_later : (table : Table) (values : List (Option ℕ)) (s c p n : ℕ)
     → IsNextChild table values s c p
-    → AreGenerated table values p n
+    → AreCreated table values p n
     → n ≤ c
 no_later table values s c p n next so_far = elim (cases_lt c n) [
   | inl below ↦
@@ -242,9 +242,9 @@ same_so_far : (table : Table) (values : List (Option ℕ)) (s c p : ℕ) (list :
 same_so_far table values s c p list next so_far =
     so_far.are
     ∙ sym (children_same table p so_far.below c
-    (no_later table values s c p so_far.below next so_far.generated) (λ d from below of_p.
+    (no_later table values s c p so_far.below next so_far.created) (λ d from below of_p.
     let by = next.facts.has_creator d p (next.facts.with_parent d p of_p) of_p in
-    let less = so_far.generated.finished d by.0 of_p by.1
+    let less = so_far.created.finished d by.0 of_p by.1
     (sibling_before table values s c p d by.0 next of_p by.1 below) in
     omega (arith, from, less)))
 
@@ -266,11 +266,11 @@ siblings_so_far table values s c p siblings next so_far =
     ∙ ap (λ (l : List Sibling). Some l) (same_so_far table values s c p (get_or siblings p []) next
     (so_far.lists p (get_or siblings p []) there))
 
-generated_more : (table : Table) (values : List (Option ℕ)) (s v c p n : ℕ)
+created_more : (table : Table) (values : List (Option ℕ)) (s v c p n : ℕ)
     → IsNextChild table values s c p
-    → AreGenerated table values p n
-    → AreGenerated table (slice_set values s (Some v)) p (c + 1)
-generated_more table values s v c p n next so_far = record {
+    → AreCreated table values p n
+    → AreCreated table (slice_set values s (Some v)) p (c + 1)
+created_more table values s v c p n next so_far = record {
   begun = λ d t of_p by below. elim (cases_eq d c) [
     | inl same ↦
         let creators : s ≡ t =
@@ -312,7 +312,7 @@ siblings_more table values s v c p siblings next so_far = record {
         (record {
           below = c + 1;
           are = sym lists ∙ sym (one_more table p c next.of_p);
-          generated = generated_more table values s v c p was.below next was.generated;
+          created = created_more table values s v c p was.below next was.created;
         })
     | inr apart ↦
         siblings_of_still table values s v q list next.within

@@ -13,7 +13,7 @@ use Rattle.task_segments.specs.Precedence.{Encloses, GroupEnd, MustPrecede}
 use Rattle.task_segments.specs.Precedence.Descends.{Itself, Below}
 use Rattle.task_segments.proofs.Order.{ancestor_lower, descendant_last, goes_up, not_root}
 use Rattle.task_segments.proofs.Order.{siblings_apart}
-use Rattle.depend_table.specs.Kept.{KeptWait, KeptGroupEnd}
+use Rattle.depend_table.specs.KeptEdges.{KeptWait, KeptGroupEnd}
 use Rattle.depend_table.proofs.Groups.{innermost_encloses}
 use Rattle.open_segments.specs.WaysToOpen.{Joins}
 use Rattle.open_segments.proofs.Edges.{waits_not_creates}
@@ -52,15 +52,15 @@ pub waited_since : (table : Table) (from before next child : ℕ)
     → IsEarlierChild table child next
     → from ≤ (task table child).last
     → KeptWait table (task table child).last next
-waited_since table from before next child facts follows waits since generated above =
+waited_since table from before next child facts follows waits since created above =
     let its_task : ℕ = (segment table next).task in
-    let creator : ℕ = generated.creator in
+    let creator : ℕ = created.creator in
     let same : its_task ≡ (segment table before).task = follows.same_task in
     let of_task : IsOf table its_task from =
     record { is_segment = since.of_task.is_segment; of_task = since.of_task.of_task ∙ sym same } in
     let upto : from ≤ creator = elim (cases_lt creator from) [
       | inl below ↦ (let less =
-          facts.children child its_task creator from generated.parent generated.is_creator of_task
+          facts.children child its_task creator from created.parent created.is_creator of_task
           below in
           absurd (omega (arith, less, above)))
       | inr upto ↦ upto
@@ -71,7 +71,7 @@ waited_since table from before next child facts follows waits since generated ab
         waits = waits;
         opens = follows;
         child = child;
-        generated = generated;
+        created = created;
         last = refl;
       };
       none_between = λ w is_segment of_task is_wait after. since.none w
@@ -88,9 +88,9 @@ pub creator_precedes : (table : Table) (before next p : ℕ)
     → IsReadInPlace table
     → Continues table before next
     → (kept : KeptWait table p next)
-    → Created table before p kept.wait.generated.creator
+    → Created table before p kept.wait.created.creator
 creator_precedes table before next p facts follows kept =
-    let made = kept.wait.generated in
+    let made = kept.wait.created in
     let by =
     facts.creator_of kept.wait.child (segment table next).task made.creator made.is_child
     made.parent made.is_creator in
@@ -126,7 +126,7 @@ since_first table from before next p facts follows of_task none kept =
                 ∙ of_task.of_task in
                 let at_first : (task table its_task).first ≡ from =
                 ap (λ (n : ℕ). (task table n).first) (sym same) ∙ creation.first in
-                let low = facts.from_first its_task kept.wait.generated.creator made.of_task in
+                let low = facts.from_first its_task kept.wait.created.creator made.of_task in
                 omega (arith, low, at_first, earlier)
           ]
     ]
@@ -138,7 +138,7 @@ pub since_wait : (table : Table) (earlier from before next p : ℕ) → IsReadIn
 since_wait table earlier from before next p facts follows since previous waits kept =
     let its_task : ℕ = (segment table before).task in
     let wait = kept.wait in
-    let creator : ℕ = wait.generated.creator in
+    let creator : ℕ = wait.created.creator in
     let made = creator_precedes table before next p facts follows kept in
     let of_task : (segment table earlier).task ≡ its_task =
     task_before table its_task earlier from previous since.of_task in
@@ -160,8 +160,8 @@ since_wait table earlier from before next p facts follows since previous waits k
         | inr upto ↦ elim (cases_eq creator earlier) [
           | inl same ↦
               let creates =
-              (facts.created creator wait.child wait.generated.is_child
-              wait.generated.is_creator).1 in
+              (facts.created creator wait.child wait.created.is_child
+              wait.created.is_creator).1 in
               absurd (waits_not_creates (segment table creator).closing wait.child
               (ap (λ (n : ℕ). (segment table n).closing) same ∙ waits) creates)
           | inr apart ↦
@@ -293,15 +293,15 @@ holds_on table before next w v facts nested grouped later follows is_w inside up
     let its_task : ℕ = (segment table next).task in
     let held = innermost_encloses (suc w) table nested grouped w next (omega arith) is_w inside in
     let child : ℕ = held.child in
-    let generated = held.encloses.generated in
+    let created = held.encloses.created in
     let low = ancestor_lower table nested w child held.descends in
-    let by = facts.creator_of child its_task generated.creator generated.is_child generated.parent
-    generated.is_creator in
+    let by = facts.creator_of child its_task created.creator created.is_child created.parent
+    created.is_creator in
     let under =
-    facts.below_root child (not_root table nested child its_task generated.parent)
-    generated.is_child in
+    facts.below_root child (not_root table nested child its_task created.parent)
+    created.is_child in
     let same_parent : under.parent ≡ its_task =
-    same_Some under.parent its_task (sym under.is_parent ∙ generated.parent) in
+    same_Some under.parent its_task (sym under.is_parent ∙ created.parent) in
     let lower = under.lower in
     let last = facts.to_last its_task before
     (record { is_segment = follows.is_from; of_task = sym follows.same_task }) in
@@ -332,11 +332,11 @@ holds_on table before next w v facts nested grouped later follows is_w inside up
         | inl same ↦ subst (λ (n : ℕ). Encloses table next n) (sym same) held.encloses
         | inr apart ↦
             let before_child =
-            siblings_apart table nested other child its_task generated.creator
-            (omega (arith, apart, upto)) generated.is_child of_branch.parent generated.parent
-            generated.is_creator in
+            siblings_apart table nested other child its_task created.creator
+            (omega (arith, apart, upto)) created.is_child of_branch.parent created.parent
+            created.is_creator in
             let first =
-            facts.first_created child generated.creator generated.is_child generated.is_creator in
+            facts.first_created child created.creator created.is_child created.is_creator in
             let early = first_up_to table child v facts (omega (arith, low, up)) is_v in
             let inner =
             descendant_last table nested v other of_branch.is_child of_branch.descends in

@@ -18,7 +18,7 @@ use Rattle.std.proofs.lemmas.Map.Keys.{IsDistinct-from_apart}
 use Rattle.task_segments.specs.Table.{Table}
 use Rattle.task_segments.specs.Precedence.{IsSegment, Continues, Creation}
 use Rattle.task_segments.specs.InPlace.{IsReadInPlace}
-use Rattle.depend_table.specs.Kept.{IsKeptEdge}
+use Rattle.depend_table.specs.KeptEdges.{IsKeptEdge}
 use Rattle.depend_table.specs.Lists.{Lists}
 use Rattle.open_segments.specs.declared.opening.Opening.{Opening}
 use Rattle.depend_table.specs.Siblings.{Sibling}
@@ -29,7 +29,7 @@ use Rattle.open_segments.specs.Facts.{IsSoundTable}
 use Rattle.open_segments.specs.Counters.{unfinished_count, AreLowered, IsCounted, IsOpenBy, AreKept}
 use Rattle.open_segments.specs.Counters.{AreCounts, AreSuccessors, AreSiblings}
 use Rattle.open_segments.specs.UpToDate.{IsUpToDate}
-use Rattle.open_segments.specs.NumberLists.{items_of, IsListed}
+use Rattle.open_segments.specs.NumberLists.{lists_of, IsListed}
 use Rattle.open_segments.specs.Rooms.{HasRoom, IsRoomier}
 use Rattle.open_segments.specs.Openings.{AreMade, IsOpening, IsRoomFor, IsRoomToOpen, IsOpened}
 use Rattle.open_segments.specs.Openings.{AreReady}
@@ -44,8 +44,8 @@ use Rattle.open_segments.proofs.Ascending.{length_below}
 -- what is recorded at a stage
 abbrev pub AtStage : Table → (ℕ → Type 0) → List (Option ℕ) → ℕ → Counters → Vec ℕ Global → Type 0
 AtStage table is_open values s counters ready =
-    IsStage table is_open values s (items_of counters.preds.items)
-    (items_of counters.successors.items) counters.counts.items ready.items
+    IsStage table is_open values s (lists_of counters.preds.items)
+    (lists_of counters.successors.items) counters.counts.items ready.items
 
 pub stage_then : (table : Table) (is_open R : ℕ → Type 0) (values : List (Option ℕ)) (s : ℕ)
     (opening : Option Opening) (before after : Counters) (ready later : Vec ℕ Global)
@@ -60,8 +60,8 @@ pub stage_then : (table : Table) (is_open R : ℕ → Type 0) (values : List (Op
 stage_then table is_open R values s None before after ready later stage none same_counters
     same_ready known closed edge =
     let Later : ℕ → Type 0 = λ t. is_open t ⊎ R t in
-    let still = stage_like table is_open Later values s (items_of before.preds.items)
-    (items_of before.successors.items) before.counts.items ready.items
+    let still = stage_like table is_open Later values s (lists_of before.preds.items)
+    (lists_of before.successors.items) before.counts.items ready.items
     (λ t h. inl h) (λ t h. elim h [ inl was ↦ was | inr r ↦ absurd (none t r) ]) stage in
     subst (λ (c : Counters). AtStage table Later values s c later) (sym same_counters)
     (subst (λ (r : Vec ℕ Global). AtStage table Later values s before r) (sym same_ready) still)
@@ -70,29 +70,29 @@ stage_then table is_open R values s (Some opening) before after ready later stag
     let now_open : ℕ = opening.segment in
     let list : List ℕ = opening.preds.items in
     let Later : ℕ → Type 0 = λ u. is_open u ⊎ R u in
-    let preds : List (List ℕ) = items_of before.preds.items in
+    let preds : List (List ℕ) = lists_of before.preds.items in
     let is_segment = known now_open opens.does in
     let each = stage.kept.each in
     let within : now_open < length preds = omega (arith, is_segment, each) in
     let has : Contains list s = (opens.kept.each s).1 (edge now_open opens.does) in
     let opened = stage_opened table is_open values s now_open preds
-    (items_of before.successors.items)
-    (items_of after.successors.items) before.counts.items ready.items later.items list
+    (lists_of before.successors.items)
+    (lists_of after.successors.items) before.counts.items ready.items later.items list
     stage within (closed now_open opens.does) opens.kept has adds.successors lists.free
     lists.counted in
     let like = stage_like table (λ u. is_open u ⊎ (u ≡ now_open)) Later values s
     (slice_set preds now_open list)
-    (items_of after.successors.items)
+    (lists_of after.successors.items)
     (slice_set before.counts.items now_open (unfinished_count values list)) later.items
     (λ u h. elim h [ inl was ↦ inl was | inr same ↦ inr (subst R (sym same) opens.does) ])
     (λ u h. elim h [ inl was ↦ inl was | inr r ↦ inr (opens.alone u r) ]) opened in
     subst
     (λ (p : List (List ℕ)).
-    IsStage table Later values s p (items_of after.successors.items) after.counts.items later.items)
+    IsStage table Later values s p (lists_of after.successors.items) after.counts.items later.items)
     (sym adds.preds)
     (subst
     (λ (n : List ℕ). IsStage table Later values s (slice_set preds now_open list)
-    (items_of after.successors.items) n later.items)
+    (lists_of after.successors.items) n later.items)
     (sym adds.counts) like)
 
 -- what a segment without a value opens is not open
@@ -263,19 +263,19 @@ pub successors_at : (table : Table) (values : List (Option ℕ)) (counters : Cou
     → IsUpToDate table values counters
     → IsSegment table s
     → row ≡ get_or counters.successors.items s row
-    → slice_get (items_of counters.successors.items) s ≡ Some row.items
+    → slice_get (lists_of counters.successors.items) s ≡ Some row.items
 successors_at table values counters s row state known is = grind (arith, items_at, length-items)
 
 pub successor_counted : (table : Table) (values : List (Option ℕ)) (counters : Counters) (s t : ℕ)
     (list : List ℕ)
     → IsUpToDate table values counters
     → entry values s ≡ None
-    → slice_get (items_of counters.successors.items) s ≡ Some list
+    → slice_get (lists_of counters.successors.items) s ≡ Some list
     → Contains list t
     → t < length counters.counts.items
 successor_counted table values counters s t list state none there has =
     let listed = (state.successors.listed s list there none t).0 has in
-    let less = slice_get_within (items_of counters.preds.items) t listed.list listed.is_list in
+    let less = slice_get_within (lists_of counters.preds.items) t listed.list listed.is_list in
     let each = state.counts.each in
     omega (arith, less, each)
 
@@ -306,16 +306,16 @@ room_from values s lists (Some one) room opened is p has apart none =
 -- what is recorded but for the siblings
 pub record AreRecorded (table : Table) (values : List (Option ℕ)) (counters : Counters) : Type
     0 where
-  pub kept : AreKept table (IsOpenBy table values) (items_of counters.preds.items)
-  pub counts : AreCounts values (items_of counters.preds.items) counters.counts.items
-  pub successors : AreSuccessors values (items_of counters.preds.items)
-      (items_of counters.successors.items)
+  pub kept : AreKept table (IsOpenBy table values) (lists_of counters.preds.items)
+  pub counts : AreCounts values (lists_of counters.preds.items) counters.counts.items
+  pub successors : AreSuccessors values (lists_of counters.preds.items)
+      (lists_of counters.successors.items)
 
 pub recorded_still : (table : Table) (values : List (Option ℕ)) (before after : Counters)
     → IsUpToDate table values before
     → after.preds ≡ before.preds
     → after.counts ≡ before.counts
-    → items_of after.successors.items ≡ items_of before.successors.items
+    → lists_of after.successors.items ≡ lists_of before.successors.items
     → AreRecorded table values after
 recorded_still table values before after state preds counts successors = grind arith
 
@@ -323,10 +323,10 @@ recorded_still table values before after state preds counts successors = grind a
 pub record HasSuccessors (values : List (Option ℕ)) (counters : Counters) (s : ℕ) : Type 0 where
   pub within : s < length counters.successors.items
   pub once : (list : List ℕ)
-      → slice_get (items_of counters.successors.items) s ≡ Some list
+      → slice_get (lists_of counters.successors.items) s ≡ Some list
       → AllPairs (λ x y. x ≢ y) list
   pub counted : (list : List ℕ) (t : ℕ)
-      → slice_get (items_of counters.successors.items) s ≡ Some list
+      → slice_get (lists_of counters.successors.items) s ≡ Some list
       → Contains list t
       → IsCounted counters.counts.items t
 
@@ -343,8 +343,8 @@ has_successors table values counters s state known within none =
       within = omega (arith, each, segments, known, length-items counters.successors.items);
       once = λ list there. state.successors.once s list there none;
       counted = λ list t there has.
-          counted_above values (items_of counters.preds.items) counters.counts.items s t within none
-          (once_in table (IsOpenBy table values) (items_of counters.preds.items) state.kept)
+          counted_above values (lists_of counters.preds.items) counters.counts.items s t within none
+          (once_in table (IsOpenBy table values) (lists_of counters.preds.items) state.kept)
           state.counts
           ((state.successors.listed s list there none t).0 has);
     }
@@ -355,17 +355,17 @@ pub stage_begun : (table : Table) (values : List (Option ℕ)) (s v : ℕ) (befo
     → s < length values
     → entry values s ≡ None
     → AreRecorded table values before
-    → ((list : List ℕ) → slice_get (items_of before.successors.items) s ≡ Some list
+    → ((list : List ℕ) → slice_get (lists_of before.successors.items) s ≡ Some list
     → AreLowered before.counts.items (Contains list) after.counts.items)
     → after ≡ record before { counts = after.counts }
     → ((t : ℕ)
     → Contains ready t
-    ↔ (IsListed (items_of before.preds.items) t s × (slice_get before.counts.items t ≡ Some 1)))
+    ↔ (IsListed (lists_of before.preds.items) t s × (slice_get before.counts.items t ≡ Some 1)))
     → AllPairs (λ x y. x ≢ y) ready
     → IsStage table (IsOpenBy table values) (slice_set values s (Some v)) s
-    (items_of after.preds.items) (items_of after.successors.items) after.counts.items ready
+    (lists_of after.preds.items) (lists_of after.successors.items) after.counts.items ready
 stage_begun table values s v before after ready known within none state lowered same each once =
-    let successors : List (List ℕ) = items_of before.successors.items in
+    let successors : List (List ℕ) = lists_of before.successors.items in
     let succ_each = state.successors.each in
     let segments = state.kept.each in
     let list : List ℕ = get_or successors s [] in
@@ -373,9 +373,9 @@ stage_begun table values s v before after ready known within none state lowered 
     slice_get-get_or successors s [] (omega (arith, succ_each, segments, known)) in
     subst
     (λ (c : Counters). IsStage table (IsOpenBy table values) (slice_set values s (Some v)) s
-    (items_of c.preds.items) (items_of c.successors.items) c.counts.items ready)
+    (lists_of c.preds.items) (lists_of c.successors.items) c.counts.items ready)
     (sym same)
-    (stage_lowered table (IsOpenBy table values) values s v (items_of before.preds.items) successors
+    (stage_lowered table (IsOpenBy table values) values s v (lists_of before.preds.items) successors
     before.counts.items after.counts.items ready list within none state.kept state.counts
     state.successors
     there (lowered list there) each once)
@@ -391,7 +391,7 @@ pub record IsFinishing (table : Table) (values : List (Option ℕ)) (s v : ℕ)
   pub state : AreRecorded table values before
   pub made : AreMade table values s before allocations
   pub lowers : (list : List ℕ)
-      → slice_get (items_of before.successors.items) s ≡ Some list
+      → slice_get (lists_of before.successors.items) s ≡ Some list
       → AreLowered before.counts.items (Contains list) lowered.counts.items
   pub same : lowered ≡ record before { counts = lowered.counts }
 
@@ -432,8 +432,8 @@ stage_first table values s v before lowered next first allocations later last he
     (λ t creation. creation_known table s t here.sound.in_place creation)
     (λ t creation. created_after table values s t here.sound.in_place here.none creation)
     (λ t creation. inr (inl creation)) in
-    stage_like table Then (IsOpenBy table values_now) values_now s (items_of first.preds.items)
-    (items_of first.successors.items) first.counts.items last.items
+    stage_like table Then (IsOpenBy table values_now) values_now s (lists_of first.preds.items)
+    (lists_of first.successors.items) first.counts.items last.items
     (λ t h. open_now table values s v t here.within h) (λ t h. open_then table values s v t h) end
 
 long_lowered : (table : Table) (values : List (Option ℕ)) (s v : ℕ) (before lowered : Counters)

@@ -9,7 +9,7 @@ use Rattle.std.specs.Option.{option_map}
 use Rattle.std.specs.Prelude.{Vec}
 use Rattle.std.specs.declared.alloc.Global.{Global}
 use Rattle.open_segments.specs.Entry.{entry}
-use Rattle.open_segments.specs.NumberLists.{items_of, ArePushed}
+use Rattle.open_segments.specs.NumberLists.{lists_of, ArePushed}
 use Rattle.open_segments.proofs.PlaceLemmas.{get-set_same, get-set_other}
 use Rattle.open_segments.proofs.Falls.{next_cases, next_has, still_has, fresh_next}
 
@@ -17,13 +17,13 @@ use Rattle.open_segments.proofs.Falls.{next_cases, next_has, still_has, fresh_ne
 pub items_at : (lists : List (Vec ℕ Global)) (k : ℕ) (row : Vec ℕ Global)
     → k < length lists
     → row ≡ get_or lists k row
-    → slice_get (items_of lists) k ≡ Some row.items
+    → slice_get (lists_of lists) k ≡ Some row.items
 items_at lists k row within is =
     slice_get-map (λ (v : Vec ℕ Global). v.items) lists k
     ∙ ap (λ (o : Option (Vec ℕ Global)). option_map (λ (v : Vec ℕ Global). v.items) o)
     (slice_get-get_or lists k row within ∙ ap (λ (v : Vec ℕ Global). Some v) (sym is))
 
-pub length-items : (lists : List (Vec ℕ Global)) → length (items_of lists) ≡ length lists
+pub length-items : (lists : List (Vec ℕ Global)) → length (lists_of lists) ≡ length lists
 length-items lists = length-map lists (λ (v : Vec ℕ Global). v.items)
 
 -- one more number in the list at a place
@@ -32,8 +32,8 @@ pub push_item : (lists : List (Vec ℕ Global)) (place number : ℕ) (here after
     → place < length lists
     → here ≡ get_or lists place here
     → after.items ≡ here.items ++ number ∷ []
-    → slice_get (items_of lists) place ≡ Some old
-    → items_of (slice_set lists place after) ≡ slice_set (items_of lists) place (old ++ number ∷ [])
+    → slice_get (lists_of lists) place ≡ Some old
+    → lists_of (slice_set lists place after) ≡ slice_set (lists_of lists) place (old ++ number ∷ [])
 push_item lists place number here after old within is pushed there = grind (arith, same_Some, items_at, map-set)
 
 -- the next of these places
@@ -84,5 +84,5 @@ pub pushed_at : (number place : ℕ) (values : List (Option ℕ)) (before after 
 pushed_at number place values before after old there is none = grind (arith, length-set, slice_get_within, same_Some, get-set_same, get-set_other)
 
 pub items_set : (lists : List (Vec ℕ Global)) (place : ℕ) (row : Vec ℕ Global)
-    → items_of (slice_set lists place row) ≡ slice_set (items_of lists) place row.items
+    → lists_of (slice_set lists place row) ≡ slice_set (lists_of lists) place row.items
 items_set lists place row = map-set (λ (v : Vec ℕ Global). v.items) lists place row

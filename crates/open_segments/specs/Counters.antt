@@ -6,7 +6,7 @@ use Rattle.task_segments.specs.Table.{Table, task}
 use Rattle.task_segments.specs.Precedence.{Continues, Creation, IsSegment, MustPrecede}
 use Rattle.task_segments.specs.Schedule.{IsJoined}
 use Rattle.depend_table.specs.Siblings.{Sibling}
-use Rattle.depend_table.specs.Kept.{IsKeptEdge, children_below}
+use Rattle.depend_table.specs.KeptEdges.{IsKeptEdge, children_below}
 use Rattle.depend_table.specs.Lists.{Lists}
 use Rattle.open_segments.specs.NumberLists.{IsListed}
 use Rattle.open_segments.specs.Entry.{entry}
@@ -74,7 +74,7 @@ pub record AreSuccessors (values : List (Option ℕ)) (preds successors : List (
 
 -- of the children of a task, those with a number below this one are created: their creators are
 -- finished
-pub record AreGenerated (table : Table) (values : List (Option ℕ)) (parent below : ℕ) : Type 0 where
+pub record AreCreated (table : Table) (values : List (Option ℕ)) (parent below : ℕ) : Type 0 where
   pub begun : (child s : ℕ)
       → (task table child).parent ≡ Some parent
       → (task table child).creator ≡ Some s
@@ -91,7 +91,7 @@ pub record AreSiblingsOf (table : Table) (values : List (Option ℕ)) (parent : 
     : Type 0 where
   pub below : ℕ
   pub are : list ≡ children_below table parent below
-  pub generated : AreGenerated table values parent below
+  pub created : AreCreated table values parent below
 
 -- for each task the children that it has created, with their items, the newest first
 pub record AreSiblings (table : Table) (values : List (Option ℕ)) (siblings : List (List Sibling))

@@ -2,7 +2,7 @@
 -- then.
 use Rattle.std.specs.Prelude.{ℕ, ◌<◌, ◌≡◌, List, [], Option, length, slice_index_or}
 use Rattle.task_segments.specs.Table.{Table}
-use Rattle.depend_table.specs.Kept.{IsKeptEdge}
+use Rattle.depend_table.specs.KeptEdges.{IsKeptEdge}
 use Rattle.depend_table.specs.Lists.{Lists}
 use Rattle.depend_table.specs.Siblings.{Sibling}
 use Rattle.open_segments.specs.Counters.{AreSiblings, HasValue}

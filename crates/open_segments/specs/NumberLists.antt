@@ -4,8 +4,8 @@ use Rattle.std.specs.Prelude.{Contains}
 use Rattle.std.specs.declared.alloc.Global.{Global}
 
 -- the numbers of each list
-abbrev pub items_of : List (Vec ℕ Global) → List (List ℕ)
-items_of lists = map (λ (v : Vec ℕ Global). v.items) lists
+abbrev pub lists_of : List (Vec ℕ Global) → List (List ℕ)
+lists_of lists = map (λ (v : Vec ℕ Global). v.items) lists
 
 -- the list at the place has the number
 pub record IsListed (lists : List (List ℕ)) (place number : ℕ) : Type 0 where

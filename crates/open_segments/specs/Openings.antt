@@ -6,14 +6,14 @@ use Rattle.std.specs.declared.alloc.Global.{Global}
 use Rattle.program_text.specs.declared.limits.TheConstants.{MOST_SEGMENTS}
 use Rattle.task_segments.specs.Table.{Table}
 use Rattle.task_segments.specs.Precedence.{Continues, Creation}
-use Rattle.depend_table.specs.Kept.{IsKeptEdge}
+use Rattle.depend_table.specs.KeptEdges.{IsKeptEdge}
 use Rattle.depend_table.specs.Lists.{Lists}
 use Rattle.open_segments.specs.declared.opening.Opening.{Opening}
 use Rattle.open_segments.specs.declared.counters.Counters.{Counters}
 use Rattle.open_segments.specs.declared.counters.Allocations.{Allocations}
 use Rattle.open_segments.specs.Counters.{AreSiblings, unfinished_count}
 use Rattle.open_segments.specs.Entry.{entry}
-use Rattle.open_segments.specs.NumberLists.{IsListed, ArePushed, items_of}
+use Rattle.open_segments.specs.NumberLists.{IsListed, ArePushed, lists_of}
 use Rattle.open_segments.specs.Rooms.{HasRoom}
 
 -- the one segment that opens so, with its kept predecessors
@@ -46,7 +46,7 @@ pub record AreMade (table : Table) (values : List (Option ℕ)) (s : ℕ) (count
       → AreSiblings table (slice_set values s (Some value)) counters.siblings.items
   pub ready : (t : ℕ)
       → Contains allocations.ready.items t
-      ↔ (IsListed (items_of counters.preds.items) t s
+      ↔ (IsListed (lists_of counters.preds.items) t s
       × (slice_get counters.counts.items t ≡ Some 1))
   pub once : AllPairs (λ x y. x ≢ y) allocations.ready.items
   pub ready_room : vec_len allocations.ready + 2 ≤ vec_capacity allocations.ready
@@ -72,13 +72,13 @@ IsRoomToOpen values counters (Some opening) ready = CanOpen values counters read
 -- a segment is opened
 pub record AddsOpen (values : List (Option ℕ)) (opening : Opening) (before after : Counters) : Type
     0 where
-  pub preds : items_of after.preds.items
-      ≡ slice_set (items_of before.preds.items) opening.segment opening.preds.items
+  pub preds : lists_of after.preds.items
+      ≡ slice_set (lists_of before.preds.items) opening.segment opening.preds.items
   pub counts : after.counts.items
       ≡ slice_set before.counts.items opening.segment (unfinished_count values opening.preds.items)
   pub successors : ArePushed opening.segment
       (λ p. Contains opening.preds.items p × (entry values p ≡ None))
-      (items_of before.successors.items) (items_of after.successors.items)
+      (lists_of before.successors.items) (lists_of after.successors.items)
   pub room : (count place : ℕ)
       → HasRoom before.successors.items (count + 1) place
       → HasRoom after.successors.items count place

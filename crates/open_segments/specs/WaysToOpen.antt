@@ -3,7 +3,7 @@ use Rattle.std.specs.Prelude.{ℕ, ◌≡◌, ◌⊎◌, Some, List}
 use Rattle.task_segments.specs.Table.{Table, task}
 use Rattle.task_segments.specs.Precedence.{IsTask}
 use Rattle.depend_table.specs.Siblings.{IsKept}
-use Rattle.depend_table.specs.Kept.{children_below, KeptWait, KeptGroupEnd}
+use Rattle.depend_table.specs.KeptEdges.{children_below, KeptWait, KeptGroupEnd}
 use Rattle.depend_table.specs.Lists.{Lists}
 
 -- the kept earlier siblings of a child of a task

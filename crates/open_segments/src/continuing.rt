@@ -18,7 +18,7 @@ ghost use Rattle.task_segments.specs.Table.{segment, task};
 ghost use Rattle.task_segments.specs.declared.table.Closing.TheVariants as closings;
 ghost use Rattle.task_segments.specs.InPlace.{IsOf};
 ghost use Rattle.task_segments.specs.Precedence.{Continues, IsEarlierChild, IsSegment, IsTask};
-ghost use Rattle.depend_table.specs.Kept.{IsKeptEdge, KeptGroupEnd, KeptWait};
+ghost use Rattle.depend_table.specs.KeptEdges.{IsKeptEdge, KeptGroupEnd, KeptWait};
 ghost use Rattle.depend_table.specs.Lists.{Lists};
 
 use crate::entries::push_if;

@@ -12,12 +12,12 @@ ghost use Rattle.depend_table.specs.Lists.{Lists};
 ghost use Rattle.open_segments.specs.Counters.{AreLowered, HasValue, IsCounted, unfinished_count};
 ghost use Rattle.open_segments.specs.Entry.{entry};
 ghost use Rattle.open_segments.specs.UpToDate.{IsUpToDate, IsFreed};
-ghost use Rattle.open_segments.specs.NumberLists.{items_of};
+ghost use Rattle.open_segments.specs.NumberLists.{lists_of};
 ghost use Rattle.open_segments.specs.Openings.{AreMade, IsOpened, IsRoomToOpen, AreReady};
 
 use crate::entries::{copies_of, push_if, value_entry};
 use crate::laws::serves_runs;
-use crate::number_lists::{no_lists, push_in_room, push_on};
+use crate::number_lists::{no_lists, push_on};
 use crate::opening::{Opening, first_opening, next_opening, no_siblings};
 use depend_table::table::SiblingTable;
 use std::alloc::Global;
@@ -63,7 +63,7 @@ impl Counters {
     /// The kept predecessors of an open segment, ascending.
     pub fn preds(&self, segment: u32) -> &[u32]
         requires { segment < length self.now.preds.items }
-        ensures { slice_get (items_of self.now.preds.items) segment ≡ Some result.now }
+        ensures { slice_get (lists_of self.now.preds.items) segment ≡ Some result.now }
     {
         self.preds[segment as usize].as_slice()
     }
@@ -135,8 +135,8 @@ impl Counters {
         requires up_to_date { IsUpToDate table.now values.now self.old }
         ensures preds { self.new.preds ≡ self.old.preds }
         ensures counts { self.new.counts ≡ self.old.counts }
-        ensures successors { items_of self.new.successors.items
-            ≡ items_of self.old.successors.items }
+        ensures successors { lists_of self.new.successors.items
+            ≡ lists_of self.old.successors.items }
         ensures refused { OnErr result (self.new.siblings.items ≡ self.old.siblings.items) }
         ensures made { IfOk result (AreMade table.now values.now finished self.new) }
     {
@@ -161,13 +161,13 @@ impl Counters {
     fn lower(&mut self, finished: u32)
         requires known { finished < length self.old.successors.items }
         requires once { (list : List ℕ)
-            → slice_get (items_of self.old.successors.items) finished ≡ Some list
+            → slice_get (lists_of self.old.successors.items) finished ≡ Some list
             → AllPairs (λ x y. x ≢ y) list }
         requires counted { (list : List ℕ) (t : ℕ)
-            → slice_get (items_of self.old.successors.items) finished ≡ Some list → Contains list t
+            → slice_get (lists_of self.old.successors.items) finished ≡ Some list → Contains list t
             → IsCounted self.old.counts.items t }
         ensures lowered { (list : List ℕ)
-            → slice_get (items_of self.old.successors.items) finished ≡ Some list
+            → slice_get (lists_of self.old.successors.items) finished ≡ Some list
             → AreLowered self.old.counts.items (Contains list) self.new.counts.items }
         ensures others { self.new ≡ record self.old { counts = self.new.counts } }
     {
@@ -216,6 +216,7 @@ fn with_one(alloc: Global, counts: &[u32], segments: &[u32]) -> Result<Vec<u32>,
     Ok(ready)
 }
 
+// It stands apart for the prover's sake: its caller owns a list and may fail.
 fn is_one(counts: &[u32], segment: u32) -> bool
     requires { segment < length counts.now }
     ensures { IsTrue result ↔ (slice_get counts.now segment ≡ Some 1) }
@@ -257,6 +258,6 @@ fn push_free(ready: &mut Vec<u32>, segment: u32, count: u32)
     ensures capacity { vec_capacity ready.old ≤ vec_capacity ready.new }
 {
     if count == 0 {
-        push_in_room(ready, segment);
+        ready.push_reserved(segment);
     }
 }

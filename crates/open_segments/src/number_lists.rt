@@ -3,7 +3,7 @@ ghost use Rattle.std.specs.Prelude.{ℕ, ◌≡◌, ◌≢◌, ◌<◌, ◌≤�
 ghost use Rattle.std.specs.Prelude.{replicate, vec_len, vec_capacity, Contains, AllPairs, IfOk};
 ghost use Rattle.std.specs.Prelude.{OnOk};
 ghost use Rattle.open_segments.specs.Entry.{entry};
-ghost use Rattle.open_segments.specs.NumberLists.{items_of, ArePushed};
+ghost use Rattle.open_segments.specs.NumberLists.{lists_of, ArePushed};
 ghost use Rattle.open_segments.specs.Rooms.{HasRoom, IsRoomier, IsFuller};
 
 use crate::entries::value_entry;
@@ -12,7 +12,7 @@ use task_program::AllocFault;
 
 /// As many empty lists.
 pub fn no_lists(alloc: Global, count: u32) -> Result<Vec<Vec<u32>>, AllocFault>
-    ensures { IfOk result (λ lists. items_of lists.items ≡ replicate count []) }
+    ensures { IfOk result (λ lists. lists_of lists.items ≡ replicate count []) }
 {
     let mut lists = Vec::with_capacity(alloc, count as usize)?;
     for _ in 0..count {
@@ -67,7 +67,7 @@ pub fn push_on(lists: &mut Vec<Vec<u32>>, values: &[Option<u64>], places: &[u32]
         → HasRoom lists.old.items 1 place }
     ensures pushed { ArePushed number
         (λ place. Contains places.now place × (entry values.now place ≡ None))
-        (items_of lists.old.items) (items_of lists.new.items) }
+        (lists_of lists.old.items) (lists_of lists.new.items) }
     ensures fuller { IsFuller (Contains places.now) lists.old.items lists.new.items }
 {
     for place in places {
@@ -79,23 +79,11 @@ pub fn push_on(lists: &mut Vec<Vec<u32>>, values: &[Option<u64>], places: &[u32]
 fn push_at(lists: &mut Vec<Vec<u32>>, values: &[Option<u64>], place: u32, number: u32)
     requires { entry values.now place ≡ None → HasRoom lists.old.items 1 place }
     ensures pushed { ArePushed number (λ other. (other ≡ place) × (entry values.now other ≡ None))
-        (items_of lists.old.items) (items_of lists.new.items) }
+        (lists_of lists.old.items) (lists_of lists.new.items) }
     ensures fuller { IsFuller (λ other. other ≡ place) lists.old.items lists.new.items }
 {
     if value_entry(values, place).is_some() {
         return;
     }
-    push_in_room(&mut lists[place as usize], number);
-}
-
-/// Adds a number to a list that has room for it.
-pub fn push_in_room(list: &mut Vec<u32>, number: u32)
-    requires { vec_len list.old < vec_capacity list.old }
-    ensures items { list.new.items ≡ list.old.items ++ number ∷ [] }
-    ensures capacity { vec_capacity list.old ≤ vec_capacity list.new }
-{
-    match list.push(number) {
-        Ok(()) => {}
-        Err(_) => unreachable!(),
-    }
+    lists[place as usize].push_reserved(number);
 }

@@ -5,7 +5,7 @@ ghost use Rattle.task_segments.specs.Table.{Table, segment, task};
 ghost use Rattle.task_segments.specs.Precedence.{IsSegment, IsTask, Continues, Creation};
 ghost use Rattle.task_segments.specs.InPlace.{IsOf};
 ghost use Rattle.depend_table.specs.Siblings.{Sibling};
-ghost use Rattle.depend_table.specs.Kept.{children_below};
+ghost use Rattle.depend_table.specs.KeptEdges.{children_below};
 ghost use Rattle.open_segments.specs.Entry.{entry};
 ghost use Rattle.open_segments.specs.WaysToOpen.{AreKeptSiblings};
 ghost use Rattle.open_segments.specs.Counters.{HasValue, AreSiblings};

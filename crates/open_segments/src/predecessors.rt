@@ -3,10 +3,10 @@ ghost use Rattle.std.specs.Prelude.{ℕ, ◌≡◌, ◌<◌, ◌+◌, ◌-◌, I
 ghost use Rattle.task_segments.specs.Table.{segment};
 ghost use Rattle.task_segments.specs.declared.table.Closing.TheVariants as closings;
 ghost use Rattle.task_segments.specs.Precedence.{IsSegment};
-ghost use Rattle.depend_table.specs.Kept.{IsKeptEdge};
+ghost use Rattle.depend_table.specs.KeptEdges.{IsKeptEdge};
 ghost use Rattle.depend_table.specs.Lists.{Lists};
 ghost use Rattle.open_segments.specs.KeptLists.{AreEntered, AreFirstLists};
-ghost use Rattle.open_segments.specs.NumberLists.{items_of};
+ghost use Rattle.open_segments.specs.NumberLists.{lists_of};
 
 use crate::continuing::next_predecessors;
 use crate::laws::serves_runs;
@@ -22,7 +22,7 @@ use task_segments::table::{Closing, SegTable};
 /// For each segment its kept predecessors, ascending. It is refused only when memory runs out.
 pub fn all_predecessors(alloc: Global, table: &SegTable) -> Result<Vec<Vec<u32>>, AllocFault>
     ensures { IfOk result (λ lists.
-        AreFirstLists table.now (length table.now.segments) (items_of lists.items)) }
+        AreFirstLists table.now (length table.now.segments) (lists_of lists.items)) }
 {
     serves_runs(table);
     let mut siblings = no_siblings(alloc, table.tasks())?;

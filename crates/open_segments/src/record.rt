@@ -3,11 +3,10 @@ ghost use Rattle.std.specs.Prelude.{ℕ, ◌≡◌, ◌<◌, ◌≤◌, ◌++◌
 ghost use Rattle.std.specs.Prelude.{Contains};
 ghost use Rattle.task_segments.specs.Table.{task};
 ghost use Rattle.task_segments.specs.Precedence.{IsTask};
-ghost use Rattle.depend_table.specs.Kept.{IsKeptEdge};
+ghost use Rattle.depend_table.specs.KeptEdges.{IsKeptEdge};
 ghost use Rattle.depend_table.specs.Lists.{Lists};
 ghost use Rattle.open_segments.specs.WaysToOpen.{AreKeptSiblings, last_segment};
 
-use crate::number_lists::push_in_room;
 use task_segments::laws::reads_in_place;
 use task_segments::table::SegTable;
 
@@ -22,7 +21,7 @@ pub fn first_predecessors(table: &SegTable, child: u32, kept: Vec<u32>) -> Vec<u
     let mut preds = kept;
     to_last_segments(table, &mut preds);
     match table.creator(child) {
-        Some(creator) => push_in_room(&mut preds, creator),
+        Some(creator) => preds.push_reserved(creator),
         None => {}
     }
     preds

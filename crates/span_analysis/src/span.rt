@@ -6,6 +6,7 @@ ghost use Rattle.task_segments.specs.Schedule.{IsLeastEnd, IsSpan};
 use crate::chain::last_to_end;
 use crate::passes::earliest_starts;
 use dispatch_core::graph::Graph;
+use dispatch_core::laws::is_graph;
 use std::alloc::Global;
 use task_program::AllocFault;
 
@@ -17,8 +18,7 @@ pub fn span_of(alloc: Global, graph: &Graph) -> Result<u64, AllocFault>
     ensures least_end { IfOk result (λ span.
         IsLeastEnd graph.now.costs (Precedes graph.now) span) }
 {
-    // Does nothing when it runs: its clause tells the proof what every graph keeps.
-    let _count = graph.len();
+    is_graph(graph);
     let starts = earliest_starts(alloc, graph)?;
     let last = last_to_end(graph, &starts);
     Ok(starts[last as usize] + graph.cost(last))

@@ -13,13 +13,13 @@ use Rattle.task_segments.specs.Nesting.{IsNestedTable}
 use Rattle.task_segments.specs.Precedence.{IsSegment, IsTask, Continues, Encloses, IsEarlierChild}
 use Rattle.task_segments.specs.Precedence.{Descends, GroupEnd, MustPrecede}
 use Rattle.task_segments.specs.Precedence.Descends.{Itself}
-use Rattle.task_segments.specs.Programs.{IsProgramTable}
+use Rattle.task_segments.specs.ProgramTable.{IsProgramTable}
 use Rattle.task_segments.specs.Table.{Table, Task, segment, task, no_segment, no_task}
 use Rattle.task_segments.proofs.Children.{IsNumbered, numbered_program}
 use Rattle.task_segments.proofs.InPlace.{closing_creates, first_follows, follows_one, last_followed}
 use Rattle.task_segments.proofs.InPlace.{last_of_one}
 use Rattle.task_segments.proofs.Order.{OpensAfter, one_branch}
-use Rattle.task_segments.proofs.Programs.{nested_program}
+use Rattle.task_segments.proofs.LastMoment.{nested_program}
 use Rattle.task_segments.proofs.Same.{same_segment, same_facts, same_row}
 
 -- a table answers as it does itself
@@ -109,30 +109,30 @@ closing_of_one table h t before closing o next c =
 
 -- of the children that a task created before the end of a group, those with a pair to it were
 -- created inside
-generated_inside : (table : Table) → IsNestedTable table → (u t : ℕ) → OpensAfter table EndsGroup t
+created_inside : (table : Table) → IsNestedTable table → (u t : ℕ) → OpensAfter table EndsGroup t
     → IsEarlierChild table u t → MustPrecede table (task table u).last t
     → (segment table t).children_before ≤ (task table u).siblings_before
-generated_inside table h u t o g (inl next) = absurd (last_followed table h u t g.is_child next)
-generated_inside table h u t o g (inr (inl r)) =
+created_inside table h u t o g (inl next) = absurd (last_followed table h u t g.is_child next)
+created_inside table h u t o g (inr (inl r)) =
     absurd (first_follows table h r.child o.0 r.is_child
     (subst (λ (n : ℕ). Continues table o.0 n) (sym r.first) o.2))
-generated_inside table h u t o g (inr (inr (inl r))) =
+created_inside table h u t o g (inr (inr (inl r))) =
     absurd (let is_group_end = closing_of_one table h t r.creator (Creates r.child) o r.resumes
     (closing_creates table h r.creator r.child r.is_child r.is_creator) in
     cc)
-generated_inside table h u t o g (inr (inr (inr (inl r)))) =
+created_inside table h u t o g (inr (inr (inr (inl r)))) =
     absurd (first_follows table h r.later o.0 r.is_later
     (subst (λ (n : ℕ). Continues table o.0 n) (sym r.first) o.2))
-generated_inside table h u t o g (inr (inr (inr (inr (inl r))))) =
+created_inside table h u t o g (inr (inr (inr (inr (inl r))))) =
     absurd (let is_group_end = closing_of_one table h t r.before closings.Waits o r.opens r.waits in
     cc)
-generated_inside table h u t o g (inr (inr (inr (inr (inr r))))) =
+created_inside table h u t o g (inr (inr (inr (inr (inr r))))) =
     let encloses = r.encloses in
     let same : r.descendant ≡ u =
     last_of_one table h r.descendant u r.is_descendant g.is_child r.last in
     let descends = subst (λ (d : ℕ). Descends table d r.child) same r.descends in
     let is : u ≡ r.child = one_branch table h u (segment table t).task r.child g.parent
-    encloses.generated.is_child encloses.generated.parent descends in
+    encloses.created.is_child encloses.created.parent descends in
     omega (arith, encloses.inside, ap (λ (v : ℕ). (task table v).siblings_before) is)
 
 -- a group that ended before t did not begin earlier in one table than in the other: else a child
@@ -149,20 +149,20 @@ no_earlier_group : (a b : Table)
 no_earlier_group a b h other x same t is_t less =
     let found = other.children t (segment a t).children_before (omega (arith, x.len)) less in
     let child = found.child in
-    let generated = found.generated in
+    let created = found.created in
     let before = found.opens_after.0 in
-    let is_child : IsTask a child = omega (arith, x.tasks, generated.is_child) in
+    let is_child : IsTask a child = omega (arith, x.tasks, created.is_child) in
     let is_before : IsSegment a before = omega (arith, x.len, found.opens_after.2.is_from) in
     let encloses : Encloses a t child = record {
       before = before;
       ends_group = x.closing before is_before ∙ found.opens_after.1;
       opens = (x.next before t is_before).1 found.opens_after.2;
-      generated = record {
+      created = record {
         is_child = is_child;
-        parent = x.parent child is_child ∙ generated.parent ∙ ap Some (sym (x.task_of t is_t));
-        creator = generated.creator;
-        is_creator = x.creator child is_child ∙ generated.is_creator;
-        earlier = generated.earlier;
+        parent = x.parent child is_child ∙ created.parent ∙ ap Some (sym (x.task_of t is_t));
+        creator = created.creator;
+        is_creator = x.creator child is_child ∙ created.is_creator;
+        earlier = created.earlier;
       };
       inside = omega (arith, found.count, same child is_child);
     } in
@@ -177,11 +177,11 @@ no_earlier_group a b h other x same t is_t less =
     } in
     let pair : MustPrecede a last t = inr (inr (inr (inr (inr ends)))) in
     let is_last : IsSegment a last =
-    omega (arith, x.len, x.last child is_child, (h.segments child generated.is_child).is_last) in
+    omega (arith, x.len, x.last child is_child, (h.segments child created.is_child).is_last) in
     let other_pair =
     subst (λ (s : ℕ). MustPrecede b s t) (x.last child is_child)
     ((x.must_precede last t is_last is_t).0 pair) in
-    omega (arith, generated_inside b h child t found.opens_after generated other_pair, found.count)
+    omega (arith, created_inside b h child t found.opens_after created other_pair, found.count)
 
 -- where groups began follows from the pairs that have to wait for their ends
 same_children : (a b : Table)

@@ -15,7 +15,7 @@ use Rattle.task_segments.specs.Moments.{closing_of, before_group, innermost_chil
 use Rattle.task_segments.specs.Moments.{last_moment, IsProper}
 use Rattle.task_segments.specs.Table.{Table, segment, task, table_at}
 use Rattle.task_segments.specs.Precedence.{IsSegment, IsTask, Continues, IsEarlierChild}
-use Rattle.task_segments.specs.Programs.{IsProgramTable}
+use Rattle.task_segments.specs.ProgramTable.{IsProgramTable}
 use Rattle.task_program.proofs.Nested.{is_nested}
 use Rattle.task_segments.proofs.Steps.{count-cons, task_has_begun, running_below, tasks_begins}
 use Rattle.task_segments.proofs.Steps.{beginning_of-old, beginning_of-new}
@@ -26,7 +26,7 @@ use Rattle.task_segments.proofs.Facts.{IsLast, nested, row, segment-at, segments
 use Rattle.task_segments.proofs.Facts.{owner-at, continues, nothing_before, beginning_within}
 use Rattle.task_segments.proofs.Order.{OpensAfter, not_root}
 use Rattle.task_segments.proofs.Groups.{child}
-use Rattle.task_segments.proofs.Programs.{last_of_nested}
+use Rattle.task_segments.proofs.LastMoment.{last_of_nested}
 
 -- which task runs, by the test
 innermost_is : (p : ℕ) (stack : List ℕ)
@@ -123,7 +123,7 @@ pub record HasSiblingAt (table : Table) (u k : ℕ) : Type 0 where
 pub record HasChildAt (table : Table) (t k : ℕ) : Type 0 where
   pub opens_after : OpensAfter table closings.EndsGroup t
   pub child : ℕ
-  pub generated : IsEarlierChild table child t
+  pub created : IsEarlierChild table child t
   pub count : (task table child).siblings_before ≡ k
 
 -- how a table numbers the children of its tasks, and counts them where groups end
@@ -317,7 +317,7 @@ child_before_end e h t k u before l o found =
     record {
       opens_after = after_group_end e h t before (omega (arith, beginning.before)) l o;
       child = u;
-      generated = record {
+      created = record {
         is_child = omega (arith, whole.0, tasks-at e);
         parent = is.0 ∙ ap Some (sym (owner-at e t l ∙ ap running_task o));
         creator = segments_so_far of_child.before - 1;

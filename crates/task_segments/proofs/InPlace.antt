@@ -305,17 +305,17 @@ ended_before : (table : Table)
     → IsEarlierChild table child (before + 1)
     → Continues table before (before + 1)
     → (task table child).last < before
-ended_before table h child before generated next =
-    let earlier = generated.earlier in
+ended_before table h child before created next =
+    let earlier = created.earlier in
     let parent : (task table child).parent ≡ Some (segment table before).task =
-    generated.parent ∙ ap Some next.same_task in
-    elim (cases_lt generated.creator before) [
-      | inl less ↦ children table h child (segment table before).task generated.creator before
-          parent generated.is_creator (record { is_segment = next.is_from; of_task = refl }) less
+    created.parent ∙ ap Some next.same_task in
+    elim (cases_lt created.creator before) [
+      | inl less ↦ children table h child (segment table before).task created.creator before
+          parent created.is_creator (record { is_segment = next.is_from; of_task = refl }) less
       | inr same ↦
-          let same_creator : generated.creator ≡ before = omega arith in
-          absurd (next_other table h child before generated.is_child
-          (generated.is_creator ∙ ap Some same_creator) next)
+          let same_creator : created.creator ≡ before = omega arith in
+          absurd (next_other table h child before created.is_child
+          (created.is_creator ∙ ap Some same_creator) next)
     ]
 
 -- the same of a t that follows, where the next number follows: so t is that number
@@ -326,9 +326,9 @@ next_ended : (table : Table)
     → Continues table before t
     → Continues table before (before + 1)
     → (task table child).last < before
-next_ended table h child before t generated after next =
+next_ended table h child before t created after next =
     ended_before table h child before
-    (subst (λ n. IsEarlierChild table child n) (next_is table h before t after next) generated) next
+    (subst (λ n. IsEarlierChild table child n) (next_is table h before t after next) created) next
 
 -- a child created before a wait has ended before the segment that waits
 pub child_ends_before_wait : (table : Table)
@@ -338,8 +338,8 @@ pub child_ends_before_wait : (table : Table)
     → Continues table before t
     → (segment table before).closing ≡ Waits
     → (task table child).last < before
-child_ends_before_wait table h child before t generated after waits =
-    next_ended table h child before t generated after (h.after_wait before after.is_from waits)
+child_ends_before_wait table h child before t created after waits =
+    next_ended table h child before t created after (h.after_wait before after.is_from waits)
 
 -- a child inside a group has ended before the segment that ends the group
 pub child_ends_before_group : (table : Table)
@@ -348,7 +348,7 @@ pub child_ends_before_group : (table : Table)
     → (encloses : Encloses table t child)
     → (task table child).last < encloses.before
 child_ends_before_group table h child t e =
-    next_ended table h child e.before t e.generated e.opens
+    next_ended table h child e.before t e.created e.opens
     (h.after_group e.before e.opens.is_from e.ends_group)
 
 -- the end of a task's innermost group, which comes after the task

@@ -12,7 +12,7 @@ use Rattle.task_segments.specs.Moments.{begins_task, begins_group}
 use Rattle.task_segments.specs.Table.{table_of}
 use Rattle.task_segments.specs.Totals.{is_wait, tasks_in, waits_in, groups_in, HasAllOf}
 use Rattle.task_segments.proofs.Facts.{segments-at, tasks-at}
-use Rattle.task_segments.proofs.Programs.{count_read}
+use Rattle.task_segments.proofs.LastMoment.{count_read}
 use Rattle.task_segments.proofs.Reading.{segments_counted}
 use Rattle.task_segments.proofs.Steps.{count-cons}
 use Rattle.task_segments.proofs.Work.{all_work}

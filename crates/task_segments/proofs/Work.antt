@@ -15,10 +15,10 @@ use Rattle.task_program.proofs.Nested.{is_nested}
 use Rattle.task_segments.specs.declared.table.Segment.{Segment}
 use Rattle.task_segments.specs.Moments.{segments_so_far, opening_of, opens, cost_of, is_latest}
 use Rattle.task_segments.specs.Moments.{moment_after, last_moment, IsProper}
-use Rattle.task_segments.specs.Programs.{IsProgramTable}
+use Rattle.task_segments.specs.ProgramTable.{IsProgramTable}
 use Rattle.task_segments.specs.Table.{Table, costs_of, segment_row, table_at, table_of}
 use Rattle.task_segments.proofs.Facts.{begun_some_segment}
-use Rattle.task_segments.proofs.Programs.{last_of_nested}
+use Rattle.task_segments.proofs.LastMoment.{last_of_nested}
 use Rattle.task_segments.proofs.Rows.{cost_none}
 use Rattle.task_segments.proofs.Steps.{open_below, segments_opens}
 use Rattle.program_text.specs.declared.limits.TheConstants.{MOST_WORK}

@@ -1,6 +1,6 @@
 //! Replaying the log of a run, and reading its record.
 ghost use Rattle.std.specs.Prelude.{IfErr, IfOk, MatchOption, OnOk};
-ghost use Rattle.depend_table.specs.Kept.{IsKeptEdge};
+ghost use Rattle.depend_table.specs.KeptEdges.{IsKeptEdge};
 ghost use Rattle.depend_table.specs.Lists.{Lists};
 ghost use Rattle.dispatch_core.specs.Replays.{RefusesReplay};
 ghost use Rattle.dispatch_core.specs.Run.{IsLegalRun, IsOpen};

@@ -126,7 +126,7 @@ fn kept_siblings(
 }
 
 /// A sibling more, and the siblings that it is kept after.
-fn generated(
+fn created(
     rt: &impl Abort,
     supply: &mut Supply,
     table: &mut SiblingTable,
@@ -140,11 +140,11 @@ fn generated(
     let siblings = kept_siblings(supply, table, items)?;
     assert_eq!(rt; siblings.as_slice(), wanted, "before task {task}");
     supply.before_call();
-    let kept = match table.generate(task, items) {
+    let kept = match table.create(task, items) {
         Ok(kept) => kept,
         Err(_) => {
             supply.refused();
-            table.generate(task, items)?
+            table.create(task, items)?
         }
     };
     assert_eq!(rt; kept.as_slice(), wanted, "of task {task}");
@@ -164,11 +164,11 @@ pub(super) fn siblings<H: AllocGlobal + Abort>(rt: &H, supply: &mut Supply) -> R
     };
     let set = on(DependInOutSet, 0);
     let other = on(DependOut, 1);
-    generated(rt, supply, &mut table, 1, &[set, other], &[])?;
-    generated(rt, supply, &mut table, 2, &[set], &[])?;
-    generated(rt, supply, &mut table, 3, &[on(DependIn, 0)], &[1, 2])?;
-    generated(rt, supply, &mut table, 4, &[set], &[3])?;
-    generated(
+    created(rt, supply, &mut table, 1, &[set, other], &[])?;
+    created(rt, supply, &mut table, 2, &[set], &[])?;
+    created(rt, supply, &mut table, 3, &[on(DependIn, 0)], &[1, 2])?;
+    created(rt, supply, &mut table, 4, &[set], &[3])?;
+    created(
         rt,
         supply,
         &mut table,

@@ -1,7 +1,7 @@
 use Rattle.std.proofs.Common.{ℕ, ◌-◌, List, true, get_or, set, take, sym, subst, arith}
 use Rattle.std.proofs.lemmas.List.{take_more}
-use Rattle.depend_table.specs.Marks.{AreMarkedToo}
-use Rattle.depend_table.proofs.Marks.{mark_one}
+use Rattle.depend_table.specs.MarkedPlaces.{AreMarkedToo}
+use Rattle.depend_table.proofs.MarkedPlaces.{mark_one}
 use Rattle.depend_table.proofs.table.mark.Goals as goal
 
 pub loop-place-preserved : goal.loop-place-preserved

@@ -1,5 +1,5 @@
 use Rattle.std.proofs.Common.{take}
-use Rattle.depend_table.specs.Marks.{AreMarkedToo}
+use Rattle.depend_table.specs.MarkedPlaces.{AreMarkedToo}
 use Rattle.depend_table.proofs.table.mark.Given as goal
 
 abbrev pub invariant-loop-place : goal.invariant-loop-place

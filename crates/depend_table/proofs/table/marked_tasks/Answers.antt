@@ -3,8 +3,8 @@ use Rattle.std.proofs.lemmas.List.{length-map, get_or-map}
 use Rattle.depend_table.specs.declared.table.Call.{Call}
 use Rattle.depend_table.specs.Entries.{tasks_of}
 use Rattle.depend_table.specs.Lists.{Lists}
-use Rattle.depend_table.specs.Marks.{IsMarkedNumber}
-use Rattle.depend_table.proofs.Marks.{numbers_marked, numbers_unmarked}
+use Rattle.depend_table.specs.MarkedPlaces.{IsMarkedNumber}
+use Rattle.depend_table.proofs.MarkedPlaces.{numbers_marked, numbers_unmarked}
 use Rattle.depend_table.proofs.table.marked_tasks.Goals as goal
 use Rattle.depend_table.proofs.table.marked_tasks.Goals.{then-marks-place+in_ok-push}
 use Rattle.depend_table.proofs.table.marked_tasks.Goals.{else-marks-place}

@@ -7,8 +7,8 @@ use Rattle.program_text.specs.declared.statement.DependKind.TheVariants.{DependI
 use Rattle.program_text.specs.declared.statement.Item.{Item}
 use Rattle.depend_table.specs.Entries.{predecessors_for}
 use Rattle.depend_table.specs.Generations.{sharing_at}
-use Rattle.depend_table.specs.Marks.{AreWithin}
-use Rattle.depend_table.proofs.Marks.{within_wider}
+use Rattle.depend_table.specs.MarkedPlaces.{AreWithin}
+use Rattle.depend_table.proofs.MarkedPlaces.{within_wider}
 use Rattle.depend_table.proofs.Places.{predecessors_in_order, predecessors_below}
 use Rattle.std.proofs.lemmas.List.Elements.{Contains-get_or}
 use Rattle.depend_table.proofs.table.window_on.Goals as goal

@@ -1,6 +1,6 @@
 use Rattle.std.proofs.Common.{◌≤◌, take, length, All}
 use Rattle.depend_table.specs.Entries.{predecessors_for}
-use Rattle.depend_table.specs.Marks.{AreWithin}
+use Rattle.depend_table.specs.MarkedPlaces.{AreWithin}
 use Rattle.depend_table.proofs.table.window_on.Given as goal
 
 abbrev pub invariant-loop-item : goal.invariant-loop-item

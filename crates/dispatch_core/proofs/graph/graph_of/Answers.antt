@@ -1,7 +1,7 @@
 use Rattle.std.proofs.Common.{sym, subst}
 use Rattle.dispatch_core.specs.Graph.{IsGraphOf}
 use Rattle.dispatch_core.specs.RecordedGraph.{RecordedGraph}
-use Rattle.dispatch_core.proofs.Ends.{graph_of_lists, graph_of_program}
+use Rattle.dispatch_core.proofs.StartAndEnd.{graph_of_lists, graph_of_program}
 use Rattle.dispatch_core.proofs.graph.graph_of.Goals as goal
 
 pub make_graph-requires : goal.make_graph-requires

@@ -1,4 +1,4 @@
-use Rattle.dispatch_core.proofs.Ends.{one_graph}
+use Rattle.dispatch_core.proofs.StartAndEnd.{one_graph}
 use Rattle.dispatch_core.proofs.laws.one_graph.Goals as goal
 
 pub returns : goal.returns

@@ -19,9 +19,9 @@ returns-in-Waits-clause-reached c s kept =
     (sym c.closing.ensures ∙ c.in-Waits.is) kept
 
 pub returns-in-Waits-clause-waited : goal.returns-in-Waits-clause-waited
-returns-in-Waits-clause-waited c child generated above =
+returns-in-Waits-clause-waited c child created above =
     waited_since c.args.table.now c.loop-earlier.from c.args.before c.args.next child
-    c.reads_in_place.ensures c.requires.follows c.requires.waits c.loop-earlier.invariant generated
+    c.reads_in_place.ensures c.requires.follows c.requires.waits c.loop-earlier.invariant created
     above
 
 pub returns-clause-reached : goal.returns-clause-reached
@@ -33,7 +33,7 @@ returns-clause-reached c s kept =
     kept
 
 pub returns-clause-waited : goal.returns-clause-waited
-returns-clause-waited c child generated above =
+returns-clause-waited c child created above =
     waited_since c.args.table.now c.loop-earlier.from c.args.before c.args.next child
-    c.reads_in_place.ensures c.requires.follows c.requires.waits c.loop-earlier.invariant generated
+    c.reads_in_place.ensures c.requires.follows c.requires.waits c.loop-earlier.invariant created
     above

@@ -4,7 +4,7 @@ use Rattle.std.proofs.lemmas.Option.{slice_get_within}
 use Rattle.open_segments.specs.Entry.{entry}
 use Rattle.open_segments.proofs.Turning.{items_at, push_item, pushed_none, pushed_at}
 use Rattle.open_segments.proofs.Rooms.{is_valued, is_valueless, room_of, fuller_same, fuller_at}
-use Rattle.open_segments.specs.NumberLists.{items_of}
+use Rattle.open_segments.specs.NumberLists.{lists_of}
 use Rattle.open_segments.proofs.number_lists.push_at.Goals as goal
 
 pub returns-then-is_some-clause-pushed : goal.returns-then-is_some-clause-pushed
@@ -17,8 +17,8 @@ returns-then-is_some-clause-fuller c =
 pub index_mut-requires : goal.index_mut-requires
 index_mut-requires c = grind (arith, is_valueless, slice_get_within)
 
-pub push_in_room-requires : goal.push_in_room-requires
-push_in_room-requires c = grind (arith, is_valueless, slice_get_within, room_of)
+pub push_reserved-requires : goal.push_reserved-requires
+push_reserved-requires c = grind (arith, is_valueless, slice_get_within, room_of)
 
 pub returns-clause-pushed : goal.returns-clause-pushed
 returns-clause-pushed c =
@@ -29,10 +29,10 @@ returns-clause-pushed c =
     let old : List ℕ = c.index_mut.result.now.items in
     let there = items_at c.args.lists.now.items c.args.place c.index_mut.result.now within
     c.index_mut.ensures.value in
-    pushed_at c.args.number c.args.place c.args.values.now (items_of c.args.lists.now.items)
-    (items_of (slice_set c.args.lists.now.items c.args.place c.push_in_room.new.list)) old there
+    pushed_at c.args.number c.args.place c.args.values.now (lists_of c.args.lists.now.items)
+    (lists_of (slice_set c.args.lists.now.items c.args.place c.push_reserved.new.self)) old there
     (push_item c.args.lists.now.items c.args.place c.args.number c.index_mut.result.now
-    c.push_in_room.new.list old within c.index_mut.ensures.value c.push_in_room.ensures.items there)
+    c.push_reserved.new.self old within c.index_mut.ensures.value c.push_reserved.ensures.items there)
     none
 
 pub returns-clause-fuller : goal.returns-clause-fuller
@@ -42,5 +42,5 @@ returns-clause-fuller c =
     let room = c.requires none in
     let within = slice_get_within c.args.lists.now.items c.args.place room.row room.is_row in
     fuller_at c.args.lists.now.items c.args.place c.args.number c.index_mut.result.now
-    c.push_in_room.new.list within c.index_mut.ensures.value c.push_in_room.ensures.items
-    c.push_in_room.ensures.capacity
+    c.push_reserved.new.self within c.index_mut.ensures.value c.push_reserved.ensures.items
+    (omega (arith, c.push_reserved.ensures.capacity))

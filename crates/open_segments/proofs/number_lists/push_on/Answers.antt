@@ -3,7 +3,7 @@ use Rattle.std.specs.Prelude.{slice_index_or, Contains}
 use Rattle.std.proofs.lemmas.List.{get_or_default, take_all}
 use Rattle.std.proofs.lemmas.List.Elements.{Contains-get_or}
 use Rattle.open_segments.specs.Entry.{entry}
-use Rattle.open_segments.specs.NumberLists.{items_of, ArePushed}
+use Rattle.open_segments.specs.NumberLists.{lists_of, ArePushed}
 use Rattle.open_segments.specs.Rooms.{IsFuller}
 use Rattle.open_segments.proofs.Falls.{fresh_next}
 use Rattle.open_segments.proofs.Turning.{pushed_none, pushed_step}
@@ -25,7 +25,7 @@ pub loop-place-init : goal.loop-place-init
 loop-place-init c = record {
   pushed = pushed_none c.args.number
       (λ place. Contains (take 0 c.args.places.now) place × (entry c.args.values.now place ≡ None))
-      (items_of c.args.lists.now.items) (λ place h. let within = h.0.1 in
+      (lists_of c.args.lists.now.items) (λ place h. let within = h.0.1 in
       absurd (omega (arith, within)));
   fuller = fuller_same (Contains (take 0 c.args.places.now)) c.args.lists.now.items;
 }
@@ -38,8 +38,8 @@ loop-place-preserved c =
     let within : index < length list = c.loop-place-test.true in
     let is : place ≡ get_or list index place = sym (get_or_default list index place 0 within) in
     record {
-      pushed = pushed_step c.args.number (items_of c.args.lists.now.items)
-          (items_of c.loop-place.lists.items) (items_of c.push_at.new.lists.items) c.args.values.now
+      pushed = pushed_step c.args.number (lists_of c.args.lists.now.items)
+          (lists_of c.loop-place.lists.items) (lists_of c.push_at.new.lists.items) c.args.values.now
           list index place within is c.requires.once
           c.loop-place.invariant.pushed c.push_at.ensures.pushed;
       fuller = fuller_step c.args.lists.now.items c.loop-place.lists.items c.push_at.new.lists.items

@@ -2,7 +2,7 @@ use Rattle.std.proofs.Common.{ℕ, ◌<◌, ◌≡◌, ◌∷◌, List, Some, sy
 use Rattle.std.specs.Prelude.{slice_set, All}
 use Rattle.std.proofs.lemmas.Option.{none-some, same_Some, slice_get_within}
 use Rattle.task_segments.specs.Table.{Table, task}
-use Rattle.depend_table.specs.Kept.{children_below}
+use Rattle.depend_table.specs.KeptEdges.{children_below}
 use Rattle.depend_table.specs.Siblings.{Sibling}
 use Rattle.program_text.specs.declared.statement.Item.{Item}
 use Rattle.open_segments.proofs.Children.{children_small}

@@ -2,7 +2,7 @@ use Rattle.std.proofs.Common.{ℕ, ◌≡◌, List, Some, sym, ap, subst, arith,
 use Rattle.std.specs.Prelude.{Contains, slice_set, slice_get}
 use Rattle.task_segments.specs.Table.{Table, task}
 use Rattle.depend_table.specs.Siblings.{Sibling}
-use Rattle.depend_table.specs.Kept.{IsKeptEdge, children_below}
+use Rattle.depend_table.specs.KeptEdges.{IsKeptEdge, children_below}
 use Rattle.depend_table.specs.Lists.{Lists}
 use Rattle.open_segments.specs.Counters.{AreSiblings}
 use Rattle.open_segments.proofs.Edges.{first_cases, created_by, dependence_from}

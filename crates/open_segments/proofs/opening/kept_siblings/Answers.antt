@@ -2,7 +2,7 @@ use Rattle.std.proofs.Common.{ℕ, ◌≡◌, List, Some, sym, subst, arith, ◌
 use Rattle.std.proofs.lemmas.Option.{none-some, slice_get_within}
 use Rattle.task_segments.specs.Table.{Table, task}
 use Rattle.program_text.specs.declared.statement.Item.{Item}
-use Rattle.depend_table.specs.Kept.{children_below}
+use Rattle.depend_table.specs.KeptEdges.{children_below}
 use Rattle.depend_table.specs.Siblings.{Sibling}
 use Rattle.open_segments.specs.WaysToOpen.{AreKeptSiblings}
 use Rattle.open_segments.proofs.SiblingSteps.{stands_at, are_kept}

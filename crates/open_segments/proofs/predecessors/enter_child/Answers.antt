@@ -2,7 +2,7 @@ use Rattle.std.proofs.Common.{ℕ, ◌+◌, ◌≡◌, List, Some, sym, subst}
 use Rattle.std.specs.Prelude.{slice_get}
 use Rattle.task_segments.specs.Table.{Table}
 use Rattle.depend_table.specs.Siblings.{Sibling}
-use Rattle.depend_table.specs.Kept.{IsKeptEdge, children_below}
+use Rattle.depend_table.specs.KeptEdges.{IsKeptEdge, children_below}
 use Rattle.depend_table.specs.Lists.{Lists}
 use Rattle.open_segments.specs.KeptLists.{AreEntered}
 use Rattle.open_segments.proofs.KeptLists.{entered_child, entered_so_far}

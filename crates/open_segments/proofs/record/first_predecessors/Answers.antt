@@ -2,7 +2,7 @@ use Rattle.std.proofs.Common.{ℕ, ◌≡◌, ◌++◌, ◌∷◌, [], map, List
 use Rattle.std.proofs.lemmas.Option.{none-some}
 use Rattle.task_segments.specs.Table.{Table, task}
 use Rattle.depend_table.specs.Lists.{Lists}
-use Rattle.depend_table.specs.Kept.{IsKeptEdge}
+use Rattle.depend_table.specs.KeptEdges.{IsKeptEdge}
 use Rattle.open_segments.specs.WaysToOpen.{last_segment}
 use Rattle.open_segments.proofs.Edges
 use Rattle.open_segments.proofs.record.first_predecessors.Goals as goal
@@ -15,9 +15,9 @@ to_last_segments-requires c u has =
 pub returns-in-Some : goal.returns-in-Some
 returns-in-Some c =
     let table : Table = c.args.table.now in
-    let items : c.push_in_room.new.list.items
+    let items : c.push_reserved.new.self.items
     ≡ map (last_segment table) c.args.kept.items ++ c.in-Some.creator ∷ [] =
-    c.push_in_room.ensures.items
+    c.push_reserved.ensures.items
     ∙ ap (λ (list : List ℕ). list ++ c.in-Some.creator ∷ []) c.to_last_segments.ensures.items in
     subst (λ (list : List ℕ). Lists (λ p. IsKeptEdge table p (task table c.args.child).first) list)
     (sym items)

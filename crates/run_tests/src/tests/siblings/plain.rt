@@ -16,7 +16,7 @@ struct RankedTask {
     items: Vec<RankedItem>,
 }
 
-/// The siblings that one task has generated so far.
+/// The siblings that one task has created so far.
 #[derive(Drop)]
 pub struct PlainTable {
     alloc: Global,
@@ -33,7 +33,7 @@ impl PlainTable {
     }
 
     /// The earlier siblings that a new task is kept after.
-    pub(crate) fn generate(&mut self, task: u32, items: &[Item]) -> Result<Vec<u32>, AllocFault> {
+    pub(crate) fn create(&mut self, task: u32, items: &[Item]) -> Result<Vec<u32>, AllocFault> {
         let mut ranked = Vec::new(self.alloc);
         for item in items {
             ranked.push(RankedItem {

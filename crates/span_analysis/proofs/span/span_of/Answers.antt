@@ -10,7 +10,7 @@ pub returns : goal.returns
 returns c =
     let graph = c.args.graph.now in
     let starts = c.in_ok-starts.starts.items in
-    let is = c.len-count.ensures.is_graph in
+    let is = c.is_graph.ensures in
     let earliest = c.in_ok-starts.ensures.earliest in
     let last = rw c.deref.ensures.value at c.last_to_end-last.ensures in
     let each = earliest.legal.each in

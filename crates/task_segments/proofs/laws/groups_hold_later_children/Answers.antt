@@ -1,4 +1,4 @@
-use Rattle.task_segments.proofs.Programs.{later_program}
+use Rattle.task_segments.proofs.LastMoment.{later_program}
 use Rattle.task_segments.proofs.laws.groups_hold_later_children.Goals as goal
 
 pub returns : goal.returns

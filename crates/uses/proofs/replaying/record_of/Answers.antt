@@ -1,6 +1,6 @@
 use Rattle.std.proofs.Common.{subst}
 use Rattle.std.specs.Prelude.{MatchOption}
-use Rattle.depend_table.specs.Kept.{IsKeptEdge}
+use Rattle.depend_table.specs.KeptEdges.{IsKeptEdge}
 use Rattle.depend_table.specs.Lists.{Lists}
 use Rattle.dispatch_core.specs.Run.{IsOpen, Run}
 use Rattle.uses.proofs.replaying.record_of.Goals as goal

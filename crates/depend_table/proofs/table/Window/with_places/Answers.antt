@@ -1,5 +1,5 @@
 use Rattle.std.proofs.Common.{◌+◌, ◌-◌, ◌<◌, ◌≤◌, length, get_or, arith, rules}
-use Rattle.depend_table.proofs.Marks.{between_ends, within_wider}
+use Rattle.depend_table.proofs.MarkedPlaces.{between_ends, within_wider}
 use Rattle.depend_table.proofs.table.Window.with_places.Goals as goal
 
 pub returns-clause-all : goal.returns-clause-all

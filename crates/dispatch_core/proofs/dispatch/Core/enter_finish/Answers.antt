@@ -66,8 +66,8 @@ index_mut-requires g c =
     (subst P (sym c.self.view_is) c.requires.runs).started in
     omega (arith, c.self.invariant.are_running.each, known.0)
 
-pub push_event-requires : goal.push_event-requires
-push_event-requires g c =
+pub push_reserved-requires : goal.push_reserved-requires
+push_reserved-requires g c =
     let P : Run → Type 0 = λ run. Runs run.history c.args.worker c.args.outcome.now.segment in
     let room = has_room_to_finish _ _ _ _ _ _ _ _ _ c.args.worker c.args.outcome.now.segment
     c.self.invariant (subst P (sym c.self.view_is) c.requires.runs) in
@@ -97,26 +97,26 @@ invariant_of-self-2 g c =
     same c.in_ok-ready.ensures.up_to_date in
     let after = sound_after_finish g.K.Kernel.value_of c.self.inside.table
     c.self.inside.history.items (vec_capacity c.self.inside.history)
-    (vec_capacity c.push_event.new.history) c.self.inside.started.items
+    (vec_capacity c.push_reserved.new.self) c.self.inside.started.items
     c.self.inside.running.items c.self.inside.values.items c.self.inside.counters c.finish.new.self
     c.self.inside.costs.items c.args.worker c.args.outcome.now value c.self.invariant may
     c.value-value.ensures.computed state
-    c.push_event.ensures.capacity in
+    (omega (arith, c.push_reserved.ensures.capacity)) in
     let V : List (Option ℕ) → Type 0 = λ v. IsSound g.K.Kernel.value_of c.self.inside.table
     (c.self.inside.history.items ++ Finish c.args.worker finished ∷ [])
-    (vec_capacity c.push_event.new.history) c.self.inside.started.items
+    (vec_capacity c.push_reserved.new.self) c.self.inside.started.items
     (slice_set c.self.inside.running.items c.args.worker None) v c.finish.new.self
     c.self.inside.costs.items in
     let Q : ℕ → Type 0 = λ n. IsSound g.K.Kernel.value_of c.self.inside.table
     (c.self.inside.history.items ++ Finish c.args.worker n ∷ [])
-    (vec_capacity c.push_event.new.history) c.self.inside.started.items
+    (vec_capacity c.push_reserved.new.self) c.self.inside.started.items
     (slice_set c.self.inside.running.items c.args.worker None) values c.finish.new.self
     c.self.inside.costs.items in
     let P : List Event → Type 0 = λ history. IsSound g.K.Kernel.value_of c.self.inside.table history
-    (vec_capacity c.push_event.new.history) c.self.inside.started.items
+    (vec_capacity c.push_reserved.new.self) c.self.inside.started.items
     (slice_set c.self.inside.running.items c.args.worker None) values c.finish.new.self
     c.self.inside.costs.items in
-    subst P (sym c.push_event.ensures.items)
+    subst P (sym c.push_reserved.ensures.items)
     (subst Q (sym c.segment-segment.ensures) (subst V (sym same) after))
 
 pub returns-clause-ready : goal.returns-clause-ready

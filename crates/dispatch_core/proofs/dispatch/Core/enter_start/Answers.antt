@@ -6,8 +6,8 @@ use Rattle.dispatch_core.specs.Sound.{IsSound}
 use Rattle.dispatch_core.proofs.StartStep.{has_room, sound_after_start}
 use Rattle.dispatch_core.proofs.dispatch.Core.enter_start.Goals as goal
 
-pub push_event-requires : goal.push_event-requires
-push_event-requires g c =
+pub push_reserved-requires : goal.push_reserved-requires
+push_reserved-requires g c =
     let KnownHere : Run → Type 0 = λ run. c.args.segment < length run.table.segments in
     let FreshHere : Run → Type 0 = λ run. ¬ HasStarted run.history c.args.segment in
     let room = has_room _ _ _ _ _ _ _ _ _ c.args.segment c.self.invariant
@@ -20,10 +20,10 @@ invariant_of-self g c =
     let MayHere : Run → Type 0 = λ run.
     MayStart run.table run.history c.args.worker c.args.segment in
     let P : List Event → Type 0 = λ history. IsSound g.K.Kernel.value_of c.self.inside.table history
-    (vec_capacity c.push_event.new.history)
+    (vec_capacity c.push_reserved.new.self)
     (slice_set c.self.inside.started.items c.args.segment true)
     (slice_set c.self.inside.running.items c.args.worker (Some c.args.segment))
     c.self.inside.values.items c.self.inside.counters c.self.inside.costs.items in
-    subst P (sym c.push_event.ensures.items)
+    subst P (sym c.push_reserved.ensures.items)
     (sound_after_start _ _ _ _ _ _ _ _ _ _ _ _ c.self.invariant
-    (subst MayHere (sym c.self.view_is) c.requires) c.push_event.ensures.capacity)
+    (subst MayHere (sym c.self.view_is) c.requires) (omega (arith, c.push_reserved.ensures.capacity)))

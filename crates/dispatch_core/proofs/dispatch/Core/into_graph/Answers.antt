@@ -4,8 +4,8 @@ use Rattle.std.specs.declared.alloc.Global.{Global}
 use Rattle.dispatch_core.specs.Run.{Run, IsFinished}
 use Rattle.dispatch_core.specs.RecordedGraph.{RecordedGraph}
 use Rattle.dispatch_core.specs.Graph.{IsGraphOf}
-use Rattle.open_segments.specs.NumberLists.{items_of}
-use Rattle.dispatch_core.proofs.Ends.{graph_at_end, graph_of_program}
+use Rattle.open_segments.specs.NumberLists.{lists_of}
+use Rattle.dispatch_core.proofs.StartAndEnd.{graph_at_end, graph_of_program}
 use Rattle.dispatch_core.proofs.dispatch.Core.into_graph.Goals as goal
 
 pub make_graph-requires : goal.make_graph-requires
@@ -15,7 +15,7 @@ make_graph-requires g c =
     let finished =
     subst F (sym c.self.view_is) (c.is_finished.ensures.0 c.if-not-is_finished.false) in
     let G : Vec (Vec ℕ Global) Global → Type 0 = λ lists. IsGraphOf c.self.inside.table
-    (record { costs = c.self.inside.costs.items; predecessors = items_of lists.items }) in
+    (record { costs = c.self.inside.costs.items; predecessors = lists_of lists.items }) in
     graph_of_program c.self.inside.table _ sound.sound_table (subst G (sym c.into_preds.ensures)
     (graph_at_end c.self.inside.table c.self.inside.history.items c.self.inside.values.items
     c.self.inside.counters c.self.inside.costs.items sound.sound_table.goes_up sound.are_values.tell
@@ -30,7 +30,7 @@ returns g c =
     let P : Run → Type 0 = λ run. IsGraphOf run.table c.make_graph.result in
     let Q : RecordedGraph → Type 0 = λ graph. IsGraphOf c.self.inside.table graph in
     let G : Vec (Vec ℕ Global) Global → Type 0 = λ lists. IsGraphOf c.self.inside.table
-    (record { costs = c.self.inside.costs.items; predecessors = items_of lists.items }) in
+    (record { costs = c.self.inside.costs.items; predecessors = lists_of lists.items }) in
     record {
       ok = subst P c.self.view_is
           (subst Q (sym c.make_graph.ensures) (subst G (sym c.into_preds.ensures)

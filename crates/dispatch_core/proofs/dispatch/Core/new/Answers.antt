@@ -1,4 +1,4 @@
-use Rattle.dispatch_core.proofs.Ends.{sound_first}
+use Rattle.dispatch_core.proofs.StartAndEnd.{sound_first}
 use Rattle.dispatch_core.proofs.dispatch.Core.new.Goals as goal
 
 pub invariant_of-result : goal.invariant_of-result

@@ -1,10 +1,10 @@
 use Rattle.std.proofs.Common.{sym, subst, arith}
 use Rattle.std.proofs.lemmas.Bool.{both_ways}
-use Rattle.depend_table.specs.Kept.{IsKeptEdge}
+use Rattle.depend_table.specs.KeptEdges.{IsKeptEdge}
 use Rattle.depend_table.specs.Lists.{Lists}
 use Rattle.open_segments.specs.Counters.{IsOpenBy}
 use Rattle.dispatch_core.specs.Run.{Run, IsOpen}
-use Rattle.dispatch_core.proofs.Ends.{open_known}
+use Rattle.dispatch_core.proofs.StartAndEnd.{open_known}
 use Rattle.dispatch_core.proofs.KeptEnough.{kept_at, open_by_values}
 use Rattle.open_segments.proofs.Turning.{length-items}
 use Rattle.dispatch_core.proofs.dispatch.Core.preds_of.Goals as goal

@@ -1,7 +1,7 @@
 use Rattle.std.proofs.Common.{ℕ, ◌≡◌, List, Vec, Global, ap, ◌∙◌, sym, arith, length, map, sum_by}
 use Rattle.open_segments.proofs.PlaceLemmas.{sum_by-of_map}
 use Rattle.dispatch_core.specs.RecordedGraph.{RecordedGraph}
-use Rattle.dispatch_core.proofs.Ends.{few_edges}
+use Rattle.dispatch_core.proofs.StartAndEnd.{few_edges}
 use Rattle.dispatch_core.proofs.graph.Graph.edges.Goals as goal
 
 pub edge_count-requires : goal.edge_count-requires

@@ -5,7 +5,7 @@ use Rattle.open_segments.specs.declared.counters.Counters.{Counters}
 use Rattle.open_segments.specs.declared.opening.Opening.{Opening}
 use Rattle.open_segments.specs.Counters.{unfinished_count}
 use Rattle.open_segments.specs.Entry.{entry}
-use Rattle.open_segments.specs.NumberLists.{items_of, ArePushed}
+use Rattle.open_segments.specs.NumberLists.{lists_of, ArePushed}
 use Rattle.open_segments.specs.Openings.{CanOpen, AddsOpen, IsOpened, IsRoomToOpen}
 use Rattle.open_segments.proofs.Turning.{items_set}
 use Rattle.open_segments.proofs.counters.Counters.open.Goals as goal
@@ -34,7 +34,7 @@ returns-clause-opened c =
       successors = subst
           (λ (l : List ℕ). ArePushed segment
           (λ p. Contains l p × (entry c.args.values.now p ≡ None))
-          (items_of c.args.self.now.successors.items) (items_of c.push_on.new.lists.items))
+          (lists_of c.args.self.now.successors.items) (lists_of c.push_on.new.lists.items))
           c.as_slice-2.ensures.value c.push_on.ensures.pushed;
       room = λ count place room. c.push_on.ensures.fuller.one_less count place room;
       siblings = refl;

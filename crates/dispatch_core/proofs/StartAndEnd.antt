@@ -24,9 +24,9 @@ use Rattle.dispatch_core.specs.Sound.{IsSound}
 use Rattle.open_segments.specs.declared.counters.Counters.{Counters}
 use Rattle.open_segments.specs.Counters.{GoesUp, IsOpenBy}
 use Rattle.dispatch_core.specs.Sound.{TellFinished}
-use Rattle.depend_table.specs.Kept.{IsKeptEdge}
+use Rattle.depend_table.specs.KeptEdges.{IsKeptEdge}
 use Rattle.open_segments.specs.KeptLists.{AreFirstLists}
-use Rattle.open_segments.specs.NumberLists.{items_of}
+use Rattle.open_segments.specs.NumberLists.{lists_of}
 use Rattle.open_segments.specs.UpToDate.{IsUpToDate}
 use Rattle.dispatch_core.proofs.KeptEnough.{kept_at, open_after, precedes_of}
 use Rattle.dispatch_core.specs.RecordedGraph.{RecordedGraph, IsGraph, Precedes, predecessors_of}
@@ -128,12 +128,12 @@ pub graph_at_end : (table : Table) (history : List Event) (values : List (Option
     → IsFinished table history
     → IsUpToDate table values counters
     → costs ≡ costs_of table
-    → IsGraphOf table (record { costs = costs; predecessors = items_of counters.preds.items })
+    → IsGraphOf table (record { costs = costs; predecessors = lists_of counters.preds.items })
 graph_at_end table history values counters costs up tell finished state same = record {
   costs = same;
   each = state.kept.each;
   predecessors = λ t known.
-      let preds : List (List ℕ) = items_of counters.preds.items in
+      let preds : List (List ℕ) = lists_of counters.preds.items in
       let there =
       slice_get-get_or preds t [] (let each = state.kept.each in omega (arith, known, each)) in
       let opened = open_after table history values t up tell known
@@ -186,8 +186,8 @@ graph_of_program table graph sound of =
 -- the kept predecessors of all segments, and their costs
 pub graph_of_lists : (table : Table) (costs : List ℕ) (lists : List (Vec ℕ Global))
     → costs ≡ costs_of table
-    → AreFirstLists table (length table.segments) (items_of lists)
-    → IsGraphOf table (record { costs = costs; predecessors = items_of lists })
+    → AreFirstLists table (length table.segments) (lists_of lists)
+    → IsGraphOf table (record { costs = costs; predecessors = lists_of lists })
 graph_of_lists table costs lists are_costs are_lists = record {
   costs = are_costs;
   each = are_lists.each;

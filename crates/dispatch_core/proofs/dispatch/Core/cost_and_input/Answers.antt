@@ -1,5 +1,5 @@
 use Rattle.dispatch_core.proofs.FinishStep.{runs_after, runs_cost, runs_known, runs_stored}
-use Rattle.dispatch_core.proofs.dispatch.Core.task_of.Goals as goal
+use Rattle.dispatch_core.proofs.dispatch.Core.cost_and_input.Goals as goal
 
 pub cost-requires : goal.cost-requires
 cost-requires g c =

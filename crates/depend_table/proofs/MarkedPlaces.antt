@@ -12,7 +12,7 @@ use Rattle.std.proofs.lemmas.List.Elements.{Contains-append_cases, Contains-push
 use Rattle.std.proofs.lemmas.List.Elements.{Contains-push_cases}
 use Rattle.std.proofs.lemmas.List.Kept.{AllPairs-from_increasing}
 use Rattle.depend_table.specs.Lists.{Lists}
-use Rattle.depend_table.specs.Marks.{AreWithin, IsMarked, AreMarkedToo, IsMarkedNumber}
+use Rattle.depend_table.specs.MarkedPlaces.{AreWithin, IsMarked, AreMarkedToo, IsMarkedNumber}
 use Rattle.depend_table.proofs.Lists.{lists_push, lists_same}
 
 -- one more place is marked
