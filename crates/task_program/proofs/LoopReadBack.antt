@@ -25,6 +25,7 @@ use Rattle.task_program.specs.TreeSoFar.{Block}
 use Rattle.task_program.specs.Grammar.{IsShort}
 use Rattle.task_program.specs.Expanded.{ExpansionState, empty_expansion}
 use Rattle.task_program.specs.ExpandsTo.{state_after_tree, program_of_state, ExpandsTo}
+use Rattle.task_program.proofs.Allowed.{with_few_items}
 use Rattle.loop_text.specs.Loops.{Tree}
 use Rattle.task_program.specs.Grammar.{Spelled}
 use Rattle.task_program.specs.Trees.{HasTree}
@@ -228,7 +229,10 @@ tree_expands program tree fits stands =
     let own = program_fits program (state_after_tree tree) fits goes in (
       record {
         program_is = own.program_is;
-        program_fits = fits;
+        tasks = fits.tasks;
+        segments = fits.segments;
+        work = fits.work;
+        items_fit = with_few_items (length names) marks fits.marks_fit;
         indices_fit = in_range names false marks tree stands;
         turns_fit = own.turns_fit;
         bytes_fit = own.bytes_fit;

@@ -22,7 +22,7 @@ use Rattle.task_program.specs.PlainGrammar.{Written, texts_of, Means, names_of_p
 use Rattle.task_program.specs.Grammar.{IsShort}
 use Rattle.task_program.specs.PlainGrammar.{HasPlainTree, IsItem, named_items}
 use Rattle.task_program.specs.PlainGrammar.Written.{TaskWritten}
-use Rattle.task_program.specs.Programs.{IsNamed, names_of_mark}
+use Rattle.task_program.specs.Programs.{IsNamed, IsProgram, names_of_mark}
 use Rattle.task_program.specs.Nested.{IsNested}
 use Rattle.loop_text.specs.Loops.{Tree}
 use Rattle.task_program.specs.Grammar.{Spelled}
@@ -30,6 +30,7 @@ use Rattle.task_program.specs.Versions.{number_of, begins_version, body_of}
 use Rattle.task_program.specs.Expanded.{ExpansionState, empty_expansion}
 use Rattle.task_program.specs.ExpandsTo.{ExpandsTo, state_after_tree}
 use Rattle.task_program.specs.Trees.{HasTree}
+use Rattle.task_program.proofs.Allowed.{expansion_kept}
 use Rattle.task_program.proofs.FoundPlaces.{same_text}
 use Rattle.task_program.proofs.KeptNames.{HasNames}
 use Rattle.task_program.proofs.NamesOnce.{AreOnce, once_mentioned}
@@ -96,6 +97,7 @@ plain_of_tree text program one h =
     in
     let marks : program.marks ≡ goes.marks =
     ap (λ (p : ProgramMarks). p.marks) expanded.program_is ∙ goes.marks_are in
+    let kept = expansion_kept One (body_of text) h.tree program spelled h.words_fit expanded in
     record {
       in_version = one;
       version = header.number;
@@ -108,7 +110,11 @@ plain_of_tree text program one h =
           (subst (λ (ms : List Mark). AllZip (Means state.names) parts.written ms) (sym marks)
           goes.means);
       names_are = names ∙ goes.names_are;
-      program_fits = expanded.program_fits;
+      nested = kept.nested;
+      tasks = kept.tasks;
+      segments = kept.segments;
+      work = kept.work;
+      marks_fit = kept.marks_fit;
       text_fits = h.text_fits;
       tokens_fit = h.tokens_fit one;
       words_fit = subst (λ (ts : List (List ℕ)). All IsShort ts) (sym header.texts_are)
@@ -203,8 +209,9 @@ any_tree_of_plain written names marks means names_are nested =
 
 pub tree_of_plain : (text : List ℕ) (program : ProgramMarks)
     → HasPlainTree text program
+    → IsProgram program
     → HasTree text program
-tree_of_plain text program h =
+tree_of_plain text program h fits =
     let names : List (List ℕ) = program.names in
     let words : List (List ℕ) = flat_map texts_of h.written in
     let lines = have_lines (tokens_of text) in
@@ -219,7 +226,7 @@ tree_of_plain text program h =
     subst (λ (ts : List (List ℕ)). HasMarks One names MOST_NESTING (with_lines ts later)
     program.marks)
     (joined_pieces h.written)
-    (words_spelled One names MOST_NESTING program.marks (nests program h.program_fits)
+    (words_spelled One names MOST_NESTING program.marks (nests program fits)
     (map (λ piece. texts_of piece) h.written)
     (pieces_spell names h.written program.marks h.means) [] [] later
     (no_marks One names MOST_NESTING)) in
@@ -237,7 +244,7 @@ tree_of_plain text program h =
           (sym h.in_version)
           (subst (λ (ts : List Token). Spelled One true [] MOST_NESTING ts has_marks.tree) body_is
           has_marks.spelled);
-      expanded = (tree_expands program has_marks.tree h.program_fits has_marks.stands).0;
+      expanded = (tree_expands program has_marks.tree fits has_marks.stands).0;
       text_fits = h.text_fits;
       words_fit = subst (λ (ts : List Token). All IsShort (texts ts)) body_is
           (subst (λ (ts : List (List ℕ)). All IsShort ts) (sym (texts_stay words later)) short);

@@ -9,9 +9,11 @@ use Rattle.task_program.specs.declared.version.Version.TheVariants.{One}
 use Rattle.program_text.specs.Marks.{Mark}
 use Rattle.program_text.specs.Marks.Mark.{Begins, Ends, Works, Waits, GroupBegins, GroupEnds}
 use Rattle.program_text.specs.declared.limits.TheConstants.{MOST_TEXT_BYTES, MOST_TOKEN_BYTES}
+use Rattle.program_text.specs.declared.limits.TheConstants.{MOST_TASKS, MOST_SEGMENTS, MOST_WORK}
 use Rattle.program_text.specs.declared.limits.TheConstants.{LARGEST_COST}
+use Rattle.program_text.specs.Limits.{tasks_of, segments_of, work_of}
 use Rattle.task_program.specs.Names.{with_name}
-use Rattle.task_program.specs.Programs.{IsProgram}
+use Rattle.task_program.specs.Programs.{FitsLimits, open_blocks}
 use Rattle.program_text.specs.Tokens.{texts, tokens_of}
 use Rattle.program_text.specs.Words.{is_word, is_number, value_of, type_word}
 use Rattle.task_program.specs.ProgramMarks.{ProgramMarks}
@@ -137,7 +139,11 @@ pub record HasPlainTree (text : List ℕ) (program : ProgramMarks) : Type 0 wher
   -- names are numbered in the order of their first mention
   pub names_are : program.names ≡ fold with_name [] (flat_map names_of_piece written)
   -- and the limits hold
-  pub program_fits : IsProgram program
+  pub nested : open_blocks program.marks ≡ Some []
+  pub tasks : tasks_of program.marks ≤ MOST_TASKS
+  pub segments : segments_of program.marks ≤ MOST_SEGMENTS
+  pub work : work_of program.marks ≤ MOST_WORK
+  pub marks_fit : All (FitsLimits (length program.names)) program.marks
   pub text_fits : length text ≤ MOST_TEXT_BYTES
   pub tokens_fit : sum_by length (texts (tokens_of text)) ≤ MOST_TOKEN_BYTES
   pub words_fit : All IsShort (texts (tokens_of text))
