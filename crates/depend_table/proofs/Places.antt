@@ -19,7 +19,7 @@ use Rattle.depend_table.specs.Siblings.IsAmong.{Newest, Below}
 use Rattle.depend_table.specs.Generations.{HasRank, AreGenerations, mentions, sharing_at}
 use Rattle.depend_table.specs.Entries.{Names, Entry, entry_at, entry_after, entry_with, joins_to}
 use Rattle.depend_table.specs.Entries.{predecessors_of, predecessors_for, sibling_of, newest_first}
-use Rattle.depend_table.specs.Entries.{tasks_of, AreTied, IsInOrder, IsTableOf}
+use Rattle.depend_table.specs.Entries.{items_of, tasks_of, AreTied, IsInOrder, IsTableOf}
 use Rattle.depend_table.proofs.Entered.{IsKeptPlace, predecessors_are_kept, kept_are_predecessors}
 use Rattle.depend_table.proofs.Entered.{tied_after, newest_first-push}
 use Rattle.depend_table.proofs.Lists.{increasing_push, lists_same}
@@ -324,7 +324,7 @@ pub table_after : (names later : Names) (calls : List Call) (call : Call) → Is
     → ((s : Sibling) → Contains (newest_first calls) s → s.task < call.task)
     → ((name : ℕ)
     → entry_at later name
-    ≡ entry_after (length calls) call.items.items call.items.items name (entry_at names name))
+    ≡ entry_after (length calls) (items_of call.items) (items_of call.items) name (entry_at names name))
     → IsTableOf later (calls ++ call ∷ [])
 table_after names later calls call table above same = record {
   ascending = subst IsStrictlyIncreasing (sym (map-append (λ (c : Call). c.task) calls (call ∷ [])))
@@ -332,14 +332,14 @@ table_after names later calls call table above same = record {
   tied = subst (AreTied later) (sym (newest_first-push calls call)) (tied_after names later
       (newest_first calls) (sibling_of
       call) table.tied (λ name. same name
-      ∙ ap (λ n. entry_after n call.items.items call.items.items name (entry_at names name))
+      ∙ ap (λ n. entry_after n (items_of call.items) (items_of call.items) name (entry_at names name))
       (sym (length-newest calls))));
   in_order = λ name.
       subst IsInOrder (ap
-      (λ n. entry_after n call.items.items call.items.items name (entry_at names name))
+      (λ n. entry_after n (items_of call.items) (items_of call.items) name (entry_at names name))
       (length-newest calls)
       ∙ sym (same name))
-      (after_in_order name (newest_first calls) call.items.items (entry_at names name)
+      (after_in_order name (newest_first calls) (items_of call.items) (entry_at names name)
       (table.tied name) (table.in_order name));
 }
   where
