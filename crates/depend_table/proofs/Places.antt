@@ -5,8 +5,9 @@ use Rattle.std.proofs.Common.{ap, subst, arith}
 use Rattle.std.specs.List.{flat_map}
 use Rattle.std.specs.List.Sorted.{IsStrictlyIncreasing}
 use Rattle.std.proofs.lemmas.List.{length-reverse, length-map, reverse-append, map-append}
-use Rattle.std.proofs.lemmas.List.{get_or_append_left}
+use Rattle.std.proofs.lemmas.List.{get_or_append_left, append-nil, get_or-map}
 use Rattle.std.proofs.lemmas.List.Elements.{Contains-get_or}
+use Rattle.std.proofs.lemmas.List.Kept.{AllPairs-from_increasing}
 use Rattle.std.proofs.Math.Seq.{get_or-append_seam}
 use Rattle.program_text.specs.declared.statement.DependKind.{DependKind}
 use Rattle.program_text.specs.declared.statement.Item.{Item}
@@ -18,7 +19,7 @@ use Rattle.depend_table.specs.Siblings.IsAmong.{Newest, Below}
 use Rattle.depend_table.specs.Generations.{HasRank, AreGenerations, mentions, sharing_at}
 use Rattle.depend_table.specs.Entries.{Names, Entry, entry_at, entry_after, entry_with, joins_to}
 use Rattle.depend_table.specs.Entries.{predecessors_of, predecessors_for, sibling_of, newest_first}
-use Rattle.depend_table.specs.Entries.{tasks_of, AreTied, IsInOrder, IsTableOf}
+use Rattle.depend_table.specs.Entries.{items_of, tasks_of, AreTied, IsInOrder, IsTableOf}
 use Rattle.depend_table.proofs.Entered.{IsKeptPlace, predecessors_are_kept, kept_are_predecessors}
 use Rattle.depend_table.proofs.Entered.{tied_after, newest_first-push}
 use Rattle.depend_table.proofs.Lists.{increasing_push, lists_same}
@@ -103,6 +104,53 @@ predecessors_below names calls name sharing table k d h =
     table.tied (Contains-get_or places k d h) in
     omega (arith, length-newest calls)
 
+-- a place among these is of a kept task
+kept_at_place : (names : Names) (calls : List Call) (items : List Item) (place task : ℕ)
+    → IsTableOf names calls → Contains (flat_map (predecessors_for names items) items) place
+    → get_or (tasks_of calls) place 0 ≡ task
+    → IsKept (newest_first calls) items task
+kept_at_place names calls items place task table among found =
+    let at_place = predecessors_are_kept names (newest_first calls) items place table.tied among in
+    let counted = place_counts_older (newest_first calls) at_place.kept.earlier at_place.kept.older
+    at_place.kept.among in
+    record {
+      earlier = at_place.kept.earlier;
+      older = at_place.kept.older;
+      among = at_place.kept.among;
+      number = sym counted.found
+          ∙ ap (λ (xs : List ℕ). get_or xs (length at_place.kept.older) 0)
+          (oldest_first-calls calls)
+          ∙ ap (λ n. get_or (tasks_of calls) n 0) at_place.kept.placed ∙ found;
+      name = at_place.name;
+      conflicts = at_place.kept.conflicts;
+      one_less = at_place.kept.one_less;
+    }
+
+-- a kept task has a place among these
+place_of_kept : (names : Names) (calls : List Call) (items : List Item) (task : ℕ)
+    → IsTableOf names calls → IsKept (newest_first calls) items task → (place : ℕ)
+    × Contains (flat_map (predecessors_for names items) items) place
+    × (get_or (tasks_of calls) place 0 ≡ task)
+place_of_kept names calls items task table k =
+    let counted = place_counts_older (newest_first calls) k.earlier k.older k.among in
+    let at_place : IsKeptPlace (newest_first calls) items (length k.older) = record {
+      name = k.name;
+      kept = record {
+        earlier = k.earlier;
+        older = k.older;
+        among = k.among;
+        placed = refl;
+        conflicts = k.conflicts;
+        one_less = k.one_less;
+      };
+    } in (
+      length k.older,
+      kept_are_predecessors names (newest_first calls) items (length k.older) table.tied at_place,
+      ap (λ (xs : List ℕ). get_or xs (length k.older) 0) (sym (oldest_first-calls calls))
+          ∙ counted.found
+          ∙ k.number,
+    )
+
 -- the tasks at the marked places are the kept ones
 pub kept_listed : (names : Names) (calls : List Call) (items : List Item) (first : ℕ)
     (marks : List Bool) (end : ℕ) (kept : List ℕ)
@@ -120,50 +168,19 @@ kept_listed names calls items first marks end kept table marked within lists =
         → IsMarkedNumber first marks (tasks_of calls) end s
         → IsKept (newest_first calls) items s
     there s m =
-        let at_place =
-        predecessors_are_kept names (newest_first calls) items m.place table.tied
-        ((marked m.place).0 m.marked) in
-        let counted = place_counts_older (newest_first calls) at_place.kept.earlier
-        at_place.kept.older at_place.kept.among in
-        record {
-          earlier = at_place.kept.earlier;
-          older = at_place.kept.older;
-          among = at_place.kept.among;
-          number = sym counted.found
-              ∙ ap (λ (xs : List ℕ). get_or xs (length at_place.kept.older) 0)
-              (oldest_first-calls calls)
-              ∙ ap (λ n. get_or (tasks_of calls) n 0) at_place.kept.placed ∙ m.found;
-          name = at_place.name;
-          conflicts = at_place.kept.conflicts;
-          one_less = at_place.kept.one_less;
-        }
+        kept_at_place names calls items m.place s table ((marked m.place).0 m.marked) m.found
 
     back : (s : ℕ)
         → IsKept (newest_first calls) items s
         → IsMarkedNumber first marks (tasks_of calls) end s
     back s k =
-        let counted = place_counts_older (newest_first calls) k.earlier k.older k.among in
-        let at_place : IsKeptPlace (newest_first calls) items (length k.older) = record {
-          name = k.name;
-          kept = record {
-            earlier = k.earlier;
-            older = k.older;
-            among = k.among;
-            placed = refl;
-            conflicts = k.conflicts;
-            one_less = k.one_less;
-          };
-        } in
-        let at_mark = (marked (length k.older)).1 (kept_are_predecessors names (newest_first calls)
-        items (length k.older) table.tied at_place) in
+        let at_place = place_of_kept names calls items s table k in
+        let at_mark = (marked at_place.0).1 at_place.1 in
         record {
-          place = length k.older;
-          below = within (length k.older) at_mark;
+          place = at_place.0;
+          below = within at_place.0 at_mark;
           marked = at_mark;
-          found = ap (λ (xs : List ℕ). get_or xs (length k.older) 0)
-              (sym (oldest_first-calls calls))
-              ∙ counted.found
-              ∙ k.number;
+          found = at_place.2;
         }
 
 -- the places stay in order
@@ -217,6 +234,80 @@ predecessors_in_order names calls name sharing table =
     by_join true = (table.in_order name).previous
     by_join false = (table.in_order name).current
 
+-- of one item the tasks at the places that it names are the kept ones
+kept_listed_at : (names : Names) (calls : List Call) (item : Item) (kept : List ℕ)
+    → IsTableOf names calls
+    → kept ≡ map (λ place. get_or (tasks_of calls) place 0)
+    (predecessors_for names (item ∷ []) item)
+    → Lists (IsKept (newest_first calls) (item ∷ [])) kept
+kept_listed_at names calls item kept table is =
+    subst (Lists (IsKept (newest_first calls) (item ∷ []))) (sym is)
+    (record { ascending = ascending; each = λ s. (there s, back s) })
+  where
+    places : List ℕ
+    places = predecessors_for names (item ∷ []) item
+
+    task_at : ℕ → ℕ
+    task_at place = get_or (tasks_of calls) place 0
+
+    same : flat_map (predecessors_for names (item ∷ [])) (item ∷ []) ≡ places
+    same = append-nil places
+
+    length-tasks : length (map task_at places) ≡ length places
+    length-tasks = length-map places task_at
+
+    below : (k : ℕ) → k < length places → get_or places k 0 < length (tasks_of calls)
+    below k h =
+        let less : get_or places k 0 < length calls = predecessors_below names calls item.name
+        (sharing_at item.name (item ∷ [])) table k 0 h in
+        omega (arith, length-map calls (λ (c : Call). c.task))
+
+    ascending : IsStrictlyIncreasing (map task_at places)
+    ascending k h =
+        let next : k + 1 < length places = omega (arith, length-tasks) in
+        let up : get_or places k 0 < get_or places (k + 1) 0 = predecessors_in_order names calls
+        item.name (sharing_at item.name (item ∷ [])) table k next in
+        let one : get_or (map task_at places) k 0 ≡ task_at (get_or places k 0) =
+        get_or-map task_at places k 0 0 (omega arith) in
+        let other : get_or (map task_at places) (k + 1) 0 ≡ task_at (get_or places (k + 1) 0) =
+        get_or-map task_at places (k + 1) 0 0 next in
+        let less : task_at (get_or places k 0) < task_at (get_or places (k + 1) 0) =
+        AllPairs-from_increasing (tasks_of calls) table.ascending (get_or places k 0)
+        (get_or places (k + 1) 0) 0 up (below (k + 1) next) in
+        omega arith
+
+    there : (s : ℕ)
+        → Contains (map task_at places) s
+        → IsKept (newest_first calls) (item ∷ []) s
+    there s c =
+        let found =
+        member_of_map task_at places s (member_contains (map task_at places) s c) in
+        kept_at_place names calls (item ∷ []) found.0 s table
+        (subst (λ (xs : List ℕ). Contains xs found.0) (sym same) (contains_member found.1)) found.2
+
+    back : (s : ℕ)
+        → IsKept (newest_first calls) (item ∷ []) s
+        → Contains (map task_at places) s
+    back s k =
+        let at_place = place_of_kept names calls (item ∷ []) s table k in
+        let among : Contains places at_place.0 =
+        subst (λ (xs : List ℕ). Contains xs at_place.0) same at_place.1 in
+        subst (Contains (map task_at places)) at_place.2
+        (contains_member (member_map task_at (member_contains places at_place.0 among)))
+
+-- the same, of a list of one item
+pub kept_listed_at_one : (names : Names) (calls : List Call) (items : List Item) (d : Item)
+    (kept : List ℕ)
+    → IsTableOf names calls → length items ≡ 1
+    → kept ≡ map (λ place. get_or (tasks_of calls) place 0)
+    (predecessors_for names items (get_or items 0 d))
+    → Lists (IsKept (newest_first calls) items) kept
+kept_listed_at_one names calls [] d kept table one is = absurd (omega (arith, one))
+kept_listed_at_one names calls (item ∷ []) d kept table one is =
+    kept_listed_at names calls item kept table is
+kept_listed_at_one names calls (item ∷ other ∷ items) d kept table one is =
+    absurd (omega (arith, one))
+
 -- the same entries in lists of other capacities
 pub table_same : (names later : Names) (calls : List Call) → IsTableOf names calls
     → ((name : ℕ) → entry_at later name ≡ entry_at names name) → IsTableOf later calls
@@ -233,7 +324,7 @@ pub table_after : (names later : Names) (calls : List Call) (call : Call) → Is
     → ((s : Sibling) → Contains (newest_first calls) s → s.task < call.task)
     → ((name : ℕ)
     → entry_at later name
-    ≡ entry_after (length calls) call.items.items call.items.items name (entry_at names name))
+    ≡ entry_after (length calls) (items_of call.items) (items_of call.items) name (entry_at names name))
     → IsTableOf later (calls ++ call ∷ [])
 table_after names later calls call table above same = record {
   ascending = subst IsStrictlyIncreasing (sym (map-append (λ (c : Call). c.task) calls (call ∷ [])))
@@ -241,14 +332,14 @@ table_after names later calls call table above same = record {
   tied = subst (AreTied later) (sym (newest_first-push calls call)) (tied_after names later
       (newest_first calls) (sibling_of
       call) table.tied (λ name. same name
-      ∙ ap (λ n. entry_after n call.items.items call.items.items name (entry_at names name))
+      ∙ ap (λ n. entry_after n (items_of call.items) (items_of call.items) name (entry_at names name))
       (sym (length-newest calls))));
   in_order = λ name.
       subst IsInOrder (ap
-      (λ n. entry_after n call.items.items call.items.items name (entry_at names name))
+      (λ n. entry_after n (items_of call.items) (items_of call.items) name (entry_at names name))
       (length-newest calls)
       ∙ sym (same name))
-      (after_in_order name (newest_first calls) call.items.items (entry_at names name)
+      (after_in_order name (newest_first calls) (items_of call.items) (entry_at names name)
       (table.tied name) (table.in_order name));
 }
   where

@@ -3,7 +3,7 @@ use Rattle.std.proofs.lemmas.List.Elements.{All-contains}
 use Rattle.program_text.specs.declared.statement.Item.{Item}
 use Rattle.depend_table.specs.declared.table.Call.{Call}
 use Rattle.depend_table.specs.Siblings.{Sibling}
-use Rattle.depend_table.specs.Entries.{Entry, entry_at, entry_after, newest_first, IsTableOf}
+use Rattle.depend_table.specs.Entries.{Entry, entry_at, entry_after, items_of, newest_first, IsTableOf}
 use Rattle.depend_table.proofs.Places.{table_after, table_same}
 use Rattle.depend_table.proofs.table.accept.Goals as goal
 
@@ -13,14 +13,14 @@ returns-clause-table c =
     let calls = c.args.calls.now.items in
     let items = c.args.items.now in
     let call : Call = record { task = c.args.task; items = c.in_ok-copy.copy } in
-    let copied : call.items.items ≡ items = c.in_ok-copy.ensures.items in
+    let copied : items_of call.items ≡ items = c.in_ok-copy.ensures in
     let place : c.len-place.result ≡ length calls = search rules in
     let above : (s : Sibling) → Contains (newest_first calls) s → s.task < c.args.task =
     λ s held. All-contains (λ (x : Sibling). x.task < c.args.task) (newest_first calls) s
     c.requires.above held in
     let same : (name : ℕ)
     → entry_at c.enter_all.new.names name
-    ≡ entry_after (length calls) call.items.items call.items.items name (entry_at names name) =
+    ≡ entry_after (length calls) (items_of call.items) (items_of call.items) name (entry_at names name) =
     λ name.
     c.enter_all.ensures name
     ∙ ap (λ (e : Entry). entry_after c.len-place.result items items name e)

@@ -9,11 +9,11 @@ use Rattle.program_text.specs.declared.statement.Item.{Item}
 use Rattle.depend_table.specs.Lists.{Lists}
 use Rattle.depend_table.specs.Siblings.{IsKept}
 use Rattle.depend_table.specs.Entries.{newest_first, tasks_of, predecessors_for}
-use Rattle.depend_table.specs.MarkedPlaces.{AreWithin, IsMarked, AreMarkedToo, IsMarkedNumber}
+use Rattle.depend_table.specs.MarkedPlaces.{IsMarked, AreMarkedToo, IsMarkedNumber}
 use Rattle.depend_table.proofs.MarkedPlaces.{marked_in_turn, marked_within, written_back}
 use Rattle.depend_table.proofs.Places.{kept_listed}
 use Rattle.std.proofs.lemmas.List.Elements.{Contains-get_or}
-use Rattle.depend_table.proofs.table.kept_tasks.Goals as goal
+use Rattle.depend_table.proofs.table.kept_at_each.Goals as goal
 
 abbrev no_item : Item
 no_item = record { kind = DependIn; name = 0 }

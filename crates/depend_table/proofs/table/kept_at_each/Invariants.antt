@@ -2,7 +2,7 @@ use Rattle.std.proofs.Common.{ℕ, ◌+◌, ◌≡◌, ◌↔◌, take, length, 
 use Rattle.std.specs.List.{flat_map}
 use Rattle.depend_table.specs.Entries.{predecessors_for}
 use Rattle.depend_table.specs.MarkedPlaces.{IsMarked}
-use Rattle.depend_table.proofs.table.kept_tasks.Given as goal
+use Rattle.depend_table.proofs.table.kept_at_each.Given as goal
 
 abbrev pub invariant-loop-item : goal.invariant-loop-item
 invariant-loop-item l = record {

@@ -1,0 +1,34 @@
+use Rattle.std.proofs.Common.{ℕ, ◌≡◌, ◌<◌, List, length, map, get_or, All, sym, ◌∙◌, ap, subst}
+use Rattle.std.proofs.lemmas.Result.{IfOk-weaker}
+use Rattle.program_text.specs.declared.statement.DependKind.TheVariants.{DependIn}
+use Rattle.program_text.specs.declared.statement.Item.{Item}
+use Rattle.depend_table.specs.Lists.{Lists}
+use Rattle.depend_table.specs.Siblings.{IsKept}
+use Rattle.depend_table.specs.Entries.{newest_first, tasks_of}
+use Rattle.depend_table.specs.Generations.{sharing_at}
+use Rattle.depend_table.proofs.Places.{kept_listed_at_one, predecessors_below}
+use Rattle.depend_table.proofs.table.kept_at_one.Goals as goal
+
+abbrev no_item : Item
+no_item = record { kind = DependIn; name = 0 }
+
+pub tasks_at-requires : goal.tasks_at-requires
+tasks_at-requires c =
+    let items = c.args.items.now in
+    let item = get_or items 0 no_item in
+    subst (λ (xs : List ℕ). All (λ place. place < length c.args.calls.now) xs)
+    (sym c.predecessors_at-places.ensures)
+    (predecessors_below c.args.names.now c.args.calls.now item.name (sharing_at item.name items)
+    c.requires.table)
+
+pub returns : goal.returns
+returns c =
+    let calls = c.args.calls.now in
+    let items = c.args.items.now in
+    let task_at : ℕ → ℕ = λ n. get_or (tasks_of calls) n 0 in
+    IfOk-weaker c.tasks_at.result
+    (λ tasks. tasks.items ≡ map task_at c.predecessors_at-places.result.now)
+    (λ kept. Lists (IsKept (newest_first calls) items) kept.items)
+    (λ tasks is. kept_listed_at_one c.args.names.now calls items no_item tasks.items
+    c.requires.table c.requires.one (is ∙ ap (map task_at) c.predecessors_at-places.ensures))
+    c.tasks_at.ensures
