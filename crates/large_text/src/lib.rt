@@ -10,6 +10,7 @@ mod measure;
 mod place_tests;
 pub mod reader;
 mod stream;
+mod words;
 
 pub use measure::measure_text;
 pub use stream::TextMeter;

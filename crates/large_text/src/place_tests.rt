@@ -4,6 +4,7 @@ ghost use Rattle.program_text.specs.Words.{is_statement_word, is_type};
 ghost use Rattle.task_program.specs.Faults.{is_header, is_allowed};
 ghost use Rattle.large_text.specs.LargeFaults.{closes_no_block, grammar_fault, is_inside_at, items_coming};
 
+use crate::words::{is_sign, is_task, is_work};
 use program_text::fault::ReadKind;
 use program_text::scanner::Token;
 use program_text::words::value_within;
@@ -43,7 +44,7 @@ fn closes_no_block(place: Place, depth: usize, token: Token<'_>) -> bool
     ensures { result ≡ closes_no_block place depth token.entry.text.now }
 {
     match place {
-        Place::Statement => depth == 0 && token.is(b"}"),
+        Place::Statement => depth == 0 && is_sign(token, b'}'),
         _ => false,
     }
 }
@@ -53,23 +54,25 @@ fn is_allowed(place: Place, has_if: bool, token: Token<'_>) -> bool
 {
     match place {
         Place::Header | Place::Version => true,
-        Place::Statement => is_statement_word(token) || token.is(b"}"),
+        Place::Statement => is_statement_word(token) || is_sign(token, b'}'),
         Place::WorkNumber | Place::IfNumber => token.is_number(),
-        Place::GroupBrace => token.is(b"{"),
-        Place::Clause => { (token.is(b"{") || token.is(b"depend")) || (token.is(b"if") && !has_if) }
-        Place::IfOpens | Place::DependOpens => token.is(b"("),
-        Place::IfCloses => token.is(b")"),
+        Place::GroupBrace => is_sign(token, b'{'),
+        Place::Clause => {
+            (is_sign(token, b'{') || token.is(b"depend")) || (token.is(b"if") && !has_if)
+        }
+        Place::IfOpens | Place::DependOpens => is_sign(token, b'('),
+        Place::IfCloses => is_sign(token, b')'),
         Place::DependType => is_type(token),
-        Place::DependColon(_) => token.is(b":"),
+        Place::DependColon(_) => is_sign(token, b':'),
         Place::DependName(_) => token.is_word(),
-        Place::DependMore(_) => token.is(b",") || token.is(b")"),
+        Place::DependMore(_) => is_sign(token, b',') || is_sign(token, b')'),
     }
 }
 
 fn is_statement_word(token: Token<'_>) -> bool
     ensures { result ≡ is_statement_word token.entry.text.now }
 {
-    (token.is(b"work") || token.is(b"task")) || (token.is(b"taskwait") || token.is(b"taskgroup"))
+    (is_work(token) || is_task(token)) || (token.is(b"taskwait") || token.is(b"taskgroup"))
 }
 
 fn is_type(token: Token<'_>) -> bool

@@ -24,6 +24,7 @@ use crate::forms::form_fault;
 use crate::limits::MOST_LARGE_NESTING;
 use crate::marks::TextMark;
 use crate::place_tests::{grammar_fault, is_inside, items_coming};
+use crate::words::{is_sign, is_task, is_work};
 use program_text::fault::{ReadFault, ReadKind};
 use program_text::limits::{LARGEST_COST, MOST_ITEMS, MOST_WORK};
 use program_text::scanner::Token;
@@ -146,7 +147,7 @@ impl MarkReader {
         let inside = is_inside(self.place);
         if is_value_too_large(inside, token) {
             Some(ReadKind::BadNumber)
-        } else if token.is(b"{") && self.blocks.len() >= MOST_LARGE_NESTING {
+        } else if is_sign(token, b'{') && self.blocks.len() >= MOST_LARGE_NESTING {
             Some(ReadKind::TooDeep)
         } else if self.items.len() + items_coming(self.place) > MOST_ITEMS {
             Some(ReadKind::TooManyItems)
@@ -199,9 +200,9 @@ impl MarkReader {
             ≡ after_statement (state_of self.old marks) token.entry.text.now }
         ensures work { self.new.work ≡ self.old.work + work_of (marks_after [] result) }
     {
-        if token.is(b"work") {
+        if is_work(token) {
             self.go_to(Place::WorkNumber)
-        } else if token.is(b"task") {
+        } else if is_task(token) {
             self.go_to(Place::Clause)
         } else if token.is(b"taskwait") {
             self.place = Place::Statement;
@@ -263,7 +264,7 @@ impl MarkReader {
         ensures work { IfOk result (λ mark. self.new.work
             ≡ self.old.work + work_of (marks_after [] mark)) }
     {
-        if token.is(b"{") {
+        if is_sign(token, b'{') {
             self.open_task(token.line)
         } else if token.is(b"if") {
             Ok(self.go_to(Place::IfOpens))
@@ -325,7 +326,7 @@ impl MarkReader {
             token.entry.line }
         ensures work { self.new.work ≡ self.old.work + work_of (marks_after [] result) }
     {
-        if token.is(b",") {
+        if is_sign(token, b',') {
             self.go_to(Place::DependName(kind))
         } else {
             self.go_to(Place::Clause)
