@@ -13,7 +13,7 @@ use Rattle.task_segments.specs.StartsAndTails.{IsAscending}
 use Rattle.task_segments.specs.Table.{costs_of, table_of}
 use Rattle.task_segments.proofs.Facts.{nested}
 use Rattle.task_segments.proofs.Order.{goes_up}
-use Rattle.task_segments.proofs.Programs.{last_of_nested}
+use Rattle.task_segments.proofs.LastMoment.{last_of_nested}
 use Rattle.task_segments.proofs.Schedules.{IsLegal-by_rule, by_rule, end_of-by_rule}
 use Rattle.task_segments.proofs.Work.{all_work_at}
 use Rattle.online_span.specs.Spans.{IsSpanOf}

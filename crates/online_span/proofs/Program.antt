@@ -9,7 +9,7 @@ use Rattle.task_segments.specs.Schedule.{end_of}
 use Rattle.task_segments.specs.StartsAndTails.{IsAscending, IsEarliest}
 use Rattle.task_segments.proofs.Facts.{IsLast}
 use Rattle.task_segments.proofs.StartsAndTails.{IsSpan-earliest, IsLeastEnd-earliest}
-use Rattle.task_segments.proofs.Programs.{last_of_nested}
+use Rattle.task_segments.proofs.LastMoment.{last_of_nested}
 use Rattle.online_span.specs.Measuring.{IsGreatestEnd}
 use Rattle.online_span.specs.Spans.{IsSpanOf, costs_at}
 use Rattle.online_span.proofs.Stays.{some_segment}

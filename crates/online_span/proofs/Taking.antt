@@ -8,7 +8,7 @@ use Rattle.task_program.specs.Marks.{Mark}
 use Rattle.task_program.specs.Marks.Mark.{Begins, Ends, GroupBegins, GroupEnds}
 use Rattle.task_segments.specs.Moments.{begins_task, opens}
 use Rattle.task_segments.specs.Moments.{open_tasks, open_groups, moment_after}
-use Rattle.task_segments.proofs.Programs.{moment_after-append}
+use Rattle.task_segments.proofs.LastMoment.{moment_after-append}
 use Rattle.task_segments.proofs.Walks.{grows}
 use Rattle.task_segments.proofs.Reading.{IsReading}
 use Rattle.online_span.specs.declared.meter.Meter.{Meter}

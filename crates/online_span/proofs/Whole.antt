@@ -305,7 +305,7 @@ waits e s t b h k =
       waits = closing_at e t Waits b h runs_on.0;
       opens = runs_on.1;
       child = c.child;
-      generated = earlier_child e t Waits b h c.child c.begun c.parent;
+      created = earlier_child e t Waits b h c.child c.begun c.parent;
       last = last_row b e c.child h.later r c.begun c.gone ∙ c.last;
     }
 
@@ -368,7 +368,7 @@ ends_group e s t b h k =
         before = t - 1;
         ends_group = closing_at e t GroupEnds b h runs_on.0;
         opens = runs_on.1;
-        generated = earlier_child e t GroupEnds b h c branch.begun parent;
+        created = earlier_child e t GroupEnds b h c branch.begun parent;
         inside = omega (
           arith,
           count,
@@ -617,7 +617,7 @@ awaits_wait e s t m b h k =
     by_mark GroupBegins h is = absurd cc
     by_mark GroupEnds h is = absurd cc
     by_mark Waits h is =
-        let c = ended_child e t Waits b h refl k.child k.generated in
+        let c = ended_child e t Waits b h refl k.child k.created in
         let r = row_of b e h.later h.last.proper k.child c.begun in
         inr (child_is_listed any_items (running_task b) b h.proper.1 s (record {
           child = k.child;
@@ -639,11 +639,11 @@ listed_in_group e s t b h k =
     let first = innermost b h.grouped in
     let g = first.group in
     let d = k.descendant in
-    let generated = k.encloses.generated in
-    let c = ended_child e t GroupEnds b h refl k.child generated in
+    let created = k.encloses.created in
+    let c = ended_child e t GroupEnds b h refl k.child created in
     let of_child = row_of b e h.later h.last.proper k.child c.begun in
-    let inner = descendant_last T h.nests d k.child generated.is_child k.descends in
-    let before = child_up T h.nests k.child t generated in
+    let inner = descendant_last T h.nests d k.child created.is_child k.descends in
+    let before = child_up T h.nests k.child t created in
     let begun = begun_by e t GroupEnds b h d k.is_descendant (omega arith) in
     let later = ancestor_lower T h.nests d k.child k.descends in
     let child_above = c.above in

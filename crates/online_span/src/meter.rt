@@ -6,12 +6,12 @@ ghost use Rattle.program_text.specs.declared.statement.DependKind.{DependKind};
 ghost use Rattle.task_program.specs.Marks.{Mark};
 ghost use Rattle.task_program.specs.Marks.Mark.{Begins, Ends, Works, Waits, GroupBegins, GroupEnds};
 ghost use Rattle.online_span.specs.Measuring.{Measures, CanTake, raised, Resumes, AreCounted};
-ghost use Rattle.online_span.specs.Names.{ends_at, ends_named, with_items, mentions, IsThere};
+ghost use Rattle.online_span.specs.NameEnds.{ends_at, ends_named, with_items, mentions, IsThere};
 
 mod numbers;
 
-use crate::ends::EndsByKind;
-use crate::names::{latest_conflicting, make_all_room, note_all};
+use crate::ends_by_kind::EndsByKind;
+use crate::name_ends::{latest_conflicting, make_all_room, note_all};
 use std::alloc::Global;
 use std::collections::HashMap;
 use std::mem::replace;

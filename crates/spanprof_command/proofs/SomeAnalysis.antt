@@ -5,8 +5,8 @@ use Rattle.task_segments.proofs.SameSchedules.{same_slack, same_span}
 use Rattle.task_segments.specs.Precedence.{MustPrecede}
 use Rattle.task_segments.specs.Table.{Table}
 use Rattle.depend_table.proofs.Chains.{edge_reaches}
-use Rattle.depend_table.specs.Kept.{IsKeptEdge}
-use Rattle.dispatch_core.proofs.Ends.{graph_of_program}
+use Rattle.depend_table.specs.KeptEdges.{IsKeptEdge}
+use Rattle.dispatch_core.proofs.StartAndEnd.{graph_of_program}
 use Rattle.dispatch_core.specs.Graph.{IsGraphOf}
 use Rattle.dispatch_core.specs.RecordedGraph.{RecordedGraph}
 use Rattle.span_analysis.proofs.OfProgram.{of_program}

@@ -7,7 +7,7 @@ use Rattle.task_program.specs.PlainWords.{all_steps, step_by, words_of}
 use Rattle.task_program.specs.ProgramMarks.{ProgramMarks}
 use Rattle.task_segments.specs.Precedence.{Continues, Creation, IsSegment}
 use Rattle.task_segments.specs.Table.{Table, table_of}
-use Rattle.depend_table.specs.Kept.{IsKeptEdge}
+use Rattle.depend_table.specs.KeptEdges.{IsKeptEdge}
 use Rattle.depend_table.specs.Lists.{Lists}
 use Rattle.dispatch_core.specs.Facts.{IsSoundTable}
 use Rattle.dispatch_core.specs.Run.{HasFinished, IsLegalRun, IsOpen}

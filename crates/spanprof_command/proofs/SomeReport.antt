@@ -27,9 +27,9 @@ use Rattle.task_segments.specs.Precedence.{MustPrecede}
 use Rattle.task_segments.specs.Schedule.{IsSpan, end_of}
 use Rattle.task_segments.specs.Table.{Table, costs_of, table_of}
 use Rattle.depend_table.proofs.Chains.{edge_reaches}
-use Rattle.depend_table.specs.Kept.{IsKeptEdge}
+use Rattle.depend_table.specs.KeptEdges.{IsKeptEdge}
 use Rattle.dispatch_core.proofs.Carried.{graph_ways, graph_within}
-use Rattle.dispatch_core.proofs.Ends.{graph_of_program}
+use Rattle.dispatch_core.proofs.StartAndEnd.{graph_of_program}
 use Rattle.dispatch_core.specs.Facts.{IsSoundTable}
 use Rattle.dispatch_core.specs.Graph.{IsGraphOf}
 use Rattle.dispatch_core.specs.Mix.{mix_value}

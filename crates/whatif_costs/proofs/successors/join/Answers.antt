@@ -1,7 +1,7 @@
 use Rattle.std.proofs.Common.{◌<◌, arith, length, get_or}
 use Rattle.std.proofs.lemmas.List.Elements.{Contains-get_or}
-use Rattle.whatif_costs.specs.Successors.{items_of}
-use Rattle.whatif_costs.proofs.SuccessorSteps.{AreJoined-more, items_of-push, length-items_of}
+use Rattle.whatif_costs.specs.Successors.{lists_of}
+use Rattle.whatif_costs.proofs.SuccessorSteps.{AreJoined-more, lists_of-push, length-lists_of}
 use Rattle.whatif_costs.proofs.successors.join.Goals as goal
 
 pub index_mut-requires : goal.index_mut-requires
@@ -12,8 +12,8 @@ index_mut-requires c =
       arith,
       c.loop-place.lists.ok.0,
       c.loop-place.invariant.each,
-      length-items_of c.loop-place.lists.items,
-      length-items_of c.args.lists.now.items,
+      length-lists_of c.loop-place.lists.items,
+      length-lists_of c.args.lists.now.items,
     )
 
 pub loop-place-preserved : goal.loop-place-preserved
@@ -27,12 +27,12 @@ loop-place-preserved c =
     omega (
       arith,
       c.loop-place.invariant.each,
-      length-items_of c.loop-place.lists.items,
-      length-items_of c.args.lists.now.items,
+      length-lists_of c.loop-place.lists.items,
+      length-lists_of c.args.lists.now.items,
     ) in
-    let within_rows : get_or c.args.places.now c.loop-place.place-index 0 < length
-    (items_of c.loop-place.lists.items) = omega (arith, length-items_of c.loop-place.lists.items) in
-    let pushed = items_of-push lists place c.args.segment c.index_mut.result.now c.push.new.self inside
+    let within_lists : get_or c.args.places.now c.loop-place.place-index 0 < length
+    (lists_of c.loop-place.lists.items) = omega (arith, length-lists_of c.loop-place.lists.items) in
+    let pushed = lists_of-push lists place c.args.segment c.index_mut.result.now c.push.new.self inside
     c.index_mut.ensures.value c.in_ok-push.ensures.items in
-    rw pushed (AreJoined-more c.args.places.now c.args.segment (items_of c.args.lists.now.items)
-    (items_of lists) c.loop-place.place-index c.loop-place-test.true within_rows c.loop-place.invariant)
+    rw pushed (AreJoined-more c.args.places.now c.args.segment (lists_of c.args.lists.now.items)
+    (lists_of lists) c.loop-place.place-index c.loop-place-test.true within_lists c.loop-place.invariant)

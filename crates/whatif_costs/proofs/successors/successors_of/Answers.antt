@@ -1,7 +1,7 @@
 use Rattle.std.proofs.Common.{ℕ, arith, subst, List, Contains}
-use Rattle.whatif_costs.specs.Successors.{items_of, AreJoined}
+use Rattle.whatif_costs.specs.Successors.{lists_of, AreJoined}
 use Rattle.whatif_costs.proofs.SuccessorSteps.{AreSuccessors-more, AreSuccessors-all}
-use Rattle.whatif_costs.proofs.SuccessorSteps.{length-items_of}
+use Rattle.whatif_costs.proofs.SuccessorSteps.{length-lists_of}
 use Rattle.whatif_costs.proofs.successors.successors_of.Goals as goal
 
 pub join-requires : goal.join-requires
@@ -10,12 +10,12 @@ join-requires c = λ s has.
     let P : List ℕ → Type 0 = λ xs. Contains xs s in
     let up =
     c.len-count.ensures.is_graph.smaller s c.loop-segment.segment (subst P c.preds.ensures has) in
-    omega (arith, c.loop-segment.invariant.each, length-items_of c.loop-segment.successors.items)
+    omega (arith, c.loop-segment.invariant.each, length-lists_of c.loop-segment.successors.items)
 
 pub loop-segment-preserved : goal.loop-segment-preserved
 loop-segment-preserved c =
     let P : List ℕ → Type 0 = λ xs. AreJoined xs c.loop-segment.segment
-    (items_of c.loop-segment.successors.items) (items_of c.join.new.lists.items) in
+    (lists_of c.loop-segment.successors.items) (lists_of c.join.new.lists.items) in
     AreSuccessors-more c.args.graph.now c.loop-segment.segment _ _ c.loop-segment.invariant
     (subst P c.preds.ensures c.in_ok-join.ensures)
 
