@@ -2,7 +2,7 @@
 ghost use Rattle.std.specs.Prelude.{◌≡◌, ◌↔◌, IsTrue, IfOk, OnOk, IfErr, IfSome, MatchOption, map};
 ghost use Rattle.std.specs.Prelude.{length};
 ghost use Rattle.worker_run.specs.Answer.{IsWorkerCount, MayAnswer};
-ghost use Rattle.worker_run.specs.Ends.{Tells, TellNothing, IsFirstTold};
+ghost use Rattle.worker_run.specs.WorkerEnds.{Tells, TellNothing, IsFirstTold};
 ghost use Rattle.worker_run.specs.Jobs.{AreFinishedBefore, IsJobOf};
 ghost use Rattle.worker_run.specs.Workers.{AreBelow, worker_of};
 
@@ -72,7 +72,8 @@ impl<K: Kernel> Worked<K> {
 }
 
 /// The core itself, if it has this table and its workers are below this number; otherwise a new
-/// core of the table.
+/// core of the table. No clause tells what comes out of a lock, so the core that did is compared
+/// with a copy of its table.
 fn fitting_core<K: Kernel>(
     alloc: Global,
     core: Core<K>,

@@ -1,7 +1,7 @@
 //! Blocks of every size but one.
 
-/// The sizes of blocks that the C library keeps apart: 24 bytes, 40, 56, and so on.
-pub(super) const LONGEST: usize = 64;
+/// How many sizes of blocks the C library keeps apart: 24 bytes, 40, 56, and so on.
+pub(super) const SIZES: usize = 64;
 
 /// Of one size there are no blocks, but so many of the next one in their place. A freed block is
 /// kept for requests of its own size. So each request of the short size takes a block that no later
@@ -29,7 +29,7 @@ impl Short {
 
     /// The most bytes of a block.
     pub(super) fn request(number: usize) -> usize {
-        24 + 16 * number.min(LONGEST)
+        24 + 16 * number.min(SIZES)
     }
 
     /// How many pieces of a size are there that is neither short nor the next one.

@@ -1,5 +1,5 @@
 //! What memory the process can still have, and from which call on.
-use super::short::{LONGEST, Short};
+use super::short::{SIZES, Short};
 use std::alloc::{AllocError, Global};
 
 /// What is left when memory is taken.
@@ -167,7 +167,7 @@ impl Supply {
         for size in short.long_blocks() {
             self.cut_apart(*size, 1);
         }
-        for number in 0..LONGEST {
+        for number in 0..SIZES {
             self.cut_apart(Short::request(number), short.pieces(number));
         }
         let others = self.pieces.len();
@@ -197,7 +197,7 @@ impl Supply {
 
     /// Lets the C library keep as many freed blocks of each small size as it ever does.
     fn fill_kept(&mut self) {
-        for number in 0..LONGEST {
+        for number in 0..SIZES {
             for _ in 0..KEPT_OF_A_SIZE {
                 self.cut(Short::request(number));
             }
@@ -209,7 +209,7 @@ impl Supply {
     /// size come last.
     fn hold_everything(&mut self) {
         self.hold_arena();
-        for number in 0..LONGEST {
+        for number in 0..SIZES {
             for _ in 0..KEPT_OF_A_SIZE {
                 self.hold(Short::request(number));
             }

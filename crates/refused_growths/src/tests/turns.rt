@@ -1,5 +1,5 @@
 //! Calls are made again and again, each time with other memory left.
-use super::short::{LONGEST, Short};
+use super::short::{SIZES, Short};
 use super::supply::{Left, Supply};
 use super::{Calls, make};
 use std::alloc::AllocGlobal;
@@ -111,7 +111,7 @@ fn refuse_sizes<H: AllocGlobal + Threads + Wait + Abort + Sync>(
     call: usize,
 ) -> Result<usize, Fail> {
     let mut refusals = 0usize;
-    for number in 0..LONGEST - 1 {
+    for number in 0..SIZES - 1 {
         for spare in SPARE {
             let short = Short {
                 number,

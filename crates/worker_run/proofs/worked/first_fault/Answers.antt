@@ -3,7 +3,7 @@ use Rattle.std.specs.Prelude.{Some}
 use Rattle.std.proofs.lemmas.List.{length-map}
 use Rattle.std.proofs.lemmas.Option.{slice_get-map, slice_get-get_or, slice_get_read}
 use Rattle.worker_run.specs.declared.record.RunFault.{RunFault}
-use Rattle.worker_run.specs.Ends.{Tells}
+use Rattle.worker_run.specs.WorkerEnds.{Tells}
 use Rattle.worker_run.proofs.Places.{up_to_next}
 use Rattle.worker_run.proofs.worked.first_fault.Goals as goal
 

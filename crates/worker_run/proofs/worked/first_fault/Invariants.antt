@@ -2,7 +2,7 @@ use Rattle.std.proofs.Common.{ℕ, ◌<◌, ◌≡◌, Some, map}
 use Rattle.std.specs.Prelude.{slice_get}
 use Rattle.worker_run.specs.declared.record.RunFault.{RunFault}
 use Rattle.worker_run.specs.declared.worker.Ending.{Ending}
-use Rattle.worker_run.specs.Ends.{Tells}
+use Rattle.worker_run.specs.WorkerEnds.{Tells}
 use Rattle.worker_run.proofs.worked.first_fault.Given as goal
 
 abbrev pub invariant-loop-end : goal.invariant-loop-end
