@@ -19,7 +19,7 @@ use Rattle.program_text.specs.Marks.Mark.{Begins, Ends, Works, Waits, GroupBegin
 use Rattle.task_program.specs.Canonical.{same_kind, name_of}
 use Rattle.task_program.specs.Programs.{IsLocation, IsNameIn}
 use Rattle.program_text.specs.Tokens.{Token}
-use Rattle.program_text.specs.Words.{is_number, type_word, value_of, type_of}
+use Rattle.program_text.specs.Words.{is_number, type_word, value_of}
 use Rattle.loop_text.specs.Parts.{no_clauses}
 use Rattle.loop_text.specs.Loops.{Tree}
 use Rattle.loop_text.specs.Loops.Tree.{NoStatement, ThenWork, ThenWait, ThenGroup, ThenTask}
@@ -34,7 +34,6 @@ use Rattle.task_program.proofs.Spelled.{spell, decimal_value, decimal_number, af
 use Rattle.task_program.proofs.Spelled.{depend_texts_by, if_texts, line_texts_by}
 use Rattle.task_program.proofs.Locations.{with_lines, lines_apart, StandsFor, ItemIs, version_item}
 use Rattle.program_text.proofs.Bools.{bool_cases}
-use Rattle.task_program.proofs.ReadPieces.{is_type_word, type_of_word}
 
 -- ---- items
 
@@ -65,7 +64,7 @@ depend_front kind a b c d inside = record { text = codes "depend"; line = a }
 closed_clause : (version : Version) (kind : DependKind) (before inside : List Token) (a b c d e : ℕ) (head : LoopHead)
     (items : List LoopItem)
     → ClausesSpelled version true [] before head
-    → ItemsSpelled version [] (type_of (type_word kind)) inside items
+    → ItemsSpelled version [] kind inside items
     → ClausesSpelled version true []
     (before ++ depend_front kind a b c d (inside ++ record { text = codes ")"; line = e } ∷ []))
     (record head { items = head.items ++ items })
@@ -73,14 +72,14 @@ closed_clause version kind before inside a b c d e head items clauses all =
     grammar.ClausesSpelled.Depend [] before inside (record { text = codes "depend"; line = a })
     (record { text = codes "("; line = b }) (record { text = type_word kind; line = c })
     (record { text = codes ":"; line = d }) (record { text = codes ")"; line = e })
-    head items clauses refl refl (is_type_word kind) refl all refl
+    kind head items clauses refl refl refl refl all refl
 
 -- the rest of the items of a task is spelled as the grammar with loops has it
 items_spelled : (version : Version) (names : List (List ℕ)) (kind : DependKind) (items : List Item)
     (before inside : List Token) (a b c d : ℕ) (head : LoopHead) (first : List LoopItem)
     (lines : ℕ → ℕ)
     → ClausesSpelled version true [] before head
-    → ItemsSpelled version [] (type_of (type_word kind)) inside first
+    → ItemsSpelled version [] kind inside first
     → All (HasNameIn version names) items
     → Clauses version names
     (before
@@ -104,19 +103,19 @@ items_spelled version names kind (item ∷ items) before inside a b c d head fir
     (λ same.
     let kind_is : kind ≡ item.kind = same_is kind item.kind same in
     let apart = lines_apart name after (λ i. lines (suc i)) in
-    let one : ItemIs version (type_of (type_word kind)) (name_of names item)
+    let one : ItemIs version kind (name_of names item)
     (with_lines name (λ i. lines (suc i))) =
-    version_item version (type_of (type_word kind)) (name_of names item) (λ i. lines (suc i)) located in
+    version_item version kind (name_of names item) (λ i. lines (suc i)) located in
     let comma : Token = record { text = codes ","; line = lines 0 } in
     let inside_next : List Token = inside ++ comma ∷ with_lines name (λ i. lines (suc i)) in
-    let begun_next : ItemsSpelled version [] (type_of (type_word kind)) inside_next
+    let begun_next : ItemsSpelled version [] kind inside_next
     (first ++ one.item ∷ []) =
-    grammar.ItemsSpelled.More [] (type_of (type_word kind)) inside
+    grammar.ItemsSpelled.More [] kind inside
     (with_lines name (λ i. lines (suc i))) comma first one.item begun refl one.spelled in
-    let begun_so : ItemsSpelled version [] (type_of (type_word item.kind)) inside_next
+    let begun_so : ItemsSpelled version [] item.kind inside_next
     (first ++ one.item ∷ []) = subst
     (λ (k : DependKind).
-    ItemsSpelled version [] (type_of (type_word k)) inside_next (first ++ one.item ∷ []))
+    ItemsSpelled version [] k inside_next (first ++ one.item ∷ []))
     kind_is begun_next in
     let items_so = items_spelled version names item.kind items before inside_next a b c d head
     (first ++ one.item ∷ []) apart.0 clauses begun_so others in
@@ -132,7 +131,7 @@ items_spelled version names kind (item ∷ items) before inside a b c d head fir
     (append_assoc inside (comma ∷ with_lines name (λ i. lines (suc i))) (with_lines after apart.0)
     ∙ ap (λ (ts : List Token). inside ++ comma ∷ ts) (sym apart.1)) in
     let stands : IsItemOf names item one.item = subst
-    (λ (k : DependKind). StandsFor k (name_of names item) one.item) (type_of_word kind ∙ kind_is)
+    (λ (k : DependKind). StandsFor k (name_of names item) one.item) kind_is
     one.stands in
     rw same (record {
       more = one.item ∷ items_so.more;
@@ -149,17 +148,17 @@ items_spelled version names kind (item ∷ items) before inside a b c d head fir
     (λ other.
     let lines_five : ℕ → ℕ = λ i. lines (suc (suc (suc (suc (suc i))))) in
     let apart = lines_apart name after lines_five in
-    let one : ItemIs version (type_of (type_word item.kind)) (name_of names item)
+    let one : ItemIs version item.kind (name_of names item)
     (with_lines name lines_five) =
-    version_item version (type_of (type_word item.kind)) (name_of names item) lines_five located in
+    version_item version item.kind (name_of names item) lines_five located in
     let closes : Token = record { text = codes ")"; line = lines 0 } in
     let before_next : List Token = before ++ depend_front kind a b c d (inside ++ closes ∷ []) in
     let head_next : LoopHead = record head { items = head.items ++ first } in
     let clauses_next : ClausesSpelled version true [] before_next head_next =
     closed_clause version kind before inside a b c d (lines 0) head first clauses begun in
-    let begun_next : ItemsSpelled version [] (type_of (type_word item.kind)) (with_lines name lines_five)
+    let begun_next : ItemsSpelled version [] item.kind (with_lines name lines_five)
     (one.item ∷ []) = grammar.ItemsSpelled.First
-    [] (type_of (type_word item.kind)) (with_lines name lines_five) one.item one.spelled in
+    [] item.kind (with_lines name lines_five) one.item one.spelled in
     let items_so = items_spelled version names item.kind items before_next (with_lines name lines_five)
     (lines 1)
     (lines 2) (lines 3) (lines 4) head_next (one.item ∷ []) apart.0 clauses_next begun_next
@@ -177,9 +176,7 @@ items_spelled version names kind (item ∷ items) before inside a b c d head fir
     ∙ append_assoc before (depend_front kind a b c d (inside ++ closes ∷ [])) later
     ∙ ap (λ (ts : List Token). before ++ depend_front kind a b c d ts)
     (append_assoc inside (closes ∷ []) later) in
-    let stands : IsItemOf names item one.item = subst
-    (λ (k : DependKind). StandsFor k (name_of names item) one.item) (type_of_word item.kind)
-    one.stands in
+    let stands : IsItemOf names item one.item = one.stands in
     rw other (record {
       more = one.item ∷ items_so.more;
       all = items_so.all;
@@ -224,18 +221,16 @@ depends_spelled version names (item ∷ items) before head lines clauses not_fin
     let after : List (List ℕ) = after_texts_by (spell false) names item.kind items in
     let lines_four : ℕ → ℕ = λ i. lines (suc (suc (suc (suc i)))) in
     let apart = lines_apart name after lines_four in
-    let one : ItemIs version (type_of (type_word item.kind)) (name_of names item)
+    let one : ItemIs version item.kind (name_of names item)
     (with_lines name lines_four) = version_item version
-    (type_of (type_word item.kind)) (name_of names item) lines_four
+    item.kind (name_of names item) lines_four
     (All-head (HasNameIn version names) item items all) in
     let items_so = items_spelled version names item.kind items before (with_lines name lines_four) (lines 0)
     (lines 1) (lines 2) (lines 3) head (one.item ∷ []) apart.0 clauses
-    (grammar.ItemsSpelled.First [] (type_of (type_word item.kind)) (with_lines name lines_four)
+    (grammar.ItemsSpelled.First [] item.kind (with_lines name lines_four)
     one.item one.spelled)
     (All-tail (HasNameIn version names) item items all) in
-    let stands : IsItemOf names item one.item = subst
-    (λ (k : DependKind). StandsFor k (name_of names item) one.item) (type_of_word item.kind)
-    one.stands in
+    let stands : IsItemOf names item one.item = one.stands in
     let all_are : items_so.all ≡ one.item ∷ items_so.more =
     items_so.all_are ∙ ap (λ (is : List LoopItem). is ++ one.item ∷ items_so.more) none in
     record {

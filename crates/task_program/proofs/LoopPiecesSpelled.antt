@@ -16,7 +16,7 @@ use Rattle.loop_text.specs.declared.open_loops.LoopOpening.{LoopOpening}
 use Rattle.loop_text.specs.declared.open_loops.LoopOpening.TheVariants.{TaskOpening, GroupOpening}
 use Rattle.loop_text.specs.declared.open_loops.LoopOpening.TheVariants.{ForOpening}
 use Rattle.program_text.specs.Tokens.{Token, texts}
-use Rattle.program_text.specs.Words.{is_text, value_of, type_of, type_word}
+use Rattle.program_text.specs.Words.{is_text, value_of, type_word}
 use Rattle.loop_text.specs.Loops.{Tree}
 use Rattle.loop_text.specs.Loops.Tree.{NoStatement}
 use Rattle.loop_text.specs.OpenBlocks.{variables_around}
@@ -27,7 +27,7 @@ use Rattle.task_program.specs.FirstLoopFault.{IsLoopSentence}
 use Rattle.task_program.specs.Grammar as grammar
 use Rattle.task_program.specs.Grammar.{IndexSpelled, ItemSpelled, ItemsSpelled, ClausesSpelled}
 use Rattle.task_program.specs.Grammar.{OpeningSpelled, Spelled, IsDerived, item_of, task_of}
-use Rattle.task_program.specs.Grammar.IndexSpelled.{Number, Minus, Variable, Plus, Less}
+use Rattle.task_program.specs.Grammar.IndexSpelled.{Number, Minus, Variable, Moved}
 use Rattle.task_program.specs.Grammar.ItemSpelled.{Plain, Indexed}
 use Rattle.task_program.specs.Grammar.ItemsSpelled.{First, More}
 use Rattle.task_program.specs.Grammar.ClausesSpelled.{NoClause, If, Final, Depend}
@@ -35,7 +35,6 @@ use Rattle.task_program.specs.Grammar.OpeningSpelled.{Group, Task, For}
 use Rattle.task_program.specs.Grammar.Spelled.{Nothing, Work, Wait, Block}
 use Rattle.program_text.proofs.Bools.{or_true_right, bool_cases}
 use Rattle.task_program.proofs.FoundPlaces.{same_text}
-use Rattle.task_program.proofs.ReadPieces.{is_type_word, type_of_word}
 use Rattle.task_program.proofs.LoopPieces.{IndexWritten, ItemWritten, LoopClause, LoopPiece}
 use Rattle.task_program.proofs.LoopPieces.{index_texts, item_texts, item_and_comma, clause_texts}
 use Rattle.task_program.proofs.LoopPieces.{piece_texts, HasIndexForm, HasItemForm, IsVariable}
@@ -95,12 +94,12 @@ index_spelled variables (SignIndex variable sign number) form =
     bool_cases (is_text sign (codes "+"))
     (λ is_plus. record {
       index = _;
-      spelled = Plus variables (token_of variable) (token_of sign) (token_of number) _
+      spelled = Moved variables (token_of variable) (token_of sign) (token_of number) _ false
           (known_variable variables variable form.0) (same_text sign (codes "+") is_plus) form.2;
     })
     (λ no_plus. record {
       index = _;
-      spelled = Less variables (token_of variable) (token_of sign) (token_of number) _
+      spelled = Moved variables (token_of variable) (token_of sign) (token_of number) _ true
           (known_variable variables variable form.0)
           (same_text sign (codes "-") (or_true_right (is_text sign (codes "+")) _ form.1 no_plus))
           form.2;
@@ -278,8 +277,8 @@ clauses_after version variables (DependClause kind items last ∷ clauses) befor
     clauses forms in
     let own : IsClauseIn version clause = All-head (IsClauseIn version) clause clauses have in
     let inside_texts = flat_map item_and_comma items ++ item_texts last in
-    let inside : ItemsAre version variables (type_of (type_word kind)) (tokens_of_texts inside_texts) =
-    rw type_of_word (items_spelled version variables kind items last form.0 form.1 own.0 own.1) in
+    let inside : ItemsAre version variables kind (tokens_of_texts inside_texts) =
+    items_spelled version variables kind items last form.0 form.1 own.0 own.1 in
     let here = token_of (codes "depend") ∷ token_of (codes "(") ∷ token_of (type_word kind)
     ∷ token_of (codes ":") ∷ (tokens_of_texts inside_texts ++ token_of (codes ")") ∷ []) in
     let here_is : here ≡ tokens_of_texts (clause_texts clause) =
@@ -291,7 +290,7 @@ clauses_after version variables (DependClause kind items last ∷ clauses) befor
     let later = clauses_after version variables clauses (before ++ here) _
     (Depend variables before (tokens_of_texts inside_texts) (token_of (codes "depend"))
     (token_of (codes "(")) (token_of (type_word kind)) (token_of (codes ":"))
-    (token_of (codes ")")) head inside.items earlier refl refl (is_type_word kind) refl
+    (token_of (codes ")")) kind head inside.items earlier refl refl refl refl
     inside.spelled refl)
     (All-tail (HasLoopClauseForm variables) clause clauses forms)
     (All-tail (IsClauseIn version) clause clauses have) ifs finals in

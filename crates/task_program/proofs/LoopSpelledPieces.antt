@@ -15,20 +15,19 @@ use Rattle.loop_text.specs.declared.loops.LoopItem.{LoopItem}
 use Rattle.loop_text.specs.declared.loop_reader.LoopHead.{LoopHead}
 use Rattle.loop_text.specs.declared.open_loops.LoopOpening.{LoopOpening}
 use Rattle.program_text.specs.Tokens.{Token, texts}
-use Rattle.program_text.specs.Words.{is_type, type_of, type_word}
+use Rattle.program_text.specs.Words.{type_word}
 use Rattle.loop_text.specs.Loops.{Tree}
 use Rattle.loop_text.specs.OpenBlocks.{variables_around, variable_number}
 use Rattle.task_program.specs.declared.version.Version.TheVariants.{Two}
 use Rattle.task_program.specs.Grammar.{IndexSpelled, ItemSpelled, ItemsSpelled, ClausesSpelled}
 use Rattle.task_program.specs.Grammar.{OpeningSpelled, Spelled}
-use Rattle.task_program.specs.Grammar.IndexSpelled.{Number, Minus, Variable, Plus, Less}
+use Rattle.task_program.specs.Grammar.IndexSpelled.{Number, Minus, Variable, Moved}
 use Rattle.task_program.specs.Grammar.ItemSpelled.{Plain, Indexed}
 use Rattle.task_program.specs.Grammar.ItemsSpelled.{First, More}
 use Rattle.task_program.specs.Grammar.ClausesSpelled.{NoClause, If, Final, Depend}
 use Rattle.task_program.specs.Grammar.OpeningSpelled.{Group, Task, For}
 use Rattle.task_program.specs.Grammar.Spelled.{Nothing, Work, Wait, Block}
 use Rattle.task_program.specs.FirstLoopFault.{IsLoopSentence}
-use Rattle.task_program.proofs.Found.{type_is}
 use Rattle.task_program.proofs.LoopPieces.{IndexWritten, ItemWritten, LoopClause, LoopPiece}
 use Rattle.task_program.proofs.LoopPieces.{index_texts, item_texts, item_and_comma, clause_texts}
 use Rattle.task_program.proofs.LoopPieces.{piece_texts, HasIndexForm, HasItemForm}
@@ -78,12 +77,12 @@ index_parts _ _ _ (Variable variables word n is) = record {
   texts_are = refl;
   form = (is.0, around_us variables word.text n is.1);
 }
-index_parts _ _ _ (Plus variables word plus number n is is_plus is_num) = record {
+index_parts _ _ _ (Moved variables word plus number n false is is_plus is_num) = record {
   index = SignIndex word.text plus.text number.text;
   texts_are = refl;
   form = ((is.0, around_us variables word.text n is.1), rw is_plus refl, is_num);
 }
-index_parts _ _ _ (Less variables word minus number n is is_minus is_num) = record {
+index_parts _ _ _ (Moved variables word minus number n true is is_minus is_num) = record {
   index = SignIndex word.text minus.text number.text;
   texts_are = refl;
   form = ((is.0, around_us variables word.text n is.1), rw is_minus refl, is_num);
@@ -188,14 +187,11 @@ clause_more variables before tokens head next clause parts same form one_if one_
   );
 }
 
-depend_texts : (kind : List ℕ) → is_type kind ≡ true → (before last : List (List ℕ))
-    → codes "depend" ∷ codes "(" ∷ kind ∷ codes ":" ∷ ((before ++ last) ++ codes ")" ∷ [])
-    ≡ codes "depend" ∷ codes "(" ∷ type_word (type_of kind) ∷ codes ":"
-    ∷ (before ++ (last ++ codes ")" ∷ []))
-depend_texts kind is_kind before last =
-    ap (λ (word : List ℕ). codes "depend" ∷ codes "(" ∷ word ∷ codes ":"
-    ∷ ((before ++ last) ++ codes ")" ∷ [])) (type_is kind is_kind)
-    ∙ ap (λ (inside : List (List ℕ)). codes "depend" ∷ codes "(" ∷ type_word (type_of kind)
+depend_texts : (type : DependKind) (before last : List (List ℕ))
+    → codes "depend" ∷ codes "(" ∷ type_word type ∷ codes ":" ∷ ((before ++ last) ++ codes ")" ∷ [])
+    ≡ codes "depend" ∷ codes "(" ∷ type_word type ∷ codes ":" ∷ (before ++ (last ++ codes ")" ∷ []))
+depend_texts type before last =
+    ap (λ (inside : List (List ℕ)). codes "depend" ∷ codes "(" ∷ type_word type
     ∷ codes ":" ∷ inside) (append_assoc before last (codes ")" ∷ []))
 
 clauses_parts : (variables : List (List ℕ)) (tokens : List Token) (head : LoopHead)
@@ -220,14 +216,22 @@ clauses_parts _ _ _
     (FinalClause number.text) (clauses_parts variables before head c)
     (rw (is_word, is_open, is_close) refl) is_num.is_number (omega arith) (rw no_such (omega arith))
 clauses_parts _ _ _
-    (Depend variables before inside word opens kind colon closes head items c is_word is_open
+    (Depend variables before inside word opens kind colon closes type head items c is_word is_open
     is_kind is_colon all is_close) =
-    let parts = items_parts variables (type_of kind.text) inside items all in
+    let parts = items_parts variables type inside items all in
     clause_more variables before (word ∷ opens ∷ kind ∷ colon ∷ (inside ++ closes ∷ [])) head _
-    (DependClause (type_of kind.text) parts.items parts.last)
+    (DependClause type parts.items parts.last)
     (clauses_parts variables before head c)
-    (rw (is_word, is_open, is_colon, texts_append inside (closes ∷ []), parts.texts_are, is_close)
-    (depend_texts kind.text is_kind (flat_map item_and_comma parts.items) (item_texts parts.last)))
+    (rw (
+      is_word,
+      is_open,
+      is_kind,
+      is_colon,
+      texts_append inside (closes ∷ []),
+      parts.texts_are,
+      is_close,
+    )
+    (depend_texts type (flat_map item_and_comma parts.items) (item_texts parts.last)))
     (parts.forms, parts.last_form) (omega arith) (omega arith)
 
 -- ---- statements

@@ -21,7 +21,7 @@ use Rattle.program_text.specs.declared.limits.TheConstants.{LARGEST_COST}
 use Rattle.program_text.specs.Marks.{Mark}
 use Rattle.program_text.specs.Marks.Mark.{Begins, Ends, Works, Waits, GroupBegins, GroupEnds}
 use Rattle.program_text.specs.Tokens.{Token, texts}
-use Rattle.program_text.specs.Words.{is_word, is_type, type_of, type_word, value_of}
+use Rattle.program_text.specs.Words.{is_word, type_word, value_of}
 use Rattle.task_program.specs.Names.{number_of_name, with_name}
 use Rattle.loop_text.specs.Loops.{Tree}
 use Rattle.loop_text.specs.Loops.Tree.{ThenWork, ThenWait, ThenTask}
@@ -47,7 +47,6 @@ use Rattle.task_program.specs.PlainGrammar.Clause.{IfClause, DependClause}
 use Rattle.task_program.specs.PlainGrammar.Written.{WorkWritten, TaskWritten, WaitWritten, GroupWritten}
 use Rattle.task_program.specs.PlainGrammar.Written.{EndWritten}
 use Rattle.task_program.specs.PlainGrammar.{IsWord, HasClauseForm, HasForm, EndBlocks}
-use Rattle.task_program.proofs.Found.{type_is}
 use Rattle.task_program.proofs.FoundPlaces.{AllZip-more, AllZip-weaker, flat_map-push, own_number}
 use Rattle.task_program.proofs.FoundPlaces.{means_stable, list_any-more, list_any-same, count-push}
 use Rattle.task_program.proofs.FoundPlaces.{items-if}
@@ -152,14 +151,12 @@ clause_texts_more : (before tokens : List Token) (clauses : List plain.Clause)
 clause_texts_more before tokens clauses clause earlier same =
     texts_append before tokens ∙ rw (earlier, same) (sym (flat_map-push clause_texts clauses clause))
 
-depend_texts : (kind : List ℕ) → is_type kind ≡ true → (before : List (List ℕ)) (last : List ℕ)
-    → codes "depend" ∷ codes "(" ∷ kind ∷ codes ":" ∷ ((before ++ last ∷ []) ++ codes ")" ∷ [])
-    ≡ codes "depend" ∷ codes "(" ∷ type_word (type_of kind) ∷ codes ":"
-    ∷ (before ++ last ∷ codes ")" ∷ [])
-depend_texts kind is_kind before last =
-    ap (λ (word : List ℕ). codes "depend" ∷ codes "(" ∷ word ∷ codes ":"
-    ∷ ((before ++ last ∷ []) ++ codes ")" ∷ [])) (type_is kind is_kind)
-    ∙ ap (λ (inside : List (List ℕ)). codes "depend" ∷ codes "(" ∷ type_word (type_of kind)
+depend_texts : (type : DependKind) (before : List (List ℕ)) (last : List ℕ)
+    → codes "depend" ∷ codes "(" ∷ type_word type ∷ codes ":"
+    ∷ ((before ++ last ∷ []) ++ codes ")" ∷ [])
+    ≡ codes "depend" ∷ codes "(" ∷ type_word type ∷ codes ":" ∷ (before ++ last ∷ codes ")" ∷ [])
+depend_texts type before last =
+    ap (λ (inside : List (List ℕ)). codes "depend" ∷ codes "(" ∷ type_word type
     ∷ codes ":" ∷ inside) (append_assoc before (last ∷ []) (codes ")" ∷ []))
 
 clauses_plain : (limited : Bool) (variables : List (List ℕ)) (tokens : List Token) (head : LoopHead)
@@ -199,11 +196,11 @@ clauses_plain limited _ _ _ (Final variables before word opens number closes hea
     is_word is_open is_num is_close) =
     absurd cc
 clauses_plain limited _ _ _
-    (Depend variables before inside word opens kind colon closes head items c is_word is_open
+    (Depend variables before inside word opens kind colon closes type head items c is_word is_open
     is_kind is_colon all is_close) =
     let p = clauses_plain limited variables before head c in
-    let parts = items_plain variables (type_of kind.text) inside items all in
-    let clause = DependClause (type_of kind.text) parts.names parts.last in
+    let parts = items_plain variables type inside items all in
+    let clause = DependClause type parts.names parts.last in
     record {
       clauses = p.clauses ++ clause ∷ [];
       texts_are = clause_texts_more before
@@ -211,12 +208,13 @@ clauses_plain limited _ _ _
           (rw (
             is_word,
             is_open,
+            is_kind,
             is_colon,
             texts_append inside (closes ∷ []),
             parts.texts_are,
             is_close,
           )
-          (depend_texts kind.text is_kind (flat_map name_and_comma parts.names) parts.last));
+          (depend_texts type (flat_map name_and_comma parts.names) parts.last));
       forms = All-push HasClauseForm p.clauses clause p.forms (parts.words, parts.last_word);
       each = λ is. All-push IsClause p.clauses clause (p.each is) tt;
       ifs = omega (arith, p.ifs, count-push p.clauses clause);

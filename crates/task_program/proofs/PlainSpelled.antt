@@ -18,7 +18,7 @@ use Rattle.task_program.specs.declared.version.Version.TheVariants.{One}
 use Rattle.program_text.specs.Marks.{Mark}
 use Rattle.program_text.specs.Marks.Mark.{Begins, Ends, Works, Waits, GroupBegins, GroupEnds}
 use Rattle.program_text.specs.Tokens.{Token}
-use Rattle.program_text.specs.Words.{type_of, type_word, value_of}
+use Rattle.program_text.specs.Words.{type_word, value_of}
 use Rattle.loop_text.specs.Parts.{no_clauses}
 use Rattle.task_program.specs.PlainGrammar as plain
 use Rattle.task_program.specs.PlainGrammar.{Written, name_and_comma, clause_texts, texts_of, named_items}
@@ -30,7 +30,7 @@ use Rattle.task_program.specs.PlainGrammar.Written.{EndWritten}
 use Rattle.task_program.specs.Grammar as grammar
 use Rattle.task_program.specs.Grammar.{ItemsSpelled, ClausesSpelled, OpeningSpelled, task_of}
 use Rattle.task_program.proofs.Locations.{with_lines, lines_apart}
-use Rattle.task_program.proofs.ReadPieces.{is_type_word, type_of_word, zip_split}
+use Rattle.task_program.proofs.ReadPieces.{zip_split}
 use Rattle.task_program.proofs.Shorter.{named_is}
 use Rattle.task_program.proofs.LinesSpelled.{IsItemOf, IsHead, IsOpening, Spells}
 use Rattle.task_program.proofs.PlainPieces.{zip_append}
@@ -220,9 +220,7 @@ clauses_spelled names (DependClause kind commas last ∷ clauses) before head do
     let apart = lines_apart inside_texts (codes ")" ∷ rest) lines_four in
     let inside : List Token = with_lines inside_texts lines_four in
     let closes : Token = token_of (codes ")") (apart.0 0) in
-    let k : DependKind = type_of (type_word kind) in
-    let own = names_spelled names k kind commas last split.0 lines_four (type_of_word kind) split.3
-    in
+    let own = names_spelled names kind kind commas last split.0 lines_four refl split.3 in
     let front : List Token = token_of (codes "depend") (lines 0) ∷ token_of (codes "(") (lines 1)
     ∷ token_of (type_word kind) (lines 2) ∷ token_of (codes ":") (lines 3) ∷ [] in
     let here : List Token = front ++ (inside ++ closes ∷ []) in
@@ -231,7 +229,7 @@ clauses_spelled names (DependClause kind commas last ∷ clauses) before head do
     (λ i. apart.0 (suc i))
     (grammar.ClausesSpelled.Depend [] before inside (token_of (codes "depend") (lines 0))
     (token_of (codes "(") (lines 1)) (token_of (type_word kind) (lines 2))
-    (token_of (codes ":") (lines 3)) closes head own.loops s refl refl (is_type_word kind) refl
+    (token_of (codes ":") (lines 3)) closes kind head own.loops s refl refl refl refl
     own.spelled refl)
     not_final
     (omega (arith, one_if, sum_by-cons (λ clause. cond (is_if clause) 1 0) clause clauses))
