@@ -16,3 +16,4 @@ pub mod Taking
 pub mod Unpriced
 pub mod Sums
 pub mod Masking
+pub mod Hiding

@@ -139,13 +139,13 @@ same_mark _ _ (Shown GroupBegins) e f h = ap (λ (xs : List Mark). GroupBegins �
 same_mark _ _ (Shown GroupEnds) e f h = ap (λ (xs : List Mark). GroupEnds ∷ xs) h
 same_mark _ _ (Hidden cost) e f h = ap (λ (xs : List Mark). Works 0 ∷ xs) h
 
-same_without : (e f : List Mark) → IsMasked e f → without_costs e ≡ without_costs f
+pub same_without : (e f : List Mark) → IsMasked e f → without_costs e ≡ without_costs f
 same_without [] [] h = refl
 same_without [] (y ∷ f) h = absurd h
 same_without (x ∷ e) [] h = absurd h
 same_without (x ∷ e) (y ∷ f) h = same_mark x y h.0 e f (same_without e f h.1)
 
-same_number : (e f : List Mark) → IsMasked e f → segments_so_far f ≡ segments_so_far e
+pub same_number : (e f : List Mark) → IsMasked e f → segments_so_far f ≡ segments_so_far e
 same_number e f h =
     sym (same_segments f) ∙ ap (λ (xs : List Mark). segments_so_far xs) (sym (same_without e f h))
     ∙ same_segments e
@@ -173,18 +173,19 @@ cost_masked (x ∷ e) [] h s = absurd h
 cost_masked (x ∷ e) (y ∷ f) h s =
     cost_here x y h.0 e f s (same_number e f h.1) (cost_masked e f h.1 s)
 
--- what must precede in the masked program must precede in the whole one
-same_precedence : (e f : List Mark) → IsMasked e f → IsLast e → IsLast f → (s t : ℕ)
+-- what must precede does not depend on costs
+pub same_precedence : (e f : List Mark) → without_costs e ≡ without_costs f → IsLast e → IsLast f
+    → (s t : ℕ)
     → MustPrecede (table_at f) s t
     → MustPrecede (table_at e) s t
-same_precedence e f h last_e last_f s t k =
+same_precedence e f is last_e last_f s t k =
     let bare = awaited_without f s t (preceding_is_awaited f last_f s t k) in
     let same : Awaits (without_costs e) s t =
-    subst (λ (xs : List Mark). Awaits xs s t) (sym (same_without e f h)) bare in
+    subst (λ (xs : List Mark). Awaits xs s t) (sym is) bare in
     awaited_precedes e last_e s t (awaited_with e s t same)
 
 -- a chain under one relation is one under another that has all of it
-chain_under : (R Q : ℕ → ℕ → Type 0) → ((s t : ℕ) → R s t → Q s t) → (list : List ℕ)
+pub chain_under : (R Q : ℕ → ℕ → Type 0) → ((s t : ℕ) → R s t → Q s t) → (list : List ℕ)
     → IsChain R list
     → IsChain Q list
 chain_under R Q f [] h = h
@@ -202,7 +203,7 @@ work_read e (m ∷ marks) =
     )
 
 -- the numbers of a chain's segments ascend
-numbers_ascend : (R : ℕ → ℕ → Type 0) → IsAscending R → (costs list : List ℕ)
+pub numbers_ascend : (R : ℕ → ℕ → Type 0) → IsAscending R → (costs list : List ℕ)
     → AreSegments costs list
     → IsChain R list
     → Ascends 0 (0 + length costs) list
@@ -224,6 +225,34 @@ all_on_chain costs list up all s some = elim (cases_lt s (length costs)) [
   | inr l ↦ absurd (omega (arith, get_or_past costs s 0 l))
 ]
 
+-- the costs of all segments are the work of the program
+pub work_at_last : (body : List Mark) → IsNested body
+    → sum (costs_at (last_moment body)) ≡ work_of body
+work_at_last body nested =
+    omega (
+      arith,
+      all_work_at (last_moment body) (last_of_nested body nested).proper,
+      work_read (Begins false [] ∷ []) body,
+    )
+
+pub same_length : (e f : List Mark) → IsMasked e f → length (costs_at f) ≡ length (costs_at e)
+same_length e f h = costs-length f ∙ same_number e f h ∙ sym (costs-length e)
+
+-- no segment of a list costs more in the masked program
+pub no_more_cost : (e f : List Mark) → IsMasked e f → (list : List ℕ)
+    → AreSegments (costs_at f) list
+    → (s : ℕ)
+    → Contains list s
+    → at (costs_at f) s ≤ at (costs_at e) s
+no_more_cost e f h list inside s c =
+    let l = inside s c in
+    omega (
+      arith,
+      cost-at f s (omega (arith, costs-length f)),
+      cost-at e s (omega (arith, costs-length e, same_length e f h)),
+      cost_masked e f h s,
+    )
+
 pub path_by_masking : (body masked : List Mark) (span : ℕ) → IsNested body
     → IsMasked body masked
     → IsSpanOf body span
@@ -237,28 +266,19 @@ path_by_masking body masked span nested h whole part all =
     let last_e = last_of_nested body nested in
     let last_f = last_of_nested masked (nested_masked body nested masked h) in
     let chain = part.greatest_sum.chain in
-    let many : length (costs_at f) ≡ length (costs_at e) =
-    costs-length f ∙ same_number e f both ∙ sym (costs-length e) in
+    let many = same_length e f both in
     let inside : AreSegments (costs_at e) chain =
     λ s c. omega (arith, part.greatest_sum.segments s c) in
     let linked = chain_under (MustPrecede (table_at f)) (MustPrecede (table_at e))
-    (same_precedence e f both last_e last_f) chain part.greatest_sum.linked in
-    let no_more : (s : ℕ) → Contains chain s → at (costs_at f) s ≤ at (costs_at e) s =
-    λ s c.
-    let l = part.greatest_sum.segments s c in
-    omega (
-      arith,
-      cost-at f s (omega (arith, costs-length f)),
-      cost-at e s (omega (arith, costs-length e)),
-      cost_masked e f both s,
-    ) in
+    (same_precedence e f (same_without e f both) last_e last_f) chain part.greatest_sum.linked in
+    let no_more = no_more_cost e f both chain part.greatest_sum.segments in
     let shown : chain_sum (costs_at f) chain ≡ span = part.greatest_sum.reached in
     let at_most : chain_sum (costs_at e) chain ≤ span =
     whole.greatest_sum.greatest chain inside linked in
     let at_least : chain_sum (costs_at f) chain ≤ chain_sum (costs_at e) chain =
     sum_no_more (at (costs_at f)) (at (costs_at e)) chain no_more in
     let work : sum (costs_at f) ≤ chain_sum (costs_at f) chain =
-    omega (arith, all_work_at f last_f.proper, work_read (Begins false [] ∷ []) masked) in
+    omega (arith, work_at_last masked (nested_masked body nested masked h)) in
     record {
       path = chain;
       segments = inside;

@@ -20,7 +20,7 @@ wider low first end high l h (s ∷ rest) k =
     (omega (arith, k.0), omega (arith, k.1), wider (suc s) (suc s) end high (omega arith) h rest k.2)
 
 -- the costs from a number on
-abbrev AreFrom : (ℕ → ℕ) → ℕ → List ℕ → Type 0
+abbrev pub AreFrom : (ℕ → ℕ) → ℕ → List ℕ → Type 0
 AreFrom cost first costs = (i : ℕ) → cost (first + i) ≡ at costs i
 
 next_costs : (cost : ℕ → ℕ) (first here : ℕ) (costs : List ℕ)
@@ -39,7 +39,7 @@ first_of_sum : (here : ℕ) (costs : List ℕ) → sum (here ∷ costs) ≡ here
 first_of_sum here costs = sum_by-cons (λ n. n) here costs
 
 -- an ascending list has no more than all costs
-ascending_sum : (cost : ℕ → ℕ) (costs : List ℕ) (first : ℕ) → AreFrom cost first costs
+pub ascending_sum : (cost : ℕ → ℕ) (costs : List ℕ) (first : ℕ) → AreFrom cost first costs
     → (list : List ℕ)
     → Ascends first (first + length costs) list
     → sum_by cost list ≤ sum costs
@@ -184,3 +184,60 @@ same_at_each f g (t ∷ rest) h all s (suc i, l, is) =
       sum_by-cons g t rest,
     ) in
     same_at_each f g rest below less s (i, omega arith, is)
+
+least_on_it : (first end : ℕ) (list : List ℕ) → Ascends first end list → (s : ℕ)
+    → Contains list s
+    → first ≤ s
+least_on_it first end [] k s c = absurd (omega (arith, c.1))
+least_on_it first end (t ∷ rest) k s (zero, l, is) = omega (arith, k.0)
+least_on_it first end (t ∷ rest) k s (suc i, l, is) =
+    omega (arith, k.0, least_on_it (suc t) end rest k.2 s (i, omega arith, is))
+
+-- an ascending list that has each number with a cost has all of them
+pub none_off_it : (cost : ℕ → ℕ) (costs : List ℕ) (first : ℕ) → AreFrom cost first costs
+    → (list : List ℕ)
+    → Ascends first (first + length costs) list
+    → ((s : ℕ) → first ≤ s → s < first + length costs → 0 < cost s → Contains list s)
+    → sum costs ≤ sum_by cost list
+none_off_it cost [] first h list k on = omega arith
+none_off_it cost (here ∷ costs) first h [] k on =
+    let later = next_costs cost first here costs h in
+    let begins = first_cost cost first here costs h in
+    let rest = none_off_it cost costs (suc first) later [] tt
+    (λ s l m some. on s (omega arith) (omega arith) some) in
+    elim (cases_lt 0 (cost first)) [
+      | inl l ↦ absurd (omega (arith, (on first (omega arith) (omega arith) l).1))
+      | inr l ↦ omega (arith, first_of_sum here costs)
+    ]
+none_off_it cost (here ∷ costs) first h (t ∷ list) k on =
+    let later = next_costs cost first here costs h in
+    let begins = first_cost cost first here costs h in
+    let total = first_of_sum here costs in
+    let end = first + length (here ∷ costs) in
+    let next = suc first + length costs in
+    elim (cases_lt first t) [
+      | inl l ↦ (
+          let after : Ascends (suc first) next (t ∷ list) =
+          (l, omega (arith, k.1), wider (suc t) (suc t) end next (omega arith) (omega arith) list k.2) in
+          let rest = none_off_it cost costs (suc first) later (t ∷ list) after
+          (λ s l m some. on s (omega arith) (omega arith) some) in
+          elim (cases_lt 0 (cost first)) [
+            | inl some ↦ absurd (omega (
+              arith,
+              least_on_it (suc first) next (t ∷ list) after first
+                  (on first (omega arith) (omega arith) some),
+            ))
+            | inr none ↦ omega arith
+          ])
+      | inr l ↦ (
+          let is : t ≡ first = omega (arith, k.0) in
+          let same = ap cost is ∙ begins in
+          let after = wider (suc first) (suc t) end next (omega arith) (omega arith) list k.2 in
+          let rest = none_off_it cost costs (suc first) later list after
+          (λ s l m some. past s (omega arith) (on s (omega arith) (omega arith) some)) in
+          omega (arith, sum_by-cons cost t list))
+    ]
+  where
+    past : (s : ℕ) → t < s → Contains (t ∷ list) s → Contains list s
+    past s l (zero, m, is) = absurd (omega arith)
+    past s l (suc i, m, is) = (i, omega arith, is)

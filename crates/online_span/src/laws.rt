@@ -29,3 +29,10 @@ pub fn path_by_masking()
         → IsMasked body masked → IsSpanOf body span → IsSpanOf masked span
         → work_of masked ≡ span → ShowsPath body masked span }
 {}
+
+/// Each program has such a masking: all costs but those of one critical path are hidden.
+pub fn some_masking()
+    ensures { (body : List Mark) (span : ℕ) → IsNested body → IsSpanOf body span
+        → (masked : List Mark) × IsMasked body masked × IsSpanOf masked span
+        × (work_of masked ≡ span) }
+{}
