@@ -26,6 +26,7 @@ class Rows(unittest.TestCase):
         self.assertEqual(name_of("chain          curve --upto 64           27.0     149.4   0.18", "instructions"),
                          "chain curve --upto 64")
         self.assertEqual(name_of("tree           10.7     0.11   0.14   0.79      1.7    2.0", "large"), "tree")
+        self.assertEqual(name_of("tree     4 2.0 3.0 4.0 5.0 1.0 1.0 0.50 2.00 0.50 0.25", "recorded_runs"), "tree 4")
 
     def test_what_is_no_row(self):
         for row in ("chain span 20.9 15.2", "chain span 20.9 15.2 1.38 7.7", "chain span 20.9 15.2 1.38  other",
@@ -77,10 +78,16 @@ class Pages(unittest.TestCase):
             with self.assertRaisesRegex(Refused, "the page has [02] tables"):
                 page_with(page, TABLE, "instructions")
 
-    def test_the_page_has_the_tables_of_all_scripts(self):
+    def test_the_first_table(self):
+        begin, end = BEFORE.removesuffix("```\n"), BEHIND.removeprefix("```\n")
+        self.assertEqual(page_with(begin + end, TABLE, "instructions"), BEFORE + TABLE + BEHIND)
+
+    def test_the_page_has_the_markers_of_all_scripts_and_their_tables(self):
         page = PAGE.read_text(encoding="utf-8")
         for script in HEADS:
-            self.assertEqual(page_with(page, marked(script).search(page)[2], script), page)
+            found = marked(script).search(page)
+            if found[2] is not None:
+                self.assertEqual(page_with(page, found[2], script), page)
 
 
 class Program(unittest.TestCase):

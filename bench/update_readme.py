@@ -2,7 +2,7 @@
 """Puts the table that a script of this folder printed into README.md, between the script's markers.
 
     bench/instructions.sh > /tmp/printed && bench/update_readme.py instructions < /tmp/printed
-    bench/update_readme.py [--fewer] commands | instructions | large
+    bench/update_readme.py [--fewer] commands | instructions | large | recorded_runs
 Standard input is what the script printed. It is refused where it has no table, where both programs printed different
 reports, where a line of the table is no row, and where a row of the page's table is missing, unless `--fewer` says that
 this is meant.
@@ -16,8 +16,9 @@ HEADS = {
     "commands": "text command ms plain ms times MiB plain times",
     "instructions": "text command spanprof plain times",
     "large": "text MB seconds plain times MiB plain",
+    "recorded_runs": "tasks threads spanprof median recorder median logged median times times region region",
 }
-NUMBERS = {"commands": 6, "instructions": 3, "large": 6}
+NUMBERS = {"commands": 6, "instructions": 3, "large": 6, "recorded_runs": 10}
 
 
 class Refused(Exception):
@@ -25,13 +26,13 @@ class Refused(Exception):
 
 
 def marked(script):
-    """What finds the table of a script on the page: what is before it, the table, and what is behind it."""
+    """What finds the marker before a script's table, the table if there is one yet, and the marker behind it."""
     begin, end = (re.escape("<!-- %s bench/%s.sh -->\n" % (which, script)) for which in ("begin", "end"))
-    return re.compile("(%s```\n)(.*?)(```\n%s)" % (begin, end), re.DOTALL)
+    return re.compile("(%s)(?:```\n([^`]*)```\n)?(%s)" % (begin, end))
 
 
 def name_of(row, script):
-    """The text of a row, and the command where there is one, as one line of words."""
+    """The text of a row, and its command or threads, as one line of words."""
     found = re.fullmatch(r"(\w+(?: +\w[-\w ]*?)?)(?: +\d+\.\d+){%d}" % NUMBERS[script], row)
     if found is None:
         raise Refused("no row of %s.sh: %s" % (script, row))
@@ -57,12 +58,12 @@ def page_with(page, printed, script, fewer=False):
     found = marked(script).findall(page)
     if len(found) != 1:
         raise Refused("the page has %d tables of %s.sh between markers" % (len(found), script))
-    table, before = table_of(printed, script), table_of(found[0][1], script)
+    table, before = table_of(printed, script), found[0][1].splitlines()
     names = {name_of(row, script) for row in table[1:]}
     missing = [name for name in (name_of(row, script) for row in before[1:]) if name not in names]
     if missing and not fewer:
         raise Refused("%d rows of the page are missing, first: %s" % (len(missing), missing[0]))
-    return marked(script).sub(lambda parts: parts[1] + "\n".join(table) + "\n" + parts[3], page)
+    return marked(script).sub(lambda parts: parts[1] + "\n".join(["```", *table, "```\n"]) + parts[3], page)
 
 
 def main():
