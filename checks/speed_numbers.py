@@ -1,5 +1,6 @@
 #!/usr/bin/env python3
-"""Compares the numbers that README.md tells with the tables of bench/README.md that they are taken from.
+"""Compares the numbers that README.md tells with the tables of bench/README.md that they are taken from, and the rows
+over 1.5 times there with those for which the page tells why.
 
     checks/speed_numbers.py
 """
@@ -11,7 +12,10 @@ import sys
 TOP = pathlib.Path(__file__).resolve().parent.parent
 SECTION = re.compile(r"^### How fast it is$(.*?)^##", re.MULTILINE | re.DOTALL)
 COUNTS = re.compile(r"^## Instructions$(.*?)(?:^## |\Z)", re.MULTILINE | re.DOTALL)
-MEASURED = re.compile(r"^(\w+) +(\w[-\w ]*?) {2,}(\d+\.\d) +(\d+\.\d) ", re.MULTILINE)
+MEASURED = re.compile(r"^(\w+) +(\w[-\w ]*?) {2,}(\d+\.\d) +(\d+\.\d) +(\d+\.\d\d)$", re.MULTILINE)
+LIMIT = decimal.Decimal("1.5")
+WHY = re.compile(r"^## Where it takes over 1\.5 times .*?$(.*?)^## ", re.MULTILINE | re.DOTALL)
+REASON = re.compile(r"^- `([-\w ]+)` (?:on|of) `(\w+)`: (\d+\.\d) times", re.MULTILINE)
 TIMES = re.compile(r"^## Times and memory$(.*?)(?:^## |\Z)", re.MULTILINE | re.DOTALL)
 TIMED = re.compile(r"^(\w+) +(\w[-\w ]*?) {2,}\d+\.\d +\d+\.\d +(\d+\.\d\d) ", re.MULTILINE)
 RANGE = re.compile(r"these\s+rows\s+took\s+(\d+\.\d)\s+to\s+(\d+\.\d)\s+times\s+as\s+long")
@@ -37,6 +41,18 @@ def quoted(readme):
 def measured(bench):
     """By text and command, the two numbers of the table in tenths, without what else it tells."""
     return {(row[1], row[2]): (row[3], row[4]) for row in MEASURED.finditer(COUNTS.search(bench)[1])}
+
+
+def reason_differences(bench):
+    """A line for each row over 1.5 times for which no reason is told, and for each reason that tells another number."""
+    times = {(row[1], row[2]): row[5] for row in MEASURED.finditer(COUNTS.search(bench)[1])}
+    told = {(text, command): number for command, text, number in REASON.findall(WHY.search(bench)[1])}
+    for row, number in times.items():
+        if decimal.Decimal(number) > LIMIT and row not in told:
+            yield "%s %s: %s times, and no reason is told" % (*row, number)
+    for row, number in told.items():
+        if row not in times or number != nearest_tenth(times[row]) or decimal.Decimal(times[row]) <= LIMIT:
+            yield "%s %s: a reason for %s times, and %s were counted" % (*row, number, times.get(row, "none"))
 
 
 def rounded(tenths):
@@ -82,8 +98,11 @@ def range_differences(readme, rows, table):
 def main():
     readme, bench = ((TOP / path).read_text(encoding="utf-8") for path in ("README.md", "bench/README.md"))
     told = quoted(readme)
-    wrong = [*differences(told, measured(bench)), *range_differences(readme, told, timed(bench))]
-    print("\n".join([*wrong, "%d texts and commands and a range compared: %d wrong" % (len(told), len(wrong))]))
+    wrong = [*differences(told, measured(bench)), *range_differences(readme, told, timed(bench)),
+             *reason_differences(bench)]
+    for line in wrong:
+        print(line)
+    print("%d texts and commands, a range and reasons compared: %d wrong" % (len(told), len(wrong)))
     sys.exit(bool(wrong) or not told)
 
 
