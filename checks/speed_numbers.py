@@ -2,7 +2,8 @@
 """Compares the numbers that README.md tells with the tables of bench/README.md that they are taken from, and the rows
 over 1.5 times there with those for which the page tells why.
 
-    checks/speed_numbers.py
+    checks/speed_numbers.py [--write]
+With `--write` the rows of README.md are made anew from the table first.
 """
 import decimal
 import pathlib
@@ -41,6 +42,26 @@ def quoted(readme):
 def measured(bench):
     """By text and command, the two numbers of the table in tenths, without what else it tells."""
     return {(row[1], row[2]): (row[3], row[4]) for row in MEASURED.finditer(COUNTS.search(bench)[1])}
+
+
+def row_with(line, head, table):
+    """This row of the README with the table's numbers, where the table has them."""
+    first, *row = cells(line)
+    name = re.search(r"`(\w+)`", first)[1]
+    for place in range(0, len(row), 2):
+        for which, number in enumerate(table.get((name, head[1 + place].strip("`")), ())):
+            row[place + which] = "{:,}".format(rounded(number))
+    return "| " + " | ".join([first, *row]) + " |"
+
+
+def written(readme, table):
+    """The README with the table's numbers in the place of those that it tells."""
+    section = SECTION.search(readme)
+    head, _, *rows = [line for line in section[1].splitlines() if line.startswith("|")]
+    text = section[0]
+    for line in rows:
+        text = text.replace(line, row_with(line, cells(head), table))
+    return readme[:section.start()] + text + readme[section.end():]
 
 
 def reason_differences(bench):
@@ -97,6 +118,9 @@ def range_differences(readme, rows, table):
 
 def main():
     readme, bench = ((TOP / path).read_text(encoding="utf-8") for path in ("README.md", "bench/README.md"))
+    if sys.argv[1:] == ["--write"]:
+        readme = written(readme, measured(bench))
+        (TOP / "README.md").write_text(readme, encoding="utf-8")
     told = quoted(readme)
     wrong = [*differences(told, measured(bench)), *range_differences(readme, told, timed(bench)),
              *reason_differences(bench)]

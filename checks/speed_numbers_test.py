@@ -5,7 +5,7 @@ import unittest
 
 sys.path.insert(0, str(pathlib.Path(__file__).resolve().parent))
 from speed_numbers import (differences, measured, nearest_tenth, quoted, range_differences, reason_differences,
-                           rounded, timed)
+                           rounded, timed, written)
 
 README = """\
 ### How fast it is
@@ -73,6 +73,18 @@ class Numbers(unittest.TestCase):
         self.assertEqual(list(differences(quoted(README), wrong)), [
             "fan span, spanprof: 75 is told, and 75.6 was measured",
             "fan curve --upto 64, plain: 444 is told, and 443.4 was measured"])
+
+
+class Written(unittest.TestCase):
+    TABLE = TABLE.replace(" 1531.5      27.4 ", " 2531.5      27.5 ").replace("  75.0      45.0 ", "   9.0      44.6 ")
+
+    def test_the_rows_have_the_numbers_of_the_table(self):
+        self.assertEqual(written(README, measured(self.TABLE)), README.replace("| 1,532 | 27 |", "| 2,532 | 28 |")
+                         .replace("| 75 | 45 |", "| 9 | 45 |"))
+
+    def test_numbers_that_the_table_lacks_stay(self):
+        self.assertEqual(written(README, measured(TABLE)), README)
+        self.assertEqual(written(README, {}), README)
 
 
 class Reasons(unittest.TestCase):
