@@ -1,5 +1,5 @@
-// A line for each place: its costs on the path, all its costs, its segments on the path, and its name, which is the rest
-// of the line.
+// A line for each place: its costs on the path, all its costs, its segments on the path, and its name, which is the
+// rest of the line.
 #pragma once
 #include <ostream>
 
