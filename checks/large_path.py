@@ -14,7 +14,6 @@ import re
 import subprocess
 import sys
 import tempfile
-import time
 from collections import Counter
 from pathlib import Path
 
@@ -30,6 +29,13 @@ from record.fault import Fault  # noqa: E402
 from record.measure import HOW, measure, spanprof_large  # noqa: E402
 
 COMMAND = TOP / "tools" / "spanprof-path"
+RUN = """
+import resource, subprocess, sys, time
+began = time.monotonic()
+status = subprocess.call(sys.argv[2:], stdout=open(sys.argv[1], "wb"))
+print(time.monotonic() - began, resource.getrusage(resource.RUSAGE_CHILDREN).ru_maxrss)
+sys.exit(status)
+"""  # in a process of its own: one that is started counts as much memory as whoever starts it
 COMMENTS = ("", "  # a.c:1", "# a.c:2, again", " # \"b\"", "  # work 7 { }")
 
 
@@ -101,15 +107,13 @@ def compare_all(by, named, folder):
 
 
 def run(words, file):
-    """The seconds that it took, and the most memory in MB; the file takes what it prints."""
-    began = time.monotonic()
-    with open(file, "wb") as out:
-        process = subprocess.Popen([str(word) for word in words], stdin=subprocess.DEVNULL, stdout=out)
-        _, status, used = os.wait4(process.pid, 0)
-        process.returncode = os.waitstatus_to_exitcode(status)
-    if process.returncode:
-        raise Wrong("%s: status %d" % (words[0], process.returncode))
-    return time.monotonic() - began, used.ru_maxrss // 1024
+    """The seconds that it took, and the most memory of one process in MB; the file takes what it prints."""
+    words = [sys.executable, "-c", RUN, file] + words
+    done = subprocess.run([str(word) for word in words], capture_output=True, text=True, check=False)
+    if done.returncode or done.stderr:
+        raise Wrong("%s: status %d, %s" % (words[4], done.returncode, done.stderr.strip()))
+    seconds, most = done.stdout.split()
+    return float(seconds), int(most) // 1024
 
 
 def measure_large(by, name, made, folder):
