@@ -1,21 +1,30 @@
 #!/usr/bin/env python3
-"""The timing of recorded_runs.sh: `recorded_runs.py PROGRAM FOLDER TIMES`. FOLDER has openmp, logged, recorder/ and texts/.
-Prints the best and the median wall time of a process in milliseconds."""
+"""The timing of recorded_runs.sh: `recorded_runs.py PROGRAM FOLDER TIMES`.
+
+FOLDER has openmp, logged, recorder/ and texts/. Prints wall times in milliseconds: of whole processes the best and the
+median, how many times as long spanprof's best took as each other's, and the best of the regions that two of them tell.
+"""
 import os
+import re
 import statistics
 import subprocess
 import sys
 import time
+from pathlib import Path
 
 SHAPES = ("independent", "chain", "tree", "grid")
 THREADS = (1, 2, 4)
+PATIENCE = 20  # seconds for a process
+ROW_SECONDS = 9  # a row that took as long is not run again
+HEAD = "tasks        threads  spanprof  median  recorder  median    logged  median  times  times  region  region"
 
 
 def taken(words, text, variables):
-    """The wall time of one process, in milliseconds; it has to end well."""
+    """The wall time of one process, in milliseconds; it has to end, and well."""
     with open(text, "rb") as given:
         began = time.monotonic()
-        subprocess.run(words, stdin=given, stdout=subprocess.DEVNULL, stderr=subprocess.DEVNULL, env=variables, check=True)
+        subprocess.run(words, stdin=given, stdout=subprocess.DEVNULL, stderr=subprocess.DEVNULL, env=variables,
+                       check=True, timeout=PATIENCE)
         return 1000 * (time.monotonic() - began)
 
 
@@ -30,19 +39,51 @@ def runs_of(program, folder, shape, threads):
     yield "logged", [folder + "/logged", shape, folder + "/run.log"], os.devnull, variables
 
 
-def told(times):
-    """The best and the median, as they are printed."""
-    return "%5.1f, %5.1f" % (min(times), statistics.median(times))
+def region_recorded(folder):
+    """By the head of the recorder's text, in milliseconds: with the starting of the region's threads."""
+    text = Path(folder, "record.tasks").read_text("utf-8")
+    return int(re.search(r"^# elapsed: (\d+)$", text, re.MULTILINE)[1]) / 1e6
+
+
+def region_logged(folder):
+    """From the first event of the log to its last, both of the root, in milliseconds."""
+    lines = Path(folder, "run.log").read_text("utf-8").splitlines()
+    first, last = (int(line.split()[3]) for line in (lines[0], lines[-1]))
+    return (last - first) / 1e6
+
+
+REGIONS = {"recorder": region_recorded, "logged": region_logged}
+
+
+def measured(ways, folder, times):
+    """By the names of the ways, the times of their processes and of the regions that they tell. The ways take turns, so
+    that each meets the machine in the same state."""
+    walls, regions = {name: [] for name, *_ in ways}, {name: [] for name in REGIONS}
+    began = time.monotonic()
+    for turn in range(times):
+        if turn and time.monotonic() - began > ROW_SECONDS:
+            break
+        for name, *process in ways:
+            walls[name].append(taken(*process))
+            if name in REGIONS:
+                regions[name].append(REGIONS[name](folder))
+    return walls, regions
+
+
+def row(shape, threads, walls, regions):
+    ours, *others = walls.values()
+    cells = "".join(" %9.1f %7.1f" % (min(times), statistics.median(times)) for times in walls.values())
+    cells += "".join(" %6.2f" % (min(ours) / min(other)) for other in others)
+    return "%-12s %7d" % (shape, threads) + cells + "".join(" %7.2f" % min(times) for times in regions.values())
 
 
 def main():
     program, folder, times = sys.argv[1], sys.argv[2], int(sys.argv[3])
-    print("%-12s %7s  %-14s  %-14s  %-14s" % ("tasks", "threads", "spanprof", "LLVM, recorder", "gcc, logged"))
+    print(HEAD)
     for shape in SHAPES:
         for threads in THREADS:
-            cells = [told([taken(words, text, variables) for _ in range(times)])
-                     for _, words, text, variables in runs_of(program, folder, shape, threads)]
-            print("%-12s %7d  %-14s  %-14s  %-14s" % (shape, threads, *cells), flush=True)
+            ways = list(runs_of(program, folder, shape, threads))
+            print(row(shape, threads, *measured(ways, folder, times)), flush=True)
 
 
 if __name__ == "__main__":

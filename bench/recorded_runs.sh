@@ -1,17 +1,29 @@
 #!/usr/bin/env bash
-# Times whole processes that run the same 4,095 tasks with nothing in them and keep a record of the run: spanprof's `run`,
-# LLVM's runtime with the recorder of tools/openmp_recorder, and gcc's with the events of tools/hand_recorder. Each takes
-# its tasks from outside and writes its record, so each is timed from its start to its end. Needs python3, gcc, make and
-# clang-16 with libomp-16-dev. PROGRAM names spanprof, if it is built; TIMES says how often each is run (20).
+# Times whole processes that run the same 4,095 tasks with nothing in them and keep a record of the run: spanprof's
+# `run`, LLVM's runtime with the recorder of tools/openmp_recorder, and gcc's with the events of tools/hand_recorder.
+# Each takes its tasks from outside and writes its record, so each is timed from its start to its end. Needs python3,
+# gcc, make and clang-16 with libomp-16-dev. It takes three minutes at most, the proof of spanprof left aside.
+#
+#     bench/recorded_runs.sh [--quick]      once each with --quick, else TIMES times (20) or nine seconds long
+#
+# PROGRAM names spanprof, if it is built. `times` is spanprof's best over the recorder's, and then over the log's;
+# `region` is the best of what the recorder tells of the region, with the starting of its threads, and of what the log
+# tells, without.
 set -euo pipefail
 # shellcheck source=bench/common.sh
 . "$(dirname "$0")/common.sh"
+times=${TIMES:-20}
+case "$*" in
+    "") ;;
+    --quick) times=1 ;;
+    *) echo "usage: bench/recorded_runs.sh [--quick]" >&2 && exit 2 ;;
+esac
 llvm=/usr/lib/llvm-16/lib
 build_program
 mkdir "$scratch/texts"
 python3 "$top/bench/worker_run/texts.py" "$scratch/texts"
 cp -r "$top/tools/openmp_recorder" "$scratch/recorder"
-make -s -C "$scratch/recorder"
+make -s -j "$(nproc)" -C "$scratch/recorder"
 clang-16 -O2 -fopenmp "$top/bench/worker_run/openmp.c" -o "$scratch/openmp" "-L$llvm" "-Wl,-rpath,$llvm"
 gcc -O2 -fopenmp "-I$top/tools/hand_recorder" "$top/bench/worker_run/logged.c" -o "$scratch/logged"
-python3 "$top/bench/recorded_runs.py" "$PROGRAM" "$scratch" "${TIMES:-20}"
+python3 "$top/bench/recorded_runs.py" "$PROGRAM" "$scratch" "$times"

@@ -11,7 +11,7 @@ from unittest import mock
 
 sys.path.insert(0, str(pathlib.Path(__file__).resolve().parent))
 import recorded_runs
-from recorded_runs import SHAPES, THREADS, runs_of, taken, told
+from recorded_runs import HEAD, SHAPES, THREADS, region_logged, region_recorded, row, runs_of, taken
 
 
 def python(code):
@@ -29,6 +29,10 @@ class Processes(unittest.TestCase):
     def test_a_process_that_ends_badly_is_no_time(self):
         with self.assertRaises(subprocess.CalledProcessError):
             taken(python("raise SystemExit(1)"), os.devnull, dict(os.environ))
+
+    def test_a_process_that_does_not_end(self):
+        with mock.patch.object(recorded_runs, "PATIENCE", 0.1), self.assertRaises(subprocess.TimeoutExpired):
+            taken(python("import time; time.sleep(60)"), os.devnull, dict(os.environ))
 
     def test_the_time_covers_the_whole_process(self):
         self.assertGreaterEqual(taken(python("import time; time.sleep(0.05)"), os.devnull, dict(os.environ)), 50)
@@ -55,20 +59,62 @@ class Ways(unittest.TestCase):
             self.assertNotIn("SPANPROF_OUT", ways[name][2].keys() - os.environ.keys())
 
 
+class Regions(unittest.TestCase):
+    def test_what_the_recorder_tells(self):
+        with tempfile.TemporaryDirectory() as folder:
+            pathlib.Path(folder, "record.tasks").write_text(
+                "# region: 1 of 1\n# elapsed: 2500000\n# in tasks: 7\nomptasks 1\n", encoding="utf-8")
+            self.assertEqual(region_recorded(folder), 2.5)
+
+    def test_from_the_first_event_of_the_log_to_its_last(self):
+        with tempfile.TemporaryDirectory() as folder:
+            pathlib.Path(folder, "run.log").write_text(
+                "S 0 0 1000000\nC 0 0 1200000 1 0\nS 1 1 1300000\nE 1 1 9000000\nE 0 0 4500000\n", encoding="utf-8")
+            self.assertEqual(region_logged(folder), 3.5)
+
+
+class Turns(unittest.TestCase):
+    WAYS = [(name, [name], "text", {}) for name in ("spanprof", "recorder", "logged")]
+
+    def measured(self, times, seconds=0.0):
+        """What is measured where each process takes 1, 2, 3, .. milliseconds, and so many seconds pass with each."""
+        clock, asked = iter(range(1000)), []
+
+        def process(words, *_):
+            asked.append(words[0])
+            return float(len(asked))
+        with mock.patch.object(recorded_runs, "taken", process), \
+                mock.patch.object(recorded_runs.time, "monotonic", lambda: seconds * next(clock)), \
+                mock.patch.dict(recorded_runs.REGIONS, recorder=lambda _: 0.5, logged=lambda _: 0.25):
+            return asked, recorded_runs.measured(self.WAYS, "/scratch", times)
+
+    def test_the_ways_take_turns(self):
+        asked, (walls, regions) = self.measured(2)
+        self.assertEqual(asked, 2 * ["spanprof", "recorder", "logged"])
+        self.assertEqual(walls, {"spanprof": [1, 4], "recorder": [2, 5], "logged": [3, 6]})
+        self.assertEqual(regions, {"recorder": [0.5, 0.5], "logged": [0.25, 0.25]})
+
+    def test_a_row_ends_when_its_time_is_over(self):
+        self.assertEqual(len(self.measured(20, 4)[0]), 3 * 3)
+        self.assertEqual(len(self.measured(20, 1000)[0]), 3)
+
+
 class Rows(unittest.TestCase):
-    def test_the_best_and_the_median(self):
-        self.assertEqual(told([3.04, 12.0, 2.0]), "  2.0,   3.0")
-        self.assertEqual(told([4.0, 1.0, 2.0, 3.0]), "  1.0,   2.5")
+    def test_best_median_quotients_and_regions(self):
+        told = row("tree", 4, {"spanprof": [3.0, 12.0, 2.0], "recorder": [5.0, 4.0, 9.0], "logged": [1.0, 1.0, 8.0]},
+                   {"recorder": [0.75, 0.5], "logged": [0.25, 0.26]})
+        self.assertEqual(told.split(), "tree 4 2.0 3.0 4.0 5.0 1.0 1.0 0.50 2.00 0.50 0.25".split())
+        self.assertEqual(len(told), len(HEAD))
 
     def test_a_row_for_each_shape_and_number_of_threads(self):
-        printed, asked = io.StringIO(), []
+        printed = io.StringIO()
+        measured = {name: [1.0] for name in ("spanprof", "recorder", "logged")}, {"recorder": [1.0], "logged": [1.0]}
         with mock.patch.object(sys, "argv", ["", "spanprof", "/scratch", "3"]), contextlib.redirect_stdout(printed), \
-                mock.patch.object(recorded_runs, "taken", lambda words, *_: asked.append(words) or 1.0):
+                mock.patch.object(recorded_runs, "measured", lambda *_: measured):
             recorded_runs.main()
         head, *rows = printed.getvalue().splitlines()
-        self.assertEqual(head.split()[:3], ["tasks", "threads", "spanprof"])
-        self.assertEqual([tuple(row.split()[:2]) for row in rows], [(s, str(t)) for s in SHAPES for t in THREADS])
-        self.assertEqual(len(asked), 3 * 3 * len(rows))
+        self.assertEqual(head, HEAD)
+        self.assertEqual([tuple(line.split()[:2]) for line in rows], [(s, str(t)) for s in SHAPES for t in THREADS])
 
 
 if __name__ == "__main__":

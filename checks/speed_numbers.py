@@ -1,8 +1,10 @@
 #!/usr/bin/env python3
-"""Compares the numbers that README.md tells with the table of bench/README.md that they are taken from.
+"""Compares the numbers that README.md tells with the tables of bench/README.md that they are taken from, and the rows
+over 1.5 times there with those for which the page tells why.
 
     checks/speed_numbers.py
 """
+import decimal
 import pathlib
 import re
 import sys
@@ -10,7 +12,13 @@ import sys
 TOP = pathlib.Path(__file__).resolve().parent.parent
 SECTION = re.compile(r"^### How fast it is$(.*?)^##", re.MULTILINE | re.DOTALL)
 COUNTS = re.compile(r"^## Instructions$(.*?)(?:^## |\Z)", re.MULTILINE | re.DOTALL)
-MEASURED = re.compile(r"^(\w+) +(\w[-\w ]*?) {2,}(\d+\.\d) +(\d+\.\d) ", re.MULTILINE)
+MEASURED = re.compile(r"^(\w+) +(\w[-\w ]*?) {2,}(\d+\.\d) +(\d+\.\d) +(\d+\.\d\d)$", re.MULTILINE)
+LIMIT = decimal.Decimal("1.5")
+WHY = re.compile(r"^## Where it takes over 1\.5 times .*?$(.*?)^## ", re.MULTILINE | re.DOTALL)
+REASON = re.compile(r"^- `([-\w ]+)` (?:on|of) `(\w+)`: (\d+\.\d) times", re.MULTILINE)
+TIMES = re.compile(r"^## Times and memory$(.*?)(?:^## |\Z)", re.MULTILINE | re.DOTALL)
+TIMED = re.compile(r"^(\w+) +(\w[-\w ]*?) {2,}\d+\.\d +\d+\.\d +(\d+\.\d\d) ", re.MULTILINE)
+RANGE = re.compile(r"these\s+rows\s+took\s+(\d+\.\d)\s+to\s+(\d+\.\d)\s+times\s+as\s+long")
 
 
 def cells(row):
@@ -35,6 +43,18 @@ def measured(bench):
     return {(row[1], row[2]): (row[3], row[4]) for row in MEASURED.finditer(COUNTS.search(bench)[1])}
 
 
+def reason_differences(bench):
+    """A line for each row over 1.5 times for which no reason is told, and for each reason that tells another number."""
+    times = {(row[1], row[2]): row[5] for row in MEASURED.finditer(COUNTS.search(bench)[1])}
+    told = {(text, command): number for command, text, number in REASON.findall(WHY.search(bench)[1])}
+    for row, number in times.items():
+        if decimal.Decimal(number) > LIMIT and row not in told:
+            yield "%s %s: %s times, and no reason is told" % (*row, number)
+    for row, number in told.items():
+        if row not in times or number != nearest_tenth(times[row]) or decimal.Decimal(times[row]) <= LIMIT:
+            yield "%s %s: a reason for %s times, and %s were counted" % (*row, number, times.get(row, "none"))
+
+
 def rounded(tenths):
     whole, tenth = tenths.split(".")
     return int(whole) + (int(tenth) >= 5)
@@ -51,10 +71,38 @@ def differences(told, table):
                 yield "%s %s, %s: %d is told, and %s was measured" % (text, command, who, number, was)
 
 
+def timed(bench):
+    """By text and command, how many times as long it took, in hundredths, by the table of times."""
+    return {(row[1], row[2]): row[3] for row in TIMED.finditer(TIMES.search(bench)[1])}
+
+
+def nearest_tenth(hundredths):
+    return str(decimal.Decimal(hundredths).quantize(decimal.Decimal("0.1"), decimal.ROUND_HALF_UP))
+
+
+def range_differences(readme, rows, table):
+    """A line for each row that was not timed, or one where the README's sentence tells another range."""
+    missing = [row for row in rows if row not in table]
+    if missing:
+        yield from ("%s %s: not in the table of times" % row for row in missing)
+        return
+    found = RANGE.search(SECTION.search(readme)[1])
+    if found is None:
+        yield "no sentence says how many times as long these rows took"
+        return
+    took = sorted((table[row] for row in rows), key=decimal.Decimal)
+    if found.groups() != (nearest_tenth(took[0]), nearest_tenth(took[-1])):
+        yield "%s to %s times is told, and %s to %s was measured" % (*found.groups(), took[0], took[-1])
+
+
 def main():
-    told = quoted((TOP / "README.md").read_text(encoding="utf-8"))
-    wrong = list(differences(told, measured((TOP / "bench" / "README.md").read_text(encoding="utf-8"))))
-    print("\n".join([*wrong, "%d texts and commands compared: %d wrong" % (len(told), len(wrong))]))
+    readme, bench = ((TOP / path).read_text(encoding="utf-8") for path in ("README.md", "bench/README.md"))
+    told = quoted(readme)
+    wrong = [*differences(told, measured(bench)), *range_differences(readme, told, timed(bench)),
+             *reason_differences(bench)]
+    for line in wrong:
+        print(line)
+    print("%d texts and commands, a range and reasons compared: %d wrong" % (len(told), len(wrong)))
     sys.exit(bool(wrong) or not told)
 
 

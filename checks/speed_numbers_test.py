@@ -4,12 +4,14 @@ import sys
 import unittest
 
 sys.path.insert(0, str(pathlib.Path(__file__).resolve().parent))
-from speed_numbers import differences, measured, quoted, rounded
+from speed_numbers import (differences, measured, nearest_tenth, quoted, range_differences, reason_differences,
+                           rounded, timed)
 
 README = """\
 ### How fast it is
 
-Millions.
+Millions. In processor time these rows
+took 0.9 to 1.7 times as long as it.
 
 | Text | `span` | plain | `curve --upto 64` | plain |
 |---|---|---|---|---|
@@ -31,10 +33,22 @@ chain          curve --upto 64         1531.5      27.4  55.89
 fan            span                      75.0      45.0   1.67
 fan            check                    197.7     131.4   1.51
 
-## The table of times
+## Where it takes over 1.5 times the plain program's instructions, and why
+
+- `curve --upto 64` on `chain`: 55.9 times. It makes
+  all runs.
+- `span` of `chain`: 2.7 times, on 9.4 million.
+- `span` of `fan`: 1.7 times.
+- `whatif`, which the table leaves out, on `chain`: 1.6 times.
+
+## Times and memory
 
 text           command                     ms  plain ms  times      MiB    plain  times
 chain          span                      19.4      13.5   1.44      6.0      3.6   1.68
+chain          curve --upto 64           22.3      13.5   1.65     50.0      3.6   9.02
+chain          check                     90.0      10.0   9.00      6.0      3.6   1.68
+fan            span                      12.7      13.5   0.94      6.0      3.6   0.68
+fan            curve --upto 64          123.4     120.0   1.03      6.0      3.6   1.68
 """
 
 
@@ -59,6 +73,57 @@ class Numbers(unittest.TestCase):
         self.assertEqual(list(differences(quoted(README), wrong)), [
             "fan span, spanprof: 75 is told, and 75.6 was measured",
             "fan curve --upto 64, plain: 444 is told, and 443.4 was measured"])
+
+
+class Reasons(unittest.TestCase):
+    def test_all_rows_over_the_limit_and_no_others(self):
+        self.assertEqual(list(reason_differences(TABLE)), ["fan check: 1.51 times, and no reason is told"])
+        self.assertEqual(list(reason_differences(TABLE.replace("  1.51\n", "  1.50\n"))), [])
+
+    def test_reasons_that_no_longer_hold(self):
+        for number in ("1.49", "1.50"):
+            changed = TABLE.replace("  1.51\n", "  1.40\n").replace("   1.67\n", "   %s\n" % number)
+            self.assertEqual(list(reason_differences(changed)),
+                             ["fan span: a reason for 1.7 times, and %s were counted" % number])
+
+    def test_reasons_with_other_numbers(self):
+        changed = TABLE.replace("  1.51\n", "  1.40\n").replace("55.9 times", "55.8 times")
+        self.assertEqual(list(reason_differences(changed.replace("of `fan`", "of `fans`"))), [
+            "fan span: 1.67 times, and no reason is told",
+            "chain curve --upto 64: a reason for 55.8 times, and 55.89 were counted",
+            "fans span: a reason for 1.7 times, and none were counted"])
+
+
+class Times(unittest.TestCase):
+    def range_of(self, readme, table=TABLE):
+        return list(range_differences(readme, quoted(readme), timed(table)))
+
+    def test_what_was_timed(self):
+        self.assertEqual(timed(TABLE), {
+            ("chain", "span"): "1.44", ("chain", "curve --upto 64"): "1.65", ("chain", "check"): "9.00",
+            ("fan", "span"): "0.94", ("fan", "curve --upto 64"): "1.03"})
+
+    def test_the_nearest_tenth(self):
+        told = [nearest_tenth(hundredths) for hundredths in ("0.94", "0.95", "1.65", "10.04")]
+        self.assertEqual(told, ["0.9", "1.0", "1.7", "10.0"])
+
+    def test_the_range_of_the_rows_that_are_told(self):
+        self.assertEqual(self.range_of(README), [])
+        for other in ("0.8 to 1.7", "0.9 to 1.6", "1.0 to 9.0"):
+            self.assertEqual(self.range_of(README.replace("0.9 to 1.7", other)),
+                             [other + " times is told, and 0.94 to 1.65 was measured"])
+
+    def test_the_greatest_number_is_not_the_last_word(self):
+        slow = TABLE.replace("   1.03 ", "  10.20 ")
+        self.assertEqual(self.range_of(README.replace("to 1.7", "to 10.2"), slow), [])
+
+    def test_no_sentence(self):
+        self.assertEqual(self.range_of(README.replace("took", "need")),
+                         ["no sentence says how many times as long these rows took"])
+
+    def test_a_row_that_was_not_timed(self):
+        fewer = "".join(row for row in TABLE.splitlines(True) if " 12.7 " not in row)
+        self.assertEqual(self.range_of(README, fewer), ["fan span: not in the table of times"])
 
 
 if __name__ == "__main__":

@@ -252,14 +252,14 @@ kernel:
         fi
     fi;
 
-    /* Dispatcher::hand_over, which ends all behind the lock where the run is finished or the finish is refused, and which
-     * starts the next token's segment where the run goes on */
+    /* Dispatcher::hand_over with finish_in, which end all behind the lock where the run is finished or the finish is
+     * refused, and which start the next token's segment where the run goes on */
     /* dispatcher.rt: let mut core = self.lock(rt); */
     atomic { !locked -> locked = true };
     /* dispatcher.rt: match core.finish(worker, outcome) { */
     if
     :: faults > 0 -> faults--;
-        /* dispatcher.rt: let ended = self.signal.end(); */
+        /* dispatcher.rt: let ended = signal.end(); */
         end_all();
         locked = false;
         goto leave

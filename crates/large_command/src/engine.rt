@@ -47,6 +47,9 @@ pub fn command<R: Read, W: Write>(
         (W.contents (inner_of writer.old)) (W.contents (inner_of writer.new))
         (HadFaults (faults_of writer.old) (faults_of writer.new)) result }
     ensures flushed { result ≢ Status.Fault → is_flushed writer.new ≡ true }
+    // Whatever the status.
+    ensures flushed_without_fault { faults_of writer.new ≡ faults_of writer.old
+        → is_flushed writer.new ≡ true }
 
     // In every case.
     ensures reads_nothing { wants_text (large_request_of (map string_bytes words.now)) ≡ false

@@ -3,9 +3,10 @@
 //! `run_program` is all of `main`; what the process gives and takes is named by no contract, so all
 //! else is in `start`.
 ghost use Rattle.std.specs.Prelude.{◌≡◌, ◌≢◌, ◌+◌, ◌<◌, ◌≤◌, ◌^◌, IfErr, IfOk, OnErr, map};
-ghost use Rattle.std.specs.Prelude.{string_bytes};
+ghost use Rattle.std.specs.Prelude.{string_bytes, true};
+ghost use Rattle.std.specs.Process.{exit_status};
 ghost use Rattle.std.specs.IoError.{error_kind};
-ghost use Rattle.counted_io.specs.Counted.{faults_of, flushes_of, inner_of};
+ghost use Rattle.counted_io.specs.Counted.{faults_of, flushes_of, inner_of, is_flushed};
 ghost use Rattle.counted_io.specs.Input.{ConsumesAtMost};
 ghost use Rattle.spanprof_command.specs.Command.{ExitsAfter, ExitsWith, HadFaults};
 ghost use Rattle.spanprof_command.specs.Report.{out_of_memory, wrong_words};
@@ -58,6 +59,9 @@ pub fn start<R: Read, W: Write>(
     // In every case, as of `command`.
     ensures reads_so_much { ConsumesAtMost (LARGEST_TEXT + 1) (R.remaining (inner_of reader.old))
         (R.remaining (inner_of reader.new)) }
+    ensures flushed { exit_status result ≢ 3 → is_flushed writer.new ≡ true }
+    ensures flushed_without_fault { faults_of writer.new ≡ faults_of writer.old
+        → is_flushed writer.new ≡ true }
     ensures flushes { flushes_of writer.new ≤ flushes_of writer.old + 1 }
 {
     let status = match words {

@@ -7,8 +7,8 @@ ghost use Rattle.large_text.specs.LargeFaults.{closes_no_block, grammar_fault, i
 use crate::words::{is_sign, is_task, is_work};
 use program_text::fault::ReadKind;
 use program_text::scanner::Token;
-use program_text::words::value_within;
 use task_program::place::Place;
+use task_program::version::{Version, is_header_word};
 
 /// Why the grammar has not the token at this place, if so.
 pub(crate) fn grammar_fault(
@@ -34,8 +34,8 @@ fn is_header(place: Place, token: Token<'_>) -> bool
     ensures { result ≡ is_header place token.entry.text.now }
 {
     match place {
-        Place::Header => token.is(b"omptasks"),
-        Place::Version => token.is_number() && value_within(token.text, 1) == Some(1),
+        Place::Header => is_header_word(token),
+        Place::Version => Version::One.is_named_by(token),
         _ => true,
     }
 }

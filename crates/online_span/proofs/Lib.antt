@@ -13,3 +13,7 @@ pub mod InGroups
 pub mod Whole
 pub mod Program
 pub mod Taking
+pub mod Unpriced
+pub mod Sums
+pub mod Masking
+pub mod Hiding

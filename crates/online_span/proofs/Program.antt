@@ -16,7 +16,7 @@ use Rattle.online_span.proofs.Stays.{some_segment}
 use Rattle.online_span.proofs.Earliest.{ascends, earliest, span_under, starts_at, costs-length}
 use Rattle.online_span.proofs.Whole.{awaited_precedes, preceding_is_awaited}
 
-must_ascend : (e : List Mark) → IsLast e → IsAscending (MustPrecede (table_at e))
+pub must_ascend : (e : List Mark) → IsLast e → IsAscending (MustPrecede (table_at e))
 must_ascend e last = record {
   up = λ s t r. (ascends e last.proper).up s t (preceding_is_awaited e last s t r);
 }

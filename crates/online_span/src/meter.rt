@@ -168,7 +168,7 @@ impl Meter {
         let start = self.running.end.max(conflicting);
         let child = OpenTask::new(self.alloc, undeferred, items, start);
         let parent = replace(&mut self.running, child);
-        self.outer.push(parent).unwrap();
+        self.outer.push_reserved(parent);
         self.segments += 1;
         self.tasks += 1;
     }
@@ -188,7 +188,7 @@ impl Meter {
                 Ok(())
             }
             Err(fault) => {
-                self.outer.push(parent).unwrap();
+                self.outer.push_reserved(parent);
                 Err(fault)
             }
         }
@@ -216,6 +216,6 @@ fn raise_last(numbers: &mut Vec<u64>, floor: u64)
     ensures { reverse numbers.new.items ≡ raised floor (reverse numbers.old.items) }
 {
     if let Some(last) = numbers.pop() {
-        numbers.push(last.max(floor)).unwrap();
+        numbers.push_reserved(last.max(floor));
     }
 }

@@ -86,6 +86,9 @@ fn broken_in_column(
     ensures { IsColumn table.now (moments_of_starts starts.now) column result }
 {
     within_limits(table);
+    if column >= table.len() {
+        return None;
+    }
     let mut marks = NameMarks::new();
     let mut t = column;
     while t < table.len() {

@@ -26,7 +26,7 @@ use Rattle.loop_text.specs.FirstPass.{ends_item}
 use Rattle.loop_text.specs.LoopTokens.{is_plus_or_minus}
 use Rattle.task_program.proofs.LoopPieces.{IndexWritten, ItemWritten, LoopClause, LoopPiece}
 use Rattle.task_program.proofs.LoopPieces.{index_texts, item_texts, item_and_comma}
-use Rattle.task_program.proofs.LoopPieces.{clause_texts, piece_texts, IsNumber, IsVariable}
+use Rattle.task_program.proofs.LoopPieces.{clause_texts, piece_texts, HasNumberForm, IsVariableAround}
 use Rattle.task_program.proofs.LoopPieces.{HasIndexForm, HasItemForm, HasLoopClauseForm, is_if}
 use Rattle.task_program.proofs.LoopPieces.{is_final, HaveLoopForms}
 use Rattle.task_program.proofs.LoopPieces.IndexWritten.{NumberIndex, MinusIndex, VariableIndex}
@@ -90,7 +90,7 @@ accepts_one_more place has_if has_final x variables around text ts h later =
 start_number : (kind : DependKind) (has_if has_final : Bool) (x : List ℕ)
     (variables : List (List ℕ))
     (around : List (List (List ℕ))) (text : List ℕ) (ts : List (List ℕ))
-    → IsNumber text → Accepted (IndexCloses kind) has_if has_final x variables around ts
+    → HasNumberForm text → Accepted (IndexCloses kind) has_if has_final x variables around ts
     → Accepted (IndexStart kind) has_if has_final x variables around (text ∷ ts)
 start_number kind has_if has_final x variables around text ts number later =
     accepts_one_more (IndexStart kind) has_if has_final x variables around text ts (rw number refl)
@@ -99,7 +99,7 @@ start_number kind has_if has_final x variables around text ts number later =
 start_variable : (kind : DependKind) (has_if has_final : Bool) (x : List ℕ)
     (variables : List (List ℕ))
     (around : List (List (List ℕ))) (text : List ℕ) (ts : List (List ℕ))
-    → IsVariable variables text → Accepted (IndexSign kind) has_if has_final x variables around ts
+    → IsVariableAround variables text → Accepted (IndexSign kind) has_if has_final x variables around ts
     → Accepted (IndexStart kind) has_if has_final x variables around (text ∷ ts)
 start_variable kind has_if has_final x variables around text ts known later =
     let no_number : is_number text ≡ false =
@@ -222,7 +222,7 @@ depend_accepted kind has_if has_final x variables around ts later =
 if_accepted : (has_final : Bool) (x : List ℕ) (variables : List (List ℕ))
     (around : List (List (List ℕ)))
     (number : List ℕ) (ts : List (List ℕ))
-    → IsNumber number → Accepted Clause true has_final x variables around ts
+    → HasNumberForm number → Accepted Clause true has_final x variables around ts
     → Accepted Clause false has_final x variables around
     (codes "if" ∷ codes "(" ∷ number ∷ codes ")" ∷ ts)
 if_accepted has_final x variables around number ts h later =
@@ -241,7 +241,7 @@ final_fits false variables around = refl
 final_accepted : (has_if : Bool) (x : List ℕ) (variables : List (List ℕ))
     (around : List (List (List ℕ)))
     (number : List ℕ) (ts : List (List ℕ))
-    → IsNumber number → Accepted Clause has_if true x variables around ts
+    → HasNumberForm number → Accepted Clause has_if true x variables around ts
     → Accepted Clause has_if false x variables around
     (codes "final" ∷ codes "(" ∷ number ∷ codes ")" ∷ ts)
 final_accepted has_if x variables around number ts h later =

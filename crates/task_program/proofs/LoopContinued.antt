@@ -26,8 +26,8 @@ use Rattle.program_text.specs.Words.{is_text, is_word, is_number, type_word}
 use Rattle.loop_text.specs.FirstPass.{ends_item}
 use Rattle.loop_text.specs.LoopTokens.{is_plus_or_minus}
 use Rattle.task_program.proofs.LoopPieces.{ItemWritten, LoopClause, index_texts, item_texts}
-use Rattle.task_program.proofs.LoopPieces.{item_and_comma, clause_texts, IsNumber, IsWord}
-use Rattle.task_program.proofs.LoopPieces.{IsVariable, IsNewVariable, HasItemForm}
+use Rattle.task_program.proofs.LoopPieces.{item_and_comma, clause_texts, HasNumberForm, IsWord}
+use Rattle.task_program.proofs.LoopPieces.{IsVariableAround, IsNewVariable, HasItemForm}
 use Rattle.task_program.proofs.LoopPieces.{HasLoopClauseForm, is_if, is_final}
 use Rattle.task_program.proofs.LoopPieces.IndexWritten.{NumberIndex, MinusIndex, VariableIndex}
 use Rattle.task_program.proofs.LoopPieces.IndexWritten.{SignIndex}
@@ -169,7 +169,7 @@ start_variable : (variables : List (List ℕ)) (text : List ℕ)
     → (is_number text
     || (is_text text (codes "-") || (is_word text && list_any (bytes_eq text) variables)))
     ≡ true
-    → is_number text ≡ false → is_text text (codes "-") ≡ false → IsVariable variables text
+    → is_number text ≡ false → is_text text (codes "-") ≡ false → IsVariableAround variables text
 start_variable variables text h no_number no_minus =
     let both : (is_word text && list_any (bytes_eq text) variables) ≡ true = or_true_right
     (is_text text (codes "-")) _ (or_true_right (is_number text) _ h no_number) no_minus in
@@ -196,7 +196,7 @@ start_back kind has_if has_final x variables around text ts h =
 -- the number of an index, in front of the rest
 number_back : (kind : DependKind) (has_if has_final : Bool) (x : List ℕ) (variables : List (List ℕ))
     (around : List (List (List ℕ))) (text : List ℕ) (ts : List (List ℕ))
-    → IsNumber text
+    → HasNumberForm text
     → FollowsAt (IndexCloses kind) has_if has_final x variables around ts
     → (name : List ℕ)
     → IsWord name

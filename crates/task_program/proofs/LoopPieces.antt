@@ -71,34 +71,34 @@ piece_texts EndPiece = codes "}" ∷ []
 
 -- ---- what the grammar has, inside loops with these variables
 
-abbrev pub IsNumber : List ℕ → Type 0
-IsNumber text = is_number text ≡ true
+abbrev pub HasNumberForm : List ℕ → Type 0
+HasNumberForm text = is_number text ≡ true
 
 abbrev pub IsWord : List ℕ → Type 0
 IsWord text = is_word text ≡ true
 
 -- a variable of a loop around
-abbrev pub IsVariable : List (List ℕ) → List ℕ → Type 0
-IsVariable variables text = (is_word text ≡ true) × (list_any (bytes_eq text) variables ≡ true)
+abbrev pub IsVariableAround : List (List ℕ) → List ℕ → Type 0
+IsVariableAround variables text = (is_word text ≡ true) × (list_any (bytes_eq text) variables ≡ true)
 
 -- a variable that no loop around has
 abbrev pub IsNewVariable : List (List ℕ) → List ℕ → Type 0
 IsNewVariable variables text = (is_word text ≡ true) × (list_any (bytes_eq text) variables ≡ false)
 
 abbrev pub HasIndexForm : List (List ℕ) → IndexWritten → Type 0
-HasIndexForm variables (NumberIndex number) = IsNumber number
-HasIndexForm variables (MinusIndex number) = IsNumber number
-HasIndexForm variables (VariableIndex variable) = IsVariable variables variable
+HasIndexForm variables (NumberIndex number) = HasNumberForm number
+HasIndexForm variables (MinusIndex number) = HasNumberForm number
+HasIndexForm variables (VariableIndex variable) = IsVariableAround variables variable
 HasIndexForm variables (SignIndex variable sign number) =
-    IsVariable variables variable × (is_plus_or_minus sign ≡ true) × IsNumber number
+    IsVariableAround variables variable × (is_plus_or_minus sign ≡ true) × HasNumberForm number
 
 abbrev pub HasItemForm : List (List ℕ) → ItemWritten → Type 0
 HasItemForm variables (PlainItem name) = IsWord name
 HasItemForm variables (IndexedItem name index) = IsWord name × HasIndexForm variables index
 
 abbrev pub HasLoopClauseForm : List (List ℕ) → LoopClause → Type 0
-HasLoopClauseForm variables (IfClause number) = IsNumber number
-HasLoopClauseForm variables (FinalClause number) = IsNumber number
+HasLoopClauseForm variables (IfClause number) = HasNumberForm number
+HasLoopClauseForm variables (FinalClause number) = HasNumberForm number
 HasLoopClauseForm variables (DependClause kind items last) =
     All (HasItemForm variables) items × HasItemForm variables last
 
@@ -126,7 +126,7 @@ abbrev pub HaveLoopForms : List LoopPiece
 HaveLoopForms [] variables [] = Unit {0}
 HaveLoopForms [] variables (outer ∷ around) = ⊥
 HaveLoopForms (WorkPiece number ∷ pieces) variables around =
-    IsNumber number × HaveLoopForms pieces variables around
+    HasNumberForm number × HaveLoopForms pieces variables around
 HaveLoopForms (TaskPiece clauses ∷ pieces) variables around =
     HaveClauseForms variables clauses × HaveLoopForms pieces variables (variables ∷ around)
 HaveLoopForms (WaitPiece ∷ pieces) variables around = HaveLoopForms pieces variables around
@@ -134,8 +134,8 @@ HaveLoopForms (GroupPiece ∷ pieces) variables around =
     HaveLoopForms pieces variables (variables ∷ around)
 HaveLoopForms (ForPiece variable first last ∷ pieces) variables around =
     IsNewVariable variables variable
-    × IsNumber first
-    × IsNumber last
+    × HasNumberForm first
+    × HasNumberForm last
     × HaveLoopForms pieces (variable ∷ variables) (variables ∷ around)
 HaveLoopForms (EndPiece ∷ pieces) variables [] = ⊥
 HaveLoopForms (EndPiece ∷ pieces) variables (outer ∷ around) = HaveLoopForms pieces outer around

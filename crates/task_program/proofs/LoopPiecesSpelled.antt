@@ -37,7 +37,7 @@ use Rattle.program_text.proofs.Bools.{or_true_right, bool_cases}
 use Rattle.task_program.proofs.FoundPlaces.{same_text}
 use Rattle.task_program.proofs.LoopPieces.{IndexWritten, ItemWritten, LoopClause, LoopPiece}
 use Rattle.task_program.proofs.LoopPieces.{index_texts, item_texts, item_and_comma, clause_texts}
-use Rattle.task_program.proofs.LoopPieces.{piece_texts, HasIndexForm, HasItemForm, IsVariable}
+use Rattle.task_program.proofs.LoopPieces.{piece_texts, HasIndexForm, HasItemForm, IsVariableAround}
 use Rattle.task_program.proofs.LoopPieces.{HasLoopClauseForm, HaveClauseForms, HaveLoopForms}
 use Rattle.task_program.proofs.LoopPieces.{is_if, is_final, IsItemIn, IsClauseIn, IsPieceIn}
 use Rattle.task_program.proofs.LoopPieces.{all_in_two}
@@ -67,7 +67,7 @@ texts_of_tokens (text ∷ all) = ap (λ (ts : List (List ℕ)). text ∷ ts) (te
 -- ---- items
 
 known_variable : (variables : List (List ℕ)) (text : List ℕ)
-    → IsVariable variables text
+    → IsVariableAround variables text
     → grammar.IsVariable variables text (position_or_len (bytes_eq text) variables)
 known_variable variables text h = (h.0, rw h.1 refl)
 

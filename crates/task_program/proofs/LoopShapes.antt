@@ -28,8 +28,8 @@ use Rattle.loop_text.specs.FirstPass.{ends_item}
 use Rattle.loop_text.specs.LoopTokens.{is_plus_or_minus}
 use Rattle.task_program.proofs.LoopPieces.{IndexWritten, ItemWritten, LoopClause, LoopPiece}
 use Rattle.task_program.proofs.LoopPieces.{index_texts, item_texts, item_and_comma}
-use Rattle.task_program.proofs.LoopPieces.{clause_texts, piece_texts, IsNumber, IsWord}
-use Rattle.task_program.proofs.LoopPieces.{IsVariable, IsNewVariable, HasIndexForm}
+use Rattle.task_program.proofs.LoopPieces.{clause_texts, piece_texts, HasNumberForm, IsWord}
+use Rattle.task_program.proofs.LoopPieces.{IsVariableAround, IsNewVariable, HasIndexForm}
 use Rattle.task_program.proofs.LoopPieces.{HasItemForm, HasLoopClauseForm, is_if, is_final}
 use Rattle.task_program.proofs.LoopPieces.{HaveLoopForms}
 use Rattle.task_program.proofs.LoopPieces.LoopClause.{IfClause, FinalClause}
@@ -244,13 +244,13 @@ pub record ItemsRest (has_if has_final : Bool) (variables : List (List ℕ))
 
 abbrev pub AfterIf : Bool → Bool → List (List ℕ) → List (List (List ℕ)) → List (List ℕ) → Type 0
 AfterIf true has_final variables around texts =
-    (number : List ℕ) → IsNumber number
+    (number : List ℕ) → HasNumberForm number
     → ClausesRest false has_final variables around (codes "if" ∷ codes "(" ∷ number ∷ texts)
 AfterIf false has_final variables around texts = Unit {0}
 
 abbrev pub AfterFinal : Bool → Bool → List (List ℕ) → List (List (List ℕ)) → List (List ℕ) → Type 0
 AfterFinal has_if true variables around texts =
-    (number : List ℕ) → IsNumber number
+    (number : List ℕ) → HasNumberForm number
     → ClausesRest has_if false variables around (codes "final" ∷ codes "(" ∷ number ∷ texts)
 AfterFinal has_if false variables around texts = Unit {0}
 
@@ -258,7 +258,7 @@ AfterFinal has_if false variables around texts = Unit {0}
 pub data OpenIndex : List (List ℕ) → List (List ℕ) → Type 0 where
   OpenMinus : (variables : List (List ℕ)) → OpenIndex variables (codes "-" ∷ [])
   OpenSign : (variables : List (List ℕ)) (variable sign : List ℕ)
-      → IsVariable variables variable
+      → IsVariableAround variables variable
       → is_plus_or_minus sign ≡ true
       → OpenIndex variables (variable ∷ sign ∷ [])
 
@@ -274,10 +274,10 @@ FollowsAt ForVariable has_if has_final x variables around ts = Rest variables ar
 FollowsAt ForFrom has_if has_final x variables around ts = IsNewVariable variables x → Rest
     variables around (codes "for" ∷ x ∷ ts)
 FollowsAt ForTo has_if has_final x variables around ts =
-    IsNewVariable variables x → (first : List ℕ) → IsNumber first
+    IsNewVariable variables x → (first : List ℕ) → HasNumberForm first
     → Rest variables around (codes "for" ∷ x ∷ first ∷ ts)
 FollowsAt ForBrace has_if has_final x variables around ts =
-    IsNewVariable variables x → (first last : List ℕ) → IsNumber first → IsNumber last
+    IsNewVariable variables x → (first last : List ℕ) → HasNumberForm first → HasNumberForm last
     → Rest variables around (codes "for" ∷ x ∷ first ∷ last ∷ ts)
 FollowsAt Clause has_if has_final x variables around ts = ClausesRest has_if has_final variables
     around ts
@@ -310,7 +310,7 @@ FollowsAt (IndexNumber kind) has_if has_final x variables around ts =
     (name : List ℕ) → IsWord name → (before : List (List ℕ)) → OpenIndex variables before
     → ItemsRest has_if has_final variables around (name ∷ codes "[" ∷ (before ++ ts))
 FollowsAt (IndexSign kind) has_if has_final x variables around ts =
-    (name : List ℕ) → IsWord name → (variable : List ℕ) → IsVariable variables variable
+    (name : List ℕ) → IsWord name → (variable : List ℕ) → IsVariableAround variables variable
     → ItemsRest has_if has_final variables around (name ∷ codes "[" ∷ variable ∷ ts)
 FollowsAt (IndexCloses kind) has_if has_final x variables around ts =
     (name : List ℕ) → IsWord name → (index : IndexWritten) → HasIndexForm variables index
@@ -430,7 +430,7 @@ new_variable variables text h =
 if_clause : (has_final : Bool) (variables : List (List ℕ)) (around : List (List (List ℕ)))
     (number : List ℕ)
     (ts : List (List ℕ))
-    → IsNumber number → ClausesRest true has_final variables around ts
+    → HasNumberForm number → ClausesRest true has_final variables around ts
     → ClausesRest false has_final variables around
     (codes "if" ∷ codes "(" ∷ number ∷ codes ")" ∷ ts)
 if_clause has_final variables around number ts h c = record {
@@ -457,7 +457,7 @@ if_clause has_final variables around number ts h c = record {
 final_clause : (has_if : Bool) (variables : List (List ℕ)) (around : List (List (List ℕ)))
     (number : List ℕ)
     (ts : List (List ℕ))
-    → IsNumber number → ClausesRest has_if true variables around ts
+    → HasNumberForm number → ClausesRest has_if true variables around ts
     → ClausesRest has_if false variables around
     (codes "final" ∷ codes "(" ∷ number ∷ codes ")" ∷ ts)
 final_clause has_if variables around number ts h c = record {

@@ -173,15 +173,6 @@ fn compare_once(
     Ok(answer)
 }
 
-/// The costs of a graph.
-fn costs_of(alloc: Global, graph: &Graph) -> Result<Vec<u64>, AllocFault> {
-    let mut costs = Vec::new(alloc);
-    for segment in 0..graph.len() {
-        costs.push(graph.cost(segment))?;
-    }
-    Ok(costs)
-}
-
 /// Makes many calls on a trial of a program's graph, and after each compares it with an analysis of
 /// a second such graph.
 fn compare(alloc: Global, text: &str, calls: u32) -> Result<Counts, Fail> {
@@ -190,8 +181,8 @@ fn compare(alloc: Global, text: &str, calls: u32) -> Result<Counts, Fail> {
     if first.len() != second.len() {
         return Err("two graphs of one program".into());
     }
-    let own = costs_of(alloc, &second)?;
-    let mut costs = costs_of(alloc, &second)?;
+    let own = Vec::from_slice(alloc, second.costs())?;
+    let mut costs = Vec::from_slice(alloc, second.costs())?;
     let mut trial = match WhatIf::new(alloc, first) {
         Ok(trial) => trial,
         Err(_) => return Err("memory".into()),
