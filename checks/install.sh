@@ -41,7 +41,12 @@ installed spanprof-conformance run --cc gcc --tasks tied --threads 2 --runs 1 --
     --no-directed > tested || { fail "spanprof-conformance fails"; cat tested; }
 [ "$(installed spanprof-conformance list | wc -l)" -gt 100 ] || fail "the directed programs"
 env -i PATH=/usr/bin:/bin "$prefix/bin/spanprof-report" mine.tasks -o far.html || fail "no page without the PATH"
-for name in spanprof spanprof-record spanprof-report spanprof-conformance; do
+large=${SPANPROF_LARGE:-$prefix/bin/spanprof_large} words='work 11, span 9, .*, 3 of 4 segments' wanted=0 status=0
+[ -x "$large" ] || large='' words='spanprof_large, which measures it, is not found' wanted=1
+installed SPANPROF_LARGE="$large" spanprof-path worked.tasks > found 2> told || status=$?
+cat found told | grep -q "$words" || { fail "spanprof-path"; cat found told; }
+[ $status -eq $wanted ] || fail "spanprof-path ends with $status"
+for name in spanprof spanprof-record spanprof-report spanprof-path spanprof-conformance; do
     [ "$(man -M "$prefix/share/man" -w $name)" = "$prefix/share/man/man1/$name.1" ] || fail "man $name"
     [ -e "$prefix/share/bash-completion/completions/$name" ] || fail "no completion of $name"
 done

@@ -1,10 +1,11 @@
 #!/usr/bin/env python3
 """Tries docs/TUNING.md letter by letter: all its commands, one after the other, in a fresh clone.
 
-    checks/tutorial.py [PROGRAM]
-A clone of what is committed, with a spanprof that is built already; clang-16 and LLVM's runtime are needed. Costs are
-measured anew, so of what a command prints only the words of the first line are compared; checks/documents.py compares
-all of it where the texts are kept. The clone must be as git left it afterwards, but for what git ignores.
+    checks/tutorial.py [PROGRAM [LARGE]]
+A clone of what is committed, with a spanprof that is built already; clang-16 and LLVM's runtime are needed. Where
+spanprof_large is not built, spanprof-path, which needs it, is left out. Costs are measured anew, so of what a command
+prints only the words of the first line are compared; checks/documents.py compares all of it where the texts are kept.
+The clone must be as git left it afterwards, but for what git ignores.
 """
 import os
 import re
@@ -18,16 +19,33 @@ sys.dont_write_bytecode = True
 from documents import TOP, commands
 
 MARK = "=== ended with"
+PROGRAMS = ("spanprof", "spanprof_large")
 DOCUMENT = os.path.join("docs", "TUNING.md")
 
 
-def fresh_clone(program):
+def fresh_clone(programs):
+    """With the built programs where their crates leave them."""
     folder = os.path.join(tempfile.mkdtemp(), "spanprof")
     subprocess.run(["git", "clone", "--quiet", TOP, folder], check=True)
-    out = os.path.join(folder, "crates", "spanprof", "out")
-    os.makedirs(out)
-    shutil.copy(program, os.path.join(out, "spanprof"))
+    for name, program in programs.items():
+        os.makedirs(os.path.join(folder, "crates", name, "out"))
+        shutil.copy(program, os.path.join(folder, "crates", name, "out", name))
     return folder
+
+
+def named_programs(words):
+    """The paths of the programs by their names; spanprof_large may be missing."""
+    paths = [os.path.join(TOP, "crates", name, "out", name) for name in PROGRAMS]
+    paths[:len(words)] = map(os.path.abspath, words)
+    return {name: path for name, path in zip(PROGRAMS, paths) if name == "spanprof" or os.access(path, os.X_OK)}
+
+
+def commands_for(programs, document):
+    for command, expected in commands(document):
+        if "spanprof_large" in programs or not command.startswith("spanprof-path"):
+            yield command, expected
+        else:
+            print("left out: " + command)
 
 
 def run_all(pairs, folder):
@@ -62,14 +80,14 @@ def left_behind(folder):
 
 
 def main():
-    program = os.path.abspath(sys.argv[1] if len(sys.argv) > 1 else TOP + "/crates/spanprof/out/spanprof")
-    if not os.access(program, os.X_OK):
-        sys.exit("no program " + program)
+    programs = named_programs(sys.argv[1:])
+    if not os.access(programs["spanprof"], os.X_OK):
+        sys.exit("no program " + programs["spanprof"])
     if not shutil.which("clang-16"):
         print("skipped: clang-16 is missing (package clang-16)")
         return
-    folder = fresh_clone(program)
-    pairs, wrong = list(commands(os.path.join(folder, DOCUMENT))), 0
+    folder = fresh_clone(programs)
+    pairs, wrong = list(commands_for(programs, os.path.join(folder, DOCUMENT))), 0
     ends = run_all(pairs, folder)
     for (command, expected), (printed, status) in zip(pairs, ends):
         told = fault(expected, printed, status)

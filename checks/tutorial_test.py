@@ -6,7 +6,7 @@ import tempfile
 import unittest
 
 sys.path.insert(0, str(pathlib.Path(__file__).resolve().parent))
-from tutorial import fault, run_all, words_of_first_line
+from tutorial import fault, named_programs, run_all, words_of_first_line
 
 REFUSED = "832040\nspanprof-record: nothing is recorded: 21890 tasks\n"
 
@@ -24,6 +24,13 @@ class Faults(unittest.TestCase):
 
     def test_numbers_are_left_out(self):
         self.assertEqual(words_of_first_line("a 1,186.5 b2\nc"), "a N bN")
+
+
+class Programs(unittest.TestCase):
+    def test_the_second_one_may_be_missing(self):
+        self.assertEqual(named_programs(["/no/spanprof", "/no/large"]), {"spanprof": "/no/spanprof"})
+        self.assertEqual(named_programs(["/no/spanprof", "/bin/sh"]), {"spanprof": "/no/spanprof",
+                                                                      "spanprof_large": "/bin/sh"})
 
 
 class Commands(unittest.TestCase):

@@ -13,8 +13,9 @@ TOOLS = os.path.dirname(os.path.abspath(__file__))
 SPANPROF = os.path.join(TOOLS, "..", "crates", "spanprof", "out", "spanprof")
 LARGE = os.path.join(TOOLS, "..", "crates", "spanprof_large", "out", "spanprof_large")
 LIST = os.path.join("share", "spanprof", "installed")
-COMMANDS = ("spanprof-record", "spanprof-report", "spanprof-conformance")
-SHARED = ("*.py", "record/*.py", "report/*.py", "report/template/*", "plots/*.py", "conformance/*.py",
+COMMANDS = ("spanprof-record", "spanprof-report", "spanprof-path", "spanprof-conformance")
+EXECUTABLE = ("bin/", "lib/spanprof/spanprof_path")
+SHARED = ("*.py", "record/*.py", "path/*.py", "report/*.py", "report/template/*", "plots/*.py", "conformance/*.py",
           "conformance/*/*.py", "conformance/directed/*.tasks", "conformance/harness/*", "conformance/mutants/*")
 LEFT_OUT = ("install.py", "/tests/")
 
@@ -36,7 +37,8 @@ def plan(spanprof=SPANPROF, large=LARGE):
                    "share/bash-completion/completions/spanprof_large"),
                   (os.path.join(TOOLS, "man", "spanprof.1"), "share/man/man1/spanprof_large.1")]
     pairs += [(os.path.join(TOOLS, name), "bin/" + name) for name in COMMANDS]
-    pairs += [(os.path.join(TOOLS, "openmp_recorder", "librecorder.so"), "lib/spanprof/librecorder.so")]
+    pairs += [(os.path.join(TOOLS, "openmp_recorder", "librecorder.so"), "lib/spanprof/librecorder.so"),
+              (os.path.join(TOOLS, "large_path", "spanprof_path"), "lib/spanprof/spanprof_path")]
     pairs += [(os.path.join(TOOLS, path), "share/spanprof/" + path) for path in shared_files()]
     for name in ("spanprof",) + COMMANDS:
         pairs += [(os.path.join(TOOLS, "man", name + ".1"), "share/man/man1/%s.1" % name),
@@ -45,7 +47,7 @@ def plan(spanprof=SPANPROF, large=LARGE):
 
 
 def mode(path):
-    return 0o755 if path.startswith("bin/") else 0o644
+    return 0o755 if path.startswith(EXECUTABLE) else 0o644
 
 
 def make_folders(root, path, made):

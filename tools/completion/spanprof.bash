@@ -89,6 +89,17 @@ _spanprof_report() {
     esac
 }
 
+_spanprof_path() {
+    local current=${COMP_WORDS[COMP_CWORD]} before=${COMP_WORDS[COMP_CWORD - 1]}
+    case $before in
+        -o | --output) _spanprof_files "$current" .tasks ;;
+        *) case $current in
+            -*) _spanprof_among "$current" "$(_spanprof_options "${COMP_WORDS[0]}")" ;;
+            *) _spanprof_files "$current" .tasks ;;
+        esac ;;
+    esac
+}
+
 _spanprof_conformance() {
     local current=${COMP_WORDS[COMP_CWORD]} before=${COMP_WORDS[COMP_CWORD - 1]}
     if [ "$COMP_CWORD" = 1 ]; then
@@ -114,4 +125,5 @@ complete -F _spanprof spanprof
 complete -F _spanprof_large spanprof_large
 complete -F _spanprof_record spanprof-record
 complete -F _spanprof_report spanprof-report
+complete -F _spanprof_path spanprof-path
 complete -F _spanprof_conformance spanprof-conformance

@@ -1,6 +1,7 @@
 """What the comments at the head of a recorded text tell of its recording."""
 import re
 from dataclasses import dataclass, field
+from itertools import takewhile
 from typing import Dict, List, Optional
 
 NANOSECONDS = {"ns": 1, "us": 1000, "ms": 1000000}
@@ -46,6 +47,12 @@ def comments(text):
             return
         if words:
             yield words[1:].strip()
+
+
+def head_text(path):
+    """The comments at the top of a file, without the rest of it, which may be as long as memory."""
+    with open(path, encoding="utf-8", errors="replace") as file:
+        return "".join(takewhile(lambda line: line.startswith("#"), file))
 
 
 def read_recorded(head, words):

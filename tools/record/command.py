@@ -7,7 +7,8 @@ import webbrowser
 
 from record.console import say, tell
 from record.fault import OWN_FAULT, Fault
-from record.large import answers, head_of, large_summary, spanprof_large, unmeasured_summary
+from record.large import answers, head_of, large_summary, unmeasured_summary
+from record.measure import spanprof_large
 from record.options import parse
 from record.run import end_as
 from record.session import TOOLS, Session

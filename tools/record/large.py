@@ -1,60 +1,60 @@
 """A recording beyond the limits of the ten commands: its text is one for the program spanprof_large."""
 import os
-import shlex
-import shutil
-import subprocess
-from dataclasses import dataclass
-from itertools import takewhile
+import tempfile
+from dataclasses import dataclass, field
+from itertools import islice
 
-from head import Head, read_head
+from head import Head, head_text, read_head
+from path.found import find_path, programs
+from path.table import share
+from record.console import tell
 from record.fault import Fault
-from record.summary import costs, elapsed_line, grouped, named, remark_lines, title
-from report.answers import named_numbers
+from record.measure import HOW, measure
+from record.summary import MOST_PLACES, costs, elapsed_line, grouped, named, remark_lines, title
 from report.figures import rounded_up
-
-TOP = os.path.dirname(os.path.dirname(os.path.dirname(os.path.abspath(__file__))))
-IN_REPOSITORY = os.path.join(TOP, "crates", "spanprof_large", "out", "spanprof_large")
-HOW = "spanprof_large, which measures it, is not found; `rt run` in crates/spanprof_large proves and builds it"
 
 
 @dataclass
 class LargeAnswers:
-    """The head of a text, and what spanprof_large tells of it."""
+    """The head of a text, and what spanprof_large tells of it; the heaviest places by spanprof_path."""
     name: str
     head: Head
     tasks: int = 0
     segments: int = 0
     work: int = 0
     span: int = 0
-
-
-def spanprof_large():
-    """The words that start the program; none where it is not found."""
-    words = shlex.split(os.environ.get("SPANPROF_LARGE", ""))
-    found = shutil.which("spanprof_large") or (IN_REPOSITORY if os.access(IN_REPOSITORY, os.X_OK) else None)
-    return words or ([found] if found else [])
+    places: list = field(default_factory=list)
+    unplaced: str = ""  # why there are no places
 
 
 def head_of(path):
-    """Without the rest of the text, which may be as long as memory."""
-    with open(path, encoding="utf-8", errors="replace") as file:
-        return read_head("".join(takewhile(lambda line: line.startswith("#"), file)))
+    return read_head(head_text(path))
 
 
-def measure(program, path):
-    """Tasks, segments, work and span of the text in a file."""
-    try:
-        with open(path, "rb") as text:
-            done = subprocess.run(program, stdin=text, capture_output=True, text=True, errors="replace", check=False)
-    except OSError as wrong:
-        raise Fault("spanprof_large: %s" % wrong) from wrong
-    if done.returncode:
-        raise Fault("spanprof_large: %s" % (done.stdout.strip() or "it ended with status %d" % done.returncode))
-    return named_numbers(done.stdout)
+def heaviest_places(program, path, numbers):
+    """Those with the most of the span, on a path whose masked text spanprof_large has measured."""
+    by = programs(program, tell)
+    with tempfile.TemporaryDirectory(prefix="spanprof-record-") as folder:
+        masked, table = [os.path.join(folder, name) for name in ("masked.tasks", "table")]
+        found = find_path(by, path, numbers, masked, table)
+        if found.faults:
+            raise Fault("; ".join(found.faults))
+        return [place for place in islice(found.places(), MOST_PLACES) if place.span]
 
 
 def answers(program, path):
-    return LargeAnswers(os.path.basename(path), head_of(path), **measure(program, path))
+    numbers = measure(program, path)
+    answered = LargeAnswers(os.path.basename(path), head_of(path), **numbers)
+    try:
+        answered.places = heaviest_places(program, path, numbers)
+    except (Fault, OSError) as wrong:
+        answered.unplaced = "span by place is left out: %s" % wrong
+    return answered
+
+
+def place_lines(answered):
+    return ["%.1f %% of the span, %.1f %% of the work: %s" % (
+        share(place.span, answered.span), share(place.work, answered.work), place.name) for place in answered.places]
 
 
 def large_summary(answered, news=()):
@@ -68,7 +68,8 @@ def large_summary(answered, news=()):
         + named("parallelism", ["%s: work / span; no number of threads gives more (proved for the recorded text)"
                                 % rounded_up(answered.work, answered.span)]) \
         + named("elapsed", [elapsed_line(answered)]) \
-        + named("remarks", remark_lines(answered, news))
+        + named("span by place", place_lines(answered)) \
+        + named("remarks", remark_lines(answered, list(filter(None, [answered.unplaced])) + list(news)))
 
 
 def unmeasured_summary(path, news=()):

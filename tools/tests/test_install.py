@@ -11,7 +11,8 @@ import install
 class Plan(unittest.TestCase):
     def test_what_goes_where(self):
         places = [path for _, path in install.plan()]
-        for path in ("bin/spanprof", "bin/spanprof-record", "lib/spanprof/librecorder.so",
+        for path in ("bin/spanprof", "bin/spanprof-record", "lib/spanprof/librecorder.so", "bin/spanprof-path",
+                     "lib/spanprof/spanprof_path", "share/spanprof/path/found.py", "share/man/man1/spanprof-path.1",
                      "share/man/man1/spanprof.1", "share/bash-completion/completions/spanprof-report",
                      "share/zsh/site-functions/_spanprof", "share/spanprof/record/command.py",
                      "share/spanprof/report/template/page.html", "share/spanprof/plots/program.py",
@@ -24,6 +25,10 @@ class Plan(unittest.TestCase):
         places = dict((path, source) for source, path in install.plan(large=__file__))
         self.assertEqual(places["bin/spanprof_large"], __file__)
         self.assertIn("share/man/man1/spanprof_large.1", places)
+
+    def test_programs_can_be_run(self):
+        self.assertEqual([oct(install.mode(path)) for path in (
+            "bin/spanprof", "lib/spanprof/spanprof_path", "lib/spanprof/librecorder.so")], ["0o755", "0o755", "0o644"])
 
     def test_tests_and_the_installer_stay_behind(self):
         self.assertFalse([path for path in install.shared_files() if "tests/" in path or path.endswith("install.py")])

@@ -3,7 +3,7 @@ import tempfile
 import unittest
 from unittest import mock
 
-from record import files, recorder, repeat
+from record import built, files, recorder, repeat
 from record.fault import Fault
 
 
@@ -109,7 +109,7 @@ class Recorder(InAFolder):
         library, source = self.write("r/librecorder.so"), self.write("r/life.cpp")
         self.write("r/Makefile")
         told = []
-        with mock.patch("record.recorder.build") as build:
+        with mock.patch("record.built.build") as build:
             os.utime(library, (2e9, 2e9))
             recorder.recorder_library([os.path.dirname(library)], told.append)
             build.assert_not_called()
@@ -120,8 +120,8 @@ class Recorder(InAFolder):
 
     def test_why_not(self):
         words = "make: Entering\nclang++-16 -O2\nmake: clang++-16: No such file or directory\nmake: *** Error 127\n"
-        self.assertEqual(recorder.why_not_built(words), "make: clang++-16: No such file or directory")
-        self.assertEqual(recorder.why_not_built(""), "no word of it")
+        self.assertEqual(built.why_not_built(words), "make: clang++-16: No such file or directory")
+        self.assertEqual(built.why_not_built(""), "no word of it")
 
 
 class Repeated(InAFolder):

@@ -6,7 +6,8 @@ import tempfile
 import unittest
 from unittest import mock
 
-from record import command, large, session
+from path.table import Place
+from record import command, measure, session
 from record.fault import Fault
 from record.files import Messages, Recording
 from record.tests.made_up import Answers, Head
@@ -133,26 +134,36 @@ class Large(unittest.TestCase):
         os.chmod(path, 0o755)
         return path
 
-    def told(self, program, small=()):
+    def told(self, program, small=(), **places):
         found = list(small) + [Recording(self.out + ".large.tasks", is_large=True)]
         made = mock.Mock(notes=["a note"], out=self.out, options=argparse.Namespace(html=None))
         told = io.StringIO()
-        with mock.patch("record.command.spanprof_large", return_value=program), contextlib.redirect_stderr(told):
+        with mock.patch("record.command.spanprof_large", return_value=program), contextlib.redirect_stderr(told), \
+                mock.patch("record.large.heaviest_places", **places):
             command.report(made, found, Messages(True, self.lines))
         return told.getvalue()
 
     def test_the_numbers_of_the_program(self):
         program = self.program("tasks 9000\\nsegments 20001\\nwork 100\\nspan 30\\n")
-        self.assertEqual(self.told([program]), """\
+        places = [Place(20, 50, 3, "task at mine.c:12"), Place(10, 10, 1, "the beginning")]
+        self.assertEqual(self.told([program], return_value=places), """\
 mine.large.tasks, region at mine.c:9, 4 threads, costs in us of wall time
 tasks         9,000, in 20,001 segments (recorded)
 work          100 us: the time of one thread (measured; the sum is proved for the recorded text)
 span          30 us: no run ends sooner (proved for the recorded text, of measured costs)
 parallelism   3.34: work / span; no number of threads gives more (proved for the recorded text)
 elapsed       40 us on 4 threads: it was 2.50 times as fast as one (measured)
+span by place 66.7 % of the span, 50.0 % of the work: task at mine.c:12
+              33.3 % of the span, 10.0 % of the work: the beginning
 remarks       a note
               mine.tasks is not written: 9000 tasks, and spanprof takes 4096
 """)
+
+    def test_without_places(self):
+        program = self.program("tasks 9000\\nsegments 20001\\nwork 100\\nspan 30\\n")
+        told = self.told([program], side_effect=Fault("spanprof_path cannot be built: no compiler"))
+        self.assertNotIn("of the span,", told)
+        self.assertIn("\nremarks       span by place is left out: spanprof_path cannot be built: no compiler\n", told)
 
     def test_without_the_program(self):
         self.assertEqual(self.told([]), """\
@@ -166,7 +177,7 @@ remarks       spanprof_large, which measures it, is not found; `rt run` in crate
     def test_the_news_are_told_once(self):
         program = self.program("tasks 9000\\nsegments 20001\\nwork 100\\nspan 30\\n")
         with mock.patch("record.command.Answers", return_value=Answers()):
-            told = self.told([program], [Recording("mine.2.tasks")])
+            told = self.told([program], [Recording("mine.2.tasks")], return_value=[])
         self.assertEqual((told.count("a note"), told.count("is not written")), (1, 1))
         self.assertTrue(told.startswith("sort.tasks, region at"))
         self.assertIn("remarks       none\n", told)
@@ -185,14 +196,14 @@ remarks       spanprof_large, which measures it, is not found; `rt run` in crate
 
     def test_where_the_program_is_looked_for(self):
         with mock.patch.dict(os.environ, {"SPANPROF_LARGE": "nice large"}):
-            self.assertEqual(large.spanprof_large(), ["nice", "large"])
+            self.assertEqual(measure.spanprof_large(), ["nice", "large"])
         with mock.patch.dict(os.environ), mock.patch("shutil.which", return_value=None), \
-                mock.patch("record.large.IN_REPOSITORY", self.out):
+                mock.patch("record.measure.PLACES", (self.out,)):
             os.environ.pop("SPANPROF_LARGE", None)
-            self.assertEqual(large.spanprof_large(), [])
+            self.assertEqual(measure.spanprof_large(), [])
         with mock.patch.dict(os.environ), mock.patch("shutil.which", return_value="/bin/large"):
             os.environ.pop("SPANPROF_LARGE", None)
-            self.assertEqual(large.spanprof_large(), ["/bin/large"])
+            self.assertEqual(measure.spanprof_large(), ["/bin/large"])
 
 
 class Statuses(unittest.TestCase):

@@ -1,0 +1,13 @@
+// What the program finds of a text that a test makes up.
+#pragma once
+#include <string>
+
+struct Found {
+  uint64_t work, span;
+  std::string path;    // of each segment 1 if it is on the path, else 0
+  std::string masked;
+  std::string table;
+};
+
+Found found(const std::string &statements);  // the header comes before them
+std::string refused(const std::string &text);  // why; nothing if it is read

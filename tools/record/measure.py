@@ -1,0 +1,32 @@
+"""What spanprof_large tells of a text of any size, and where that program is."""
+import os
+import shlex
+import shutil
+import subprocess
+
+from record.fault import Fault
+from report.answers import named_numbers
+
+TOP = os.path.dirname(os.path.dirname(os.path.dirname(os.path.abspath(__file__))))
+PLACES = (os.path.join(TOP, "crates", "spanprof_large", "out", "spanprof_large"),
+          os.path.join(TOP, "..", "bin", "spanprof_large"))  # where this file is in PREFIX/share/spanprof/record
+HOW = "spanprof_large, which measures it, is not found; `rt run` in crates/spanprof_large proves and builds it"
+
+
+def spanprof_large():
+    """The words that start the program; none where it is not found."""
+    words = shlex.split(os.environ.get("SPANPROF_LARGE", ""))
+    found = shutil.which("spanprof_large") or next((path for path in PLACES if os.access(path, os.X_OK)), None)
+    return words or ([found] if found else [])
+
+
+def measure(program, path):
+    """Tasks, segments, work and span of the text in a file."""
+    try:
+        with open(path, "rb") as text:
+            done = subprocess.run(program, stdin=text, capture_output=True, text=True, errors="replace", check=False)
+    except OSError as wrong:
+        raise Fault("spanprof_large: %s" % wrong) from wrong
+    if done.returncode:
+        raise Fault("spanprof_large: %s" % (done.stdout.strip() or "it ended with status %d" % done.returncode))
+    return named_numbers(done.stdout)
