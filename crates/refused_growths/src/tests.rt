@@ -1,5 +1,5 @@
-//! Each call that wants memory, at whichever growth it is refused. Many stand in a small function that
-//! has no clauses, so that what comes after them is proved without theirs, and sooner.
+//! Each call that allocates, whichever of its allocations is refused. Many stand in a small function
+//! that has no clauses, so that what comes after them is proved without theirs, and sooner.
 mod certificates;
 mod commands;
 mod large;

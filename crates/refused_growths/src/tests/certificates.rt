@@ -133,7 +133,7 @@ fn write_analysed(
     Ok(())
 }
 
-/// Nothing is written where a growth is refused.
+/// Nothing is written where an allocation is refused.
 pub(super) fn written<H: AllocGlobal + Abort>(rt: &H, supply: &mut Supply) -> Result<(), Fail> {
     let program = program_of(rt, supply, WORKED)?;
     write_analysed(rt, rt.alloc(), supply, &program)

@@ -55,7 +55,7 @@ fn graph_in_order(alloc: Global, table: SegTable) -> Result<Graph, SegTable> {
     }
 }
 
-/// The worked program's graph. Where a growth is refused, the table comes back.
+/// The worked program's graph. Where an allocation is refused, the table comes back.
 pub(super) fn graph_of<H: AllocGlobal + Abort>(rt: &H, supply: &mut Supply) -> Result<Graph, Fail> {
     let table = table_of(rt, supply, WORKED)?;
     supply.before_call();

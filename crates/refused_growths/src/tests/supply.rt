@@ -11,7 +11,7 @@ pub(super) enum Left {
     Blocks(Short),
 }
 
-/// Blocks that are held so that no other growth can have their memory. Nothing is written to them:
+/// Blocks that are held so that no other allocation can have their memory. Nothing is written to them:
 /// they take addresses, of which a process has 2^47, and next to no memory of the machine.
 #[derive(Drop)]
 pub(super) struct Supply {
@@ -123,7 +123,7 @@ impl Supply {
         let _ = Vec::<u8>::with_capacity(self.alloc, usize::MAX / 2 - event as usize);
     }
 
-    /// A growth was refused: from now on there is ample memory.
+    /// An allocation was refused: from now on there is ample memory.
     pub(super) fn refused(&mut self) {
         self.was_refused = true;
         self.left = None;
@@ -137,7 +137,7 @@ impl Supply {
         self.blocks.truncate(self.kept);
     }
 
-    /// Whether a growth was refused in this turn.
+    /// Whether an allocation was refused in this turn.
     pub(super) fn was_refused(&self) -> bool {
         self.was_refused
     }

@@ -9,7 +9,7 @@ use std::test::Fail;
 use std::thread;
 use std::thread::Threads;
 
-/// How many bytes are left in a row at a turn: 32 more at each, since no growth takes less, and
+/// How many bytes are left in a row at a turn: 32 more at each, since no allocation takes less, and
 /// twice as many at each of the last ones, which have room for the stacks of threads.
 fn row_at(turn: usize) -> usize {
     if turn < SMALL_TURNS {
@@ -47,7 +47,7 @@ pub(super) fn refuse_each<H: AllocGlobal + Threads + Wait + Abort + Sync>(
 /// No test makes more calls, one after another.
 const MOST_CALLS: usize = 16;
 
-/// In how many turns a growth was refused.
+/// In how many turns an allocation was refused.
 fn refuse_from_each<H: AllocGlobal + Threads + Wait + Abort + Sync>(
     rt: &H,
     calls: Calls,
@@ -77,7 +77,7 @@ fn start_a_thread<H: Threads>(rt: &H) -> Result<(), Fail> {
     }
 }
 
-/// At first nothing is left, and then a little more at each turn, until no growth is refused.
+/// At first nothing is left, and then a little more at each turn, until no allocation is refused.
 fn refuse_rows<H: AllocGlobal + Threads + Wait + Abort + Sync>(
     rt: &H,
     calls: Calls,
@@ -134,7 +134,7 @@ fn most_blocks(number: usize) -> usize {
     if number < 2 { 48 } else { 12 }
 }
 
-/// One block more of the size that is short at each turn, until no growth is refused.
+/// One block more of the size that is short at each turn, until no allocation is refused.
 fn refuse_size<H: AllocGlobal + Threads + Wait + Abort + Sync>(
     rt: &H,
     calls: Calls,
