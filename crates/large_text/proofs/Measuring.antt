@@ -36,18 +36,6 @@ mark_taken before token mark old new meter more reads takes m =
           (takes (last_moment m.marks) m.measures);
     }
 
--- a token with which none is
-pub none_taken : (before : List Token) (token : Token) (old new : MarkReader) (meter : Meter)
-    → ((tokens : List Token) (marks : List Mark) → IsReadSoFar tokens marks old
-    → IsReadSoFar (tokens ++ token ∷ []) marks new)
-    → MeasuresSoFar before old meter
-    → MeasuresSoFar (before ++ token ∷ []) new meter
-none_taken before token old new meter reads m = record {
-  marks = m.marks;
-  so_far = reads before m.marks m.so_far;
-  measures = m.measures;
-}
-
 -- ---- the tokens of a text
 
 -- the tokens before the scanner have been taken, and those of the text that are left are its own

@@ -1,6 +1,6 @@
 -- What is wrong with a token at which the reading stops.
 use Rattle.std.proofs.Common.{◌≡◌, ◌≢◌, ℕ, ◌+◌, Bool, true, false, List, [], ◌∷◌, ◌++◌, length}
-use Rattle.std.proofs.Common.{Some, None, Result, Err, refl, sym, subst, ◌∙◌}
+use Rattle.std.proofs.Common.{Some, None, Result, Err, sym, subst, ◌∙◌}
 use Rattle.std.specs.Prelude.{MatchBool, sum_by}
 use Rattle.program_text.specs.declared.fault.ReadKind.{ReadKind}
 use Rattle.program_text.specs.declared.fault.ReadKind.TheVariants.{OutOfMemory}
@@ -15,6 +15,7 @@ use Rattle.task_program.specs.FirstFault.IsFirstFault.{AtToken}
 use Rattle.task_program.specs.FirstFault.IsWrong.{ByItself, PastLimit}
 use Rattle.task_program.specs.FirstPlainFault.{IsSentence}
 use Rattle.task_program.proofs.Machines.{WrongSo}
+use Rattle.task_program.proofs.Readings.{not_memory}
 use Rattle.task_program.proofs.Begun.{Began, viable_next}
 use Rattle.task_program.proofs.Begun.{fits_of, closes_same}
 use Rattle.task_program.proofs.FaultFound.{misplaced_or, unless_err}
@@ -97,10 +98,6 @@ first_fault before later marks reader token end_line fault r h =
     subst (IsLargeFirstFault (before ++ token ∷ later) end_line) told.2
     (AtToken before later token end_line told.0 r.right told.1)
 
-no_memory : (kind : ReadKind) → kind ≢ OutOfMemory → is_memory kind ≡ false
-no_memory OutOfMemory h = absurd (h refl)
-no_memory _ h = refl
-
 by_fault : (memory : Bool) (fault : ReadFault) (answer : Result State ReadFault)
     → memory ≡ false
     → MatchBool memory (fault.line ≡ 0) (answer ≡ Err fault)
@@ -114,4 +111,4 @@ pub fault_told : (fault : ReadFault) (answer : Result State ReadFault)
     → Fails fault answer
     → answer ≡ Err fault
 fault_told fault answer other h =
-    by_fault (is_memory fault.kind) fault answer (no_memory fault.kind other) h
+    by_fault (is_memory fault.kind) fault answer (not_memory fault.kind other) h

@@ -4,16 +4,16 @@ use Rattle.std.proofs.Common.{cond, List}
 use Rattle.std.proofs.Common.{[], ◌∷◌, length, length-append, Option, Some, None, Ok}
 use Rattle.std.proofs.Common.{refl, ap, arith, codes}
 use Rattle.std.specs.Prelude.{nat_lt}
-use Rattle.std.proofs.lemmas.Bool.{not-false, ltb-false}
+use Rattle.std.proofs.lemmas.Bool.{ltb-false}
 use Rattle.std.proofs.Math.Dec.{eqb-suc-zero}
 use Rattle.program_text.specs.declared.fault.ReadKind.{ReadKind}
-use Rattle.program_text.specs.declared.limits.TheConstants.{MOST_ITEMS, MOST_WORK, LARGEST_COST}
+use Rattle.program_text.specs.declared.limits.TheConstants.{MOST_ITEMS}
 use Rattle.program_text.specs.Tokens.{Token}
 use Rattle.program_text.specs.declared.fault.ReadKind.TheVariants.{TooLong, BadByte, BadWord}
 use Rattle.program_text.specs.declared.fault.ReadKind.TheVariants.{BadNumber, TooDeep, TooManyItems}
 use Rattle.program_text.specs.declared.fault.ReadKind.TheVariants.{WorkTooLarge}
 use Rattle.program_text.specs.declared.limits.TheConstants.{MOST_WORD_BYTES}
-use Rattle.program_text.specs.Words.{is_text, is_number, is_word, value_of, is_run, is_sign}
+use Rattle.program_text.specs.Words.{is_text, is_number, is_word, is_run, is_sign}
 use Rattle.program_text.specs.Words.{begins_with_digit}
 use Rattle.program_text.proofs.Bools.{bool_cases, and_right_false}
 use Rattle.program_text.proofs.FaultRows.{row_passed}
@@ -24,13 +24,13 @@ use Rattle.task_program.specs.Faults.{State, after_at, is_header, is_allowed}
 use Rattle.task_program.specs.Faults.{is_number_too_large}
 use Rattle.task_program.specs.Names.{number_of_name}
 use Rattle.task_program.specs.TokenCounts.{is_value_too_large, is_too_deep, is_work_past}
-use Rattle.task_program.proofs.Keeping.{unless_ok, ok_is, one_name_more}
+use Rattle.task_program.proofs.Keeping.{unless_ok, ok_is, one_name_more, some_text}
 use Rattle.task_program.proofs.Shapes.{closes_none}
 use Rattle.large_text.specs.declared.limits.TheConstants.{MOST_LARGE_TOKEN_BYTES}
 use Rattle.large_text.specs.declared.limits.TheConstants.{MOST_LARGE_NESTING}
 use Rattle.large_text.specs.LargeFaults.{large_form_fault, grammar_fault, large_limit_by}
 use Rattle.large_text.specs.LargeFaults.{closes_no_block, is_inside_at, items_coming}
-use Rattle.large_text.specs.LargeReading.{large_step, with_bytes, HasValueAt}
+use Rattle.large_text.specs.LargeReading.{large_step, with_bytes}
 
 -- nothing is wrong with the token, and it leads there
 pub record Passed (work : ℕ) (state : State) (token : Token) (next : State) : Type 0 where
@@ -115,35 +115,7 @@ number_fits WorkNumber has_if text allowed h = and_right_false (is_number text) 
 number_fits IfNumber has_if text allowed h = and_right_false (is_number text) _ h allowed
 number_fits _ has_if text allowed h = refl
 
-pub has_value : (place : Place) (has_if : Bool) (work : ℕ) (text : List ℕ)
-    → is_allowed place has_if text ≡ true
-    → is_value_too_large (is_inside_at place) text ≡ false
-    → is_work_past (is_inside_at place) work text ≡ false
-    → HasValueAt place work text
-has_value WorkNumber has_if work text allowed value past = (
-  allowed,
-  ltb-false LARGEST_COST (value_of text) (and_right_false (is_number text) _ value allowed),
-  ltb-false MOST_WORK (work + value_of text) (and_right_false (is_number text) _ past allowed),
-)
-has_value IfNumber has_if work text allowed value past = allowed
-has_value (DependName kind) has_if work text allowed value past = allowed
-has_value _ has_if work text allowed value past = tt
-
--- what a place takes of its token is there
-pub value_there : (work : ℕ) (place : Place) (has_if : Bool) (items depth : ℕ) (text : List ℕ)
-    → grammar_fault place has_if depth text ≡ None
-    → large_limit_by (is_inside_at place) work items depth text ≡ None
-    → HasValueAt place work text
-value_there work place has_if items depth text grammar limit =
-    let there = is_there place has_if depth text grammar in
-    let under = is_under (is_inside_at place) work items depth text limit in
-    has_value place has_if work text (not-false _ there.allowed) under.value under.work_fits
-
 -- ---- the form
-
-some_text : (text : List ℕ) → not (is_run text || is_sign text) ≡ false → 1 ≤ length text
-some_text [] h = absurd cc
-some_text (b ∷ bytes) h = omega arith
 
 pub record IsLargeFormed (bytes : ℕ) (text : List ℕ) : Type 0 where
   pub some : 1 ≤ length text
@@ -172,10 +144,6 @@ is_formed bytes text h =
     }
 
 -- ---- how names and items grow
-
-either_small : (b : Bool) (one other most : ℕ) → one ≤ most → other ≤ most → cond b one other ≤ most
-either_small true one other most h g = h
-either_small false one other most h g = g
 
 abbrev pub NamesGrow : Place → State → List ℕ → ℕ → Type 0
 NamesGrow place state text line =

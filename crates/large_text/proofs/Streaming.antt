@@ -1,13 +1,15 @@
 -- A text that is taken in pieces: how each piece goes on from those before it.
 use Rattle.std.proofs.Common.{◌≡◌, ◌+◌, ◌<◌, ◌≤◌, ◌^◌, ◌∙◌, ℕ, cond, false, List, [], ◌∷◌, ◌++◌}
-use Rattle.std.proofs.Common.{◌-◌, Result, Ok, Err, Option, Some, None, is_some, true, length, take, drop, get_or, append_assoc, length-append, refl, sym, ap, subst, arith}
+use Rattle.std.proofs.Common.{◌-◌, Result, Ok, Err, Option, Some, None, length, take, drop, get_or}
+use Rattle.std.proofs.Common.{append_assoc, length-append, refl, sym, ap, subst, arith}
 use Rattle.std.specs.Prelude.{OnOk, is_ok}
 use Rattle.std.proofs.lemmas.List.{append-nil, take_more, take-append-drop}
-use Rattle.std.proofs.lemmas.List.Sums.{count_by-le-length, sum_by-append}
+use Rattle.std.proofs.lemmas.List.Sums.{sum_by-append}
 use Rattle.program_text.specs.declared.fault.ReadFault.{ReadFault}
 use Rattle.program_text.specs.Marks.{Mark}
 use Rattle.program_text.specs.Marks.Mark.{Begins}
-use Rattle.program_text.specs.Tokens.{Token, texts, is_line_feed, tokens_from, tokens_of, line_at_end}
+use Rattle.program_text.specs.Tokens.{Token, texts, is_line_feed, tokens_from, tokens_of}
+use Rattle.program_text.specs.Tokens.{line_at_end}
 use Rattle.online_span.specs.declared.meter.Meter.{Meter}
 use Rattle.online_span.specs.Measuring.{Measures}
 use Rattle.large_text.specs.declared.reader.MarkReader.{MarkReader}
@@ -15,7 +17,7 @@ use Rattle.large_text.specs.LargeReading.{IsReadSoFar}
 use Rattle.large_text.specs.LargeTrees.{HasLargeTree, IsLargeRightWhole, IsLargeFirstFault}
 use Rattle.large_text.specs.Measured.{MeasuresSoFar, MeasuresText}
 use Rattle.large_text.specs.Streamed.{EndsLine, CutsTokens, HasTakenLines, HasFault}
-use Rattle.large_text.specs.Streamed.{HasTakenBy, HasTaken, CanTakeBytes, TakesBytes}
+use Rattle.large_text.specs.Streamed.{HasTakenBy, HasTaken, TakesBytes}
 use Rattle.large_text.specs.declared.stream.TextMeter.{TextMeter}
 use Rattle.large_text.proofs.Cutting.{cut_behind}
 use Rattle.large_text.proofs.Measuring.{stops_early, is_measured}
@@ -124,14 +126,6 @@ pub where_ok : {E : Type 0} (result : Result (Unit {0}) E) (P : Type 0) (after t
 where_ok (Ok u) P after tail more is then = then is
 where_ok (Err fault) P after tail more is then = cc
 
-pub still_wrong : (found : Option ReadFault) (bytes tail more : List ℕ) (line : ℕ)
-    (reader : MarkReader) (meter : Meter)
-    → is_some found ≡ true
-    → HasTakenBy found bytes tail line reader meter
-    → HasTakenBy found (bytes ++ more) tail line reader meter
-still_wrong None bytes tail more line reader meter some h = absurd cc
-still_wrong (Some fault) bytes tail more line reader meter some h = stays_fault bytes more fault h
-
 pub long_more : (bytes more : List ℕ) → length bytes + length more + 1 < 2 ^ 32
     → length (bytes ++ more) + 1 < 2 ^ 32
 long_more bytes more fits = omega (arith, fits, length-append bytes more)
@@ -155,27 +149,6 @@ pub split_whole : (bytes front back : List ℕ) (n : ℕ) → front ≡ take n b
     → bytes ≡ front ++ back
 split_whole bytes front back n front_is back_is =
     rw (front_is, back_is) (sym (take-append-drop n bytes))
-
-pub can_take_second : (first : List ℕ) (count : ℕ) (old middle : TextMeter)
-    → CanTakeBytes (length first + count) old
-    → TakesBytes first old middle
-    → CanTakeBytes count middle
-can_take_second first count old middle can takes = record {
-  bytes = can.bytes ++ first;
-  taken = takes can.bytes (let fits = can.fits in omega (arith, fits)) can.taken;
-  fits = let fits = can.fits in omega (arith, fits, length-append can.bytes first);
-}
-
--- lines and bytes can be counted
-pub lines_fit : (bytes tail : List ℕ) (line count : ℕ) (reader : MarkReader) (meter : Meter)
-    → HasTakenLines bytes tail line reader meter
-    → length bytes + count + 1 < 2 ^ 32
-    → (1 ≤ line) × (line + (length tail + count) < 2 ^ 32)
-lines_fit bytes tail line count reader meter h fits =
-    let few = count_by-le-length is_line_feed h.lines in
-    let long : length bytes ≡ length h.lines + length tail =
-    ap length h.all ∙ length-append h.lines tail in
-    (omega (arith, h.line_is), omega (arith, h.line_is, few, long, fits))
 
 moved : (lines tail piece bytes : List ℕ) → bytes ≡ lines ++ tail
     → bytes ++ piece ≡ lines ++ (tail ++ piece)

@@ -16,7 +16,7 @@ use Rattle.program_text.specs.Marks.{Mark}
 use Rattle.program_text.specs.Tokens.{Token}
 use Rattle.program_text.proofs.FaultRows.{row_no_memory, no_row}
 use Rattle.task_program.specs.declared.place.Place.{Place}
-use Rattle.task_program.specs.Faults.{State, start, after_at}
+use Rattle.task_program.specs.Faults.{State, start}
 use Rattle.task_program.specs.FirstFault.AreRight.{Nothing as NoTokens}
 use Rattle.task_program.specs.Nested.IsNested.{Nothing as NoMarks}
 use Rattle.task_program.proofs.Accepting.{sentence_accepted}
@@ -28,7 +28,7 @@ use Rattle.large_text.specs.declared.reader.MarkReader.{MarkReader}
 use Rattle.large_text.specs.declared.reader.OpenBlock.{OpenBlock}
 use Rattle.large_text.specs.LargeFaults.{large_form_fault, grammar_fault, large_limit_by}
 use Rattle.large_text.specs.LargeFaults.{is_inside_at, items_coming}
-use Rattle.large_text.specs.LargeReading.{state_of, marks_after, large_step, with_bytes}
+use Rattle.large_text.specs.LargeReading.{state_of, marks_after, large_step}
 use Rattle.large_text.specs.LargeReading.{IsReadSoFar, block_seen}
 use Rattle.large_text.specs.LargeReading.IsReadSoFar.{AtFirst, OneMore}
 use Rattle.large_text.specs.LargeTrees.{IsLargeFirstFault}
@@ -188,16 +188,6 @@ pub limit_fails : (work : ℕ) (state : State) (token : Token) (kind : ReadKind)
 limit_fails work state token kind fault form grammar h fault_is =
     let quiet = limit_no_memory (is_inside_at state.place) work _ _ token.text kind h in
     rw (fault_is, quiet, form, grammar, h) refl
-
-pub all_pass : (work : ℕ) (state : State) (token : Token)
-    → large_form_fault state.bytes token.text ≡ None
-    → grammar_fault state.place state.head.has_if (length state.tree.blocks) token.text ≡ None
-    → large_limit_by (is_inside_at state.place) work
-    (length state.head.items + items_coming state.place) (length state.tree.blocks) token.text
-    ≡ None
-    → large_step work state token
-    ≡ Ok (after_at state.place (with_bytes state (length token.text)) token.text token.line)
-all_pass work state token form grammar limit = rw (form, grammar, limit) refl
 
 -- ---- the open blocks, as the reader and the state count them
 
