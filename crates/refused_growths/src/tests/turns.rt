@@ -35,12 +35,12 @@ pub(super) fn refuse_each<H: AllocGlobal + Threads + Wait + Abort + Sync>(
     let mut ample = Supply::ample(rt.alloc());
     let refusals = refuse_from_each(rt, calls, &mut ample)?;
     ample.restore();
-    assert!(rt; refusals == 0, "a growth is refused with ample memory");
+    assert!(rt; refusals == 0, "an allocation is refused with ample memory");
     start_a_thread(rt)?;
     let mut supply = Supply::scarce(rt.alloc())?;
     let refusals = refuse_from_each(rt, calls, &mut supply)?;
     supply.restore();
-    assert!(rt; refusals > 0, "no growth is refused");
+    assert!(rt; refusals > 0, "no allocation is refused");
     Ok(())
 }
 
