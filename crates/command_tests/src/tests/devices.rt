@@ -42,7 +42,8 @@ fn kind_at(call: usize) -> ErrorKind {
     }
 }
 
-/// A failure at each read in turn, which is not tried again.
+/// A failure at each read in turn, which is not tried again. The line that tells of it is written
+/// whole and flushed once, also where its writes are interrupted.
 #[test]
 fn failing_readers(rt: HostRuntime) -> Result<(), Fail> {
     let line = b"error: read fault\n".as_slice();
@@ -50,7 +51,8 @@ fn failing_readers(rt: HostRuntime) -> Result<(), Fail> {
         for call in 0..=input.len() {
             let faults = Faults::fail_call(call, kind_at(call));
             let reader = slow_source(input.as_bytes(), 1, faults);
-            let (status, reader, writer) = run_on(&rt, words, reader, sink(rt.alloc()))?;
+            let writer = slow_sink(rt.alloc(), 8, Faults::interrupt_calls(1, 3));
+            let (status, reader, writer) = run_on(&rt, words, reader, writer)?;
             assert!(rt;
                 status == Status::Fault && writer.flushes == 1,
                 "{call} {text}"
@@ -133,7 +135,8 @@ fn stuck_writers(rt: HostRuntime) -> Result<(), Fail> {
     Ok(())
 }
 
-/// Interruptions of reads and of writes have one budget, wherever they come.
+/// Interruptions of reads and of writes have one budget, wherever they come. What is written whole is
+/// flushed once, and nothing else is.
 #[test]
 fn interruptions(rt: HostRuntime) -> Result<(), Fail> {
     let fault = "error: read fault\n";
@@ -152,7 +155,11 @@ fn interruptions(rt: HostRuntime) -> Result<(), Fail> {
             let reader = slow_source(input.as_bytes(), 16, Faults::interrupt_calls(before, reads));
             let writer = slow_sink(rt.alloc(), 8, Faults::interrupt_calls(before, writes));
             let (got, _, writer) = run_on(&rt, words, reader, writer)?;
-            assert!(rt; got == status, "{before} {reads} {writes} {text}");
+            let flushes = usize::from(!written.is_empty());
+            assert!(rt;
+                got == status && writer.flushes == flushes,
+                "{before} {reads} {writes} {text}"
+            );
             assert!(rt;
                 writer.taken.as_slice() == written.as_bytes(),
                 "{before} {reads} {writes} {text}"
