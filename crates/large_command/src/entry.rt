@@ -3,14 +3,15 @@
 //! `run_program` is all of `main`; what the process gives and takes is named by no contract, so all
 //! else is in `start`.
 ghost use Rattle.std.specs.Prelude.{◌≡◌, ◌≢◌, ◌+◌, ◌<◌, ◌≤◌, ◌^◌, IfErr, IfOk, OnErr, map};
-ghost use Rattle.std.specs.Prelude.{string_bytes, true};
+ghost use Rattle.std.specs.Prelude.{false, string_bytes, true};
 ghost use Rattle.std.specs.Process.{exit_status};
 ghost use Rattle.std.specs.IoError.{error_kind};
 ghost use Rattle.counted_io.specs.Counted.{faults_of, flushes_of, inner_of, is_flushed};
 ghost use Rattle.counted_io.specs.Input.{ConsumesAtMost};
+ghost use Rattle.command_words.specs.LargeWords.{large_request_of};
 ghost use Rattle.spanprof_command.specs.Command.{ExitsAfter, ExitsWith, HadFaults};
 ghost use Rattle.spanprof_command.specs.Report.{out_of_memory, wrong_words};
-ghost use Rattle.large_command.specs.LargeCommand.{IsReport};
+ghost use Rattle.large_command.specs.LargeCommand.{IsReport, wants_text};
 ghost use Rattle.large_command.specs.declared.text_input.TheConstants.{LARGEST_TEXT};
 ghost use Rattle.std.specs.declared.io.ErrorKind.TheVariants.{OutOfMemory};
 
@@ -55,6 +56,9 @@ pub fn start<R: Read, W: Write>(
         (W.contents (inner_of writer.old)) (W.contents (inner_of writer.new))
         (HadFaults (faults_of writer.old) (faults_of writer.new)) result) }
     ensures reads_nothing { OnErr words (reader.new ≡ reader.old) }
+    ensures reads_for_words { IfOk words (λ given.
+        wants_text (large_request_of (map string_bytes given.items)) ≡ false
+        → reader.new ≡ reader.old) }
 
     // In every case, as of `command`.
     ensures reads_so_much { ConsumesAtMost (LARGEST_TEXT + 1) (R.remaining (inner_of reader.old))
