@@ -1,7 +1,6 @@
 -- Bounds of the schedules of nested marks, whatever their number.
-use Rattle.std.proofs.Common.{◌≡◌, ◌≤◌, ◌<◌, ◌+◌, ◌-◌, ◌*◌, ◌/◌, ℕ, List, length, take, sum, arith}
+use Rattle.std.proofs.Common.{◌≡◌, ◌≤◌, ◌<◌, ◌+◌, ◌-◌, ℕ, List, length, take, sum, arith}
 use Rattle.std.proofs.Common.{subst, zero, suc, ap, add-zero}
-use Rattle.std.proofs.Math.Nat.{div-lt_iff_lt-mul, le-div_iff_mul-le, max-le}
 use Rattle.std.proofs.lemmas.List.Sums.{sum_by-take-le, sum_by_more}
 use Rattle.task_program.specs.Limits.{work_of}
 use Rattle.task_program.specs.Marks.{Mark}
@@ -18,7 +17,6 @@ use Rattle.task_segments.proofs.Schedules.{IsLegal-by_rule, by_rule, end_of-by_r
 use Rattle.task_segments.proofs.Work.{all_work_at}
 use Rattle.online_span.specs.Spans.{IsSpanOf}
 use Rattle.greedy_sim.proofs.EverySchedule.{span-le}
-use Rattle.spanprof_command.specs.GreedyRuns.{bound_of, least_of}
 
 -- what must precede a segment has a smaller number, in the table of any nested marks
 pub must_ascend : (body : List Mark) → IsNested body → IsAscending (MustPrecede (table_of body))
@@ -30,19 +28,6 @@ must_ascend body h = record {
 pub all_work_of : (body : List Mark) → IsNested body
     → sum (costs_of (table_of body)) ≡ work_of (last_moment body)
 all_work_of body h = all_work_at (last_moment body) (last_of_nested body h).proper
-
--- what takes the work of p threads and reaches the span takes what a row calls the least
-pub least_below : (work span p end : ℕ) → 0 < p → work ≤ p * end → span ≤ end
-    → least_of work span p ≤ end
-least_below work span p end some does reaches =
-    let rounded : (work + (p - 1)) / p < end + 1 =
-    (div-lt_iff_lt-mul some).1 (omega (arith, some, does)) in
-    max-le reaches (omega (arith, rounded))
-
--- what ends by the greedy bound times p ends by the bound
-pub bound_above : (work span p end : ℕ) → 0 < p → p * end ≤ work + (p - 1) * span
-    → end ≤ bound_of work span p
-bound_above work span p end some ends_by = (le-div_iff_mul-le some).1 (omega (arith, ends_by))
 
 -- ---- one segment after another
 

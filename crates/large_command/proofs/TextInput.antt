@@ -1,11 +1,11 @@
 -- A text that is taken piece by piece.
-use Rattle.std.proofs.Common.{◌≡◌, ◌+◌, ◌-◌, ◌<◌, ◌≤◌, ◌^◌, ◌++◌, ℕ, List, length, take, Option, arith}
+use Rattle.std.proofs.Common.{◌≡◌, ◌+◌, ◌-◌, ◌<◌, ◌≤◌, ◌++◌, ℕ, List, length, take, Option, arith}
 use Rattle.std.proofs.Common.{ap, subst, sym}
 use Rattle.std.proofs.lemmas.List.{length-append, length-take}
-use Rattle.std.proofs.KnownBytes.{Consumes-kept, Consumes-trans}
-use Rattle.std.specs.Io.KnownBytes.{Consumes, Keeps}
+use Rattle.std.proofs.KnownBytes.{Consumes-trans}
+use Rattle.std.specs.Io.KnownBytes.{Consumes}
 use Rattle.counted_io.specs.Input.{ConsumesAtMost}
-use Rattle.large_text.specs.Streamed.{CanTakeBytes, HasTaken, TakesBytes}
+use Rattle.large_text.specs.Streamed.{HasTaken, TakesBytes}
 use Rattle.large_text.specs.declared.stream.TextMeter.{TextMeter}
 use Rattle.large_command.specs.declared.text_input.TheConstants.{LARGEST_TEXT}
 
@@ -17,16 +17,6 @@ pub record IsTaken (before after : Option (List ℕ)) (left : ℕ) (text_meter :
     pub some : 0 < left
     pub count : length text + left ≡ LARGEST_TEXT + 1
     pub taken : HasTaken text text_meter
-
-pub can_take : (before middle : Option (List ℕ)) (left count : ℕ) (text_meter : TextMeter)
-    → IsTaken before middle left text_meter
-    → count < left
-    → CanTakeBytes count text_meter
-can_take before middle left count text_meter h few = record {
-  bytes = h.text;
-  taken = h.taken;
-  fits = omega (arith, h.count, few);
-}
 
 -- a piece more
 pub is_taken : (before middle after : Option (List ℕ)) (left taken : ℕ) (buffer piece : List ℕ)
@@ -78,14 +68,3 @@ one_too_many before middle after left taken buffer text_meter h second all withi
       Consumes-trans before middle after h.text piece h.read second,
       omega (arith, h.count, all, within, length-append h.text piece, length-take taken buffer),
     )
-
--- and no byte more, or none that was read
-pub none_more : (before middle after : Option (List ℕ)) (left : ℕ) (text_meter : TextMeter)
-    → IsTaken before middle left text_meter
-    → Keeps middle after
-    → ConsumesAtMost (LARGEST_TEXT + 1) before after
-none_more before middle after left text_meter h kept = (
-  h.text,
-  Consumes-kept before middle after h.text h.read kept,
-  omega (arith, h.count),
-)

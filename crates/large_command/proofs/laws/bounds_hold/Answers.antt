@@ -3,7 +3,8 @@ use Rattle.task_segments.specs.Precedence.{MustPrecede}
 use Rattle.task_segments.specs.Schedule.{end_of}
 use Rattle.task_segments.specs.Table.{costs_of, table_of}
 use Rattle.greedy_sim.proofs.EverySchedule.{ends_by, span-le, work-le}
-use Rattle.large_command.proofs.Bounds.{all_work_of, bound_above, least_below, must_ascend}
+use Rattle.large_command.proofs.Bounds.{all_work_of, must_ascend}
+use Rattle.spanprof_command.proofs.Bounds.{bound_above, least_below}
 use Rattle.large_command.proofs.laws.bounds_hold.Goals as goal
 
 pub returns-clause-least : goal.returns-clause-least
