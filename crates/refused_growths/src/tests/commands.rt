@@ -1,4 +1,4 @@
-//! The ten commands, over devices that take no memory.
+//! The ten commands, and the program for a text of any size, over devices that take no memory.
 use super::certificates::{CERTIFICATE, Room, empty_room};
 use super::supply::Supply;
 use super::texts::command_line;
@@ -20,13 +20,17 @@ struct Example {
     text: &'static str,
 }
 
+/// Its tasks have names and a group.
+const NAMED: &str = "omptasks 1\ntask depend(out: a) { taskgroup { work 3 } }\n\
+    task depend(in: a) { work 2 }\n";
+
 const WORKED: &str = "omptasks 1\nwork 5 task { work 3 } work 2 taskwait work 1\n";
 
 const LOGGED: &str =
     "omptasks 1\nwork 5 task { work 3 } work 2 taskwait work 1\n---\nstart 0 0\nfinish 0 0\n\
     start 0 2\nfinish 0 2\nstart 1 1\nfinish 1 1\nstart 0 3\nfinish 0 3\n";
 
-/// Each command.
+/// Each command, and what the program for a text of any size is asked.
 #[derive(Clone, Copy)]
 pub(super) enum Command {
     Span,
@@ -39,6 +43,8 @@ pub(super) enum Command {
     Run,
     Check,
     Replay,
+    LargeNumbers,
+    LargeBounds,
 }
 
 fn on_worked(words: &'static [&'static str], text: &'static str) -> Example {
@@ -88,6 +94,15 @@ fn example_of(command: Command) -> Example {
             input: LOGGED,
             text: "events 8\nfinished 4\npreds 0\npreds 1 0\npreds 2 0\npreds 3 1 2\n",
         },
+        Command::LargeNumbers => Example {
+            words: &["spanprof_large"],
+            input: NAMED,
+            text: "tasks 2\nsegments 6\nwork 5\nspan 5\n",
+        },
+        Command::LargeBounds => on_worked(
+            &["spanprof_large", "--upto", "2"],
+            "threads,least,bound\n1,11,11\n2,9,10\n",
+        ),
     }
 }
 
@@ -114,6 +129,7 @@ impl Read for Taking<'_> {
 fn answer_to<H: AllocGlobal + Threads + Wait + Abort + Sync>(
     rt: &H,
     supply: &mut Supply,
+    asked: Command,
     line: &[String],
     input: &str,
 ) -> (Status, Room) {
@@ -121,7 +137,12 @@ fn answer_to<H: AllocGlobal + Threads + Wait + Abort + Sync>(
     let left = input.as_bytes();
     let mut reader = Counted::new(Taking { left, supply });
     let mut writer = empty_room();
-    let status = command(rt, line, &mut reader, &mut writer);
+    let status = match asked {
+        Command::LargeNumbers | Command::LargeBounds => {
+            large_command::command(rt.alloc(), line, &mut reader, &mut writer)
+        }
+        _ => command(rt, line, &mut reader, &mut writer),
+    };
     (status, writer.into_inner())
 }
 
@@ -133,7 +154,7 @@ pub(super) fn report<H: AllocGlobal + Threads + Wait + Abort + Sync>(
 ) -> Result<(), Fail> {
     let Example { words, input, text } = example_of(asked);
     let line = command_line(rt.alloc(), supply, words)?;
-    let (status, room) = answer_to(rt, supply, line.as_slice(), input);
+    let (status, room) = answer_to(rt, supply, asked, line.as_slice(), input);
     if status == Status::Done {
         assert!(rt; room.taken() == text.as_bytes(), "{text}");
         return Ok(());
@@ -144,7 +165,7 @@ pub(super) fn report<H: AllocGlobal + Threads + Wait + Abort + Sync>(
         room.taken() == b"error: out of memory\n".as_slice(),
         "{text}"
     );
-    let (status, room) = answer_to(rt, supply, line.as_slice(), input);
+    let (status, room) = answer_to(rt, supply, asked, line.as_slice(), input);
     assert!(rt; status == Status::Done, "{text}");
     assert!(rt; room.taken() == text.as_bytes(), "{text}");
     Ok(())

@@ -158,3 +158,13 @@ fn command_check(rt: HostRuntime) -> Result<(), Fail> {
 fn command_replay(rt: HostRuntime) -> Result<(), Fail> {
     refuse_each(&rt, Calls::Of(Command::Replay))
 }
+
+#[test]
+fn command_large_numbers(rt: HostRuntime) -> Result<(), Fail> {
+    refuse_each(&rt, Calls::Of(Command::LargeNumbers))
+}
+
+#[test]
+fn command_large_bounds(rt: HostRuntime) -> Result<(), Fail> {
+    refuse_each(&rt, Calls::Of(Command::LargeBounds))
+}

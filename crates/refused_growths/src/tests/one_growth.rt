@@ -171,3 +171,13 @@ fn command_check(rt: HostRuntime) -> Result<(), Fail> {
 fn command_replay(rt: HostRuntime) -> Result<(), Fail> {
     make_once(&rt, Calls::Of(Command::Replay))
 }
+
+#[test]
+fn command_large_numbers(rt: HostRuntime) -> Result<(), Fail> {
+    make_once(&rt, Calls::Of(Command::LargeNumbers))
+}
+
+#[test]
+fn command_large_bounds(rt: HostRuntime) -> Result<(), Fail> {
+    make_once(&rt, Calls::Of(Command::LargeBounds))
+}
