@@ -9,6 +9,7 @@ import re
 import statistics
 import subprocess
 import sys
+import threading
 import time
 from pathlib import Path
 
@@ -20,12 +21,24 @@ HEAD = "tasks        threads  spanprof  median  recorder  median    logged  medi
 
 
 def taken(words, text, variables):
-    """The wall time of one process, in milliseconds; it has to end, and well."""
+    """The wall time of one process, in milliseconds; it has to end, and well.
+
+    The limit is a timer's: a wait with a limit looks for the end in steps that double from half a millisecond on.
+    """
     with open(text, "rb") as given:
         began = time.monotonic()
-        subprocess.run(words, stdin=given, stdout=subprocess.DEVNULL, stderr=subprocess.DEVNULL, env=variables,
-                       check=True, timeout=PATIENCE)
-        return 1000 * (time.monotonic() - began)
+        process = subprocess.Popen(words, stdin=given, stdout=subprocess.DEVNULL, stderr=subprocess.DEVNULL,
+                                   env=variables)
+    limit = threading.Timer(PATIENCE, process.kill)
+    limit.start()
+    status = process.wait()
+    took = time.monotonic() - began
+    limit.cancel()
+    if took >= PATIENCE:
+        raise subprocess.TimeoutExpired(words, PATIENCE)
+    if status:
+        raise subprocess.CalledProcessError(status, words)
+    return 1000 * took
 
 
 def runs_of(program, folder, shape, threads):
