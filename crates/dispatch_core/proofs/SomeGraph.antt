@@ -5,8 +5,6 @@ use Rattle.std.proofs.lemmas.Bool.{cases_lt}
 use Rattle.std.proofs.lemmas.List.{get_or_append_left, get_or_push, length_push}
 use Rattle.task_program.specs.ProgramMarks.{ProgramMarks}
 use Rattle.task_program.specs.Programs.{IsProgram}
-use Rattle.task_program.specs.Trees.{HasTree}
-use Rattle.task_program.proofs.ReadWhole.{tree_is_program}
 use Rattle.task_segments.proofs.InPlace.{read_in_place, some_segment}
 use Rattle.task_segments.proofs.Order.{goes_up, continues_or_is_created}
 use Rattle.task_segments.proofs.LastMoment.{few_segments, few_tasks, grouped_program, nested_program}
@@ -28,9 +26,6 @@ use Rattle.dispatch_core.specs.Values.{IsValue}
 use Rattle.dispatch_core.specs.Values.IsValue.{Computes}
 use Rattle.dispatch_core.proofs.DecidedEdges.{decide_kept_edge}
 use Rattle.dispatch_core.proofs.Decisions.{some_list}
-
-pub tree_fits : (text : List ℕ) (program : ProgramMarks) → HasTree text program → IsProgram program
-tree_fits text program h = tree_is_program text program h
 
 -- what holds of a program's table
 pub record IsWhole (table : Table) : Type 0 where

@@ -12,11 +12,12 @@ use Rattle.task_segments.specs.Table.{table_at}
 use Rattle.task_segments.specs.Precedence.{MustPrecede}
 use Rattle.task_segments.specs.Schedule.{at, AreSegments, chain_sum}
 use Rattle.task_segments.proofs.LastMoment.{last_of_nested}
+use Rattle.task_segments.proofs.Schedules.{chain_within}
 use Rattle.online_span.specs.Masked.{IsMaskedMark, IsMasked}
 use Rattle.online_span.specs.Masked.IsMaskedMark.{Shown, Hidden}
 use Rattle.online_span.specs.Spans.{IsSpanOf, costs_at}
 use Rattle.online_span.proofs.Earliest.{cost-at, costs-length}
-use Rattle.online_span.proofs.Masking.{same_without, same_number, same_precedence, chain_under}
+use Rattle.online_span.proofs.Masking.{same_without, same_number, same_precedence}
 use Rattle.online_span.proofs.Masking.{numbers_ascend, work_at_last, same_length, no_more_cost}
 use Rattle.online_span.proofs.Masking.{nested_masked, masked_last}
 use Rattle.online_span.proofs.Program.{must_ascend, span_exists}
@@ -149,7 +150,7 @@ some_masking body span nested whole =
     let part = span_exists masked nested_too in
     let inside : AreSegments (costs_at f) chain =
     λ s c. omega (arith, whole.greatest_sum.segments s c) in
-    let linked = chain_under R Q (same_precedence f e (sym same) last_f last_e) chain
+    let linked = chain_within R Q (same_precedence f e (sym same) last_f last_e) chain
     whole.greatest_sum.linked in
     let shown : (s : ℕ) → Contains chain s → at (costs_at e) s ≤ at (costs_at f) s =
     λ s c.
@@ -166,7 +167,7 @@ some_masking body span nested whole =
     let below : chain_sum (costs_at f) chain ≤ part.0 =
     part.1.greatest_sum.greatest chain inside linked in
     let other = part.1.greatest_sum.chain in
-    let back = chain_under Q R (same_precedence e f same last_e last_f) other
+    let back = chain_within Q R (same_precedence e f same last_e last_f) other
     part.1.greatest_sum.linked in
     let most : chain_sum (costs_at e) other ≤ span =
     whole.greatest_sum.greatest other

@@ -4,8 +4,7 @@ use Rattle.std.proofs.Common.{length, Contains, refl, sym, ap, subst, ◌∙◌,
 use Rattle.std.specs.List.{sum}
 use Rattle.std.proofs.lemmas.Bool.{cases_lt, cases_Bool}
 use Rattle.std.proofs.lemmas.List.{get_or_past}
-use Rattle.std.proofs.lemmas.List.Sums.{sum_by-cons}
-use Rattle.task_program.specs.Limits.{work_done, work_of}
+use Rattle.task_program.specs.Limits.{work_of}
 use Rattle.task_program.specs.Marks.{Mark}
 use Rattle.task_program.specs.Marks.Mark.{Begins, Ends, Works, Waits, GroupBegins, GroupEnds}
 use Rattle.task_program.specs.Nested.{IsNested}
@@ -17,7 +16,7 @@ use Rattle.task_segments.specs.Schedule.{at, IsChain, AreSegments, chain_sum}
 use Rattle.task_segments.specs.StartsAndTails.{IsAscending}
 use Rattle.task_segments.proofs.Facts.{IsLast}
 use Rattle.task_segments.proofs.LastMoment.{last_of_nested}
-use Rattle.task_segments.proofs.Work.{all_work_at}
+use Rattle.task_segments.proofs.Work.{all_work_at, work_read}
 use Rattle.online_span.specs.Awaiting.{Awaits}
 use Rattle.online_span.specs.Masked.{IsMaskedMark, IsMasked, ShowsPath}
 use Rattle.online_span.specs.Masked.IsMaskedMark.{Shown, Hidden}
@@ -183,24 +182,6 @@ same_precedence e f is last_e last_f s t k =
     let same : Awaits (without_costs e) s t =
     subst (λ (xs : List Mark). Awaits xs s t) (sym is) bare in
     awaited_precedes e last_e s t (awaited_with e s t same)
-
--- a chain under one relation is one under another that has all of it
-pub chain_under : (R Q : ℕ → ℕ → Type 0) → ((s t : ℕ) → R s t → Q s t) → (list : List ℕ)
-    → IsChain R list
-    → IsChain Q list
-chain_under R Q f [] h = h
-chain_under R Q f (s ∷ []) h = tt
-chain_under R Q f (s ∷ t ∷ rest) h = (f s t h.0, chain_under R Q f (t ∷ rest) h.1)
-
-work_read : (e marks : List Mark) → work_of (moment_after e marks) ≡ work_of e + work_of marks
-work_read e [] = omega arith
-work_read e (m ∷ marks) =
-    omega (
-      arith,
-      work_read (m ∷ e) marks,
-      sum_by-cons work_done m e,
-      sum_by-cons work_done m marks,
-    )
 
 -- the numbers of a chain's segments ascend
 pub numbers_ascend : (R : ℕ → ℕ → Type 0) → IsAscending R → (costs list : List ℕ)

@@ -12,7 +12,7 @@ use Rattle.command_words.specs.declared.request.Request.{Request}
 use Rattle.command_words.specs.declared.request.Request.TheVariants.{Certify, Check, Curve, Greedy}
 use Rattle.command_words.specs.declared.request.Request.TheVariants.{Replay, Run, Show, Slack, Span}
 use Rattle.command_words.specs.declared.request.Request.TheVariants.{WhatIf}
-use Rattle.task_program.proofs.ReadWhole.{found_tree_of}
+use Rattle.task_program.proofs.ReadWhole.{found_tree_of, tree_is_program}
 use Rattle.task_program.proofs.Readings.{read_as}
 use Rattle.task_program.specs.Canonical.{canonical_text}
 use Rattle.task_program.specs.Document.{program_part, rest_part}
@@ -58,7 +58,7 @@ use Rattle.dispatch_core.proofs.Decisions.{decide_most}
 use Rattle.spanprof_command.proofs.Bounds.{carried_run}
 use Rattle.spanprof_command.proofs.OneReport.{span_output}
 use Rattle.spanprof_command.proofs.SomeAnalysis.{IsAnalysed, some_analysed}
-use Rattle.dispatch_core.proofs.SomeGraph.{IsWhole, first_values, some_graph, tree_fits}
+use Rattle.dispatch_core.proofs.SomeGraph.{IsWhole, first_values, some_graph}
 use Rattle.dispatch_core.proofs.SomeGraph.{whole_table}
 use Rattle.dispatch_core.specs.declared.event.TheConstants.{MOST_WORKERS}
 use Rattle.spanprof_command.proofs.SomeReplay.{some_said}
@@ -89,7 +89,7 @@ on_read : (Says : ProgramMarks → Report → Type 0) → SaysSome Says
     → (output : Report) × OnProgram Says input output
 on_read Says some input (Ok program) is =
     let tree : HasTree input program = found_tree_of input program is in
-    let said = some program (whole_table program (tree_fits input program tree)) in
+    let said = some program (whole_table program (tree_is_program input program tree)) in
     (said.0, inl (record { program = program; tree = tree; says = said.1 }))
 on_read Says some input (Err fault) is = (
   program_refusal fault,

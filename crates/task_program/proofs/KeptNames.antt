@@ -182,12 +182,6 @@ location_is values name (Some index) is h =
 
 -- ---- one piece
 
-no_fault : (fault : Option ReadFault) (after next : ExpansionState)
-    → unless_at_fault fault after ≡ Ok next
-    → (fault ≡ None) × (after ≡ next)
-no_fault (Some fault) after next h = absurd cc
-no_fault None after next h = (refl, cc)
-
 pub not_if : (holds : Bool) (kind : ReadKind) (line : ℕ)
     → fault_if holds kind line ≡ None
     → holds ≡ false

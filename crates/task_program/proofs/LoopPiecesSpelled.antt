@@ -215,7 +215,7 @@ if_weight clause = cond (is_if clause) 1 0
 abbrev final_weight : LoopClause → ℕ
 final_weight clause = cond (is_final clause) 1 0
 
-none_left : (has : Bool) (n : ℕ) → cond has 1 0 + suc n ≤ 1 → has ≡ false
+pub none_left : (has : Bool) (n : ℕ) → cond has 1 0 + suc n ≤ 1 → has ≡ false
 none_left true n h = absurd (omega (arith, h))
 none_left false n h = refl
 

@@ -49,7 +49,7 @@ some_found : (found : Bool) (number n : ℕ) → cond found (Some number) None �
 some_found true number n h = refl
 some_found false number n h = absurd cc
 
-around_us : (variables : List (List ℕ)) (text : List ℕ) (n : ℕ)
+pub around_us : (variables : List (List ℕ)) (text : List ℕ) (n : ℕ)
     → variable_number variables text ≡ Some n
     → list_any (bytes_eq text) variables ≡ true
 around_us variables text n h = some_found (list_any (bytes_eq text) variables) _ n h
@@ -244,7 +244,7 @@ record OpeningParts (variables : List (List ℕ)) (tokens : List Token) (opening
       → HaveLoopForms pieces (variables_around opening variables) (variables ∷ around)
       → HaveLoopForms (piece ∷ pieces) variables around
 
-at_most_one : (has : Bool) (n : ℕ) → n ≤ cond has 1 0 → n ≤ 1
+pub at_most_one : (has : Bool) (n : ℕ) → n ≤ cond has 1 0 → n ≤ 1
 at_most_one true n h = h
 at_most_one false n h = omega (arith, h)
 

@@ -52,7 +52,7 @@ use Rattle.task_program.proofs.FoundPlaces.{means_stable, list_any-more, list_an
 use Rattle.task_program.proofs.FoundPlaces.{items-if}
 use Rattle.task_program.proofs.NamesOnce.{names_stay}
 use Rattle.task_program.proofs.LinesExpand.{in_four}
-use Rattle.task_program.proofs.LoopSpelledPieces.{texts_append}
+use Rattle.task_program.proofs.LoopSpelledPieces.{texts_append, at_most_one}
 
 pub zip_append : {A B : Type 0} (R : A → B → Type 0) (xs more : List A) (ys others : List B)
     → AllZip R xs ys
@@ -86,9 +86,6 @@ item_plain _ _ _ _ (Plain variables kind name word) = record {
 item_plain _ _ _ _
     (Indexed variables kind name opens closes inside index two word is_open i is_close) =
     absurd cc
-
-abbrev of_kind : DependKind → List ℕ → DependKind × List ℕ
-of_kind kind name = (kind, name)
 
 record PlainItems (kind : DependKind) (tokens : List Token) (items : List LoopItem)
     : Type 0 where
@@ -379,10 +376,6 @@ block_goes opens written block state second third g h =
     (goes_on written (EndWritten ∷ []) second.tree.blocks state.tree.blocks second third
     (after_piece third BlockEnds) h
     (end_goes block state.tree.blocks third (h.blocks_are ∙ g.blocks_are) h.no_items))
-
-at_most_one : (has : Bool) (n : ℕ) → n ≤ cond has 1 0 → n ≤ 1
-at_most_one true n h = h
-at_most_one false n h = omega (arith, h)
 
 task_goes : (limited : Bool) (tokens : List Token) (head : LoopHead) (line brace_line : ℕ)
     (state : ExpansionState) (c : PlainClauses limited tokens head)

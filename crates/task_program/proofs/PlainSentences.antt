@@ -214,16 +214,6 @@ derived_of_written derived written same forms nested =
     })
     (pieces_in_one written forms)
 
--- so the header and such pieces are a sentence
-pub sentence_of_written : (texts : List (List ℕ)) → IsWritten texts → IsSentence texts
-sentence_of_written texts s = record {
-  version = s.version;
-  body = flat_map texts_of s.written;
-  version_is_one = s.version_is_one;
-  spelled = s.spelled;
-  derived = derived_of_written (flat_map texts_of s.written) s.written refl s.forms s.nested;
-}
-
 -- and each sentence is the header and such pieces
 pub written_of_sentence : (texts : List (List ℕ)) → IsSentence texts → IsWritten texts
 written_of_sentence texts s =

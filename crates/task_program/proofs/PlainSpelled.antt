@@ -33,6 +33,7 @@ use Rattle.task_program.proofs.Locations.{with_lines, lines_apart}
 use Rattle.task_program.proofs.ReadPieces.{zip_split}
 use Rattle.task_program.proofs.Shorter.{named_is}
 use Rattle.task_program.proofs.LinesSpelled.{IsItemOf, IsHead, IsOpening, Spells}
+use Rattle.task_program.proofs.LoopPiecesSpelled.{none_left}
 use Rattle.task_program.proofs.PlainPieces.{zip_append}
 
 abbrev token_of : List ℕ → ℕ → Token
@@ -134,14 +135,6 @@ names_spelled names kind named_kind (name ∷ commas) last (item ∷ items) line
     (item_stands names kind named_kind name (lines 0) item same h.0, tt) h.1
 
 -- ---- clauses
-
-or_assoc : (a b c : Bool) → ((a || b) || c) ≡ (a || (b || c))
-or_assoc true b c = refl
-or_assoc false b c = refl
-
-none_left : (has : Bool) (n : ℕ) → cond has 1 0 + suc n ≤ 1 → has ≡ false
-none_left true n h = absurd (omega (arith, h))
-none_left false n h = refl
 
 -- a `depend` in front of further clauses
 depend_apart : (names : List (List ℕ)) (last : List ℕ) (later : List (List ℕ))

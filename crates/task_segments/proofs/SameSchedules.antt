@@ -9,7 +9,7 @@ use Rattle.task_segments.specs.Schedule.{IsSpan, IsLeastEnd, IsLeastStart, IsSla
 use Rattle.task_segments.proofs.Reaches.{Reaches, reaches_by_one, reach_map, reached_is_joined}
 use Rattle.task_segments.proofs.Reaches.{reaches, waits_along}
 use Rattle.task_segments.proofs.Reaches.Reaches.{Stays, Goes}
-use Rattle.task_segments.proofs.Schedules.{AreSegments-cons}
+use Rattle.task_segments.proofs.Schedules.{AreSegments-cons, chain_within}
 
 -- a chain of R from s, of segments, whose sum is at least a given one
 record ChainFrom (costs : List ℕ) (R : ℕ → ℕ → Type 0) (s least : ℕ) : Type 0 where
@@ -155,11 +155,6 @@ module _ (R Q : ℕ → ℕ → Type 0) (forward : (s t : ℕ) → R s t → s <
       (refined costs t rest linked.1
       (λ n held. inside n (suc held.0, omega (arith, held.1), held.2))))
 
-  chain_within : (chain : List ℕ) → IsChain Q chain → IsChain R chain
-  chain_within [] linked = linked
-  chain_within (s ∷ []) linked = tt
-  chain_within (s ∷ t ∷ rest) linked = (within s t linked.0, chain_within (t ∷ rest) linked.1)
-
   at_most : (costs : List ℕ) (greatest : ℕ)
       → ((other : List ℕ) → AreSegments costs other → IsChain Q other
       → chain_sum costs other ≤ greatest)
@@ -179,7 +174,7 @@ module _ (R Q : ℕ → ℕ → Type 0) (forward : (s t : ℕ) → R s t → s <
       h = record {
         chain = h.chain;
         segments = h.segments;
-        linked = chain_within h.chain h.linked;
+        linked = chain_within Q R within h.chain h.linked;
         reached = h.reached;
         greatest = at_most costs span h.greatest;
       }
@@ -197,14 +192,14 @@ module _ (R Q : ℕ → ℕ → Type 0) (forward : (s t : ℕ) → R s t → s <
           let finer = refined costs s rest linked inside in
           let at_least = finer.at_least in
           let no_more =
-          h.greatest (s ∷ finer.more) finer.inside (chain_within (s ∷ finer.more) finer.linked) in
+          h.greatest (s ∷ finer.more) finer.inside (chain_within Q R within (s ∷ finer.more) finer.linked) in
           record {
             chain = s ∷ finer.more;
             segments = finer.inside;
             linked = finer.linked;
             reached = omega arith;
             greatest = λ other segments chained.
-                h.greatest other segments (chain_within other chained);
+                h.greatest other segments (chain_within Q R within other chained);
           }
 
   pub same_span : (costs : List ℕ) (span : ℕ) → IsSpan costs R span ↔ IsSpan costs Q span

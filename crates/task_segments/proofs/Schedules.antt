@@ -57,6 +57,17 @@ pub end_of-by_rule : (costs : List ℕ) (rule : ℕ → ℕ) (end : ℕ)
     → end_of costs (by_rule rule (length costs)) ≤ end
 end_of-by_rule costs rule end h = grind (arith, end_of-least, at-by_rule)
 
+-- a chain under one relation is one under another that has all of it
+pub chain_within : (R Q : ℕ → ℕ → Type 0)
+    → ((s t : ℕ) → R s t → Q s t)
+    → (chain : List ℕ)
+    → IsChain R chain
+    → IsChain Q chain
+chain_within R Q within [] linked = linked
+chain_within R Q within (s ∷ []) linked = tt
+chain_within R Q within (s ∷ t ∷ rest) linked =
+    (within s t linked.0, chain_within R Q within (t ∷ rest) linked.1)
+
 -- what follows a segment in a chain fits between its start and the end
 pub chain_from : (costs : List ℕ) (R : ℕ → ℕ → Type 0) (starts : List ℕ)
     → IsLegal costs R starts

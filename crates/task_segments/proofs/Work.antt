@@ -163,7 +163,7 @@ sums_all (GroupEnds ∷ e) p =
       sum_by-cons work_done GroupEnds e,
     )
 
-work_read : (e marks : List Mark) → work_of (moment_after e marks) ≡ work_of e + work_of marks
+pub work_read : (e marks : List Mark) → work_of (moment_after e marks) ≡ work_of e + work_of marks
 work_read e [] = omega arith
 work_read e (m ∷ marks) =
     omega (arith, work_read (m ∷ e) marks, sum_by-cons work_done m e, sum_by-cons work_done m marks)

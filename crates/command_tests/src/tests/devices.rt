@@ -135,8 +135,8 @@ fn stuck_writers(rt: HostRuntime) -> Result<(), Fail> {
     Ok(())
 }
 
-/// Interruptions of reads and of writes have one budget, wherever they come. What is written whole is
-/// flushed once, and nothing else is.
+/// Interruptions of reads and of writes have one budget, wherever they come. What is written whole
+/// is flushed once, and nothing else is.
 #[test]
 fn interruptions(rt: HostRuntime) -> Result<(), Fail> {
     let fault = "error: read fault\n";

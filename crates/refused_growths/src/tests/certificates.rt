@@ -9,7 +9,7 @@ use super::texts::program_of;
 use counted_io::Counted;
 use dispatch_core::replay::in_order;
 use span_analysis::analysis::{Analysis, analyse};
-use span_cert::{CheckFault, Checked, WriteFault, check, write_certificate};
+use span_cert::{CheckFault, Checked, WriteFault, certificate_text, check, write_certificate};
 use std::alloc::{AllocError, AllocGlobal, Global};
 use std::io;
 use std::io::Write;
@@ -122,6 +122,26 @@ fn write(
     }
 }
 
+/// Makes the text of a certificate.
+fn make_text(
+    rt: &impl Abort,
+    alloc: Global,
+    supply: &mut Supply,
+    program: &Program,
+    analysis: &Analysis,
+) -> Result<(), Fail> {
+    supply.before_call();
+    let text = match certificate_text(alloc, program, analysis) {
+        Ok(text) => text,
+        Err(_) => {
+            supply.refused();
+            certificate_text(alloc, program, analysis)?
+        }
+    };
+    assert_eq!(rt; text.as_slice(), CERTIFICATE.as_bytes());
+    Ok(())
+}
+
 fn write_analysed(
     rt: &impl Abort,
     alloc: Global,
@@ -129,6 +149,7 @@ fn write_analysed(
     program: &Program,
 ) -> Result<(), Fail> {
     let analysis = analysed(alloc, supply, program)?;
+    make_text(rt, alloc, supply, program, &analysis)?;
     write(rt, alloc, supply, program, &analysis);
     Ok(())
 }
