@@ -1,11 +1,14 @@
 //! What holds of the span of every program.
-ghost use Rattle.std.specs.Prelude.{ℕ, ◌≡◌, List};
+ghost use Rattle.std.specs.Prelude.{ℕ, ◌≡◌, ◌++◌, Bool, List};
+ghost use Rattle.program_text.specs.declared.statement.Item.{Item};
 ghost use Rattle.task_program.specs.Limits.{work_of};
 ghost use Rattle.task_program.specs.Marks.{Mark};
 ghost use Rattle.task_program.specs.Nested.{IsNested};
 ghost use Rattle.task_segments.specs.Precedence.{MustPrecede};
 ghost use Rattle.task_segments.specs.Schedule.{IsSpan};
 ghost use Rattle.task_segments.specs.Table.{costs_of, table_of};
+ghost use Rattle.online_span.specs.Folded.{StandsApart, with_group, with_task};
+ghost use Rattle.online_span.specs.Folded.{own_end, end_of_wait};
 ghost use Rattle.online_span.specs.Masked.{IsMasked, ShowsPath};
 ghost use Rattle.online_span.specs.Spans.{IsSpanOf};
 
@@ -35,4 +38,49 @@ pub fn some_masking()
     ensures { (body : List Mark) (span : ℕ) → IsNested body → IsSpanOf body span
         → (masked : List Mark) × IsMasked body masked × IsSpanOf masked span
         × (work_of masked ≡ span) }
+{}
+
+/// A group stands for its work and its span: where another body of the same work and span, each
+/// taken by itself, is written in its place, the whole program keeps its work and its span. Neither
+/// body may await what began before it and is not over when it starts.
+pub fn group_by_its_span()
+    ensures { (before body other after : List Mark) (own span : ℕ) → IsNested body
+        → IsNested other → IsNested (with_group before body after)
+        → IsNested (with_group before other after)
+        → StandsApart before body → StandsApart before other
+        → IsSpanOf body own → IsSpanOf other own → work_of body ≡ work_of other
+        → IsSpanOf (with_group before body after) span
+        → IsSpanOf (with_group before other after) span
+        × (work_of (with_group before other after) ≡ work_of (with_group before body after)) }
+{}
+
+/// A task stands for its work, its span and the end of its own code: where another body with the
+/// same three, each taken by itself, is written in its place, the whole program keeps its work and
+/// its span.
+pub fn task_by_its_ends()
+    ensures { (before body other after : List Mark) (undeferred : Bool) (items : List Item)
+        (own span : ℕ) → IsNested body → IsNested other
+        → IsNested (with_task before undeferred items body after)
+        → IsNested (with_task before undeferred items other after)
+        → own_end body ≡ own_end other
+        → IsSpanOf body own → IsSpanOf other own → work_of body ≡ work_of other
+        → IsSpanOf (with_task before undeferred items body after) span
+        → IsSpanOf (with_task before undeferred items other after) span
+        × (work_of (with_task before undeferred items other after)
+        ≡ work_of (with_task before undeferred items body after)) }
+{}
+
+/// Any code in the midst of a task stands for its work, its span, and where its waits end: of all
+/// children or of those that conflict, whichever these are. It may not await what began before it
+/// and is not over when it starts.
+pub fn code_by_its_waits()
+    ensures { (before body other after : List Mark) (own span : ℕ) → IsNested body
+        → IsNested other → IsNested (before ++ (body ++ after))
+        → IsNested (before ++ (other ++ after))
+        → StandsApart before body → StandsApart before other
+        → ((test : List Item → Bool) → end_of_wait test body ≡ end_of_wait test other)
+        → IsSpanOf body own → IsSpanOf other own → work_of body ≡ work_of other
+        → IsSpanOf (before ++ (body ++ after)) span
+        → IsSpanOf (before ++ (other ++ after)) span
+        × (work_of (before ++ (other ++ after)) ≡ work_of (before ++ (body ++ after))) }
 {}
