@@ -266,7 +266,7 @@ leaves_span b n own t old is over =
     }
 
 -- the marks of a child are not the task's own
-children_skip : (b : List Mark) → IsNested b → (within : ℕ) (marks : List Mark)
+pub children_skip : (b : List Mark) → IsNested b → (within : ℕ) (marks : List Mark)
     → own_children (suc within) (b ++ marks) ≡ own_children (suc within) marks
 children_skip _ Nothing within marks = refl
 children_skip _ (Work cost rest n) within marks = children_skip rest n within marks

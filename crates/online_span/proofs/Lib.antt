@@ -22,3 +22,5 @@ pub mod Shifted
 pub mod Runs
 pub mod Folding
 pub mod Standing
+pub mod Plain
+pub mod Folds

@@ -1,6 +1,6 @@
 -- A task counts by its work, its span and the end of its own code, and code in its midst by its work,
 -- its span and the ends of its waits.
-use Rattle.std.proofs.Common.{◌≡◌, ℕ, ◌+◌, ◌≤◌, Bool, true, false, cond, List, []}
+use Rattle.std.proofs.Common.{◌≡◌, ℕ, ◌+◌, Bool, false, cond, List, []}
 use Rattle.std.proofs.Common.{◌∷◌, ◌++◌, refl, sym, ap, subst, ◌∙◌, arith, max}
 use Rattle.std.proofs.lemmas.List.Sums.{sum_by-cons, sum_by-append}
 use Rattle.program_text.specs.declared.statement.Item.{Item}
@@ -11,17 +11,17 @@ use Rattle.task_program.specs.Nested.{IsNested}
 use Rattle.task_segments.specs.Moments.{last_moment, running_task}
 use Rattle.task_segments.proofs.LastMoment.{last_of_nested}
 use Rattle.task_program.specs.Conflict.{items_conflict}
-use Rattle.online_span.specs.Awaiting.{any_items, greatest_of, end_of, ended_of}
+use Rattle.online_span.specs.Awaiting.{end_of, ended_of}
 use Rattle.online_span.specs.Folded.{StandsApart, with_task, own_end, end_of_wait}
 use Rattle.online_span.specs.Spans.{IsSpanOf}
-use Rattle.online_span.proofs.States.{Done, Open, State, IsState, greatest, child_start, step}
+use Rattle.online_span.proofs.States.{Done, State, greatest, child_start, step}
 use Rattle.online_span.proofs.States.{raise_all, greatest-done, running-end}
-use Rattle.online_span.proofs.Shifted.{Outcome, outcome, peak, later, IsLater, IsOver, over_none}
+use Rattle.online_span.proofs.Shifted.{Outcome, outcome, peak, later, IsLater, over_none}
 use Rattle.online_span.proofs.Shifted.{shifted, greatest-append, greatest-later}
 use Rattle.online_span.proofs.Runs.{run, run-append, run-state, root_begun, root-state}
 use Rattle.online_span.proofs.Runs.{with_outcome, IsCovered, run-nested, last_span, span_is}
 use Rattle.online_span.proofs.Runs.{span_is_peak, greatest-any}
-use Rattle.online_span.proofs.Folding.{Alike, GroupsAlike, alike-run, open-self, all-self}
+use Rattle.online_span.proofs.Folding.{Alike, GroupsAlike, alike-run, all-self}
 use Rattle.online_span.proofs.Folding.{covered_state, apart_over, begins_state}
 
 -- what marks by themselves tell of their outcome
@@ -122,8 +122,13 @@ task_spans before d i body other after own n m whole end span span_too =
     let is_too = by_itself other m in
     let alike = after_task-alike s d i (outcome body n start []) (outcome other m start [])
     (omega (arith, one.end, two.end, is.end, is_too.end))
-    (omega (arith, one.peak, two.peak, span_is_peak body n own span,
-    span_is_peak other m own span_too)) in
+    (omega (
+      arith,
+      one.peak,
+      two.peak,
+      span_is_peak body n own span,
+      span_is_peak other m own span_too,
+    )) in
     ap (λ (x : State). x.span) (task_run before d i body after n covered)
     ∙ (alike-run after (after_task s d i body n) (after_task s d i other m) alike).span
     ∙ sym (ap (λ (x : State). x.span) (task_run before d i other after m covered))
@@ -156,7 +161,7 @@ task_counts before body other after d i own span n m whole whole_too end alone a
     let is = span_is (with_task before d i body after) whole span of_whole
     ∙ task_spans before d i body other after own n m whole end alone alone_too in (
       subst (IsSpanOf (with_task before d i other after)) (sym is)
-      (last_span (with_task before d i other after) whole_too),
+          (last_span (with_task before d i other after) whole_too),
       omega (arith, work_in_task before d i body after, work_in_task before d i other after),
     )
 
@@ -242,8 +247,13 @@ code_spans before body other after own n m whole apart apart_too waits span span
     (λ test. wait_moved r now t old test one
     ∙ ap (λ x. max (x + t) (greatest test old)) (same test)
     ∙ sym (wait_moved q now_too t old test two))
-    (omega (arith, one.peak, two.peak, span_is_peak body n own span,
-    span_is_peak other m own span_too)) in
+    (omega (
+      arith,
+      one.peak,
+      two.peak,
+      span_is_peak body n own span,
+      span_is_peak other m own span_too,
+    )) in
     ap (λ (x : State). x.span) (code_run before body after n covered)
     ∙ (alike-run after (with_outcome s now) (with_outcome s now_too) alike).span
     ∙ sym (ap (λ (x : State). x.span) (code_run before other after m covered))
@@ -279,6 +289,6 @@ code_counts before body other after own span n m whole whole_too apart apart_too
     let is = span_is (before ++ (body ++ after)) whole span of_whole
     ∙ code_spans before body other after own n m whole apart apart_too waits alone alone_too in (
       subst (IsSpanOf (before ++ (other ++ after))) (sym is)
-      (last_span (before ++ (other ++ after)) whole_too),
+          (last_span (before ++ (other ++ after)) whole_too),
       omega (arith, work_of_code before body after, work_of_code before other after),
     )

@@ -1,6 +1,6 @@
--- What decides the ends of all later segments, told apart from the numbers of segments and tasks: for
--- each open task where its current segment ends and where its children ended, for each open group
--- the greatest end in it. One more mark changes it as it changes the ends.
+-- What decides the ends of all later segments, apart from the numbers of segments and tasks. For each
+-- open task this is where its current segment ends and where its children ended, and for each open
+-- group the greatest end in it.
 use Rattle.std.proofs.Common.{◌≡◌, ◌≢◌, ℕ, ◌+◌, ◌<◌, ◌≤◌, Bool, true, false, cond, eqb, List, []}
 use Rattle.std.proofs.Common.{◌∷◌, length, get_or, drop, refl, sym, ap, subst, ◌∙◌, arith, max}
 use Rattle.std.proofs.Common.{length-drop}

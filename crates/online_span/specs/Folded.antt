@@ -45,6 +45,10 @@ waits_itself (suc within) (Waits ∷ marks) = waits_itself (suc within) marks
 waits_itself (suc within) (GroupBegins ∷ marks) = waits_itself (suc within) marks
 waits_itself (suc within) (GroupEnds ∷ marks) = waits_itself (suc within) marks
 
+-- each child that the task itself creates in this code is without items
+abbrev pub HasPlainChildren : List Mark → Type 0
+HasPlainChildren body = (items : List Item) → Contains (own_children zero body) items → items ≡ []
+
 -- after these marks, the earlier children of the running task whose items pass the test have ended
 -- where its next code starts, each as early as can be
 abbrev pub AreOver : List Mark → (List Item → Bool) → Type 0
@@ -80,3 +84,24 @@ end_of_wait test body =
     max (own_end body)
     (greatest_of (end_of (last_moment body)) test
     (ended_of (running_task (last_moment body)) (last_moment body)))
+
+-- tasks beside one another, of these costs
+abbrev pub tasks_of : List ℕ → List Mark
+tasks_of [] = []
+tasks_of (cost ∷ costs) = Begins false [] ∷ Works cost ∷ Ends ∷ tasks_of costs
+
+-- the body of a task that stands for all below it: where its own code ends last, tasks of these costs
+-- in a group with its work
+abbrev pub awaited_fold : List ℕ → ℕ → List Mark
+awaited_fold costs own = GroupBegins ∷ ((tasks_of costs ++ Works own ∷ []) ++ GroupEnds ∷ [])
+
+-- where something below it ends later, tasks of these costs, its work, and a task so much longer
+abbrev pub unawaited_fold : List ℕ → ℕ → ℕ → List Mark
+unawaited_fold costs own below = tasks_of costs ++ (Works own ∷ tasks_of (below ∷ []))
+
+-- code that stands for tasks beside one another and the work of their maker between them: tasks of
+-- these costs, work up to where the one that ends last began, a task as long as that one, and the
+-- rest of the work
+abbrev pub row_fold : List ℕ → ℕ → ℕ → ℕ → List Mark
+row_fold costs at longest rest =
+    tasks_of costs ++ (Works at ∷ (tasks_of (longest ∷ []) ++ Works rest ∷ []))
