@@ -17,3 +17,10 @@ pub mod Unpriced
 pub mod Sums
 pub mod Masking
 pub mod Hiding
+pub mod States
+pub mod Shifted
+pub mod Runs
+pub mod Folding
+pub mod Standing
+pub mod Plain
+pub mod Folds

@@ -16,6 +16,7 @@ use Rattle.task_segments.specs.Schedule.{at, IsChain, AreSegments, chain_sum}
 use Rattle.task_segments.specs.StartsAndTails.{IsAscending}
 use Rattle.task_segments.proofs.Facts.{IsLast}
 use Rattle.task_segments.proofs.LastMoment.{last_of_nested}
+use Rattle.task_segments.proofs.Schedules.{chain_within}
 use Rattle.task_segments.proofs.Work.{all_work_at, work_read}
 use Rattle.online_span.specs.Awaiting.{Awaits}
 use Rattle.online_span.specs.Masked.{IsMaskedMark, IsMasked, ShowsPath}
@@ -250,7 +251,7 @@ path_by_masking body masked span nested h whole part all =
     let many = same_length e f both in
     let inside : AreSegments (costs_at e) chain =
     λ s c. omega (arith, part.greatest_sum.segments s c) in
-    let linked = chain_under (MustPrecede (table_at f)) (MustPrecede (table_at e))
+    let linked = chain_within (MustPrecede (table_at f)) (MustPrecede (table_at e))
     (same_precedence e f (same_without e f both) last_e last_f) chain part.greatest_sum.linked in
     let no_more = no_more_cost e f both chain part.greatest_sum.segments in
     let shown : chain_sum (costs_at f) chain ≡ span = part.greatest_sum.reached in

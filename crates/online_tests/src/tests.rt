@@ -19,7 +19,7 @@ struct Worked {
     span: u64,
 }
 
-static WORKED: [Worked; 10] = [
+static WORKED: [Worked; 14] = [
     Worked {
         text: "omptasks 1\n",
         tasks: 0,
@@ -96,6 +96,36 @@ static WORKED: [Worked; 10] = [
         segments: 9,
         work: 10,
         span: 5,
+    },    // a group, and a task with work that stand for it: 13 in all, and 7 along the longest chain
+    Worked {
+        text: "omptasks 1\nwork 2 taskgroup { task { work 3 task { work 4 } work 1 taskwait } \
+            work 5 } work 1",
+        tasks: 2,
+        segments: 7,
+        work: 16,
+        span: 10,
+    },
+    Worked {
+        text: "omptasks 1\nwork 2 taskgroup { task { work 6 } work 7 } work 1",
+        tasks: 1,
+        segments: 4,
+        work: 16,
+        span: 10,
+    },
+    // they do not where the group waits for an earlier child, though it has work and span 5 by itself
+    Worked {
+        text: "omptasks 1\ntask { work 100 } taskgroup { taskwait work 5 }",
+        tasks: 1,
+        segments: 5,
+        work: 105,
+        span: 105,
+    },
+    Worked {
+        text: "omptasks 1\ntask { work 100 } taskgroup { work 5 }",
+        tasks: 1,
+        segments: 4,
+        work: 105,
+        span: 100,
     },
 ];
 
