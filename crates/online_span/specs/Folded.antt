@@ -1,4 +1,4 @@
--- A program in which the body of a group is written anew, and what is asked of the two bodies.
+-- Code with other code in its place: what is asked of the two, and the folds of tasks.
 use Rattle.std.specs.Prelude.{ℕ, zero, suc, ◌≤◌, max, ◌≡◌, Bool, true, false, List, [], ◌∷◌, ◌++◌}
 use Rattle.std.specs.Prelude.{Contains}
 use Rattle.program_text.specs.declared.statement.Item.{Item}
