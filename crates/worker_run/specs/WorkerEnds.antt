@@ -1,5 +1,6 @@
 -- How workers end, and what a run tells of it.
-use Rattle.std.specs.Prelude.{ℕ, ◌<◌, ◌≡◌, Bool, IsTrue, List, Some, Contains, slice_get}
+use Rattle.std.specs.Prelude.{ℕ, ◌<◌, ◌≡◌, Bool, IsTrue, List, Some, Contains, length, slice_get}
+use Rattle.std.specs.List.{HoldsAt}
 use Rattle.task_segments.specs.Table.{Table}
 use Rattle.dispatch_core.specs.declared.event.Event.{Event}
 use Rattle.worker_run.specs.declared.record.RunFault.{RunFault}
@@ -13,6 +14,11 @@ use Rattle.worker_run.specs.Jobs.{AreFinishedBefore, IsJobOf}
 abbrev pub MayEnd : (ℕ → ℕ → ℕ → Bool) → Ending → Type 0
 MayEnd may_fault how =
     (job : Job) → how ≡ Faulted job → IsTrue (may_fault job.segment job.cost job.input)
+
+-- each has its place as its number
+abbrev pub AreNumbered : {A : Type 0} → (A → ℕ) → List A → Type 0
+AreNumbered number items =
+    (place : ℕ) → place < length items → HoldsAt (λ x. number x ≡ place) items place
 
 -- Out of memory always counts, and a fault of the kernel where it was called with the segment's cost
 -- and input, all that must precede the segment being finished.

@@ -2,7 +2,7 @@
 ghost use Rattle.std.specs.Prelude.{◌≡◌, ◌↔◌, IsTrue, IfOk, OnOk, IfErr, IfSome, MatchOption, map};
 ghost use Rattle.std.specs.Prelude.{length};
 ghost use Rattle.worker_run.specs.Answer.{IsWorkerCount, MayAnswer};
-ghost use Rattle.worker_run.specs.WorkerEnds.{Tells, TellNothing, IsFirstTold};
+ghost use Rattle.worker_run.specs.WorkerEnds.{AreNumbered, Tells, TellNothing, IsFirstTold};
 ghost use Rattle.worker_run.specs.Jobs.{AreFinishedBefore, IsJobOf};
 ghost use Rattle.worker_run.specs.Workers.{AreBelow, worker_of};
 
@@ -55,6 +55,7 @@ impl<K: Kernel> Worked<K> {
     pub(crate) fn into_core(self, workers: u32) -> Result<Core<K>, RunFault>
         requires count { IsWorkerCount workers }
         requires each { length self.ends.items ≡ workers }
+        requires numbers { AreNumbered (λ end. end.worker) self.ends.items }
         ensures core { IfOk result (λ core. core ≡ self.core) }
         ensures none { OnOk result (TellNothing self.core.table self.core.history K.value_of
             (map (λ end. end.how) self.ends.items)) }
