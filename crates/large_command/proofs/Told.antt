@@ -14,12 +14,12 @@ use Rattle.large_text.specs.LargeTrees.{IsLargeFirstFault}
 use Rattle.large_text.specs.Measured.{MeasuresText}
 use Rattle.large_text.specs.Streamed.{CanTakeBytes, HasTaken}
 use Rattle.large_text.specs.declared.stream.TextMeter.{TextMeter}
-use Rattle.spanprof_command.specs.Report.{Report, input_too_long, program_refusal}
+use Rattle.spanprof_command.specs.Report.{Report, input_too_long}
 use Rattle.command_words.specs.declared.large.LargeRequest.{LargeRequest}
 use Rattle.command_words.specs.declared.large.LargeRequest.TheVariants.{Bounds, Numbers}
 use Rattle.large_command.specs.LargeCommand.{AnswersText}
 use Rattle.large_command.specs.LargeReports.{Answers, IsOfProgram, TellsMeter, bounds_report}
-use Rattle.large_command.specs.LargeReports.{numbers_report}
+use Rattle.large_command.specs.LargeReports.{numbers_report, text_refusal}
 use Rattle.large_command.specs.TextInput.{TakesText}
 use Rattle.large_command.specs.declared.text_input.TheConstants.{LARGEST_TEXT}
 
@@ -79,7 +79,7 @@ accepts asked text meter report h tells = inl (record {
 
 pub refuses : (asked : LargeRequest) (text : List ℕ) (fault : ReadFault) (report : Report)
     → IsLargeFirstFault (tokens_of text) (line_at_end 1 text) fault
-    → report ≡ program_refusal fault
+    → report ≡ text_refusal fault
     → Answers asked text report
 refuses asked text fault report is_fault says = inr (record {
   fault = fault;

@@ -1,9 +1,12 @@
 -- The report of a text of any size: one text and one status.
 use Rattle.std.specs.Prelude.{◌≡◌, ◌⊎◌, ◌+◌, ◌<◌, ◌≤◌, ℕ, List, [], ◌∷◌, ◌++◌, codes, length}
 use Rattle.std.specs.Prelude.{Option, Some}
+use Rattle.std.specs.Fmt.{decimal}
 use Rattle.command_words.specs.declared.large.LargeRequest.{LargeRequest}
 use Rattle.command_words.specs.declared.large.LargeRequest.TheVariants.{Bounds, Numbers}
 use Rattle.program_text.specs.declared.fault.ReadFault.{ReadFault}
+use Rattle.program_text.specs.declared.fault.ReadKind.{ReadKind}
+use Rattle.program_text.specs.declared.fault.ReadKind.TheVariants.{BadHeader}
 use Rattle.program_text.specs.Marks.{Mark}
 use Rattle.program_text.specs.Tokens.{texts, tokens_of, line_at_end}
 use Rattle.task_program.specs.Nested.{IsNested}
@@ -15,8 +18,9 @@ use Rattle.online_span.specs.Spans.{IsSpanOf}
 use Rattle.large_text.specs.LargeTrees.{HasLargeTree, IsLargeFirstFault, IsLargeRightWhole}
 use Rattle.spanprof_command.specs.GreedyRuns.{bound_of, least_of}
 use Rattle.spanprof_command.specs.Tables.{numbered_table}
-use Rattle.spanprof_command.specs.Report.{Report, input_too_long, number_line, program_refusal}
-use Rattle.spanprof_command.specs.declared.report.Status.TheVariants.{Done}
+use Rattle.spanprof_command.specs.Report.{Report, input_too_long, line, number_line}
+use Rattle.spanprof_command.specs.Report.{program_refusal}
+use Rattle.spanprof_command.specs.declared.report.Status.TheVariants.{Done, Refused}
 use Rattle.large_command.specs.declared.text_input.TheConstants.{LARGEST_TEXT}
 
 -- a number each for the tasks beside the root, the segments, the work and the span
@@ -95,11 +99,27 @@ pub record AcceptsText (asked : LargeRequest) (text : List ℕ) (output : Report
   pub right : IsLargeRightWhole (tokens_of text)
   pub says : Tells asked marks output
 
+-- a header that names another version than 1
+abbrev pub header_refusal : ℕ → Report
+header_refusal number = record {
+  text = line
+      (codes "error: line " ++ (decimal number ++ codes ": BadHeader, only version 1 is read"));
+  status = Refused;
+}
+
+-- a text that is no program of version 1
+abbrev pub refusal_of : ReadKind → ReadFault → Report
+refusal_of BadHeader fault = header_refusal fault.line
+refusal_of _ fault = program_refusal fault
+
+abbrev pub text_refusal : ReadFault → Report
+text_refusal fault = refusal_of fault.kind fault
+
 -- something is wrong with it, and the line of its first fault is written
 pub record RefusesText (text : List ℕ) (output : Report) : Type 0 where
   pub fault : ReadFault
   pub is_fault : IsLargeFirstFault (tokens_of text) (line_at_end 1 text) fault
-  pub says : output ≡ program_refusal fault
+  pub says : output ≡ text_refusal fault
 
 abbrev pub Answers : LargeRequest → List ℕ → Report → Type 0
 Answers asked text output = AcceptsText asked text output ⊎ RefusesText text output

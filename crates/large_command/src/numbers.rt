@@ -3,7 +3,7 @@ ghost use Rattle.std.specs.Prelude.{◌≡◌, List, ℕ, IfOk};
 ghost use Rattle.command_words.specs.declared.large.LargeRequest.TheVariants.{Numbers};
 ghost use Rattle.large_text.specs.Streamed.{CanTakeBytes, HasTaken};
 ghost use Rattle.large_command.specs.LargeReports.{Answers, IsOfProgram, TellsMeter};
-ghost use Rattle.large_command.specs.LargeReports.{numbers_report};
+ghost use Rattle.large_command.specs.LargeReports.{numbers_report, header_refusal, text_refusal};
 
 use crate::bound_rows::bounds;
 use command_words::large::LargeRequest;
@@ -11,7 +11,7 @@ use large_text::TextMeter;
 use online_span::Meter;
 use spanprof_command::{Report, Status, refusal};
 use std::alloc::{AllocError, Global};
-use task_program::fault::ReadKind;
+use task_program::fault::{ReadFault, ReadKind};
 
 /// What is asked of a text that a meter has taken, or the line of its first fault.
 pub(crate) fn answer(
@@ -29,9 +29,27 @@ pub(crate) fn answer(
             if fault.kind == ReadKind::OutOfMemory {
                 return Err(AllocError);
             }
-            refusal(alloc, fault)
+            text_refusal(alloc, fault)
         }
     }
+}
+
+/// The line of a text that is no program of version 1.
+fn text_refusal(alloc: Global, fault: ReadFault) -> Result<Report, AllocError>
+    ensures { IfOk result (λ report. report ≡ text_refusal fault) }
+{
+    match fault.kind {
+        ReadKind::BadHeader => header_refusal(alloc, fault.line),
+        _ => refusal(alloc, fault),
+    }
+}
+
+/// The line of a text with another header. It may be a program of version 2.
+fn header_refusal(alloc: Global, line: u32) -> Result<Report, AllocError>
+    ensures { IfOk result (λ report. report ≡ header_refusal line) }
+{
+    let text = format!(in alloc; "error: line {line}: BadHeader, only version 1 is read\n")?;
+    Ok(Report::new(text.into_bytes(), Status::Refused))
 }
 
 /// What is asked of a program that a meter has taken.

@@ -67,7 +67,10 @@ fn ends(rt: HostRuntime) -> Result<(), Fail> {
         (
             &[],
             "omptasks 2\n",
-            (Status::Refused, "error: line 1: BadHeader\n"),
+            (
+                Status::Refused,
+                "error: line 1: BadHeader, only version 1 is read\n",
+            ),
         ),
         (
             &["--upto", "3"],

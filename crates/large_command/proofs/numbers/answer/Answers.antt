@@ -17,7 +17,7 @@ returns-in-Ok c =
 
 pub returns-else-eq : goal.returns-else-eq
 returns-else-eq c =
-    IfOk-weaker c.refusal.result _ _
+    IfOk-weaker c.text_refusal.result _ _
     (λ report says bytes taken. refuses c.args.asked bytes c.in-Err.fault report
     (c.in-Err.ensures.refused (search rules) bytes taken) says)
-    c.refusal.ensures
+    c.text_refusal.ensures
