@@ -126,6 +126,7 @@ struct Region {
   std::vector<Event> events;
   bool has_events = true;  // else they are given up, since it has more tasks than a replay document holds
   uint64_t created = 0;    // tasks
+  int64_t cost = 0;        // of all its code
   std::map<LockName, LockUse> locks;
   Remarks remarks;
   Task *root = nullptr;           // what is written

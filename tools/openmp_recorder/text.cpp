@@ -256,6 +256,7 @@ int64_t own_work(const Task &t, int64_t unit) {
 }  // namespace
 
 int64_t work_in_units(const Region &region, int64_t unit) {
+  if (unit == 1 && !region.joined) return region.root->total;
   int64_t work = 0;
   for (const Task &t : region.tasks)
     if (is_written(t)) work += own_work(t, unit);
