@@ -7,6 +7,7 @@
 class Locations {
  public:
   uint32_t number(uint64_t address);  // from 0, in the order in which they are first asked for
+  uint32_t size() const { return count; }
 
  private:
   // Neighbouring addresses lie together, as a program's blocks do.

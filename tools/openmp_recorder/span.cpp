@@ -14,6 +14,7 @@ struct Location {
 // By their numbers, for one task after the other: what an earlier one left is not looked at.
 class Table {
  public:
+  explicit Table(size_t expected) : locations(expected) {}
   Location &at(const Item &item, const Task &maker) {
     if (item.location >= locations.size()) locations.resize(2 * item.location + 1);
     Location &location = locations[item.location];
@@ -107,13 +108,13 @@ void follow(Task &task, Table &table) {
 }  // namespace
 
 int64_t span_of(Region &region) {
-  Table table;
+  Table table(region.locations.size());
   for (auto task = region.tasks.rbegin(); task != region.tasks.rend(); ++task) follow(*task, table);
   return region.root->end_below;
 }
 
 int64_t span_of(const std::vector<Task *> &written) {
-  Table table;
+  Table table(0);
   for (auto task = written.rbegin(); task != written.rend(); ++task) follow(**task, table);
   return written.front()->end_below;
 }

@@ -276,9 +276,10 @@ Text program_text(Region &region, const Style &style, const Places &places) {
 
 std::vector<const void *> codes_of(const Region &region) {
   std::set<const void *> codes{region.code};
+  const void *last = region.code;  // most tasks have the place of the one before
   for (const Task &t : region.tasks) {
     if (!is_written(t)) continue;
-    codes.insert(t.code);
+    if (t.code != last) codes.insert(last = t.code);
     for (const Step &step : t.steps)
       if (step.kind != Kind::Work && step.kind != Kind::Create) codes.insert(step.code());
   }
