@@ -114,7 +114,8 @@ bool let_exclusion_be_order(Region &region) {
 bool Reporter::write_piece_by_piece(Region &region, const std::string &file, int64_t work, bool exclusion_as_order) {
   NewFile out(file, most_large_bytes);
   out.put(head(region, work));
-  tell_program(region, {options.unit, exclusion_as_order, true}, places, [&](std::string_view piece) { out.put(piece); });
+  auto put = [&](std::string_view piece) { out.put(piece); };
+  tell_program(region, {options.unit, exclusion_as_order, true}, places, put);
   return out.end("spanprof_large takes " + std::to_string(most_large_bytes) + " bytes" +
                  (options.lines ? "; set SPANPROF_LINES=0" : ""));
 }
