@@ -45,6 +45,15 @@ Offer Adviser::offer(const char *setting, uint64_t value) const {
           span_of(tried.written)};
 }
 
+// Tasks with items that the region's own code makes: whatever is folded, they stay.
+bool too_many_stay(const Region &region) {
+  uint64_t stay = 0;
+  for (const Part &part : region.parts)
+    for (const Step &step : part.task->steps)
+      if (step.kind == Kind::Create && !step.child()->items.empty() && ++stay > most_tasks) return true;
+  return false;
+}
+
 // The deepest one that fits; 0 where none does.
 uint64_t Adviser::depth() {
   if (!fits({1, 0, 0})) return 0;
@@ -101,6 +110,7 @@ int64_t Adviser::cost() {
 
 std::vector<Offer> Adviser::offers() {
   std::vector<Offer> out;
+  if (too_many_stay(region)) return out;
   if (uint64_t deepest = depth()) out.push_back(offer("DEPTH", deepest));
   if (uint64_t tasks = chunk()) out.push_back(offer("CHUNK", tasks));
   if (int64_t units = cost()) out.push_back(offer("COST", static_cast<uint64_t>(units)));

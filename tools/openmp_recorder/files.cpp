@@ -37,7 +37,7 @@ bool write_file(const std::string &name, const std::string &text) {
 NewFile::NewFile(const std::string &called, uint64_t most_bytes)
     : name(called), file(fopen(called.c_str(), "w")), left(most_bytes), good(file) {}
 
-void NewFile::put(const std::string &piece) {
+void NewFile::put(std::string_view piece) {
   is_too_long = is_too_long || piece.size() > left;
   good = good && !is_too_long && fwrite(piece.data(), 1, piece.size(), file) == piece.size();
   left -= good ? piece.size() : 0;

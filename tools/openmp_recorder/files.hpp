@@ -3,6 +3,7 @@
 #include <cstdint>
 #include <cstdio>
 #include <string>
+#include <string_view>
 
 bool write_file(const std::string &name, const std::string &text);
 
@@ -11,7 +12,7 @@ class NewFile {
  public:
   NewFile(const std::string &called, uint64_t most_bytes);
   NewFile(const NewFile &) = delete;
-  void put(const std::string &piece);
+  void put(std::string_view piece);
   bool end(const std::string &limit);  // whether all is written; else a word is said, and no part of it stays
 
  private:

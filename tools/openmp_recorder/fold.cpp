@@ -92,9 +92,20 @@ void try_children(const Task &maker, const Folds &folds, uint64_t most, std::vec
   }
 }
 
-// The steps of a task, without those of the tasks that it makes.
+// Of the tasks that a task with groups makes; without groups none are open there.
+void count_outer_groups(const Task &maker) {
+  unsigned groups = 0;
+  for (const Step &step : maker.steps) {
+    if (step.kind == Kind::GroupBegin) groups++;
+    if (step.kind == Kind::GroupEnd) groups--;
+    if (step.kind == Kind::Create) step.child()->outer_groups = groups;
+  }
+}
+
+// The steps of a task, without those of the tasks that it makes; its maker comes before it.
 void add_up_steps(Task &t) {
   unsigned groups = 0;
+  t.depth = t.part || !t.parent ? 0 : t.parent->depth + 1;
   t.total = t.largest = 0;
   t.size = 1;
   t.waits = t.inner_groups = 0;
@@ -103,10 +114,8 @@ void add_up_steps(Task &t) {
     if (step.kind == Kind::GroupBegin) t.inner_groups = std::max(t.inner_groups, ++groups);
     if (step.kind == Kind::GroupEnd) groups--;
     t.waits += step.kind == Kind::Wait || step.kind == Kind::GroupEnd;
-    if (step.kind != Kind::Create) continue;
-    step.child()->depth = step.child()->part ? 0 : t.depth + 1;
-    step.child()->outer_groups = groups;
   }
+  if (t.inner_groups && t.children) count_outer_groups(t);
 }
 }  // namespace
 

@@ -49,6 +49,12 @@ class Reporter {
   void tell_size(const std::string &files, const Size &size, int64_t work);
 };
 
+void remark_folds(Region &region, const Size &size) {
+  if (1 + size.tasks == region.root->size) return;
+  for (const Task &t : region.tasks)
+    if (t.parent && !is_written(t)) region.remarks[Remark::Folded].add(t.code);
+}
+
 Size Reporter::fold_as_asked(Region &region) {
   add_up(region);
   remark_locks(region);
@@ -63,8 +69,7 @@ Size Reporter::fold_as_asked(Region &region) {
     say("SPANPROF_FOLD_EXACT: no exact fold fits");
     size = fold(region, folds);
   }
-  for (const Task &t : region.tasks)
-    if (t.parent && !is_written(t)) region.remarks[Remark::Folded].add(t.code);
+  remark_folds(region, size);
   return size;
 }
 
@@ -109,7 +114,8 @@ bool let_exclusion_be_order(Region &region) {
 bool Reporter::write_piece_by_piece(Region &region, const std::string &file, int64_t work, bool exclusion_as_order) {
   NewFile out(file, most_large_bytes);
   out.put(head(region, work));
-  tell_program(region, {options.unit, exclusion_as_order, true}, places, [&](auto &piece) { out.put(piece); });
+  auto put = [&](std::string_view piece) { out.put(piece); };
+  tell_program(region, {options.unit, exclusion_as_order, true}, places, put);
   return out.end("spanprof_large takes " + std::to_string(most_large_bytes) + " bytes" +
                  (options.lines ? "; set SPANPROF_LINES=0" : ""));
 }

@@ -6,8 +6,10 @@
 #include <memory>
 #include <vector>
 
+#include "locations.hpp"
 #include "records.hpp"
 #include "remarks.hpp"
+#include "short_list.hpp"
 
 struct Task;
 struct Region;
@@ -39,12 +41,18 @@ enum class Fold : uint8_t {
   Joined  // the task is `work` of the next of its siblings
 };
 
+// An item of `depend`, whose location has a number in the region.
+struct Item {
+  uint64_t location : 56;
+  uint64_t type : 8;  // as OMPT has it
+};
+
 // A wait for dependences: of the undeferred task that follows, or a `taskwait` with `depend`.
 struct DependWait {
   const void *code;
   int64_t over;    // the clock of the thread when it was over, so far as is known
   const Log *log;  // of that thread
-  std::vector<DependItem> items;
+  ShortList<Item> items;
   bool is_over = false;
 };
 
@@ -54,8 +62,8 @@ struct Task {
   bool undeferred = false, untied = false;
   unsigned segment = 0;  // the one that is open, counted within the task
   unsigned children = 0;
-  std::vector<Step> steps;
-  std::vector<DependItem> items;
+  ShortList<Step> steps;
+  ShortList<Item> items;
   const void *code = nullptr;
 
   // while it is written
@@ -113,10 +121,12 @@ struct Region {
   uint64_t place = 0;    // in the order of time, from 1
   RegionTime time{};
   std::deque<Task> tasks;  // in the order of creation, each before those that it makes
+  Locations locations;     // that its tasks name
   std::vector<Part> parts;
   std::vector<Event> events;
   bool has_events = true;  // else they are given up, since it has more tasks than a replay document holds
   uint64_t created = 0;    // tasks
+  int64_t cost = 0;        // of all its code
   std::map<LockName, LockUse> locks;
   Remarks remarks;
   Task *root = nullptr;           // what is written

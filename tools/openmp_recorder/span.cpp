@@ -3,25 +3,42 @@
 #include <omp-tools.h>
 
 #include <algorithm>
-#include <unordered_map>
 
 namespace {
-// When the last task of each type ended that named a location.
+// When the last task of each type ended that named a location, among those that one task makes.
 struct Location {
+  const Task *maker = nullptr;
   int64_t in = 0, set = 0, other = 0;
+};
+
+// By their numbers, for one task after the other: what an earlier one left is not looked at.
+class Table {
+ public:
+  explicit Table(size_t expected) : locations(expected) {}
+  Location &at(const Item &item, const Task &maker) {
+    if (item.location >= locations.size()) locations.resize(2 * item.location + 1);
+    Location &location = locations[item.location];
+    if (location.maker != &maker) location = {&maker, 0, 0, 0};
+    return location;
+  }
+
+ private:
+  std::vector<Location> locations;
 };
 
 // The code of one task from its start, each segment as early as what it waits for lets it be.
 class Timeline {
  public:
-  void follow(Task &task);
+  Timeline(Task &of, Table &shared) : task(of), table(shared) {}
+  void follow();
 
  private:
+  Task &task;
+  Table &table;
   int64_t now = 0;
   int64_t children = 0;         // the end of the last child
   int64_t below = 0;            // and of the last task below
   std::vector<int64_t> groups;  // of the last task in each group that is open
-  std::unordered_map<uint64_t, Location> locations;
 
   void step(const Step &step);
   void create(const Task &child);
@@ -29,13 +46,13 @@ class Timeline {
   void name_items(const Task &child, int64_t end);
 };
 
-bool is_set(const DependItem &item) {
+bool is_set(const Item &item) {
   return item.type == ompt_dependence_type_inoutset || item.type == ompt_dependence_type_mutexinoutset;
 }
 
 int64_t Timeline::after_items(const Task &child, int64_t start) {
-  for (const DependItem &item : child.items) {
-    const Location &location = locations[item.address];
+  for (const Item &item : child.items) {
+    const Location &location = table.at(item, task);
     start = std::max(start, location.other);
     if (item.type != ompt_dependence_type_in) start = std::max(start, location.in);
     if (!is_set(item)) start = std::max(start, location.set);
@@ -44,8 +61,8 @@ int64_t Timeline::after_items(const Task &child, int64_t start) {
 }
 
 void Timeline::name_items(const Task &child, int64_t end) {
-  for (const DependItem &item : child.items) {
-    Location &location = locations[item.address];
+  for (const Item &item : child.items) {
+    Location &location = table.at(item, task);
     int64_t &last = item.type == ompt_dependence_type_in ? location.in : is_set(item) ? location.set : location.other;
     last = std::max(last, end);
   }
@@ -78,21 +95,26 @@ void Timeline::step(const Step &step) {
   }
 }
 
-void Timeline::follow(Task &task) {
-  if (task.fold == Fold::Body || !task.children) now = task.total;
-  else
-    for (const Step &one : task.steps) step(one);
+void Timeline::follow() {
+  for (const Step &one : task.steps) step(one);
   task.end = now + task.joined;
   task.end_below = std::max(below, task.end);
+}
+
+void follow(Task &task, Table &table) {
+  if (task.fold == Fold::Body || !task.children) task.end = task.end_below = task.total + task.joined;
+  else Timeline(task, table).follow();
 }
 }  // namespace
 
 int64_t span_of(Region &region) {
-  for (auto task = region.tasks.rbegin(); task != region.tasks.rend(); ++task) Timeline().follow(*task);
+  Table table(region.locations.size());
+  for (auto task = region.tasks.rbegin(); task != region.tasks.rend(); ++task) follow(*task, table);
   return region.root->end_below;
 }
 
 int64_t span_of(const std::vector<Task *> &written) {
-  for (auto task = written.rbegin(); task != written.rend(); ++task) Timeline().follow(**task);
+  Table table(0);
+  for (auto task = written.rbegin(); task != written.rend(); ++task) follow(**task, table);
   return written.front()->end_below;
 }

@@ -2,11 +2,10 @@
 
 #include <omp-tools.h>
 
-#include <charconv>
 #include <set>
-#include <string_view>
-#include <unordered_map>
 #include <utility>
+
+#include "piece.hpp"
 
 namespace {
 constexpr size_t longest_piece = 1 << 20;
@@ -33,28 +32,32 @@ class Writer {
   const Style &style;
   const Places &places;
   const Taker &taker;
-  std::string piece;          // not handed on yet
+  Piece piece;                // not handed on yet
   std::vector<Place> inside;  // the open tasks, innermost last
   uint32_t opened = 0;
-  std::unordered_map<uint64_t, uint64_t> names;
+  std::vector<uint32_t> names;  // by the number of a location
+  uint32_t named = 0;
+  const void *last_code = nullptr;  // the place that was asked for last
+  std::string_view last_place;
 
   void begin_line(unsigned indent);
-  void number(uint64_t value);
   void end_line(std::string_view comment = {});
-  void line(unsigned indent, const char *words, std::string_view comment = {});
+  void line(unsigned indent, std::string_view words, std::string_view comment = {});
   void items(const Task &t);
   void flush(Place &p);
   void open(Place &p);
   void step(Place &p, const Step &step);
   void leave_out(Place &p, const Task &child);
   void create(Place &p, Task &child);
-  std::string_view place_of(const Task &t) const;
+  uint32_t name_of(const Item &item);
+  std::string_view place_at(const void *code);
+  std::string_view place_of(const Task &t);
   void end_task_line(const Task &t);
   void enter(Task &t, unsigned indent);
   void leave();
 };
 
-const char *type_of(uint64_t type, bool exclusion_as_order) {
+std::string_view type_of(uint64_t type, bool exclusion_as_order) {
   switch (type) {
     case ompt_dependence_type_in: return "in";
     case ompt_dependence_type_out: return "out";
@@ -85,46 +88,58 @@ std::string folded_words(const Place &p) {
 }
 
 void Writer::begin_line(unsigned indent) {
-  if (!style.large) piece.append(2 * indent, ' ');
-}
-
-void Writer::number(uint64_t value) {
-  char digits[24];
-  piece.append(digits, std::to_chars(digits, digits + sizeof digits, value).ptr);
+  if (!style.large) piece.blanks(2 * indent);
 }
 
 void Writer::end_line(std::string_view comment) {
-  if (!comment.empty()) piece.append("  # ").append(comment);
-  piece += '\n';
+  if (!comment.empty()) {
+    piece.put("  # ");
+    piece.put(comment);
+  }
+  piece.put("\n");
   if (piece.size() < longest_piece) return;
-  taker(piece);
+  taker(piece.words());
   piece.clear();
 }
 
-void Writer::line(unsigned indent, const char *words, std::string_view comment) {
+void Writer::line(unsigned indent, std::string_view words, std::string_view comment) {
   begin_line(indent);
-  piece += words;
+  piece.put(words);
   end_line(comment);
+}
+
+// Names are numbered in the order of the text, and locations in that of the records.
+uint32_t Writer::name_of(const Item &item) {
+  if (item.location >= names.size()) names.resize(2 * item.location + 1, none);
+  uint32_t &name = names[item.location];
+  if (name == none) name = named++;
+  return name;
 }
 
 void Writer::items(const Task &t) {
   std::string_view last;
-  for (const DependItem &item : t.items) {
+  for (const Item &item : t.items) {
     std::string_view type = type_of(item.type, style.exclusion_as_order);
-    if (type == last) piece += ", a";
-    else piece.append(last.empty() ? " depend(" : ") depend(").append(type).append(": a");
-    number(names.try_emplace(uint64_t{item.address}, names.size()).first->second);
+    if (type == last) {
+      piece.put(", a");
+    } else {
+      if (!last.empty()) piece.put(")");
+      piece.put(" depend(");
+      piece.put(type);
+      piece.put(": a");
+    }
+    piece.number(name_of(item));
     last = type;
   }
-  if (!last.empty()) piece += ')';
+  if (!last.empty()) piece.put(")");
 }
 
 void Writer::flush(Place &p) {
   int64_t cost = rounded(p.cost, style.unit);
   if (cost || p.folded || p.joined) {
     begin_line(p.indent);
-    piece += "work ";
-    number(static_cast<uint64_t>(cost));
+    piece.put("work ");
+    piece.number(static_cast<uint64_t>(cost));
     end_line(folded_words(p));
   }
   p.cost = 0;
@@ -147,9 +162,13 @@ void Writer::leave_out(Place &p, const Task &child) {
   p.task.numbers[p.segment - 1] = none;
 }
 
-std::string_view Writer::place_of(const Task &t) const {
-  return t.part ? of_a_thread : std::string_view(places.at(t.code));
+std::string_view Writer::place_at(const void *code) {
+  if (code != last_code) last_place = places.at(code);
+  last_code = code;
+  return last_place;
 }
+
+std::string_view Writer::place_of(const Task &t) { return t.part ? of_a_thread : place_at(t.code); }
 
 void Writer::end_task_line(const Task &t) {
   if (!t.stands_for) return end_line(place_of(t));
@@ -161,9 +180,10 @@ void Writer::create(Place &p, Task &child) {
   if (!is_written(child)) return leave_out(p, child);
   flush(p);
   begin_line(p.indent);
-  piece += child.undeferred ? "task if(0)" : "task";
+  piece.put("task");
+  if (child.undeferred) piece.put(" if(0)");
   items(child);
-  piece += " {";
+  piece.put(" {");
   end_task_line(child);
   enter(child, p.indent + 1);
 }
@@ -174,10 +194,10 @@ void Writer::step(Place &p, const Step &step) {
     case Kind::Work: p.cost += step.cost(); return;
     case Kind::Create: return create(p, *step.child());
     case Kind::Wait:
-      line(p.indent, "taskwait", places.at(step.code()));
+      line(p.indent, "taskwait", place_at(step.code()));
       p.segment++;
       return open(p);
-    case Kind::GroupBegin: return line(p.indent++, "taskgroup {", places.at(step.code()));
+    case Kind::GroupBegin: return line(p.indent++, "taskgroup {", place_at(step.code()));
     case Kind::GroupEnd:
       line(--p.indent, "}");
       p.segment++;
@@ -218,7 +238,7 @@ void Writer::tell(Task &root) {
     if (p.next < p.task.steps.size()) step(p, p.task.steps[p.next++]);
     else leave();
   }
-  taker(piece);
+  taker(piece.words());
 }
 
 // Of the lines of one task's own code.
@@ -236,6 +256,7 @@ int64_t own_work(const Task &t, int64_t unit) {
 }  // namespace
 
 int64_t work_in_units(const Region &region, int64_t unit) {
+  if (unit == 1 && !region.joined) return region.root->total;
   int64_t work = 0;
   for (const Task &t : region.tasks)
     if (is_written(t)) work += own_work(t, unit);
@@ -249,15 +270,16 @@ void tell_program(Region &region, const Style &style, const Places &places, cons
 Text program_text(Region &region, const Style &style, const Places &places) {
   Text text;
   text.work = work_in_units(region, style.unit);
-  tell_program(region, style, places, [&](const std::string &piece) { text.words += piece; });
+  tell_program(region, style, places, [&](std::string_view piece) { text.words += piece; });
   return text;
 }
 
 std::vector<const void *> codes_of(const Region &region) {
   std::set<const void *> codes{region.code};
+  const void *last = region.code;  // most tasks have the place of the one before
   for (const Task &t : region.tasks) {
     if (!is_written(t)) continue;
-    codes.insert(t.code);
+    if (t.code != last) codes.insert(last = t.code);
     for (const Step &step : t.steps)
       if (step.kind != Kind::Work && step.kind != Kind::Create) codes.insert(step.code());
   }

@@ -2,6 +2,7 @@
 #pragma once
 #include <functional>
 #include <string>
+#include <string_view>
 #include <vector>
 
 #include "run.hpp"
@@ -18,7 +19,7 @@ struct Text {
   int64_t work = 0;   // in units
 };
 
-using Taker = std::function<void(const std::string &piece)>;
+using Taker = std::function<void(std::string_view piece)>;
 
 std::vector<const void *> codes_of(const Region &region);  // whose places stand in its text
 int64_t work_in_units(const Region &region, int64_t unit);  // as the text has it, rounded line by line

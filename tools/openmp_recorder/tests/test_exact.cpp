@@ -41,7 +41,10 @@ void Drawn::create(Task &t, unsigned levels) {
   child.undeferred = !draw(10);
   const ompt_dependence_type_t types[] = {ompt_dependence_type_in, ompt_dependence_type_inout,
                                           ompt_dependence_type_inoutset};
-  if (!draw(5)) child.items.push_back(item(types[draw(3)], 64 + draw(2)));
+  if (!draw(5)) {
+    auto type = static_cast<uint64_t>(types[draw(3)]);
+    child.items.push_back({draw(2), type});
+  }
   t.children++;
   t.segment++;
   t.steps.push_back(Step::create(&child));

@@ -29,7 +29,7 @@ TEST(a_large_text_is_told_piece_by_piece_and_not_indented) {
                 .barrier(0, 1).read();
   Region &region = only_region(run);
   std::string words;
-  tell_program(region, {1, false, true}, Places(), [&](const std::string &piece) { words += piece; });
+  tell_program(region, {1, false, true}, Places(), [&](std::string_view piece) { words += piece; });
   EXPECT(words, "omptasks 1\ntask {\nwork 3\ntask {\nwork 4\n}\n}\n");
   EXPECT(region.tasks.back().numbers.empty(), true);
 }
@@ -51,14 +51,15 @@ TEST(deeply_nested_tasks_are_written_line_by_line) {
   for (size_t i = 0; i < deep; i++) {
     Task &child = region.tasks.emplace_back();
     child.parent = maker;
-    maker->steps = {Step::work(1), Step::create(&child)};
+    maker->steps.push_back(Step::work(1));
+    maker->steps.push_back(Step::create(&child));
     maker->segment = maker->children = 1;
     maker = &child;
   }
   add_up(region);
   EXPECT(fold(region, {}).blocks, deep);
   size_t bytes = 0, pieces = 0;
-  tell_program(region, {1, false, true}, Places(), [&](const std::string &piece) { bytes += piece.size(), pieces++; });
+  tell_program(region, {1, false, true}, Places(), [&](std::string_view piece) { bytes += piece.size(), pieces++; });
   EXPECT(bytes, std::string("omptasks 1\n").size() + deep * std::string("work 1\ntask {\n}\n").size());
   EXPECT(pieces > 1, true);
 }
