@@ -96,7 +96,7 @@ static WORKED: [Worked; 14] = [
         segments: 9,
         work: 10,
         span: 5,
-    },    // a group, and a task with work that stand for it: 13 in all, and 7 along the longest chain
+    }, // a group, and a task with work that stand for it: 13 in all, and 7 along the longest chain
     Worked {
         text: "omptasks 1\nwork 2 taskgroup { task { work 3 task { work 4 } work 1 taskwait } \
             work 5 } work 1",
