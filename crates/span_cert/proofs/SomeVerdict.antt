@@ -7,7 +7,7 @@ use Rattle.std.proofs.lemmas.Bool.{cases_lt}
 use Rattle.std.proofs.lemmas.List.{get_or_default, take_all}
 use Rattle.std.proofs.lemmas.List.Elements.{Contains-get_or}
 use Rattle.std.proofs.lemmas.Option.{none-some, same_Some}
-use Rattle.task_program.proofs.ReadWhole.{found_tree_of}
+use Rattle.task_program.proofs.ReadWhole.{found_tree_of, tree_is_program}
 use Rattle.task_program.specs.Document.{program_part, rest_part}
 use Rattle.task_program.specs.PlainWords.{all_steps, step_by, words_of}
 use Rattle.task_program.specs.ProgramMarks.{ProgramMarks}
@@ -38,7 +38,7 @@ use Rattle.dispatch_core.proofs.DecidedEdges.{decide_precedes}
 use Rattle.dispatch_core.proofs.Decisions.{IsDecided, decided_by_equivalent, decide_below}
 use Rattle.dispatch_core.proofs.Decisions.{decide_both, decide_each, decide_less, decide_same}
 use Rattle.dispatch_core.proofs.Decisions.{find_first}
-use Rattle.dispatch_core.proofs.SomeGraph.{tree_fits, whole_table}
+use Rattle.dispatch_core.proofs.SomeGraph.{whole_table}
 
 -- ---- the form
 
@@ -274,7 +274,7 @@ checks_claim : (document : List ℕ) (program : ProgramMarks) (claim : Claim)
     → HasVerdict document
 checks_claim document program claim tree has =
     let table : Table = table_of program.marks in
-    let whole = whole_table program (tree_fits (program_part document) program tree) in
+    let whole = whole_table program (tree_is_program (program_part document) program tree) in
     elim (verdict_on table claim whole.sound has.has_form.some) [
       | inl good ↦ (
         Ok good.0,
