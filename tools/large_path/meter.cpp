@@ -19,12 +19,13 @@ void NameEnds::note(Kind kind, End end) {
   slot = later(slot, end);
 }
 
-Meter::Meter() : open(1) {
+Meter::Meter(size_t most_segments) : most(most_segments), open(1) {
   open[0].end.segment = begin_segment(End{});
   span = open[0].end;
 }
 
 uint32_t Meter::begin_segment(End from) {
+  if (predecessor.size() == most) throw Wrong("it has more than " + std::to_string(most) + " segments");
   predecessor.push_back(from.segment);
   return static_cast<uint32_t>(predecessor.size() - 1);
 }

@@ -1,5 +1,5 @@
-// The earliest ends of segments, each with the predecessor that it comes from: 4 bytes a segment. Numbers of 32 bits
-// suffice: a text has less than 2^32 bytes, and none of its constructs brings a segment for fewer than three of them.
+// The earliest ends of segments, each with the predecessor that it comes from: 4 bytes a segment. A text with more
+// segments than 32 bits can number is refused.
 #pragma once
 #include <unordered_map>
 
@@ -29,7 +29,7 @@ struct OpenTask {
 
 class Meter : public Listener {
  public:
-  Meter();
+  explicit Meter(size_t most_segments = no_segment);
   void work(uint64_t cost, const Tokens &at) override;
   void wait(const Tokens &at) override;
   void begin_group(const Tokens &at) override;
@@ -42,6 +42,7 @@ class Meter : public Listener {
   End span;
 
  private:
+  size_t most;
   std::vector<uint32_t> predecessor;
   std::vector<OpenTask> open;
   std::vector<End> groups;

@@ -25,8 +25,8 @@ class Tokens {
  private:
   std::string_view text;
   size_t begin = 0, end = 0;
-  uint32_t line = 1;
-  mutable uint32_t commented = 0;  // the line whose comment was asked for last: a line may have many tokens
+  uint64_t line = 1;
+  mutable uint64_t commented = 0;  // the line whose comment was asked for last: a line may have many tokens
   mutable std::string_view kept;
 
   std::string_view find_comment() const;

@@ -25,9 +25,9 @@ Found found(const std::string &statements) {
   return {meter.total, meter.span.time, marks, masked.str().substr(header.size()), table.str()};
 }
 
-std::string refused(const std::string &text) {
-  Meter meter;
+std::string refused(const std::string &text, size_t most_segments) {
   try {
+    Meter meter(most_segments);
     read(text, meter);
   } catch (const Wrong &wrong) {
     return wrong.what();

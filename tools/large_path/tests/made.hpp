@@ -1,5 +1,6 @@
 // What the program finds of a text that a test makes up.
 #pragma once
+#include <cstdint>
 #include <string>
 
 struct Found {
@@ -10,4 +11,4 @@ struct Found {
 };
 
 Found found(const std::string &statements);  // the header comes before them
-std::string refused(const std::string &text);  // why; nothing if it is read
+std::string refused(const std::string &text, size_t most_segments = UINT32_MAX);  // why; nothing if it is read

@@ -47,3 +47,8 @@ TEST(items_of_cousins_do_not_conflict) {
   expect_path("task depend(out: a) { task depend(out: a) { work 3 } } task { task depend(in: a) { work 4 } }", 4,
               "100011100");
 }
+
+TEST(a_text_has_so_many_segments_at_most) {
+  EXPECT(refused("omptasks 1 task {} taskwait", 4), "");
+  EXPECT(refused("omptasks 1 task {} taskwait", 3), "it has more than 3 segments");
+}
