@@ -22,7 +22,8 @@ use Rattle.task_program.proofs.Begun.{Began}
 use Rattle.task_program.proofs.FaultFound.{texts_long, past_long, header_short}
 use Rattle.task_program.proofs.FaultFound.{nothing_after, nothing_after_one}
 use Rattle.task_program.proofs.Tallies.{other_text, is_past_header}
-use Rattle.large_text.specs.LargeFaults.{comes_before_item, all_items_in, items_coming}
+use Rattle.large_text.specs.LargeFaults.{items_coming}
+use Rattle.large_text.specs.LargeTrees.{comes_before_item, all_items_in}
 
 abbrev mark_of : List ℕ → ℕ
 mark_of text = cond (comes_before_item text) 1 0

@@ -33,10 +33,10 @@ use Rattle.large_text.specs.declared.limits.TheConstants.{MOST_LARGE_ITEMS}
 use Rattle.large_text.specs.declared.marks.TextMark.{TextMark}
 use Rattle.large_text.specs.declared.reader.MarkReader.{MarkReader}
 use Rattle.large_text.specs.LargeFaults.{large_limit_by, is_inside_at}
-use Rattle.large_text.specs.LargeFaults.{items_coming, large_form_fault, all_items_in}
+use Rattle.large_text.specs.LargeFaults.{items_coming, large_form_fault}
 use Rattle.large_text.specs.LargeReading.{state_of, with_bytes, marks_after, large_step}
 use Rattle.large_text.specs.LargeReading.{mark_seen}
-use Rattle.large_text.specs.LargeTrees.{large_rules, too_many_large}
+use Rattle.large_text.specs.LargeTrees.{large_rules, too_many_large, all_items_in}
 use Rattle.large_text.proofs.Items.{AreCounted, counted_more}
 use Rattle.large_text.proofs.Sound.{IsBehind, IsSound}
 use Rattle.large_text.proofs.Open.{TreeOpen, place_open}
@@ -52,7 +52,8 @@ allows : (work all_items : ℕ) (state : State) (token : Token) (next : State)
 allows work all_items state token next p =
     let text = token.text in
     let there = is_there state.place state.head.has_if (length state.tree.blocks) text p.grammar in
-    let under = is_under (is_inside_at state.place) work _ _ _ text p.limit in
+    let under = is_under (is_inside_at state.place) work (all_items + items_coming state.place)
+    (length state.head.items + items_coming state.place) (length state.tree.blocks) text p.limit in
     record {
       header = there.header;
       unopened = closes_same state.place state.tree.blocks text
@@ -251,7 +252,8 @@ read_more before marks old new token mark r step work all_items =
     let p = passed old.work old.all_items state token next step in
     let there =
     is_there state.place state.head.has_if (length state.tree.blocks) token.text p.grammar in
-    let under = is_under (is_inside_at state.place) old.work _ _ _ token.text p.limit in
+    let under = is_under (is_inside_at state.place) old.work (old.all_items + items_coming old.place)
+    (length old.items + items_coming old.place) (length state.tree.blocks) token.text p.limit in
     let form = is_formed state.bytes token.text p.formed in
     let allowed = not-false _ there.allowed in
     let bytes_is : new.bytes ≡ old.bytes + length token.text =

@@ -32,7 +32,7 @@ use Rattle.large_text.specs.declared.limits.TheConstants.{MOST_LARGE_NESTING}
 use Rattle.large_text.specs.declared.limits.TheConstants.{MOST_LARGE_ITEMS}
 use Rattle.large_text.specs.LargeFaults.{large_form_fault, grammar_fault, large_limit_by}
 use Rattle.large_text.specs.LargeFaults.{closes_no_block, is_inside_at, items_coming}
-use Rattle.large_text.specs.LargeFaults.{too_many_items}
+use Rattle.large_text.specs.LargeTrees.{too_many_items}
 use Rattle.large_text.specs.LargeReading.{large_step, with_bytes}
 
 -- nothing is wrong with the token, and it leads there

@@ -2,7 +2,7 @@
 use Rattle.std.proofs.Common.{◌≡◌, ◌+◌, ◌<◌, ◌≤◌, ◌^◌, ◌∙◌, ℕ, cond, false, List, [], ◌∷◌, ◌++◌}
 use Rattle.std.proofs.Common.{◌-◌, Result, Ok, Err, Option, Some, None, length, take, drop, get_or}
 use Rattle.std.proofs.Common.{append_assoc, length-append, refl, sym, ap, subst, arith}
-use Rattle.std.specs.Prelude.{OnOk, is_ok}
+use Rattle.std.specs.Prelude.{OnOk, is_ok, count_by}
 use Rattle.std.proofs.lemmas.Bool.{ne_eqb}
 use Rattle.std.proofs.lemmas.List.{append-nil, drop_more, take_more, take-append-drop}
 use Rattle.std.proofs.lemmas.List.Sums.{sum_by-append, count_by-le-length}
@@ -87,7 +87,11 @@ no_feed_before bytes end some within other none =
     let same : end - 1 + 1 ≡ end = omega arith in
     let quiet : is_line_feed (get_or bytes (end - 1) 0) ≡ false =
     ne_eqb (get_or bytes (end - 1) 0) 10 other in
-    rw (whole, same, quiet) none
+    let counted = ap (λ (rest : List ℕ). count_by is_line_feed rest) whole in
+    let later : count_by is_line_feed (drop (end - 1 + 1) bytes) ≡ 0 =
+    subst (λ (n : ℕ). count_by is_line_feed (drop n bytes) ≡ 0) (sym same) none in
+    let one : cond (is_line_feed (get_or bytes (end - 1) 0)) 1 0 ≡ 0 = rw quiet refl in
+    omega (arith, counted, later, one)
 
 -- ---- from piece to piece
 
@@ -149,6 +153,18 @@ fits_none = record {
   short = omega arith;
   lines = λ front line later is none.
       omega (arith, ap length is, length-append front (line ++ later), length-append line later);
+}
+
+pub fits_short : (bytes : List ℕ) → length bytes ≤ LARGEST_LINE → FitsText bytes
+fits_short bytes few = record {
+  short = omega (arith, few);
+  lines = λ front line later is none. omega (
+    arith,
+    few,
+    ap length is,
+    length-append front (line ++ later),
+    length-append line later,
+  );
 }
 
 fits_front : (front back : List ℕ) → FitsText (front ++ back) → FitsText front

@@ -203,7 +203,9 @@ pub limit_fails : (work all_items : ℕ) (state : State) (token : Token) (kind :
     → fault ≡ record { kind = kind; line = token.line }
     → Fails fault (large_step work all_items state token)
 limit_fails work all_items state token kind fault form grammar h fault_is =
-    let quiet = limit_no_memory (is_inside_at state.place) work _ _ _ token.text kind h in
+    let quiet = limit_no_memory (is_inside_at state.place) work
+    (all_items + items_coming state.place) (length state.head.items + items_coming state.place)
+    (length state.tree.blocks) token.text kind h in
     rw (fault_is, quiet, form, grammar, h) refl
 
 -- ---- the open blocks, as the reader and the state count them

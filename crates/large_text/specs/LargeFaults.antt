@@ -1,14 +1,14 @@
 -- Carried out: what a reader of marks tests of a token at its place: what it is by itself, whether
 -- the grammar has it there, and which limit it passes.
-use Rattle.std.specs.Prelude.{ℕ, Bool, true, false, not, ◌&&◌, ◌||◌, ◌==◌, nat_lt, count_by}
+use Rattle.std.specs.Prelude.{ℕ, Bool, true, false, not, ◌&&◌, ◌==◌, nat_lt}
 use Rattle.std.specs.Prelude.{if◌then◌else◌, List, Option, Some, None, codes}
+use Rattle.std.specs.Option.{option_or}
 use Rattle.program_text.specs.declared.fault.ReadKind.{ReadKind}
 use Rattle.program_text.specs.declared.fault.ReadKind.TheVariants.{BadHeader, BadWord, BadNumber}
 use Rattle.program_text.specs.declared.fault.ReadKind.TheVariants.{Unopened, TooDeep, TooManyItems}
 use Rattle.program_text.specs.declared.fault.ReadKind.TheVariants.{WorkTooLarge}
 use Rattle.program_text.specs.declared.limits.TheConstants.{MOST_ITEMS}
 use Rattle.program_text.specs.TokenFaults.{form_fault_within}
-use Rattle.std.specs.Option.{option_or}
 use Rattle.program_text.specs.Words.{is_text}
 use Rattle.task_program.specs.declared.place.Place.{Place}
 use Rattle.task_program.specs.declared.place.Place.TheVariants.{Statement, IfNumber, IfCloses}
@@ -18,7 +18,7 @@ use Rattle.task_program.specs.Faults.{is_header, is_allowed}
 use Rattle.task_program.specs.TokenCounts.{is_value_too_large, is_too_deep, is_work_past}
 use Rattle.large_text.specs.declared.limits.TheConstants.{MOST_LARGE_TOKEN_BYTES}
 use Rattle.large_text.specs.declared.limits.TheConstants.{MOST_LARGE_NESTING}
-use Rattle.large_text.specs.declared.limits.TheConstants.{MOST_LARGE_ITEMS}
+use Rattle.large_text.specs.LargeTrees.{too_many_items}
 
 -- what is wrong with the token by itself, after so many bytes of tokens
 abbrev pub large_form_fault : ℕ → List ℕ → Option ReadKind
@@ -55,17 +55,6 @@ items_coming (DependName kind) = 1
 items_coming _ = 0
 
 -- ---- the limits
-
--- a `:` or `,`: one stands before each depend item, and nowhere else
-abbrev pub comes_before_item : List ℕ → Bool
-comes_before_item text = is_text text (codes ":") || is_text text (codes ",")
-
--- the depend items of all tasks, the one that comes included
-abbrev pub all_items_in : List (List ℕ) → ℕ
-all_items_in texts = count_by comes_before_item texts
-
-abbrev pub too_many_items : (all_items : ℕ) → Option ReadKind
-too_many_items all_items = if nat_lt MOST_LARGE_ITEMS all_items then Some TooManyItems else None
 
 -- the first limit that is passed with this token
 abbrev pub large_limit_by : (inside : Bool) (work all_items items open_blocks : ℕ) → List ℕ

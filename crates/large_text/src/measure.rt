@@ -57,9 +57,9 @@ pub(crate) fn take_tokens(
 {
     let mut scanner = Scanner::new(text);
     'tokens: while let Some(token) = scanner.next_token() {
-        take_token(reader, meter, token, lines + u64::from(token.line))?;
+        take_token(reader, meter, token, lines + token.line as u64)?;
     }
-    Ok(lines + u64::from(scanner.line))
+    Ok(lines + scanner.line as u64)
 }
 
 // Takes the next token, which begins on this line, and the mark that is whole with it, if one is.

@@ -152,7 +152,7 @@ impl MarkReader {
             return Err(LargeFault { kind, line });
         }
         self.bytes += token.text.len() as u64;
-        self.all_items += items_coming(self.place) as u32;
+        self.all_items += items_coming(self.place);
         self.take_right(token, line)
     }
 
@@ -183,8 +183,8 @@ impl MarkReader {
             || nat_lt MOST_ITEMS (length self.now.items + items_coming self.now.place) }
     {
         let coming = items_coming(self.place);
-        self.all_items as usize + coming > MOST_LARGE_ITEMS as usize
-            || self.items.len() + coming > MOST_ITEMS
+        u64::from(self.all_items) + u64::from(coming) > u64::from(MOST_LARGE_ITEMS)
+            || self.items.len() + coming as usize > MOST_ITEMS
     }
 
     // The token is one of the grammar, and passes no limit.

@@ -11,14 +11,6 @@ returns-in-Some-clause-step c = λ marks.
     form_fails c.args.self.now.work c.args.self.now.all_items (state_of c.args.self.now marks) (token_on c.args.token c.args.line)
     c.in-Some.kind _ (sym c.form_fault.ensures ∙ c.in-Some.is) refl
 
-pub overflow_cast-self : goal.overflow_cast-self
-overflow_cast-self c =
-    omega (
-      arith,
-      (is_formed c.args.self.now.bytes c.args.token.text.now
-          (sym c.form_fault.ensures ∙ c.in_default.is)).bytes_fit,
-    )
-
 pub overflow_add-self : goal.overflow_add-self
 overflow_add-self c =
     omega (
