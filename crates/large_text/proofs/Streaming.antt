@@ -5,7 +5,7 @@ use Rattle.std.proofs.Common.{append_assoc, length-append, refl, sym, ap, subst,
 use Rattle.std.specs.Prelude.{OnOk, is_ok, count_by}
 use Rattle.std.proofs.lemmas.Bool.{ne_eqb}
 use Rattle.std.proofs.lemmas.List.{append-nil, drop_more, take_more, take-append-drop}
-use Rattle.std.proofs.lemmas.List.Sums.{sum_by-append, count_by-le-length}
+use Rattle.std.proofs.lemmas.List.Sums.{sum_by-append, sum_by-cons, count_by-le-length}
 use Rattle.program_text.specs.declared.fault.ReadFault.{ReadFault}
 use Rattle.program_text.specs.Marks.{Mark}
 use Rattle.program_text.specs.Marks.Mark.{Begins}
@@ -19,6 +19,7 @@ use Rattle.large_text.specs.LargeTrees.{HasLargeTree, IsLargeRightWhole, IsLarge
 use Rattle.large_text.specs.Measured.{MeasuresSoFar, MeasuresText}
 use Rattle.large_text.specs.Streamed.{EndsLine, CutsTokens, HasTakenLines, HasFault}
 use Rattle.large_text.specs.Streamed.{HasTakenBy, HasTaken, TakesBytes, FitsText, HasNoLineFeed}
+use Rattle.large_text.specs.Streamed.{CanTakeBytes}
 use Rattle.large_text.specs.declared.stream.TextMeter.{TextMeter}
 use Rattle.large_text.specs.declared.limits.TheConstants.{LARGEST_TEXT, LARGEST_LINE}
 use Rattle.large_text.specs.declared.limits.TheConstants.{LARGEST_PIECE}
@@ -90,8 +91,10 @@ no_feed_before bytes end some within other none =
     let counted = ap (λ (rest : List ℕ). count_by is_line_feed rest) whole in
     let later : count_by is_line_feed (drop (end - 1 + 1) bytes) ≡ 0 =
     subst (λ (n : ℕ). count_by is_line_feed (drop n bytes) ≡ 0) (sym same) none in
-    let one : cond (is_line_feed (get_or bytes (end - 1) 0)) 1 0 ≡ 0 = rw quiet refl in
-    omega (arith, counted, later, one)
+    let one : ◌≡◌ {A = ℕ} (cond (is_line_feed (get_or bytes (end - 1) 0)) 1 0) 0 = rw quiet refl in
+    let first = sum_by-cons (λ byte. cond (is_line_feed byte) 1 0) (get_or bytes (end - 1) 0)
+    (drop (end - 1 + 1) bytes) in
+    omega (arith, counted, first, later, one)
 
 -- ---- from piece to piece
 
@@ -240,6 +243,20 @@ takes_two all first second old middle new is takes_first takes_second = λ taken
     subst (λ (bytes : List ℕ). HasTaken bytes new) (sym whole)
     (takes_second (taken ++ first) both
     (takes_first taken (fits_front (taken ++ first) second both) h))
+
+-- where a whole piece can be taken, so can what it begins with
+pub can_front : (all first second : List ℕ) (text_meter : TextMeter)
+    → all ≡ first ++ second
+    → CanTakeBytes all text_meter
+    → CanTakeBytes first text_meter
+can_front all first second text_meter is can = record {
+  bytes = can.bytes;
+  taken = can.taken;
+  fits = fits_front (can.bytes ++ first) second
+      (subst FitsText
+      (ap (λ (bytes : List ℕ). can.bytes ++ bytes) is ∙ sym (append_assoc can.bytes first second))
+      can.fits);
+}
 
 pub split_whole : (bytes front back : List ℕ) (n : ℕ) → front ≡ take n bytes → back ≡ drop n bytes
     → bytes ≡ front ++ back

@@ -78,10 +78,10 @@ fn take_token(
         → MeasuresSoFar before reader.old meter.old
         → IsLargeFirstFault (before ++ token_on token.entry line ∷ later) end_line fault) }
 {
-    if let Some(mark) = reader.take(token, line)? {
-        take_mark(meter, &mark)?;
+    match reader.take(token, line)? {
+        Some(mark) => Ok(take_mark(meter, &mark)?),
+        None => Ok(()),
     }
-    Ok(())
 }
 
 fn take_mark(meter: &mut Meter, mark: &TextMark) -> Result<(), AllocFault>

@@ -15,12 +15,13 @@ take_mark-requires c =
     c.in-Some.is (c.in_ok-mark.ensures.reads c.requires.tokens so_far.marks so_far.so_far))
     so_far.measures
 
-pub returns-in_ok-take_mark-clause-reads : goal.returns-in_ok-take_mark-clause-reads
-returns-in_ok-take_mark-clause-reads c = λ before m.
+pub returns-in_ok-take_mark-in-Some-clause-reads :
+    goal.returns-in_ok-take_mark-in-Some-clause-reads
+returns-in_ok-take_mark-in-Some-clause-reads c = λ before m.
     let token = token_on c.args.token c.args.line in
     mark_taken before token c.in-Some.mark c.args.reader.now c.take.new.self c.args.meter.now
     c.take_mark.new.meter
     (λ tokens marks r. subst
     (λ (mark : Option TextMark). IsReadSoFar (tokens ++ token ∷ []) (marks_after marks mark)
     c.take.new.self)
-    c.in-Some.is (c.in_ok-mark.ensures.reads tokens marks r)) c.in_ok-take_mark.ensures m
+    c.in-Some.is (c.in_ok-mark.ensures.reads tokens marks r)) c.in_ok-take_mark-in-Some.ensures m

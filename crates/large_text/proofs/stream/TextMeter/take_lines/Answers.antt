@@ -4,25 +4,6 @@ use Rattle.program_text.specs.Tokens.{is_line_feed}
 use Rattle.large_text.proofs.Streaming.{lines_done, fault_done, short_text, few_lines}
 use Rattle.large_text.proofs.stream.TextMeter.take_lines.Goals as goal
 
-pub take_tokens-requires-few : goal.take_tokens-requires-few
-take_tokens-requires-few c =
-    let self = c.args.self.now in
-    let taken = c.requires.taken in
-    few_lines self.fault taken.bytes self.tail.items self.lines self.reader self.meter
-    c.requires.no_fault taken.taken.taken taken.taken.fits
-
-pub take_tokens-requires-short : goal.take_tokens-requires-short
-take_tokens-requires-short c =
-    let self = c.args.self.now in
-    let taken = c.requires.taken in
-    short_text self.fault taken.bytes self.tail.items c.args.lines.now c.as_slice.result.now
-    (self.lines + 1) self.reader self.meter c.requires.no_fault
-    (c.as_slice.ensures.value ∙ c.in_ok-extend_from_slice.ensures.items) taken.taken.taken
-    taken.taken.fits taken.taken.last c.requires.piece
-
-pub overflow_sub-self : goal.overflow_sub-self
-overflow_sub-self c = omega (arith, c.in-Ok.ensures.line)
-
 pub returns-in-Ok : goal.returns-in-Ok
 returns-in-Ok c = λ taken fits h.
     let self = c.args.self.now in
