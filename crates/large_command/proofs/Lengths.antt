@@ -1,17 +1,18 @@
 -- Texts that are too long, and the room of those that are not.
 use Rattle.std.proofs.Common.{◌≡◌, ◌⊎◌, ◌+◌, ◌-◌, ◌<◌, ◌≤◌, ◌∙◌, ℕ, List, [], ◌∷◌, ◌++◌, length, take}
-use Rattle.std.proofs.Common.{count_by, drop, reverse, subst, arith, ap, sym, refl, inl, inr, append_assoc, length-append}
+use Rattle.std.proofs.Common.{drop, reverse, subst, arith, ap, sym, refl, inl, inr, append_assoc, length-append}
 use Rattle.std.proofs.Common.{append-nil, take-append-drop}
 use Rattle.std.proofs.lemmas.Bool.{cases_lt}
 use Rattle.std.proofs.lemmas.List.Folds.{length-prefix_len}
 use Rattle.std.specs.List.{prefix_len}
-use Rattle.program_text.specs.Tokens.{is_line_feed}
 use Rattle.large_text.specs.declared.limits.TheConstants.{LARGEST_LINE, LARGEST_PIECE, LARGEST_TEXT}
 use Rattle.large_command.specs.declared.room.Room.{Room}
-use Rattle.large_command.specs.Lengths.{HasLongLine, IsTooLong}
+use Rattle.large_command.specs.declared.text_input.TheConstants.{PIECE}
+use Rattle.large_command.specs.Lengths.{IsReadInTime, IsTooLong}
 use Rattle.large_text.specs.Streamed.{FitsText, HasNoLineFeed}
 use Rattle.large_command.specs.TextInput.{EndsInLine, HasRoom}
-use Rattle.large_command.proofs.Lines.{before_feed, feeds-append, first_longest, further, is_inside}
+use Rattle.large_command.proofs.Lines.{Further, before_feed, cut_lengths, feeds-append, feeds_of}
+use Rattle.large_command.proofs.Lines.{first_longest, further, is_inside, length_of, part_within}
 use Rattle.large_command.proofs.Lines.{ends_in_line, line_begins, line_goes_on}
 
 -- ---- the bytes that come next
@@ -19,8 +20,7 @@ use Rattle.large_command.proofs.Lines.{ends_in_line, line_begins, line_goes_on}
 fits_none : FitsText []
 fits_none = record {
   short = omega arith;
-  lines = λ front line later all none.
-      omega (arith, ap length all, length-append front (line ++ later), length-append line later);
+  lines = λ front line later all none. omega (arith, part_within [] front line later all);
 }
 
 pub has_all_room : HasRoom [] (record { left = LARGEST_TEXT; line = 0 })
@@ -33,10 +33,23 @@ has_all_room = record {
     all = refl;
     one_line = refl;
     count_is = refl;
-    longest = λ before last all none.
-        omega (arith, ap length all, length-append before last);
+    longest = λ before last all none. omega (arith, length_of [] before last all);
   };
 }
+
+-- a line that begins in a text and ends in what follows
+goes_over : (text bytes front one later : List ℕ) (line : ℕ)
+    → EndsInLine text line
+    → line + prefix_len is_inside bytes ≤ LARGEST_LINE
+    → (first : List ℕ) → text ≡ front ++ first
+    → Further one later first bytes
+    → HasNoLineFeed one
+    → length one ≤ LARGEST_LINE
+goes_over text bytes front one later line last goes_on first is cut none =
+    let feeds = feeds_of one first cut.between cut.longer in
+    let most = last.longest front first is (omega (arith, feeds, none)) in
+    let more = first_longest bytes cut.between later cut.rest (omega (arith, feeds, none)) in
+    omega (arith, most, more, goes_on, length_of one first cut.between cut.longer)
 
 -- each line of a text and what follows lies in the one or the other, or goes on from the one
 fits_more : (text bytes : List ℕ) (line : ℕ)
@@ -49,10 +62,6 @@ fits_more : (text bytes : List ℕ) (line : ℕ)
 fits_more text bytes line h last room within goes_on = record {
   short = omega (arith, length-append text bytes, room);
   lines = λ front one later all none.
-      let long = ap length all in
-      let sizes = length-append text bytes in
-      let outer = length-append front (one ++ later) in
-      let inner = length-append one later in
       elim (cases_lt (length text) (length front + length one)) [
         | inr ends_before ↦
             let grouped : text ++ bytes ≡ (front ++ one) ++ later =
@@ -64,32 +73,13 @@ fits_more text bytes line h last room within goes_on = record {
         | inl ends_behind ↦ elim (cases_lt (length front) (length text)) [
           | inr begins_behind ↦
               let cut = further front (one ++ later) text bytes (sym all) begins_behind in
-              omega (
-                arith,
-                ap length cut.rest,
-                length-append cut.between (one ++ later),
-                inner,
-                within,
-              )
+              omega (arith, part_within bytes cut.between one later cut.rest, within)
           | inl begins_before ↦
-              let before = further text bytes front (one ++ later) all (omega arith) in
-              let size = ap length before.longer ∙ length-append front before.between in
-              let behind = further one later before.between bytes before.rest
-              (omega (arith, size, ends_behind)) in
-              let feeds = ap (count_by is_line_feed) behind.longer
-              ∙ feeds-append before.between behind.between in
-              let first = last.longest front before.between before.longer
-              (omega (arith, feeds, none)) in
-              let second = first_longest bytes behind.between later behind.rest
-              (omega (arith, feeds, none)) in
-              omega (
-                arith,
-                first,
-                second,
-                goes_on,
-                ap length behind.longer,
-                length-append before.between behind.between,
-              )
+              let cut = further text bytes front (one ++ later) all (omega arith) in
+              let size = length_of text front cut.between cut.longer in
+              goes_over text bytes front one later line last goes_on cut.between cut.longer
+              (further one later cut.between bytes cut.rest (omega (arith, size, ends_behind)))
+              none
         ]
       ];
 }
@@ -135,6 +125,29 @@ has_long_line text bytes room h long =
         long,
       );
     })
+
+-- ---- fronts of a text
+
+fits_front : (front later : List ℕ) → FitsText (front ++ later) → FitsText front
+fits_front front later h = record {
+  short = omega (arith, h.short, length-append front later);
+  lines = λ before line behind all none.
+      h.lines before line (behind ++ later)
+      (ap (λ (a : List ℕ). a ++ later) all
+      ∙ append_assoc before (line ++ behind) later
+      ∙ ap (λ (a : List ℕ). before ++ a) (append_assoc line behind later)) none;
+}
+
+pub is_in_time : (text : List ℕ) → FitsText text → IsReadInTime text
+is_in_time text h = λ front later all long.
+    fits_front front later (subst (λ (bytes : List ℕ). FitsText bytes) all h)
+
+pub piece_in_time : (text piece : List ℕ) → FitsText text → length piece ≤ PIECE
+    → IsReadInTime (text ++ piece)
+piece_in_time text piece h small = λ front later all long.
+    let sizes = cut_lengths text piece front later all in
+    let cut = further text piece front later all (omega (arith, sizes, small, long)) in
+    fits_front front cut.between (subst (λ (bytes : List ℕ). FitsText bytes) cut.longer h)
 
 -- ---- laws
 

@@ -1,21 +1,18 @@
 -- Lines of a text that comes in pieces.
-use Rattle.std.proofs.Common.{◌≡◌, ◌+◌, ◌-◌, ◌<◌, ◌≤◌, ◌∙◌, ℕ, Bool, true, false, not, cond, List}
+use Rattle.std.proofs.Common.{◌≡◌, ◌+◌, ◌<◌, ◌≤◌, ◌∙◌, ℕ, Bool, true, false, not, cond, List}
 use Rattle.std.proofs.Common.{[], ◌∷◌, ◌++◌, length, take, drop, reverse, count_by, arith, ap, sym}
-use Rattle.std.proofs.Common.{subst, refl, inl, inr, append_assoc, length-append, take-append-drop}
+use Rattle.std.proofs.Common.{refl, inl, inr, append_assoc, length-append, take-append-drop}
 use Rattle.std.proofs.Common.{◌⊎◌, one-add, zero-add}
 use Rattle.std.proofs.lemmas.Bool.{cases_lt}
-use Rattle.std.proofs.lemmas.Grind.{common_steps}
 use Rattle.std.proofs.lemmas.List.{length-reverse, reverse-append, reverse-reverse}
 use Rattle.std.proofs.lemmas.List.Folds.{length-prefix_len}
-use Rattle.std.proofs.lemmas.List.Sums.{prefix_len-le-length, count_by-le-length}
+use Rattle.std.proofs.lemmas.List.Sums.{count_by-le-length}
 use Rattle.std.proofs.lemmas.List.Sums.{sum_by-append, sum_by-cons}
 use Rattle.std.proofs.lemmas.List.Sorted.{IsPermutation-reverse, sum_by-IsPermutation}
 use Rattle.std.specs.List.{prefix_len}
 use Rattle.program_text.specs.Tokens.{is_line_feed}
-use Rattle.large_text.specs.declared.limits.TheConstants.{LARGEST_TEXT, LARGEST_LINE}
-use Rattle.large_command.specs.Lengths.{HasLongLine, IsTooLong}
-use Rattle.large_text.specs.Streamed.{FitsText, HasNoLineFeed}
-use Rattle.large_command.specs.TextInput.{EndsInLine, HasRoom}
+use Rattle.large_text.specs.Streamed.{HasNoLineFeed}
+use Rattle.large_command.specs.TextInput.{EndsInLine}
 
 -- ---- cuts of a list
 
@@ -35,9 +32,30 @@ further (y ∷ a) b (x ∷ c) d same within =
     let longer = h.longer in
     record { between = h.between; longer = cc; rest = h.rest }
 
+pub length_of : (whole front back : List ℕ) → whole ≡ front ++ back
+    → length whole ≡ length front + length back
+length_of whole front back is =
+    ap (λ (bytes : List ℕ). length bytes) is ∙ length-append front back
+
+pub cut_lengths : (a b c d : List ℕ) → a ++ b ≡ c ++ d
+    → length a + length b ≡ length c + length d
+cut_lengths a b c d same = sym (length-append a b) ∙ length_of (a ++ b) c d same
+
+pub part_within : (whole front part back : List ℕ) → whole ≡ front ++ (part ++ back)
+    → length part ≤ length whole
+part_within whole front part back is =
+    omega (arith, length_of whole front (part ++ back) is, length-append part back)
+
+-- ---- the LF bytes of a list
+
 pub feeds-append : (a b : List ℕ)
     → count_by is_line_feed (a ++ b) ≡ count_by is_line_feed a + count_by is_line_feed b
 feeds-append a b = sum_by-append (λ byte. cond (is_line_feed byte) 1 0) a b
+
+pub feeds_of : (whole front back : List ℕ) → whole ≡ front ++ back
+    → count_by is_line_feed whole ≡ count_by is_line_feed front + count_by is_line_feed back
+feeds_of whole front back is =
+    ap (λ (bytes : List ℕ). count_by is_line_feed bytes) is ∙ feeds-append front back
 
 feeds-cons : (b : ℕ) (bytes : List ℕ)
     → count_by is_line_feed (b ∷ bytes)
@@ -136,23 +154,14 @@ line_begins text bytes last h within = record {
         → (length bytes < length end) ⊎ (length end ≤ length bytes)
         → length end ≤ last
     by before end all none (inl longer) =
-        let cut = further text bytes before end all (omega (
-          arith,
-          ap length all,
-          length-append text bytes,
-          length-append before end,
-        )) in
-        let feeds = feeds-append cut.between bytes in
-        let none_in : HasNoLineFeed bytes =
-        omega (arith, none, feeds, ap (count_by is_line_feed) cut.rest) in
+        let sizes = cut_lengths text bytes before end all in
+        let cut = further text bytes before end all (omega (arith, sizes, longer)) in
+        let feeds = feeds_of end cut.between bytes cut.rest in
+        let none_in : HasNoLineFeed bytes = omega (arith, none, feeds) in
         absurd (omega (arith, h.longest [] bytes refl none_in, within))
-    by before end all none (inr within) =
-        let cut = further before end text bytes (sym all) (omega (
-          arith,
-          ap length all,
-          length-append text bytes,
-          length-append before end,
-        )) in
+    by before end all none (inr short) =
+        let sizes = cut_lengths text bytes before end all in
+        let cut = further before end text bytes (sym all) (omega (arith, sizes, short)) in
         h.longest cut.between end cut.rest none
 
 -- or it goes on
@@ -160,18 +169,11 @@ pub line_goes_on : (text bytes : List ℕ) (line last : ℕ) → EndsInLine text
     → EndsInLine bytes last → length bytes ≤ last
     → EndsInLine (text ++ bytes) (line + length bytes)
 line_goes_on text bytes line last g h all_of_it =
-    let long = ap length h.all ∙ length-append h.front h.line in
-    let feeds = ap (count_by is_line_feed) h.all ∙ feeds-append h.front h.line in
+    let sizes = length_of bytes h.front h.line h.all in
+    let feeds = feeds_of bytes h.front h.line h.all in
+    let few = count_by-le-length is_line_feed h.front in
     let none_in : HasNoLineFeed bytes =
-    omega (
-      arith,
-      long,
-      feeds,
-      h.count_is,
-      all_of_it,
-      h.one_line,
-      count_by-le-length is_line_feed h.front,
-    ) in
+    omega (arith, sizes, feeds, few, h.count_is, all_of_it, h.one_line) in
     record {
       front = g.front;
       line = g.line ++ bytes;
@@ -186,13 +188,9 @@ line_goes_on text bytes line last g h all_of_it =
         → (length bytes < length end) ⊎ (length end ≤ length bytes)
         → length end ≤ line + length bytes
     by before end all none (inl longer) =
-        let cut = further text bytes before end all (omega (
-          arith,
-          ap length all,
-          length-append text bytes,
-          length-append before end,
-        )) in
-        let feeds = ap (count_by is_line_feed) cut.rest ∙ feeds-append cut.between bytes in
+        let sizes = cut_lengths text bytes before end all in
+        let cut = further text bytes before end all (omega (arith, sizes, longer)) in
+        let feeds = feeds_of end cut.between bytes cut.rest in
         let most = g.longest before cut.between cut.longer (omega (arith, none, feeds)) in
-        omega (arith, most, ap length cut.rest, length-append cut.between bytes)
-    by before end all none (inr within) = omega (arith, within)
+        omega (arith, most, length_of end cut.between bytes cut.rest)
+    by before end all none (inr short) = omega (arith, short)

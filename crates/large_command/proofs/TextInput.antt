@@ -11,6 +11,8 @@ use Rattle.large_text.specs.declared.stream.TextMeter.{TextMeter}
 use Rattle.large_command.specs.Lengths.{IsTooLong}
 use Rattle.large_command.specs.TextInput.{HasRoom, ReadsTooLong}
 use Rattle.large_command.specs.declared.room.Room.{Room}
+use Rattle.large_command.specs.declared.text_input.TheConstants.{PIECE}
+use Rattle.large_command.proofs.Lengths.{piece_in_time}
 
 -- what was read so far was taken, and so much room is left behind it
 pub record IsTaken (before after : Option (List ℕ)) (room : Room) (text_meter : TextMeter) : Type 0
@@ -89,9 +91,10 @@ pub reads_too_long : (before middle after : Option (List ℕ)) (room : Room) (ta
     → Consumes middle after (take taken buffer)
     → piece ≡ take taken buffer
     → taken ≤ room.left + 1
+    → taken ≤ PIECE
     → ((text : List ℕ) → HasRoom text room → IsTooLong (text ++ piece))
     → ReadsTooLong before after
-reads_too_long before middle after room taken buffer piece text_meter h second is few too_long =
+reads_too_long before middle after room taken buffer piece text_meter h second is few small too_long =
     let read : Consumes middle after piece =
     subst (λ (bytes : List ℕ). Consumes middle after bytes) (sym is) second in
     record {
@@ -106,4 +109,10 @@ reads_too_long before middle after room taken buffer piece text_meter h second i
         ap (λ (bytes : List ℕ). length bytes) is,
       );
       too_long = too_long h.text h.has_room;
+      in_time = piece_in_time h.text piece h.has_room.fits (omega (
+        arith,
+        small,
+        length-take taken buffer,
+        ap (λ (bytes : List ℕ). length bytes) is,
+      ));
     }

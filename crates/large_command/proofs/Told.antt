@@ -17,7 +17,7 @@ use Rattle.large_text.specs.declared.stream.TextMeter.{TextMeter}
 use Rattle.spanprof_command.specs.Report.{Report, input_too_long}
 use Rattle.command_words.specs.declared.large.LargeRequest.{LargeRequest}
 use Rattle.command_words.specs.declared.large.LargeRequest.TheVariants.{Bounds, Numbers}
-use Rattle.large_command.proofs.Lengths.{not_both}
+use Rattle.large_command.proofs.Lengths.{is_in_time, not_both}
 use Rattle.large_command.specs.LargeCommand.{AnswersText}
 use Rattle.large_command.specs.LargeReports.{Answers, IsOfProgram, TellsMeter, bounds_report}
 use Rattle.large_command.specs.LargeReports.{numbers_report, text_refusal}
@@ -109,6 +109,7 @@ answers_text asked before after text_meter report h answers = record {
     read = h.read;
     most = omega (arith, h.taken.fits.short);
     to_the_end = λ fits. h.to_the_end;
+    in_time = is_in_time h.text h.taken.fits;
   };
   answers = inr (record { fits = h.taken.fits; answers = answers h.text h.taken });
 }
@@ -124,6 +125,7 @@ answers_length asked before after report h says = record {
     read = h.read;
     most = h.most;
     to_the_end = λ fits. absurd (not_both h.text fits h.too_long);
+    in_time = h.in_time;
   };
   answers = inl (record { too_long = h.too_long; says = says });
 }

@@ -11,6 +11,7 @@ use Rattle.large_text.specs.Streamed.{FitsText}
 use Rattle.spanprof_command.specs.GreedyRuns.{thread_count}
 use Rattle.spanprof_command.specs.Report.{Report, wrong_words}
 use Rattle.large_command.specs.LargeReports.{AnswersWithin}
+use Rattle.large_command.specs.Lengths.{IsReadInTime}
 
 -- bounds are told for 1 to MOST_THREADS threads
 abbrev pub is_in_range : LargeRequest → Bool
@@ -38,11 +39,12 @@ pub record RefusesCount (words : List (List ℕ)) (before after : Option (List �
   pub kept : Keeps before after
   pub says : output ≡ thread_count
 
--- a text was read: one that is not too long to its end, and of one that is some bytes that tell it
+-- a text was read: one that is not too long to its end, and of another hardly more than shows it
 pub record ReadsText (before after : Option (List ℕ)) (text : List ℕ) : Type 0 where
   pub read : Consumes before after text
   pub most : length text ≤ LARGEST_TEXT + 1
   pub to_the_end : FitsText text → IsAtEnd after
+  pub in_time : IsReadInTime text
 
 -- what was read is a text of which the program answers this
 pub record AnswersText (asked : LargeRequest) (before after : Option (List ℕ)) (output : Report)

@@ -4,7 +4,7 @@ use Rattle.std.specs.Io.KnownBytes.{Consumes, IsAtEnd}
 use Rattle.large_text.specs.declared.limits.TheConstants.{LARGEST_TEXT}
 use Rattle.large_text.specs.Streamed.{FitsText, HasNoLineFeed, HasTaken}
 use Rattle.large_text.specs.declared.stream.TextMeter.{TextMeter}
-use Rattle.large_command.specs.Lengths.{IsTooLong}
+use Rattle.large_command.specs.Lengths.{IsReadInTime, IsTooLong}
 use Rattle.large_command.specs.declared.room.Room.{Room}
 
 -- so many bytes stand behind the last LF
@@ -36,3 +36,4 @@ pub record ReadsTooLong (before after : Option (List ℕ)) : Type 0 where
   pub read : Consumes before after text
   pub most : length text ≤ LARGEST_TEXT + 1
   pub too_long : IsTooLong text
+  pub in_time : IsReadInTime text

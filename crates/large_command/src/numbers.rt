@@ -42,15 +42,15 @@ fn text_refusal(alloc: Global, fault: LargeFault) -> Result<Report, AllocError>
 {
     match fault.kind {
         ReadKind::BadHeader => header_refusal(alloc, fault.line),
-        _ => refusal(alloc, fault),
+        _ => refusal(alloc, fault.kind, fault.line),
     }
 }
 
 /// The line of any other fault.
-fn refusal(alloc: Global, fault: LargeFault) -> Result<Report, AllocError>
-    ensures { IfOk result (λ report. report ≡ program_refusal fault) }
+fn refusal(alloc: Global, kind: ReadKind, line: u64) -> Result<Report, AllocError>
+    ensures { IfOk result (λ report.
+        report ≡ program_refusal (record { kind = kind; line = line })) }
 {
-    let LargeFault { kind, line } = fault;
     let name = kind_name(kind);
     let text = format!(in alloc; "error: line {line}: {name}\n")?;
     Ok(Report::new(text.into_bytes(), Status::Refused))

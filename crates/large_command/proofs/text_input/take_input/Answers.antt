@@ -1,6 +1,7 @@
 use Rattle.std.proofs.Common.{◌≡◌, ◌+◌, ◌≤◌, length, arith}
 use Rattle.std.proofs.lemmas.Grind.{common_steps}
 use Rattle.std.proofs.lemmas.List.{take-append-le}
+use Rattle.large_command.specs.declared.text_input.TheConstants.{PIECE}
 use Rattle.large_command.proofs.TextInput.{as_many_more, is_taken, line_fits, reads_too_long}
 use Rattle.large_command.proofs.text_input.take_input.Goals as goal
 
@@ -13,9 +14,10 @@ returns-in-None-clause-too_long g c = λ told.
     let within : c.in-Ok.taken ≤ length c.read_piece.new.buffer =
     omega (arith, c.in-Ok.ensures.within, c.in-Ok.ensures.room) in
     let few : c.in-Ok.taken ≤ c.pieces.room.left + 1 = grind (arith, common_steps) in
+    let small : c.in-Ok.taken ≤ PIECE = grind (arith, common_steps) in
     reads_too_long _ _ _ c.pieces.room c.in-Ok.taken c.read_piece.new.buffer _ c.pieces.text
     c.pieces.invariant.taken c.in-Ok.ensures.reads
-    (take-append-le c.in-Ok.taken c.read_piece.new.buffer _ within) few c.in-None.ensures
+    (take-append-le c.in-Ok.taken c.read_piece.new.buffer _ within) few small c.in-None.ensures
 
 pub returns-in-None-clause-limited : goal.returns-in-None-clause-limited
 returns-in-None-clause-limited g c =
