@@ -30,9 +30,9 @@ use std::io::{Read, Write};
 ///
 /// A text with a line of more than [`LARGEST_LINE`] bytes is refused, and so is one of more than
 /// [`LARGEST_TEXT`] bytes. Reads and writes that are interrupted are tried again, together at most
-/// [`MOST_RETRIES`] times. Out of memory and a reader that fails have
-/// lines of their own. Where the writer fails, takes no byte or is interrupted too often, what went
-/// out is a prefix of the text, and the status is `Fault`.
+/// [`MOST_RETRIES`] times. Out of memory and a reader that fails have lines of their own. Where the
+/// writer fails, takes no byte or is interrupted too often, what went out is a prefix of the text,
+/// and the status is `Fault`.
 pub fn command<R: Read, W: Write>(
     alloc: Global,
     words: &[String],

@@ -3,7 +3,7 @@ ghost use Rattle.std.specs.Prelude.{◌≡◌, ◌+◌, ◌<◌, ◌≤◌, ◌^
 ghost use Rattle.std.specs.Prelude.{length, not, reverse};
 ghost use Rattle.std.specs.List.{prefix_len};
 ghost use Rattle.program_text.specs.Tokens.{is_line_feed};
-ghost use Rattle.large_text.specs.declared.limits.TheConstants.{LARGEST_LINE, LARGEST_PIECE, LARGEST_TEXT};
+ghost use Rattle.large_text.specs.declared.limits.TheConstants.{LARGEST_LINE, LARGEST_PIECE};
 ghost use Rattle.large_command.specs.Lengths.{IsTooLong};
 ghost use Rattle.large_command.specs.TextInput.{EndsInLine, HasRoom};
 
