@@ -1,5 +1,5 @@
 -- Tokens of bytes that stand further down: the same, each so many lines further.
-use Rattle.std.proofs.Common.{◌≡◌, ℕ, ◌+◌, Bool, true, false, ◌&&◌, List, [], ◌∷◌, map, refl, arith}
+use Rattle.std.proofs.Common.{◌≡◌, ℕ, ◌+◌, Bool, ◌&&◌, List, [], ◌∷◌, map, refl, arith}
 use Rattle.std.proofs.Common.{sym, ap, ◌∙◌}
 use Rattle.program_text.specs.Tokens.{Token, is_gap, in_comment_after, is_run_byte, is_line_feed}
 use Rattle.program_text.specs.Tokens.{line_after, starts_with_run_byte, with_byte_in_front}

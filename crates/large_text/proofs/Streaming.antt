@@ -77,25 +77,6 @@ line_ends bytes end some within feed =
           ∙ ap (λ (b : ℕ). take (end - 1) bytes ++ b ∷ []) feed,
     )
 
--- the bytes of a line behind one that is none of it
-pub no_feed_before : (bytes : List ℕ) (end : ℕ) → 0 < end → end ≤ length bytes
-    → (get_or bytes (end - 1) 0 ≡ 10 → ⊥)
-    → HasNoLineFeed (drop end bytes)
-    → HasNoLineFeed (drop (end - 1) bytes)
-no_feed_before bytes end some within other none =
-    let whole : drop (end - 1) bytes ≡ get_or bytes (end - 1) 0 ∷ drop (end - 1 + 1) bytes =
-    drop_more bytes (end - 1) 0 (omega arith) in
-    let same : end - 1 + 1 ≡ end = omega arith in
-    let quiet : is_line_feed (get_or bytes (end - 1) 0) ≡ false =
-    ne_eqb (get_or bytes (end - 1) 0) 10 other in
-    let counted = ap (λ (rest : List ℕ). count_by is_line_feed rest) whole in
-    let later : count_by is_line_feed (drop (end - 1 + 1) bytes) ≡ 0 =
-    subst (λ (n : ℕ). count_by is_line_feed (drop n bytes) ≡ 0) (sym same) none in
-    let one : ◌≡◌ {A = ℕ} (cond (is_line_feed (get_or bytes (end - 1) 0)) 1 0) 0 = rw quiet refl in
-    let first = sum_by-cons (λ byte. cond (is_line_feed byte) 1 0) (get_or bytes (end - 1) 0)
-    (drop (end - 1 + 1) bytes) in
-    omega (arith, counted, first, later, one)
-
 -- ---- from piece to piece
 
 pub taken_first : (reader : MarkReader) (meter : Meter)
@@ -178,52 +159,6 @@ fits_front front back fits = record {
       ∙ append_assoc before (line ++ later) back
       ∙ ap (λ (bytes : List ℕ). before ++ bytes) (append_assoc line later back)) none;
 }
-
--- what is kept of the last line is no longer than a line
-short_tail : (bytes lines tail : List ℕ) → bytes ≡ lines ++ tail → FitsText bytes
-    → HasNoLineFeed tail
-    → length tail ≤ LARGEST_LINE
-short_tail bytes lines tail all fits none =
-    fits.lines lines tail [] (all ∙ ap (λ (end : List ℕ). lines ++ end) (sym (append-nil tail))) none
-
--- so it can be scanned, a piece behind it included
-pub short_text : (found : Option ReadFault) (bytes tail piece text : List ℕ) (line : ℕ)
-    (reader : MarkReader) (meter : Meter)
-    → found ≡ None
-    → text ≡ tail ++ piece
-    → HasTakenBy found bytes tail line reader meter
-    → FitsText bytes
-    → HasNoLineFeed tail
-    → length piece ≤ LARGEST_PIECE
-    → length text + 1 < 2 ^ 32
-short_text None bytes tail piece text line reader meter none is h fits last small =
-    omega (
-      arith,
-      ap length is,
-      length-append tail piece,
-      short_tail bytes h.lines tail h.all fits last,
-      small,
-    )
-short_text (Some fault) bytes tail piece text line reader meter none is h fits last small =
-    absurd cc
-
--- no more lines came than bytes
-pub few_lines : (found : Option ReadFault) (bytes tail : List ℕ) (lines : ℕ) (reader : MarkReader)
-    (meter : Meter)
-    → found ≡ None
-    → HasTakenBy found bytes tail (lines + 1) reader meter
-    → FitsText bytes
-    → lines ≤ LARGEST_TEXT
-few_lines None bytes tail lines reader meter none h fits =
-    omega (
-      arith,
-      h.line_is,
-      count_by-le-length is_line_feed h.lines,
-      ap length h.all,
-      length-append h.lines tail,
-      fits.short,
-    )
-few_lines (Some fault) bytes tail lines reader meter none h fits = absurd cc
 
 pub no_feed_more : (first second : List ℕ) → HasNoLineFeed first → HasNoLineFeed second
     → HasNoLineFeed (first ++ second)

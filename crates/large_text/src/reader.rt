@@ -93,11 +93,7 @@ impl MarkReader {
     /// Takes the next token, which begins on this line of the text, whatever its own line says. It
     /// hands on the mark that is whole with it, if one is. The fault is the first of every text that
     /// begins so, or out of memory; no more tokens can be taken after it.
-    pub fn take(
-        &mut self,
-        token: Token<'_>,
-        line: u64,
-    ) -> Result<Option<TextMark>, LargeFault>
+    pub fn take(&mut self, token: Token<'_>, line: u64) -> Result<Option<TextMark>, LargeFault>
         requires { CanGoOn self.old }
         ensures reads { IfOk result (λ mark. (before : List tokens.Token) (marks : List Mark)
             → IsReadSoFar before marks self.old
@@ -127,11 +123,7 @@ impl MarkReader {
 
     // What `take` does, told of the one token. It stands apart for the prover's sake: the proof of
     // `take` cites its clauses.
-    fn take_any(
-        &mut self,
-        token: Token<'_>,
-        line: u64,
-    ) -> Result<Option<TextMark>, LargeFault>
+    fn take_any(&mut self, token: Token<'_>, line: u64) -> Result<Option<TextMark>, LargeFault>
         requires { IsLargeWithin self.old }
         ensures step { (marks : List Mark)
             → Gives (λ mark. state_of self.new (marks_after marks mark)) result
@@ -188,11 +180,7 @@ impl MarkReader {
     }
 
     // The token is one of the grammar, and passes no limit.
-    fn take_right(
-        &mut self,
-        token: Token<'_>,
-        line: u64,
-    ) -> Result<Option<TextMark>, LargeFault>
+    fn take_right(&mut self, token: Token<'_>, line: u64) -> Result<Option<TextMark>, LargeFault>
         requires names { length self.old.names + 1 < 2 ^ 32 }
         requires value { HasValue self.old token.text.now }
         ensures step { (marks : List Mark)
@@ -280,11 +268,7 @@ impl MarkReader {
         Some(TextMark::Work(cost))
     }
 
-    fn group_brace(
-        &mut self,
-        token: Token<'_>,
-        line: u64,
-    ) -> Result<Option<TextMark>, LargeFault>
+    fn group_brace(&mut self, token: Token<'_>, line: u64) -> Result<Option<TextMark>, LargeFault>
         ensures state { (marks : List Mark)
             → Gives (λ mark. state_of self.new (marks_after marks mark)) result
             (Ok (after_at Place.GroupBrace (state_of self.old marks) token.entry.text.now line)) }
@@ -297,11 +281,7 @@ impl MarkReader {
         Ok(Some(TextMark::GroupOpens))
     }
 
-    fn clause(
-        &mut self,
-        token: Token<'_>,
-        line: u64,
-    ) -> Result<Option<TextMark>, LargeFault>
+    fn clause(&mut self, token: Token<'_>, line: u64) -> Result<Option<TextMark>, LargeFault>
         ensures state { (marks : List Mark)
             → Gives (λ mark. state_of self.new (marks_after marks mark)) result
             (Ok (after_clause (state_of self.old marks) token.entry.text.now line)) }

@@ -1,5 +1,4 @@
-use Rattle.std.proofs.Common.{arith}
-use Rattle.large_text.proofs.Streaming.{line_ends, no_feed_before}
+use Rattle.large_text.proofs.Streaming.{line_ends}
 use Rattle.large_text.proofs.stream.whole_lines.Goals as goal
 
 pub returns-else-bytes-end-ne10-clause-ends : goal.returns-else-bytes-end-ne10-clause-ends

@@ -1,7 +1,7 @@
 use Rattle.std.proofs.Common.{◌∙◌, ◌+◌, ap, arith, rules}
 use Rattle.std.specs.Prelude.{count_by}
 use Rattle.program_text.specs.Tokens.{is_line_feed}
-use Rattle.large_text.proofs.Streaming.{lines_done, fault_done, short_text, few_lines}
+use Rattle.large_text.proofs.Streaming.{lines_done, fault_done}
 use Rattle.large_text.proofs.stream.TextMeter.take_lines.Goals as goal
 
 pub returns-in-Ok : goal.returns-in-Ok
