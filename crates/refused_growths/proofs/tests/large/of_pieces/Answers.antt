@@ -27,7 +27,7 @@ has_taken taken more before after takes h few =
 pub take-requires-clause-room : goal.take-requires-clause-room
 take-requires-clause-room c =
     can_take [] c.split_at.result.0.now c.new-pieces.result c.new-pieces.ensures
-    (omega (arith, c.split_at.ensures.front_len, c.requires.short))
+    (omega (arith, c.split_at.ensures.front_len, c.requires))
 
 pub take-requires-2-clause-room : goal.take-requires-2-clause-room
 take-requires-2-clause-room c =
@@ -35,8 +35,8 @@ take-requires-2-clause-room c =
     let rest = c.split_at.result.1.now in
     can_take first rest c.take.new.self
     (has_taken [] first c.new-pieces.result c.take.new.self c.in_ok-take.ensures c.new-pieces.ensures
-    (omega (arith, c.split_at.ensures.front_len, c.requires.short)))
-    (omega (arith, c.split_at.ensures.front_len, c.split_at.ensures.back_len, c.requires.short))
+    (omega (arith, c.split_at.ensures.front_len, c.requires)))
+    (omega (arith, c.split_at.ensures.front_len, c.split_at.ensures.back_len, c.requires))
 
 pub finish-requires : goal.finish-requires
 finish-requires c =
@@ -46,12 +46,12 @@ finish-requires c =
     can_take (first ++ rest) [] c.take-2.new.self
     (has_taken first rest c.take.new.self c.take-2.new.self c.in_ok-take-2.ensures
     (has_taken [] first c.new-pieces.result c.take.new.self c.in_ok-take.ensures c.new-pieces.ensures
-    (omega (arith, c.split_at.ensures.front_len, c.requires.short)))
-    (omega (arith, c.split_at.ensures.front_len, c.split_at.ensures.back_len, c.requires.short)))
+    (omega (arith, c.split_at.ensures.front_len, c.requires)))
+    (omega (arith, c.split_at.ensures.front_len, c.split_at.ensures.back_len, c.requires)))
     (omega (
       arith,
       both,
       c.split_at.ensures.front_len,
       c.split_at.ensures.back_len,
-      c.requires.short,
+      c.requires,
     ))
