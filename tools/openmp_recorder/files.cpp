@@ -34,20 +34,17 @@ bool write_file(const std::string &name, const std::string &text) {
   return written;
 }
 
-NewFile::NewFile(const std::string &called, uint64_t most_bytes)
-    : name(called), file(fopen(called.c_str(), "w")), left(most_bytes), good(file) {}
+NewFile::NewFile(const std::string &called) : name(called), file(fopen(called.c_str(), "w")), good(file) {}
 
 void NewFile::put(std::string_view piece) {
-  is_too_long = is_too_long || piece.size() > left;
-  good = good && !is_too_long && fwrite(piece.data(), 1, piece.size(), file) == piece.size();
-  left -= good ? piece.size() : 0;
+  good = good && fwrite(piece.data(), 1, piece.size(), file) == piece.size();
 }
 
-bool NewFile::end(const std::string &limit) {
+bool NewFile::end() {
   if (file && fclose(file)) good = false;
   if (good) return true;
   if (file) remove(name.c_str());
-  say(name + (is_too_long ? " is not written: " + limit : " cannot be written"));
+  say(name + " cannot be written");
   return false;
 }
 

@@ -7,19 +7,18 @@
 
 bool write_file(const std::string &name, const std::string &text);
 
-// A file that is written piece by piece, up to so many bytes.
+// A file that is written piece by piece.
 class NewFile {
  public:
-  NewFile(const std::string &called, uint64_t most_bytes);
+  explicit NewFile(const std::string &called);
   NewFile(const NewFile &) = delete;
   void put(std::string_view piece);
-  bool end(const std::string &limit);  // whether all is written; else a word is said, and no part of it stays
+  bool end();  // whether all is written; else a word is said, and no part of it stays
 
  private:
   std::string name;
   FILE *file;
-  uint64_t left;
-  bool good, is_too_long = false;
+  bool good;
 };
 
 void remove_old_files(const std::string &name, int64_t began);  // that a run wrote before this time of the day

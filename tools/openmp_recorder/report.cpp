@@ -112,12 +112,11 @@ bool let_exclusion_be_order(Region &region) {
 }
 
 bool Reporter::write_piece_by_piece(Region &region, const std::string &file, int64_t work, bool exclusion_as_order) {
-  NewFile out(file, most_large_bytes);
+  NewFile out(file);
   out.put(head(region, work));
   auto put = [&](std::string_view piece) { out.put(piece); };
   tell_program(region, {options.unit, exclusion_as_order, true}, places, put);
-  return out.end("spanprof_large takes " + std::to_string(most_large_bytes) + " bytes" +
-                 (options.lines ? "; set SPANPROF_LINES=0" : ""));
+  return out.end();
 }
 
 // What exceeds the limits of the commands is a text for spanprof_large, and has no replay document.

@@ -1,3 +1,5 @@
 mod Bounds
+mod Lengths
+mod Lines
 mod TextInput
 mod Told

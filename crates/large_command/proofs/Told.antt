@@ -1,6 +1,6 @@
 -- What a meter's calls answer is told in the report.
-use Rattle.std.proofs.Common.{◌≡◌, ◌+◌, ◌∙◌, ℕ, List, length, Option, inl, inr, ap, arith}
-use Rattle.std.specs.Io.KnownBytes.{Consumes}
+use Rattle.std.proofs.Common.{◌≡◌, ◌+◌, ◌∙◌, ℕ, List, [], Option, inl, inr, ap}
+use Rattle.std.proofs.Common.{append-nil, arith, subst, sym}
 use Rattle.program_text.specs.declared.fault.ReadFault.{ReadFault}
 use Rattle.program_text.specs.Marks.{Mark}
 use Rattle.program_text.specs.Limits.{work_of}
@@ -12,16 +12,16 @@ use Rattle.online_span.specs.Measuring.{Measures}
 use Rattle.online_span.specs.Spans.{IsSpanOf}
 use Rattle.large_text.specs.LargeTrees.{IsLargeFirstFault}
 use Rattle.large_text.specs.Measured.{MeasuresText}
-use Rattle.large_text.specs.Streamed.{CanTakeBytes, HasTaken}
+use Rattle.large_text.specs.Streamed.{CanTakeBytes, FitsText, HasTaken}
 use Rattle.large_text.specs.declared.stream.TextMeter.{TextMeter}
 use Rattle.spanprof_command.specs.Report.{Report, input_too_long}
 use Rattle.command_words.specs.declared.large.LargeRequest.{LargeRequest}
 use Rattle.command_words.specs.declared.large.LargeRequest.TheVariants.{Bounds, Numbers}
+use Rattle.large_command.proofs.Lengths.{is_in_time, not_both}
 use Rattle.large_command.specs.LargeCommand.{AnswersText}
 use Rattle.large_command.specs.LargeReports.{Answers, IsOfProgram, TellsMeter, bounds_report}
 use Rattle.large_command.specs.LargeReports.{numbers_report, text_refusal}
-use Rattle.large_command.specs.TextInput.{TakesText}
-use Rattle.large_command.specs.declared.text_input.TheConstants.{LARGEST_TEXT}
+use Rattle.large_command.specs.TextInput.{ReadsTooLong, TakesText}
 
 pub tells_meter : (meter : Meter) (tasks segments work span : ℕ) (report : Report)
     → ((moment : List Mark) → Measures meter moment → tasks + 1 ≡ tasks_so_far moment)
@@ -91,11 +91,11 @@ refuses asked text fault report is_fault says = inr (record {
 
 pub can_finish : (before after : Option (List ℕ)) (text_meter : TextMeter)
     → TakesText before after text_meter
-    → CanTakeBytes 0 text_meter
+    → CanTakeBytes [] text_meter
 can_finish before after text_meter h = record {
   bytes = h.text;
   taken = h.taken;
-  fits = omega (arith, h.fits);
+  fits = subst (λ (bytes : List ℕ). FitsText bytes) (sym (append-nil h.text)) h.taken.fits;
 }
 
 pub answers_text : (asked : LargeRequest) (before after : Option (List ℕ)) (text_meter : TextMeter)
@@ -107,23 +107,25 @@ answers_text asked before after text_meter report h answers = record {
   text = h.text;
   read = record {
     read = h.read;
-    most = omega (arith, h.fits);
-    to_the_end = λ within. h.to_the_end;
+    most = omega (arith, h.taken.fits.short);
+    to_the_end = λ fits. h.to_the_end;
+    in_time = is_in_time h.text h.taken.fits;
   };
-  answers = inr (record { fits = h.fits; answers = answers h.text h.taken });
+  answers = inr (record { fits = h.taken.fits; answers = answers h.text h.taken });
 }
 
--- a text of one byte too many
+-- a text that is too long
 pub answers_length : (asked : LargeRequest) (before after : Option (List ℕ)) (report : Report)
-    → ((bytes : List ℕ) × Consumes before after bytes × (length bytes ≡ LARGEST_TEXT + 1))
+    → ReadsTooLong before after
     → report ≡ input_too_long
     → AnswersText asked before after report
-answers_length asked before after report (bytes, read, size) says = record {
-  text = bytes;
+answers_length asked before after report h says = record {
+  text = h.text;
   read = record {
-    read = read;
-    most = omega (arith, size);
-    to_the_end = λ within. absurd (omega (arith, size, within));
+    read = h.read;
+    most = h.most;
+    to_the_end = λ fits. absurd (not_both h.text fits h.too_long);
+    in_time = h.in_time;
   };
-  answers = inl (record { longer = omega (arith, size); says = says });
+  answers = inl (record { too_long = h.too_long; says = says });
 }

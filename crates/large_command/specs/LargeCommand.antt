@@ -1,16 +1,17 @@
 -- How the program ends, over a reader and a writer.
 use Rattle.std.specs.Prelude.{◌≡◌, ◌⊎◌, ◌&&◌, ℕ, Bool, true, false, List, Option, Some, None}
-use Rattle.std.specs.Prelude.{nat_le}
-use Rattle.std.specs.Io.KnownBytes.{Keeps}
+use Rattle.std.specs.Prelude.{nat_le, ◌+◌, ◌≤◌, length}
+use Rattle.std.specs.Io.KnownBytes.{Consumes, IsAtEnd, Keeps}
 use Rattle.command_words.specs.LargeWords.{large_request_of}
 use Rattle.command_words.specs.declared.large.LargeRequest.{LargeRequest}
 use Rattle.command_words.specs.declared.large.LargeRequest.TheVariants.{Bounds, Numbers}
 use Rattle.greedy_sim.specs.declared.greedy.TheConstants.{MOST_THREADS}
-use Rattle.spanprof_command.specs.Command.{ReadsWithin}
+use Rattle.large_text.specs.declared.limits.TheConstants.{LARGEST_TEXT}
+use Rattle.large_text.specs.Streamed.{FitsText}
 use Rattle.spanprof_command.specs.GreedyRuns.{thread_count}
 use Rattle.spanprof_command.specs.Report.{Report, wrong_words}
 use Rattle.large_command.specs.LargeReports.{AnswersWithin}
-use Rattle.large_command.specs.declared.text_input.TheConstants.{LARGEST_TEXT}
+use Rattle.large_command.specs.Lengths.{IsReadInTime}
 
 -- bounds are told for 1 to MOST_THREADS threads
 abbrev pub is_in_range : LargeRequest → Bool
@@ -38,11 +39,18 @@ pub record RefusesCount (words : List (List ℕ)) (before after : Option (List �
   pub kept : Keeps before after
   pub says : output ≡ thread_count
 
+-- a text was read: one that is not too long to its end, and of another hardly more than shows it
+pub record ReadsText (before after : Option (List ℕ)) (text : List ℕ) : Type 0 where
+  pub read : Consumes before after text
+  pub most : length text ≤ LARGEST_TEXT + 1
+  pub to_the_end : FitsText text → IsAtEnd after
+  pub in_time : IsReadInTime text
+
 -- what was read is a text of which the program answers this
 pub record AnswersText (asked : LargeRequest) (before after : Option (List ℕ)) (output : Report)
     : Type 0 where
   pub text : List ℕ
-  pub read : ReadsWithin LARGEST_TEXT before after text
+  pub read : ReadsText before after text
   pub answers : AnswersWithin asked text output
 
 pub record AnswersWords (words : List (List ℕ)) (before after : Option (List ℕ)) (output : Report)

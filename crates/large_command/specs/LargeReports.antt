@@ -1,5 +1,5 @@
 -- The report of a text of any size: one text and one status.
-use Rattle.std.specs.Prelude.{◌≡◌, ◌⊎◌, ◌+◌, ◌<◌, ◌≤◌, ℕ, List, [], ◌∷◌, ◌++◌, codes, length}
+use Rattle.std.specs.Prelude.{◌≡◌, ◌⊎◌, ◌+◌, ℕ, List, [], ◌∷◌, ◌++◌, codes}
 use Rattle.std.specs.Prelude.{Option, Some}
 use Rattle.std.specs.Fmt.{decimal}
 use Rattle.command_words.specs.declared.large.LargeRequest.{LargeRequest}
@@ -16,12 +16,13 @@ use Rattle.online_span.specs.declared.meter.Meter.{Meter}
 use Rattle.online_span.specs.Measuring.{Measures}
 use Rattle.online_span.specs.Spans.{IsSpanOf}
 use Rattle.large_text.specs.LargeTrees.{HasLargeTree, IsLargeFirstFault, IsLargeRightWhole}
+use Rattle.large_text.specs.Streamed.{FitsText}
 use Rattle.spanprof_command.specs.GreedyRuns.{bound_of, least_of}
 use Rattle.spanprof_command.specs.Tables.{numbered_table}
 use Rattle.spanprof_command.specs.Report.{Report, input_too_long, line, number_line}
 use Rattle.spanprof_command.specs.Report.{program_refusal}
 use Rattle.spanprof_command.specs.declared.report.Status.TheVariants.{Done, Refused}
-use Rattle.large_command.specs.declared.text_input.TheConstants.{LARGEST_TEXT}
+use Rattle.large_command.specs.Lengths.{IsTooLong}
 
 -- a number each for the tasks beside the root, the segments, the work and the span
 abbrev pub numbers_report : (tasks segments work span : ℕ) → Report
@@ -126,11 +127,11 @@ Answers asked text output = AcceptsText asked text output ⊎ RefusesText text o
 
 -- a text that is too long is refused, whatever it holds
 pub record RefusesLength (text : List ℕ) (output : Report) : Type 0 where
-  pub longer : LARGEST_TEXT < length text
+  pub too_long : IsTooLong text
   pub says : output ≡ input_too_long
 
 pub record AnswersLength (asked : LargeRequest) (text : List ℕ) (output : Report) : Type 0 where
-  pub fits : length text ≤ LARGEST_TEXT
+  pub fits : FitsText text
   pub answers : Answers asked text output
 
 abbrev pub AnswersWithin : LargeRequest → List ℕ → Report → Type 0

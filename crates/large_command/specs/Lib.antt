@@ -1,3 +1,4 @@
+pub mod Lengths
 pub mod TextInput
 pub mod LargeReports
 pub mod LargeCommand

@@ -10,7 +10,7 @@ ghost use Rattle.spanprof_command.specs.declared.engine.TheConstants.{MOST_RETRI
 ghost use Rattle.large_command.specs.LargeCommand.{AnswersText, IsReport, is_in_range};
 ghost use Rattle.large_command.specs.LargeCommand.{wants_text};
 ghost use Rattle.large_command.specs.declared.engine.NoReport.TheVariants.{OutOfMemory};
-ghost use Rattle.large_command.specs.declared.text_input.TheConstants.{LARGEST_TEXT};
+ghost use Rattle.large_text.specs.declared.limits.TheConstants.{LARGEST_TEXT};
 
 use crate::numbers::answer;
 use crate::text_input::take_input;
@@ -28,10 +28,11 @@ use std::io::{Read, Write};
 /// bounds in their place, as CSV: a row for one thread, two, and so on up to P, from 1 to 1,024.
 /// Other words, and another P, are refused before anything is read.
 ///
-/// A text of more than [`LARGEST_TEXT`] bytes is refused. Reads and writes that are interrupted are
-/// tried again, together at most [`MOST_RETRIES`] times. Out of memory and a reader that fails have
-/// lines of their own. Where the writer fails, takes no byte or is interrupted too often, what went
-/// out is a prefix of the text, and the status is `Fault`.
+/// A text with a line of more than [`LARGEST_LINE`] bytes is refused, and so is one of more than
+/// [`LARGEST_TEXT`] bytes. Reads and writes that are interrupted are tried again, together at most
+/// [`MOST_RETRIES`] times. Out of memory and a reader that fails have lines of their own. Where the
+/// writer fails, takes no byte or is interrupted too often, what went out is a prefix of the text,
+/// and the status is `Fault`.
 pub fn command<R: Read, W: Write>(
     alloc: Global,
     words: &[String],

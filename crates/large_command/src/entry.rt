@@ -12,7 +12,7 @@ ghost use Rattle.command_words.specs.LargeWords.{large_request_of};
 ghost use Rattle.spanprof_command.specs.Command.{ExitsAfter, ExitsWith, HadFaults};
 ghost use Rattle.spanprof_command.specs.Report.{out_of_memory, wrong_words};
 ghost use Rattle.large_command.specs.LargeCommand.{IsReport, wants_text};
-ghost use Rattle.large_command.specs.declared.text_input.TheConstants.{LARGEST_TEXT};
+ghost use Rattle.large_text.specs.declared.limits.TheConstants.{LARGEST_TEXT};
 ghost use Rattle.std.specs.declared.io.ErrorKind.TheVariants.{OutOfMemory};
 
 use crate::engine::command;

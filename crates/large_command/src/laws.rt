@@ -1,6 +1,8 @@
 //! Laws of the definitions.
-ghost use Rattle.std.specs.Prelude.{ℕ, ◌<◌, ◌≤◌, List};
+ghost use Rattle.std.specs.Prelude.{ℕ, ◌⊎◌, ◌<◌, ◌≤◌, ◌++◌, List};
 ghost use Rattle.greedy_sim.specs.Greedy.{IsGreedy, IsLegalOn};
+ghost use Rattle.large_command.specs.Lengths.{IsTooLong};
+ghost use Rattle.large_text.specs.Streamed.{FitsText};
 ghost use Rattle.online_span.specs.Spans.{IsSpanOf};
 ghost use Rattle.spanprof_command.specs.GreedyRuns.{bound_of, least_of};
 ghost use Rattle.task_program.specs.Limits.{work_of};
@@ -30,4 +32,12 @@ pub fn bounds_hold()
 pub fn span_within_work()
     ensures { (body : List Mark) (span : ℕ) → IsNested body → IsSpanOf body span
         → span ≤ work_of (last_moment body) }
+{}
+
+/// Each text fits or is too long, and none is both. One that is too long is so whatever follows it,
+/// so it may be refused before its end.
+pub fn fits_or_too_long()
+    ensures one { (text : List ℕ) → FitsText text ⊎ IsTooLong text }
+    ensures not_both { (text : List ℕ) → FitsText text → IsTooLong text → ⊥ }
+    ensures stays { (text later : List ℕ) → IsTooLong text → IsTooLong (text ++ later) }
 {}

@@ -7,8 +7,9 @@ mod engine;
 mod entry;
 pub mod laws;
 mod numbers;
+mod room;
 mod text_input;
 
 pub use engine::command;
 pub use entry::{run_program, start};
-pub use text_input::LARGEST_TEXT;
+pub use large_text::limits::{LARGEST_LINE, LARGEST_TEXT};

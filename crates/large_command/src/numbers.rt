@@ -1,17 +1,19 @@
 //! What the program answers to a text.
-ghost use Rattle.std.specs.Prelude.{◌≡◌, List, ℕ, IfOk};
+ghost use Rattle.std.specs.Prelude.{◌≡◌, [], List, ℕ, IfOk};
 ghost use Rattle.command_words.specs.declared.large.LargeRequest.TheVariants.{Numbers};
 ghost use Rattle.large_text.specs.Streamed.{CanTakeBytes, HasTaken};
+ghost use Rattle.spanprof_command.specs.Report.{program_refusal};
 ghost use Rattle.large_command.specs.LargeReports.{Answers, IsOfProgram, TellsMeter};
 ghost use Rattle.large_command.specs.LargeReports.{numbers_report, header_refusal, text_refusal};
 
 use crate::bound_rows::bounds;
 use command_words::large::LargeRequest;
 use large_text::TextMeter;
+use large_text::fault::LargeFault;
 use online_span::Meter;
-use spanprof_command::{Report, Status, refusal};
+use spanprof_command::{Report, Status, kind_name};
 use std::alloc::{AllocError, Global};
-use task_program::fault::{ReadFault, ReadKind};
+use task_program::fault::ReadKind;
 
 /// What is asked of a text that a meter has taken, or the line of its first fault.
 pub(crate) fn answer(
@@ -19,7 +21,7 @@ pub(crate) fn answer(
     asked: LargeRequest,
     text: TextMeter,
 ) -> Result<Report, AllocError>
-    requires { CanTakeBytes 0 text }
+    requires { CanTakeBytes [] text }
     ensures { IfOk result (λ report. (bytes : List ℕ) → HasTaken bytes text
         → Answers asked bytes report) }
 {
@@ -35,17 +37,27 @@ pub(crate) fn answer(
 }
 
 /// The line of a text that is no program of version 1.
-fn text_refusal(alloc: Global, fault: ReadFault) -> Result<Report, AllocError>
+fn text_refusal(alloc: Global, fault: LargeFault) -> Result<Report, AllocError>
     ensures { IfOk result (λ report. report ≡ text_refusal fault) }
 {
     match fault.kind {
         ReadKind::BadHeader => header_refusal(alloc, fault.line),
-        _ => refusal(alloc, fault),
+        _ => refusal(alloc, fault.kind, fault.line),
     }
 }
 
+/// The line of any other fault.
+fn refusal(alloc: Global, kind: ReadKind, line: u64) -> Result<Report, AllocError>
+    ensures { IfOk result (λ report.
+        report ≡ program_refusal (record { kind = kind; line = line })) }
+{
+    let name = kind_name(kind);
+    let text = format!(in alloc; "error: line {line}: {name}\n")?;
+    Ok(Report::new(text.into_bytes(), Status::Refused))
+}
+
 /// The line of a text with another header. It may be a program of version 2.
-fn header_refusal(alloc: Global, line: u32) -> Result<Report, AllocError>
+fn header_refusal(alloc: Global, line: u64) -> Result<Report, AllocError>
     ensures { IfOk result (λ report. report ≡ header_refusal line) }
 {
     let text = format!(in alloc; "error: line {line}: BadHeader, only version 1 is read\n")?;

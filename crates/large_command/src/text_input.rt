@@ -1,23 +1,22 @@
 //! A text that is taken as it comes.
-ghost use Rattle.std.specs.Prelude.{◌≡◌, ◌≢◌, ◌+◌, ◌-◌, ◌^◌, ◌<◌, ◌≤◌, List, ℕ, Err, OnOk, [], length};
-ghost use Rattle.std.specs.Io.KnownBytes.{Consumes};
+ghost use Rattle.std.specs.Prelude.{◌≡◌, ◌≢◌, ◌+◌, ◌-◌, ◌^◌, ◌<◌, ◌≤◌, Err, OnOk, []};
 ghost use Rattle.counted_io.specs.Counted.{inner_of, faults_of};
 ghost use Rattle.counted_io.specs.Input.{ConsumesAtMost};
+ghost use Rattle.large_text.specs.declared.limits.TheConstants.{LARGEST_TEXT};
 ghost use Rattle.large_text.specs.Streamed.{HasTaken};
-ghost use Rattle.large_command.specs.TextInput.{TakesText};
+ghost use Rattle.large_command.specs.TextInput.{ReadsTooLong, TakesText};
 
+use crate::room::Room;
 use counted_io::{Counted, InputFault, read_piece};
 use large_text::TextMeter;
 use std::io::Read;
 
-/// A longer text is refused: lines and bytes are counted in 32 bits.
-pub const LARGEST_TEXT: usize = 4_294_967_294;
-
 /// How many bytes one read asks for at most.
 const PIECE: usize = 65_536;
 
-/// Reads to the end, piece by piece, and hands all that comes to the meter; but it reads at most one
-/// byte more than [`LARGEST_TEXT`], with which the text is `TooLong`. Retries as `read_piece`.
+/// Reads to the end, piece by piece, and hands all that comes to the meter; but it stops with the
+/// piece with which the text is `TooLong`, and reads at most one byte more than [`LARGEST_TEXT`].
+/// Retries as `read_piece`.
 pub(crate) fn take_input<R: Read>(
     reader: &mut Counted<R>,
     text: &mut TextMeter,
@@ -36,10 +35,8 @@ pub(crate) fn take_input<R: Read>(
     ensures failed { result ≡ Err InputFault.ReadFailed
         → faults_of reader.new + retries.new ≡ faults_of reader.old + retries.old + 1 }
 
-    ensures too_long { result ≡ Err InputFault.TooLong →
-        (bytes : List ℕ)
-        × Consumes (R.remaining (inner_of reader.old)) (R.remaining (inner_of reader.new)) bytes
-        × (length bytes ≡ LARGEST_TEXT + 1) }
+    ensures too_long { result ≡ Err InputFault.TooLong
+        → ReadsTooLong (R.remaining (inner_of reader.old)) (R.remaining (inner_of reader.new)) }
 
     // In every case.
     ensures limited { ConsumesAtMost (LARGEST_TEXT + 1) (R.remaining (inner_of reader.old))
@@ -47,17 +44,19 @@ pub(crate) fn take_input<R: Read>(
     ensures retried { retries.new ≤ retries.old }
 {
     let mut piece = [0u8; PIECE];
-    let mut left = LARGEST_TEXT + 1;
+    let mut room = Room::new();
     'pieces: loop {
-        let next = PIECE.min(left);
+        let next = PIECE.min(room.left + 1);
         match read_piece(reader, &mut piece[..next], retries) {
             Ok(0) => return Ok(()),
             Ok(taken) => {
-                if taken == left {
-                    return Err(InputFault::TooLong);
+                let bytes = &piece[..taken];
+                match room.after(bytes) {
+                    Some(rest) => room = rest,
+                    None => return Err(InputFault::TooLong),
                 }
-                match text.take(&piece[..taken]) {
-                    Ok(()) => left -= taken,
+                match text.take(bytes) {
+                    Ok(()) => {}
                     Err(_) => return Err(InputFault::OutOfMemory),
                 }
             }

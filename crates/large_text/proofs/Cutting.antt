@@ -33,7 +33,7 @@ outside true b none = absurd cc
 outside false b none = (or_parts (is_blank b) (eqb b 35) none).1
 
 -- one byte of the definition
-one_byte : (c : Bool) (line b : ℕ) (bytes : List ℕ)
+pub one_byte : (c : Bool) (line b : ℕ) (bytes : List ℕ)
     → tokens_from c line (b ∷ bytes)
     ≡ cond (is_gap c b) (tokens_from (in_comment_after c b) (line_after b line) bytes)
     (cond (is_run_byte b && starts_with_run_byte bytes)

@@ -26,7 +26,7 @@ use Rattle.large_text.specs.declared.limits.TheConstants.{MOST_LARGE_NESTING}
 use Rattle.large_text.specs.declared.reader.MarkReader.{MarkReader}
 use Rattle.large_text.specs.LargeReading.{state_of}
 use Rattle.task_program.proofs.Shapes.{FollowsAt, nothing_follows}
-use Rattle.large_text.specs.LargeTrees.{HasLargeTree, large_rules}
+use Rattle.large_text.specs.LargeTrees.{HasLargeTree, large_rules, too_many_large}
 use Rattle.large_text.specs.LargeTrees.{IsLargeRightWhole, IsLargeFirstFault}
 use Rattle.large_text.proofs.Sound.{IsBehind, IsSound, AreOpen}
 use Rattle.large_text.proofs.Open.{none_open}
@@ -92,7 +92,8 @@ pub ends_so : (before : List Token) (state : State) (line : ℕ) (fault : ReadFa
 ends_so before state line fault b h = (
   λ s. whole_ends state.place state.tree.blocks line fault (whole_now (texts before) state b.began s)
       h,
-  end_by MOST_LARGE_TOKEN_BYTES MOST_LARGE_NESTING (λ body text. None) before state.place state.head.has_if state.tree.blocks line fault
+  end_by MOST_LARGE_TOKEN_BYTES MOST_LARGE_NESTING too_many_large before state.place
+      state.head.has_if state.tree.blocks line fault
       (subst (λ (n : ℕ). LengthAt state.place n) (texts_long before) b.began.length_is)
       (ap (λ (t : Tally). t.braces) b.tally_is)
       (viable_next (texts before) state (codes "}") b.began)

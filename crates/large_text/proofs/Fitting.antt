@@ -61,7 +61,7 @@ group_open _ e h = omega arith
 fits_next : (marks later : List Mark) (m : Mark)
     → IsNested ((marks ++ m ∷ []) ++ later)
     → work_of (marks ++ m ∷ []) ≤ MOST_WORK
-    → length marks < 2 ^ 32
+    → length marks < 2 ^ 63
     → Fits m (last_moment marks)
 fits_next marks later m nested work few =
     let start : List Mark = Begins false [] ∷ [] in
@@ -100,7 +100,7 @@ can_take before marks mark reader meter r measures =
     let more = marks ++ mark ∷ [] in
     let s = sound before more reader r in
     let blocks = (state_of reader more).tree.blocks in
-    let few : length marks < 2 ^ 32 =
+    let few : length marks < 2 ^ 63 =
     omega (arith, s.few, s.within.bytes, length-append marks (mark ∷ [])) in
     record {
       moment = last_moment marks;

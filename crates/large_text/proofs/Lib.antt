@@ -1,3 +1,4 @@
+pub mod Items
 pub mod Sound
 pub mod Open
 pub mod Steps
@@ -8,5 +9,6 @@ pub mod Taken
 pub mod Fitting
 pub mod Measuring
 pub mod Whole
+pub mod Moved
 pub mod Cutting
 pub mod Streaming

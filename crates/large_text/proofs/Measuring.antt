@@ -1,6 +1,6 @@
 -- Reading a text and measuring its marks, token by token.
-use Rattle.std.proofs.Common.{◌≡◌, ℕ, false, List, [], ◌∷◌, ◌++◌, append_assoc, refl, sym}
-use Rattle.std.proofs.Common.{ap, subst, ◌∙◌}
+use Rattle.std.proofs.Common.{◌≡◌, ℕ, ◌+◌, false, List, [], ◌∷◌, ◌++◌, map, append_assoc, refl}
+use Rattle.std.proofs.Common.{sym, ap, subst, ◌∙◌, arith}
 use Rattle.std.proofs.lemmas.List.{append-nil}
 use Rattle.program_text.specs.declared.fault.ReadFault.{ReadFault}
 use Rattle.program_text.specs.declared.scanner.Scanner.{Scanner}
@@ -17,6 +17,7 @@ use Rattle.large_text.specs.declared.reader.MarkReader.{MarkReader}
 use Rattle.large_text.specs.LargeReading.{IsReadSoFar, mark_seen}
 use Rattle.large_text.specs.LargeTrees.{HasLargeTree, IsLargeRightWhole, IsLargeFirstFault}
 use Rattle.large_text.specs.Measured.{MeasuresText, MeasuresSoFar, CanMeasure}
+use Rattle.large_text.proofs.Moved.{further, tokens_further}
 
 -- a token with which a mark is whole
 pub mark_taken : (before : List Token) (token : Token) (mark : TextMark) (old new : MarkReader)
@@ -38,84 +39,115 @@ mark_taken before token mark old new meter more reads takes m =
 
 -- ---- the tokens of a text
 
+-- the tokens that are left, where so many lines stand before the bytes
+abbrev pub left_behind : (lines : ℕ) → Scanner → List Token
+left_behind lines scanner = tokens_from false (lines + scanner.line) scanner.rest.now
+
+-- they are the scanner's, so many lines further
+left_further : (lines : ℕ) (scanner : Scanner)
+    → left_behind lines scanner ≡ map (further lines) (tokens_left scanner)
+left_further lines scanner = tokens_further lines false scanner.line scanner.rest.now
+
+one_further : (lines : ℕ) (scanner next : Scanner) (token : Token)
+    → tokens_left scanner ≡ token ∷ tokens_left next
+    → left_behind lines scanner ≡ further lines token ∷ left_behind lines next
+one_further lines scanner next token split =
+    left_further lines scanner
+    ∙ ap (λ (ts : List Token). map (further lines) ts) split
+    ∙ ap (λ (ts : List Token). further lines token ∷ ts) (sym (left_further lines next))
+
+none_further : (lines : ℕ) (scanner : Scanner)
+    → tokens_left scanner ≡ []
+    → left_behind lines scanner ≡ []
+none_further lines scanner none =
+    left_further lines scanner ∙ ap (λ (ts : List Token). map (further lines) ts) none
+
 -- the tokens before the scanner have been taken, and those of the text that are left are its own
-pub record GoesThrough (text : List ℕ) (line : ℕ) (scanner : Scanner) (first reader : MarkReader)
+pub record GoesThrough (text : List ℕ) (lines : ℕ) (scanner : Scanner) (first reader : MarkReader)
     (start meter : Meter) : Type 0 where
   pub gone : List Token
-  pub all : tokens_from false line text ≡ gone ++ tokens_left scanner
-  pub line_is : end_line scanner ≡ line_at_end line text
+  pub all : tokens_from false (lines + 1) text ≡ gone ++ left_behind lines scanner
+  pub line_is : lines + end_line scanner ≡ line_at_end (lines + 1) text
   pub reads : (before : List Token) → MeasuresSoFar before first start
       → MeasuresSoFar (before ++ gone) reader meter
 
-pub goes_first : (text : List ℕ) (line : ℕ) (scanner : Scanner) (reader : MarkReader) (meter : Meter)
+pub goes_first : (text : List ℕ) (lines : ℕ) (scanner : Scanner) (reader : MarkReader)
+    (meter : Meter)
     → scanner.rest.now ≡ text
-    → scanner.line ≡ line
-    → GoesThrough text line scanner reader reader meter meter
-goes_first text line scanner reader meter rest line_is = record {
+    → scanner.line ≡ 1
+    → GoesThrough text lines scanner reader reader meter meter
+goes_first text lines scanner reader meter rest line_is = record {
   gone = [];
   all = rw (rest, line_is) refl;
-  line_is = rw (rest, line_is) refl;
+  line_is = rw (rest, line_is) (omega arith);
   reads = λ before m. subst (λ (ts : List Token). MeasuresSoFar ts reader meter)
       (sym (append-nil before)) m;
 }
 
-pub goes_on : (text : List ℕ) (line : ℕ) (scanner next : Scanner) (token : Token)
+pub goes_on : (text : List ℕ) (lines : ℕ) (scanner next : Scanner) (token : Token)
     (first old new : MarkReader) (start meter more : Meter)
-    → GoesThrough text line scanner first old start meter
+    → GoesThrough text lines scanner first old start meter
     → tokens_left scanner ≡ token ∷ tokens_left next
     → end_line next ≡ end_line scanner
     → ((before : List Token) → MeasuresSoFar before old meter
-    → MeasuresSoFar (before ++ token ∷ []) new more)
-    → GoesThrough text line next first new start more
-goes_on text line scanner next token first old new start meter more at split line_is reads = record {
-  gone = at.gone ++ token ∷ [];
-  all = at.all
-      ∙ ap (λ (ts : List Token). at.gone ++ ts) split
-      ∙ sym (append_assoc at.gone (token ∷ []) (tokens_left next));
-  line_is = line_is ∙ at.line_is;
-  reads = λ before m. subst (λ (ts : List Token). MeasuresSoFar ts new more)
-      (append_assoc before at.gone (token ∷ []))
-      (reads (before ++ at.gone) (at.reads before m));
-}
+    → MeasuresSoFar (before ++ further lines token ∷ []) new more)
+    → GoesThrough text lines next first new start more
+goes_on text lines scanner next token first old new start meter more at split line_is reads =
+    let moved = further lines token in
+    record {
+      gone = at.gone ++ moved ∷ [];
+      all = at.all
+          ∙ ap (λ (ts : List Token). at.gone ++ ts) (one_further lines scanner next token split)
+          ∙ sym (append_assoc at.gone (moved ∷ []) (left_behind lines next));
+      line_is = ap (λ (n : ℕ). lines + n) line_is ∙ at.line_is;
+      reads = λ before m. subst (λ (ts : List Token). MeasuresSoFar ts new more)
+          (append_assoc before at.gone (moved ∷ []))
+          (reads (before ++ at.gone) (at.reads before m));
+    }
 
-pub goes_still : (text : List ℕ) (line : ℕ) (scanner : Scanner) (first reader : MarkReader)
+pub goes_still : (text : List ℕ) (lines : ℕ) (scanner : Scanner) (first reader : MarkReader)
     (start meter : Meter)
-    → GoesThrough text line scanner first reader start meter
+    → GoesThrough text lines scanner first reader start meter
     → CanMeasure first start
     → CanMeasure reader meter
-goes_still text line scanner first reader start meter at can = record {
+goes_still text lines scanner first reader start meter at can = record {
   tokens = can.tokens ++ at.gone;
   so_far = at.reads can.tokens can.so_far;
 }
 
-pub goes_whole : (text : List ℕ) (line : ℕ) (scanner : Scanner) (first reader : MarkReader)
+pub goes_whole : (text : List ℕ) (lines : ℕ) (scanner : Scanner) (first reader : MarkReader)
     (start meter : Meter)
-    → GoesThrough text line scanner first reader start meter
+    → GoesThrough text lines scanner first reader start meter
     → tokens_left scanner ≡ []
     → (before : List Token) → MeasuresSoFar before first start
-    → MeasuresSoFar (before ++ tokens_from false line text) reader meter
-goes_whole text line scanner first reader start meter at none = λ before m.
+    → MeasuresSoFar (before ++ tokens_from false (lines + 1) text) reader meter
+goes_whole text lines scanner first reader start meter at none = λ before m.
     subst (λ (ts : List Token). MeasuresSoFar (before ++ ts) reader meter)
-    (sym (at.all ∙ ap (λ (ts : List Token). at.gone ++ ts) none ∙ append-nil at.gone))
+    (sym
+    (at.all
+    ∙ ap (λ (ts : List Token). at.gone ++ ts) (none_further lines scanner none)
+    ∙ append-nil at.gone))
     (at.reads before m)
 
 -- the first fault is at this token
-pub stops_at : (text : List ℕ) (line : ℕ) (scanner : Scanner) (token : Token) (rest : List Token)
+pub stops_at : (text : List ℕ) (lines : ℕ) (scanner next : Scanner) (token : Token)
     (first reader : MarkReader) (start meter : Meter) (fault : ReadFault)
-    → GoesThrough text line scanner first reader start meter
-    → tokens_left scanner ≡ token ∷ rest
+    → GoesThrough text lines scanner first reader start meter
+    → tokens_left scanner ≡ token ∷ tokens_left next
     → ((before later : List Token) (end_line : ℕ) → MeasuresSoFar before reader meter
-    → IsLargeFirstFault (before ++ token ∷ later) end_line fault)
+    → IsLargeFirstFault (before ++ further lines token ∷ later) end_line fault)
     → (before later : List Token) (end_line : ℕ) → MeasuresSoFar before first start
-    → IsLargeFirstFault (before ++ (tokens_from false line text ++ later)) end_line fault
-stops_at text line scanner token rest first reader start meter fault at split refused =
+    → IsLargeFirstFault (before ++ (tokens_from false (lines + 1) text ++ later)) end_line fault
+stops_at text lines scanner next token first reader start meter fault at split refused =
     λ before later end_line m.
-    let whole : before ++ (tokens_from false line text ++ later)
-    ≡ (before ++ at.gone) ++ token ∷ (rest ++ later) =
+    let moved = further lines token in
+    let rest = left_behind lines next in
+    let whole : before ++ (tokens_from false (lines + 1) text ++ later)
+    ≡ (before ++ at.gone) ++ moved ∷ (rest ++ later) =
     ap (λ (ts : List Token). before ++ (ts ++ later))
-    (at.all ∙ ap (λ (ts : List Token). at.gone ++ ts) split)
-    ∙ ap (λ (ts : List Token). before ++ ts) (append_assoc at.gone (token ∷ rest) later)
-    ∙ sym (append_assoc before at.gone (token ∷ (rest ++ later))) in
+    (at.all ∙ ap (λ (ts : List Token). at.gone ++ ts) (one_further lines scanner next token split))
+    ∙ ap (λ (ts : List Token). before ++ ts) (append_assoc at.gone (moved ∷ rest) later)
+    ∙ sym (append_assoc before at.gone (moved ∷ (rest ++ later))) in
     subst (λ (ts : List Token). IsLargeFirstFault ts end_line fault) (sym whole)
     (refused (before ++ at.gone) (rest ++ later) end_line (at.reads before m))
 

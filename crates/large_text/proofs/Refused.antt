@@ -26,7 +26,8 @@ use Rattle.large_text.specs.LargeFaults.{grammar_fault, large_limit_by}
 use Rattle.large_text.specs.LargeFaults.{closes_no_block, is_inside_at, items_coming}
 use Rattle.large_text.specs.LargeFaults.{large_form_fault}
 use Rattle.large_text.specs.LargeReading.{state_of, large_step}
-use Rattle.large_text.specs.LargeTrees.{large_rules, IsLargeFirstFault}
+use Rattle.large_text.specs.LargeTrees.{large_rules, too_many_large, IsLargeFirstFault}
+use Rattle.large_text.proofs.Items.{AreCounted}
 use Rattle.large_text.proofs.Steps.{closes_so, is_there}
 use Rattle.large_text.proofs.Sound.{IsBehind, IsSound}
 use Rattle.large_text.proofs.SoFar.{limits_so}
@@ -38,7 +39,7 @@ misplaced : (before : List Token) (state : State) (text : List ℕ) (kind : Read
     → grammar_fault state.place state.head.has_if (length state.tree.blocks) text ≡ Some kind
     → IsWrong large_rules before text kind
 misplaced before state text kind began formed h =
-    misplaced_or MOST_LARGE_TOKEN_BYTES MOST_LARGE_NESTING (λ body text. None) before state text
+    misplaced_or MOST_LARGE_TOKEN_BYTES MOST_LARGE_NESTING too_many_large before state text
     kind (closes_no_block state.place (length state.tree.blocks) text) None began formed
     (closes_so state.place (length state.tree.blocks) text) h
     (λ header unopened allowed none. absurd cc)
@@ -56,13 +57,14 @@ viable_there before state text began h =
     there.allowed)
 
 -- a token that is refused is wrong
-pub token_wrong : (before : List Token) (work : ℕ) (state : State) (token : Token)
+pub token_wrong : (before : List Token) (work all_items : ℕ) (state : State) (token : Token)
     (fault : ReadFault)
     → IsBehind before state
     → work ≡ work_of state.tree.marks
-    → large_step work state token ≡ Err fault
+    → AreCounted before state.place all_items
+    → large_step work all_items state token ≡ Err fault
     → WrongSo large_rules before token fault
-token_wrong before work state token fault b work_is h =
+token_wrong before work all_items state token fault b work_is counted h =
     let text = token.text in
     unless_err (large_form_fault state.bytes text) token.line _ fault h
     (λ kind form same. (
@@ -76,12 +78,13 @@ token_wrong before work state token fault b work_is h =
     token.line _ fault h1
     (λ kind wrong same. (kind, misplaced before state text kind b.began formed wrong, same))
     (λ grammar h2. unless_err (large_limit_by (is_inside_at state.place) work
-    (length state.head.items + items_coming state.place) (length state.tree.blocks) text)
+    (all_items + items_coming state.place) (length state.head.items + items_coming state.place)
+    (length state.tree.blocks) text)
     token.line _ fault h2
     (λ kind limit same. (
       kind,
       PastLimit formed (viable_there before state text b.began grammar)
-          (limits_so before state work text b.tally_is work_is ∙ limit),
+          (limits_so before state work all_items text b.tally_is work_is counted ∙ limit),
       same,
     ))
     (λ none wrong. absurd cc)))
@@ -90,11 +93,11 @@ token_wrong before work state token fault b work_is h =
 pub first_fault : (before later : List Token) (marks : List Mark) (reader : MarkReader)
     (token : Token) (end_line : ℕ) (fault : ReadFault)
     → IsSound before marks reader
-    → large_step reader.work (state_of reader marks) token ≡ Err fault
+    → large_step reader.work reader.all_items (state_of reader marks) token ≡ Err fault
     → IsLargeFirstFault (before ++ token ∷ later) end_line fault
 first_fault before later marks reader token end_line fault r h =
-    let told = token_wrong before reader.work (state_of reader marks) token fault r.behind r.work_is
-    h in
+    let told = token_wrong before reader.work reader.all_items (state_of reader marks) token fault
+    r.behind r.work_is r.counted h in
     subst (IsLargeFirstFault (before ++ token ∷ later) end_line) told.2
     (AtToken before later token end_line told.0 r.right told.1)
 

@@ -17,6 +17,7 @@ use Rattle.task_program.proofs.Tallies.{NoItems, tally_of, tally_now}
 use Rattle.large_text.specs.declared.reader.MarkReader.{MarkReader}
 use Rattle.large_text.specs.LargeReading.{state_of, IsLargeWithin}
 use Rattle.large_text.specs.LargeTrees.{large_rules}
+use Rattle.large_text.proofs.Items.{AreCounted}
 
 -- marks behind which these blocks are open, the innermost first
 pub data AreOpen : List Block → List Mark → Type 0 where
@@ -44,5 +45,6 @@ pub record IsSound (tokens : List Token) (marks : List Mark) (reader : MarkReade
   pub behind : IsBehind tokens (state_of reader marks)
   pub right : AreRight large_rules tokens
   pub work_is : reader.work ≡ work_of marks
+  pub counted : AreCounted tokens reader.place reader.all_items
   pub few : length marks ≤ reader.bytes
   pub within : IsLargeWithin reader

@@ -3,6 +3,7 @@ use Rattle.std.proofs.Common.{◌≡◌, ℕ, zero, suc, ◌+◌, ◌≤◌, Boo
 use Rattle.std.proofs.Common.{cond, List}
 use Rattle.std.proofs.Common.{[], ◌∷◌, length, length-append, Option, Some, None, Ok}
 use Rattle.std.proofs.Common.{refl, ap, arith, codes}
+use Rattle.std.specs.Option.{option_or}
 use Rattle.std.specs.Prelude.{nat_lt}
 use Rattle.std.proofs.lemmas.Bool.{ltb-false}
 use Rattle.std.proofs.Math.Dec.{eqb-suc-zero}
@@ -28,31 +29,33 @@ use Rattle.task_program.proofs.Keeping.{unless_ok, ok_is, one_name_more, some_te
 use Rattle.task_program.proofs.Shapes.{closes_none}
 use Rattle.large_text.specs.declared.limits.TheConstants.{MOST_LARGE_TOKEN_BYTES}
 use Rattle.large_text.specs.declared.limits.TheConstants.{MOST_LARGE_NESTING}
+use Rattle.large_text.specs.declared.limits.TheConstants.{MOST_LARGE_ITEMS}
 use Rattle.large_text.specs.LargeFaults.{large_form_fault, grammar_fault, large_limit_by}
 use Rattle.large_text.specs.LargeFaults.{closes_no_block, is_inside_at, items_coming}
+use Rattle.large_text.specs.LargeTrees.{too_many_items}
 use Rattle.large_text.specs.LargeReading.{large_step, with_bytes}
 
 -- nothing is wrong with the token, and it leads there
-pub record Passed (work : ℕ) (state : State) (token : Token) (next : State) : Type 0 where
+pub record Passed (work all_items : ℕ) (state : State) (token : Token) (next : State) : Type 0 where
   pub formed : large_form_fault state.bytes token.text ≡ None
   pub grammar : grammar_fault state.place state.head.has_if (length state.tree.blocks) token.text
       ≡ None
-  pub limit : large_limit_by (is_inside_at state.place) work
+  pub limit : large_limit_by (is_inside_at state.place) work (all_items + items_coming state.place)
       (length state.head.items + items_coming state.place) (length state.tree.blocks) token.text
       ≡ None
   pub next_is : after_at state.place (with_bytes state (length token.text)) token.text token.line
       ≡ next
 
-pub passed : (work : ℕ) (state : State) (token : Token) (next : State)
-    → large_step work state token ≡ Ok next
-    → Passed work state token next
-passed work state token next h =
+pub passed : (work all_items : ℕ) (state : State) (token : Token) (next : State)
+    → large_step work all_items state token ≡ Ok next
+    → Passed work all_items state token next
+passed work all_items state token next h =
     let first = unless_ok (large_form_fault state.bytes token.text) token.line _ next h in
     let second = unless_ok
     (grammar_fault state.place state.head.has_if (length state.tree.blocks) token.text) token.line _
     next first.1 in
     let third = unless_ok
-    (large_limit_by (is_inside_at state.place) work
+    (large_limit_by (is_inside_at state.place) work (all_items + items_coming state.place)
     (length state.head.items + items_coming state.place) (length state.tree.blocks) token.text)
     token.line _ next second.1 in
     record {
@@ -87,25 +90,34 @@ is_there place has_if depth text h =
 
 -- ---- the limits
 
-pub record IsUnder (inside : Bool) (work items open_blocks : ℕ) (text : List ℕ) : Type 0 where
+pub record IsUnder (inside : Bool) (work all_items items open_blocks : ℕ) (text : List ℕ)
+    : Type 0 where
   pub value : is_value_too_large inside text ≡ false
+  pub all_fit : nat_lt MOST_LARGE_ITEMS all_items ≡ false
   pub items_fit : nat_lt MOST_ITEMS items ≡ false
   pub work_fits : is_work_past inside work text ≡ false
 
-pub is_under : (inside : Bool) (work items open_blocks : ℕ) (text : List ℕ)
-    → large_limit_by inside work items open_blocks text ≡ None
-    → IsUnder inside work items open_blocks text
-is_under inside work items open_blocks text h =
+none_or : (many : Bool) (kind : ReadKind) (later : Option ReadKind)
+    → option_or (cond many (Some kind) None) later ≡ None
+    → (many ≡ false) × (later ≡ None)
+none_or true kind later h = absurd cc
+none_or false kind later h = (refl, h)
+
+pub is_under : (inside : Bool) (work all_items items open_blocks : ℕ) (text : List ℕ)
+    → large_limit_by inside work all_items items open_blocks text ≡ None
+    → IsUnder inside work all_items items open_blocks text
+is_under inside work all_items items open_blocks text h =
     let work_row : Option ReadKind =
     cond (is_work_past inside work text) (Some WorkTooLarge) None in
     let items_row : Option ReadKind =
     cond (nat_lt MOST_ITEMS items) (Some TooManyItems) work_row in
     let first = row_passed _ _ _ h in
-    let second = row_passed (is_too_deep MOST_LARGE_NESTING open_blocks text) TooDeep items_row
-    first.1 in
-    let third = row_passed (nat_lt MOST_ITEMS items) TooManyItems work_row second.1 in
+    let second = row_passed (is_too_deep MOST_LARGE_NESTING open_blocks text) TooDeep
+    (option_or (too_many_items all_items) items_row) first.1 in
+    let all = none_or (nat_lt MOST_LARGE_ITEMS all_items) TooManyItems items_row second.1 in
+    let third = row_passed (nat_lt MOST_ITEMS items) TooManyItems work_row all.1 in
     let fourth = row_passed (is_work_past inside work text) WorkTooLarge None third.1 in
-    record { value = first.0; items_fit = third.0; work_fits = fourth.0 }
+    record { value = first.0; all_fit = all.0; items_fit = third.0; work_fits = fourth.0 }
 
 pub number_fits : (place : Place) (has_if : Bool) (text : List ℕ)
     → is_allowed place has_if text ≡ true
@@ -147,7 +159,7 @@ is_formed bytes text h =
 
 abbrev pub NamesGrow : Place → State → List ℕ → ℕ → Type 0
 NamesGrow place state text line =
-    length (after_at place state text line).names ≤ length state.names + 1
+    length (after_at place state text line).names ≤ length state.names + items_coming place
 
 statement_names : (state : State) (text : List ℕ) (line : ℕ) → NamesGrow Statement state text line
 statement_names state text line =

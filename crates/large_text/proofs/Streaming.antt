@@ -2,9 +2,10 @@
 use Rattle.std.proofs.Common.{◌≡◌, ◌+◌, ◌<◌, ◌≤◌, ◌^◌, ◌∙◌, ℕ, cond, false, List, [], ◌∷◌, ◌++◌}
 use Rattle.std.proofs.Common.{◌-◌, Result, Ok, Err, Option, Some, None, length, take, drop, get_or}
 use Rattle.std.proofs.Common.{append_assoc, length-append, refl, sym, ap, subst, arith}
-use Rattle.std.specs.Prelude.{OnOk, is_ok}
-use Rattle.std.proofs.lemmas.List.{append-nil, take_more, take-append-drop}
-use Rattle.std.proofs.lemmas.List.Sums.{sum_by-append}
+use Rattle.std.specs.Prelude.{OnOk, is_ok, count_by}
+use Rattle.std.proofs.lemmas.Bool.{ne_eqb}
+use Rattle.std.proofs.lemmas.List.{append-nil, drop_more, take_more, take-append-drop}
+use Rattle.std.proofs.lemmas.List.Sums.{sum_by-append, sum_by-cons, count_by-le-length}
 use Rattle.program_text.specs.declared.fault.ReadFault.{ReadFault}
 use Rattle.program_text.specs.Marks.{Mark}
 use Rattle.program_text.specs.Marks.Mark.{Begins}
@@ -17,8 +18,11 @@ use Rattle.large_text.specs.LargeReading.{IsReadSoFar}
 use Rattle.large_text.specs.LargeTrees.{HasLargeTree, IsLargeRightWhole, IsLargeFirstFault}
 use Rattle.large_text.specs.Measured.{MeasuresSoFar, MeasuresText}
 use Rattle.large_text.specs.Streamed.{EndsLine, CutsTokens, HasTakenLines, HasFault}
-use Rattle.large_text.specs.Streamed.{HasTakenBy, HasTaken, TakesBytes}
+use Rattle.large_text.specs.Streamed.{HasTakenBy, HasTaken, TakesBytes, FitsText, HasNoLineFeed}
+use Rattle.large_text.specs.Streamed.{CanTakeBytes}
 use Rattle.large_text.specs.declared.stream.TextMeter.{TextMeter}
+use Rattle.large_text.specs.declared.limits.TheConstants.{LARGEST_TEXT, LARGEST_LINE}
+use Rattle.large_text.specs.declared.limits.TheConstants.{LARGEST_PIECE}
 use Rattle.large_text.proofs.Cutting.{cut_behind}
 use Rattle.large_text.proofs.Measuring.{stops_early, is_measured}
 
@@ -126,9 +130,40 @@ pub where_ok : {E : Type 0} (result : Result (Unit {0}) E) (P : Type 0) (after t
 where_ok (Ok u) P after tail more is then = then is
 where_ok (Err fault) P after tail more is then = cc
 
-pub long_more : (bytes more : List ℕ) → length bytes + length more + 1 < 2 ^ 32
-    → length (bytes ++ more) + 1 < 2 ^ 32
-long_more bytes more fits = omega (arith, fits, length-append bytes more)
+-- ---- what fits
+
+pub fits_none : FitsText []
+fits_none = record {
+  short = omega arith;
+  lines = λ front line later is none.
+      omega (arith, ap length is, length-append front (line ++ later), length-append line later);
+}
+
+pub fits_short : (bytes : List ℕ) → length bytes ≤ LARGEST_LINE → FitsText bytes
+fits_short bytes few = record {
+  short = omega (arith, few);
+  lines = λ front line later is none. omega (
+    arith,
+    few,
+    ap length is,
+    length-append front (line ++ later),
+    length-append line later,
+  );
+}
+
+fits_front : (front back : List ℕ) → FitsText (front ++ back) → FitsText front
+fits_front front back fits = record {
+  short = omega (arith, fits.short, length-append front back);
+  lines = λ before line later is none. fits.lines before line (later ++ back)
+      (ap (λ (bytes : List ℕ). bytes ++ back) is
+      ∙ append_assoc before (line ++ later) back
+      ∙ ap (λ (bytes : List ℕ). before ++ bytes) (append_assoc line later back)) none;
+}
+
+pub no_feed_more : (first second : List ℕ) → HasNoLineFeed first → HasNoLineFeed second
+    → HasNoLineFeed (first ++ second)
+no_feed_more first second a b =
+    omega (arith, a, b, sum_by-append (λ byte. cond (is_line_feed byte) 1 0) first second)
 
 -- two pieces, one behind the other
 pub takes_two : (all first second : List ℕ) (old middle new : TextMeter)
@@ -137,13 +172,26 @@ pub takes_two : (all first second : List ℕ) (old middle new : TextMeter)
     → TakesBytes second middle new
     → TakesBytes all old new
 takes_two all first second old middle new is takes_first takes_second = λ taken fits h.
-    let long : length all ≡ length first + length second =
-    ap length is ∙ length-append first second in
-    let longer = length-append taken first in
-    subst (λ (bytes : List ℕ). HasTaken bytes new)
-    (append_assoc taken first second ∙ ap (λ (bytes : List ℕ). taken ++ bytes) (sym is))
-    (takes_second (taken ++ first) (omega (arith, fits, long, longer))
-    (takes_first taken (omega (arith, fits, long)) h))
+    let whole : taken ++ all ≡ (taken ++ first) ++ second =
+    ap (λ (bytes : List ℕ). taken ++ bytes) is ∙ sym (append_assoc taken first second) in
+    let both : FitsText ((taken ++ first) ++ second) = subst FitsText whole fits in
+    subst (λ (bytes : List ℕ). HasTaken bytes new) (sym whole)
+    (takes_second (taken ++ first) both
+    (takes_first taken (fits_front (taken ++ first) second both) h))
+
+-- where a whole piece can be taken, so can what it begins with
+pub can_front : (all first second : List ℕ) (text_meter : TextMeter)
+    → all ≡ first ++ second
+    → CanTakeBytes all text_meter
+    → CanTakeBytes first text_meter
+can_front all first second text_meter is can = record {
+  bytes = can.bytes;
+  taken = can.taken;
+  fits = fits_front (can.bytes ++ first) second
+      (subst FitsText
+      (ap (λ (bytes : List ℕ). can.bytes ++ bytes) is ∙ sym (append_assoc can.bytes first second))
+      can.fits);
+}
 
 pub split_whole : (bytes front back : List ℕ) (n : ℕ) → front ≡ take n bytes → back ≡ drop n bytes
     → bytes ≡ front ++ back
@@ -207,7 +255,8 @@ fault_met bytes tail piece line reader meter fault h ends refused = λ later end
     (refused first rest end_line h.so_far)
 
 -- the same of the text that was gone through, behind which nothing is kept
-pub lines_done : (found : Option ReadFault) (bytes tail piece text after : List ℕ) (line end : ℕ)
+pub lines_done : (found : Option ReadFault) (bytes tail piece text after : List ℕ)
+    (line end lines : ℕ)
     (reader next : MarkReader) (meter more : Meter)
     → found ≡ None
     → text ≡ tail ++ piece
@@ -215,18 +264,20 @@ pub lines_done : (found : Option ReadFault) (bytes tail piece text after : List 
     → HasTakenBy found bytes tail line reader meter
     → EndsLine piece
     → end ≡ line_at_end line text
+    → lines + 1 ≡ end
     → ((before : List Token) → MeasuresSoFar before reader meter
     → MeasuresSoFar (before ++ tokens_from false line text) next more)
-    → HasTakenBy found (bytes ++ piece) after end next more
-lines_done None bytes tail piece text after line end reader next meter more none is empty h ends
-    end_is reads =
-    subst (λ (rest : List ℕ). HasTakenLines (bytes ++ piece) rest end next more) (sym empty)
+    → HasTakenBy found (bytes ++ piece) after (lines + 1) next more
+lines_done None bytes tail piece text after line end lines reader next meter more none is empty h ends
+    end_is lines_is reads =
+    subst (λ (n : ℕ). HasTakenLines (bytes ++ piece) after n next more) (sym lines_is)
+    (subst (λ (rest : List ℕ). HasTakenLines (bytes ++ piece) rest end next more) (sym empty)
     (lines_taken bytes tail piece line end reader next meter more h ends
     (end_is ∙ ap (λ (a : List ℕ). line_at_end line a) is)
     (subst (λ (a : List ℕ). (before : List Token) → MeasuresSoFar before reader meter
-    → MeasuresSoFar (before ++ tokens_from false line a) next more) is reads))
-lines_done (Some fault) bytes tail piece text after line end reader next meter more none is empty h
-    ends end_is reads = absurd cc
+    → MeasuresSoFar (before ++ tokens_from false line a) next more) is reads)))
+lines_done (Some fault) bytes tail piece text after line end lines reader next meter more none is
+    empty h ends end_is lines_is reads = absurd cc
 
 pub fault_done : (found : Option ReadFault) (bytes tail piece text : List ℕ) (line : ℕ)
     (reader : MarkReader) (meter : Meter) (fault : ReadFault)

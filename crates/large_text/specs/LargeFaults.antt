@@ -2,6 +2,7 @@
 -- the grammar has it there, and which limit it passes.
 use Rattle.std.specs.Prelude.{ℕ, Bool, true, false, not, ◌&&◌, ◌==◌, nat_lt}
 use Rattle.std.specs.Prelude.{if◌then◌else◌, List, Option, Some, None, codes}
+use Rattle.std.specs.Option.{option_or}
 use Rattle.program_text.specs.declared.fault.ReadKind.{ReadKind}
 use Rattle.program_text.specs.declared.fault.ReadKind.TheVariants.{BadHeader, BadWord, BadNumber}
 use Rattle.program_text.specs.declared.fault.ReadKind.TheVariants.{Unopened, TooDeep, TooManyItems}
@@ -17,6 +18,7 @@ use Rattle.task_program.specs.Faults.{is_header, is_allowed}
 use Rattle.task_program.specs.TokenCounts.{is_value_too_large, is_too_deep, is_work_past}
 use Rattle.large_text.specs.declared.limits.TheConstants.{MOST_LARGE_TOKEN_BYTES}
 use Rattle.large_text.specs.declared.limits.TheConstants.{MOST_LARGE_NESTING}
+use Rattle.large_text.specs.LargeTrees.{too_many_items}
 
 -- what is wrong with the token by itself, after so many bytes of tokens
 abbrev pub large_form_fault : ℕ → List ℕ → Option ReadKind
@@ -55,10 +57,11 @@ items_coming _ = 0
 -- ---- the limits
 
 -- the first limit that is passed with this token
-abbrev pub large_limit_by : (inside : Bool) (work items open_blocks : ℕ) → List ℕ → Option ReadKind
-large_limit_by inside work items open_blocks text =
+abbrev pub large_limit_by : (inside : Bool) (work all_items items open_blocks : ℕ) → List ℕ
+    → Option ReadKind
+large_limit_by inside work all_items items open_blocks text =
     if is_value_too_large inside text then Some BadNumber
     else (if is_too_deep MOST_LARGE_NESTING open_blocks text then Some TooDeep
-    else (if nat_lt MOST_ITEMS items then Some TooManyItems
+    else option_or (too_many_items all_items) (if nat_lt MOST_ITEMS items then Some TooManyItems
     else (if is_work_past inside work text then Some WorkTooLarge
     else None)))

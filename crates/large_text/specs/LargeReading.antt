@@ -8,6 +8,7 @@ use Rattle.program_text.specs.Limits.{work_of}
 use Rattle.program_text.specs.Marks.{Mark}
 use Rattle.program_text.specs.Marks.Mark.{Begins, Ends, Works, Waits, GroupBegins, GroupEnds}
 use Rattle.program_text.specs.Tokens.{Token}
+use Rattle.program_text.specs.declared.scanner.Token.{Token as ScannedToken}
 use Rattle.program_text.specs.Words.{is_number, is_word, value_of}
 use Rattle.task_program.specs.declared.place.Place.{Place}
 use Rattle.task_program.specs.declared.place.Place.TheVariants.{Statement, WorkNumber, IfNumber}
@@ -16,6 +17,7 @@ use Rattle.task_program.specs.Faults.{State, after_at, at, no_clauses, start, un
 use Rattle.task_program.specs.TreeSoFar.{Block, with_block}
 use Rattle.task_program.specs.TreeSoFar.Block.{TaskBlock, GroupBlock}
 use Rattle.large_text.specs.declared.limits.TheConstants.{MOST_LARGE_TOKEN_BYTES}
+use Rattle.large_text.specs.declared.limits.TheConstants.{MOST_LARGE_ITEMS}
 use Rattle.large_text.specs.declared.marks.TextMark.{TextMark}
 use Rattle.large_text.specs.declared.marks.TextMark.TheVariants.{TaskBegins, TaskEnds, Work, Wait}
 use Rattle.large_text.specs.declared.marks.TextMark.TheVariants.{GroupOpens, GroupCloses}
@@ -42,6 +44,10 @@ abbrev pub block_seen : OpenBlock → Block
 block_seen (OpenTask line) = TaskBlock line
 block_seen (OpenGroup line) = GroupBlock line
 
+-- a token that was scanned, on the line of the whole text on which it begins
+abbrev pub token_on : ScannedToken → (line : ℕ) → Token
+token_on token line = record { text = token.text.now; line = line }
+
 -- a reader behind these marks, as a state of the reading
 abbrev pub state_of : MarkReader → List Mark → State
 state_of reader marks = record {
@@ -59,14 +65,15 @@ state_of reader marks = record {
 abbrev pub with_bytes : State → ℕ → State
 with_bytes state more = record state { bytes = state.bytes + more }
 
--- where a token leads at its place, after so much work; or why it is refused, and on which line
-abbrev pub large_step : ℕ → State → Token → Result State ReadFault
-large_step work state token =
+-- where a token leads at its place, after so much work and so many depend items; or why it is refused,
+-- and on which line
+abbrev pub large_step : (work all_items : ℕ) → State → Token → Result State ReadFault
+large_step work all_items state token =
     unless_fault (large_form_fault state.bytes token.text) token.line
     (unless_fault
     (grammar_fault state.place state.head.has_if (length state.tree.blocks) token.text) token.line
     (unless_fault
-    (large_limit_by (is_inside_at state.place) work
+    (large_limit_by (is_inside_at state.place) work (all_items + items_coming state.place)
     (length state.head.items + items_coming state.place) (length state.tree.blocks) token.text)
     token.line
     (Ok (after_at state.place (with_bytes state (length token.text)) token.text token.line))))
@@ -94,7 +101,8 @@ HasValue reader text = HasValueAt reader.place reader.work text
 
 pub record IsLargeWithin (reader : MarkReader) : Type 0 where
   pub bytes : reader.bytes ≤ MOST_LARGE_TOKEN_BYTES
-  pub names : length reader.names ≤ reader.bytes
+  pub all_items : reader.all_items ≤ MOST_LARGE_ITEMS
+  pub names : length reader.names ≤ reader.all_items
   pub items : length reader.items ≤ MOST_ITEMS
   pub work : reader.work ≤ MOST_WORK
 
@@ -103,12 +111,15 @@ pub data IsReadSoFar : List Token → List Mark → MarkReader → Type 0 where
   AtFirst : (reader : MarkReader)
       → state_of reader [] ≡ start
       → reader.work ≡ 0
+      → reader.all_items ≡ 0
       → IsReadSoFar [] [] reader
   OneMore : (before : List Token) (marks : List Mark) (old new : MarkReader) (token : Token)
       (mark : Option TextMark)
       → IsReadSoFar before marks old
-      → large_step old.work (state_of old marks) token ≡ Ok (state_of new (marks_after marks mark))
+      → large_step old.work old.all_items (state_of old marks) token
+      ≡ Ok (state_of new (marks_after marks mark))
       → new.work ≡ old.work + work_of (marks_after [] mark)
+      → new.all_items ≡ old.all_items + items_coming old.place
       → IsReadSoFar (before ++ token ∷ []) (marks_after marks mark) new
 
 -- the reader has read some tokens, and can go on

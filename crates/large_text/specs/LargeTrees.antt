@@ -1,9 +1,12 @@
 -- What a text of any size stands for, and its first fault, apart from any reading.
-use Rattle.std.specs.Prelude.{◌≡◌, ℕ, true, List, [], ◌∷◌, None, codes}
+use Rattle.std.specs.Prelude.{◌≡◌, ℕ, Bool, true, ◌||◌, nat_lt, count_by, if◌then◌else◌}
+use Rattle.std.specs.Prelude.{List, [], ◌∷◌, Option, Some, None, codes}
 use Rattle.program_text.specs.declared.fault.ReadFault.{ReadFault}
+use Rattle.program_text.specs.declared.fault.ReadKind.{ReadKind}
+use Rattle.program_text.specs.declared.fault.ReadKind.TheVariants.{TooManyItems}
 use Rattle.program_text.specs.Marks.{Mark}
 use Rattle.program_text.specs.Tokens.{Token, texts}
-use Rattle.program_text.specs.Words.{is_number, value_of}
+use Rattle.program_text.specs.Words.{is_text, is_number, value_of}
 use Rattle.task_program.specs.FirstFault.{Rules, AreRightWhole, IsFirstFault}
 use Rattle.task_program.specs.FirstPlainFault.{plain_rules}
 use Rattle.task_program.specs.Loops.{Tree}
@@ -13,6 +16,7 @@ use Rattle.task_program.specs.ExpandsTo.{state_after_tree}
 use Rattle.task_program.specs.Nested.{IsNested}
 use Rattle.large_text.specs.declared.limits.TheConstants.{MOST_LARGE_TOKEN_BYTES}
 use Rattle.large_text.specs.declared.limits.TheConstants.{MOST_LARGE_NESTING}
+use Rattle.large_text.specs.declared.limits.TheConstants.{MOST_LARGE_ITEMS}
 
 -- these tokens are a text of version 1 that stands for these marks, whatever its size
 pub record HasLargeTree (all : List (List ℕ)) (marks : List Mark) : Type 0 where
@@ -28,9 +32,23 @@ pub record HasLargeTree (all : List (List ℕ)) (marks : List Mark) : Type 0 whe
   -- tasks and groups stand one inside another
   pub nested : IsNested marks
 
--- there is no limit of tasks and of segments, since each takes bytes of tokens
+-- a `:` or `,`: one stands before each depend item, and nowhere else
+abbrev pub comes_before_item : List ℕ → Bool
+comes_before_item text = is_text text (codes ":") || is_text text (codes ",")
+
+-- the depend items of all tasks, the one that comes included
+abbrev pub all_items_in : List (List ℕ) → ℕ
+all_items_in texts = count_by comes_before_item texts
+
+abbrev pub too_many_items : (all_items : ℕ) → Option ReadKind
+too_many_items all_items = if nat_lt MOST_LARGE_ITEMS all_items then Some TooManyItems else None
+
+-- in place of those of tasks and segments there is a limit of all depend items
+abbrev pub too_many_large : (body : List Token) → List ℕ → Option ReadKind
+too_many_large body text = too_many_items (all_items_in (texts body))
+
 abbrev pub large_rules : Rules
-large_rules = plain_rules MOST_LARGE_TOKEN_BYTES MOST_LARGE_NESTING (λ body text. None)
+large_rules = plain_rules MOST_LARGE_TOKEN_BYTES MOST_LARGE_NESTING too_many_large
 
 -- a text without a fault: a sentence within the limits, each token right
 abbrev pub IsLargeRightWhole : List Token → Type 0

@@ -1,11 +1,12 @@
 -- What a meter of a text has taken of its bytes.
-use Rattle.std.specs.Prelude.{◌≡◌, ℕ, ◌+◌, ◌<◌, ◌^◌, false, List, [], ◌∷◌, ◌++◌, length}
+use Rattle.std.specs.Prelude.{◌≡◌, ℕ, ◌+◌, ◌≤◌, false, List, [], ◌∷◌, ◌++◌, length, count_by}
 use Rattle.std.specs.Prelude.{Option, Some, None}
 use Rattle.program_text.specs.declared.fault.ReadFault.{ReadFault}
-use Rattle.program_text.specs.Tokens.{tokens_from, tokens_of, line_at_end}
+use Rattle.program_text.specs.Tokens.{is_line_feed, tokens_from, tokens_of, line_at_end}
 use Rattle.online_span.specs.declared.meter.Meter.{Meter}
 use Rattle.large_text.specs.declared.reader.MarkReader.{MarkReader}
 use Rattle.large_text.specs.declared.stream.TextMeter.{TextMeter}
+use Rattle.large_text.specs.declared.limits.TheConstants.{LARGEST_TEXT, LARGEST_LINE}
 use Rattle.large_text.specs.LargeTrees.{IsLargeFirstFault}
 use Rattle.large_text.specs.Measured.{MeasuresSoFar}
 
@@ -38,20 +39,31 @@ abbrev pub HasTakenBy : Option ReadFault → (bytes tail : List ℕ) (line : ℕ
 HasTakenBy None bytes tail line reader meter = HasTakenLines bytes tail line reader meter
 HasTakenBy (Some fault) bytes tail line reader meter = HasFault bytes fault
 
+-- no byte of them is an LF
+abbrev pub HasNoLineFeed : List ℕ → Type 0
+HasNoLineFeed line = count_by is_line_feed line ≡ 0
+
+-- neither the bytes nor those of a line are too many
+pub record FitsText (bytes : List ℕ) : Type 0 where
+  pub short : length bytes ≤ LARGEST_TEXT
+  pub lines : (front line later : List ℕ) → bytes ≡ front ++ (line ++ later)
+      → HasNoLineFeed line → length line ≤ LARGEST_LINE
+
 -- the meter has taken these bytes, with which a text begins
 pub record HasTaken (bytes : List ℕ) (text_meter : TextMeter) : Type 0 where
-  pub fits : length bytes + 1 < 2 ^ 32
-  pub taken : HasTakenBy text_meter.fault bytes text_meter.tail.items text_meter.line
+  pub fits : FitsText bytes
+  pub last : HasNoLineFeed text_meter.tail.items
+  pub taken : HasTakenBy text_meter.fault bytes text_meter.tail.items (text_meter.lines + 1)
       text_meter.reader text_meter.meter
 
--- some bytes were taken, and so many more are not too many
-pub record CanTakeBytes (count : ℕ) (text_meter : TextMeter) : Type 0 where
+-- some bytes were taken, and these behind them are not too many
+pub record CanTakeBytes (more : List ℕ) (text_meter : TextMeter) : Type 0 where
   pub bytes : List ℕ
   pub taken : HasTaken bytes text_meter
-  pub fits : length bytes + count + 1 < 2 ^ 32
+  pub fits : FitsText (bytes ++ more)
 
 -- what was taken before and these bytes behind it have been taken
 abbrev pub TakesBytes : List ℕ → (before after : TextMeter) → Type 0
-TakesBytes bytes before after =
-    (taken : List ℕ) → length taken + length bytes + 1 < 2 ^ 32
-    → HasTaken taken before → HasTaken (taken ++ bytes) after
+TakesBytes more before after =
+    (taken : List ℕ) → FitsText (taken ++ more)
+    → HasTaken taken before → HasTaken (taken ++ more) after

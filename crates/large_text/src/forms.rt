@@ -10,7 +10,7 @@ use program_text::scanner::Token;
 use program_text::words::{begins_with_digit, is_sign};
 
 /// What is wrong with a token by itself, after so many bytes of tokens.
-pub(crate) fn form_fault(bytes: u32, token: Token<'_>) -> Option<ReadKind>
+pub(crate) fn form_fault(bytes: u64, token: Token<'_>) -> Option<ReadKind>
     requires { bytes ≤ MOST_LARGE_TOKEN_BYTES }
     ensures { result ≡ large_form_fault bytes token.entry.text.now }
 {
@@ -20,7 +20,7 @@ pub(crate) fn form_fault(bytes: u32, token: Token<'_>) -> Option<ReadKind>
         Some(ReadKind::BadNumber)
     } else if token.text.len() > MOST_WORD_BYTES && token.is_word() {
         Some(ReadKind::BadWord)
-    } else if token.text.len() as u64 > u64::from(MOST_LARGE_TOKEN_BYTES - bytes) {
+    } else if token.text.len() as u64 > MOST_LARGE_TOKEN_BYTES - bytes {
         Some(ReadKind::TooLong)
     } else {
         None

@@ -2,6 +2,7 @@
 //! kept grows with the nesting of tasks and groups and with the names, and not with the text.
 #![tactic(auto)]
 
+pub mod fault;
 mod forms;
 pub mod laws;
 pub mod limits;

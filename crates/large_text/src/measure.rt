@@ -3,25 +3,25 @@ ghost use Rattle.std.specs.Prelude.{ℕ, ◌≡◌, ◌≢◌, ◌+◌, ◌<◌,
 ghost use Rattle.std.specs.Prelude.{length, false};
 ghost use Rattle.program_text.specs.declared.fault.ReadKind.TheVariants.{OutOfMemory};
 ghost use Rattle.program_text.specs.Marks.{Mark};
-ghost use Rattle.program_text.specs.ScannerSeen.{token_seen};
 ghost use Rattle.program_text.specs.Tokens as tokens;
 ghost use Rattle.program_text.specs.Tokens.{tokens_of, tokens_from, line_at_end};
 ghost use Rattle.online_span.specs.Measuring.{Measures, CanTake};
-ghost use Rattle.large_text.specs.LargeReading.{mark_seen};
+ghost use Rattle.large_text.specs.declared.limits.TheConstants.{LARGEST_TEXT};
+ghost use Rattle.large_text.specs.LargeReading.{mark_seen, token_on};
 ghost use Rattle.large_text.specs.LargeTrees.{IsLargeFirstFault};
 ghost use Rattle.large_text.specs.Measured.{MeasuresText, MeasuresSoFar, CanMeasure};
 
+use crate::fault::LargeFault;
 use crate::marks::TextMark;
 use crate::reader::MarkReader;
 use online_span::Meter;
 use program_text::AllocFault;
-use program_text::fault::ReadFault;
 use program_text::scanner::{Scanner, Token};
 use std::alloc::Global;
 
 /// The meter that has taken all marks of a text of version 1, which is gone through once. The fault
 /// is the text's first, or out of memory.
-pub fn measure_text(alloc: Global, text: &[u8]) -> Result<Meter, ReadFault>
+pub fn measure_text(alloc: Global, text: &[u8]) -> Result<Meter, LargeFault>
     requires { length text.now + 1 < 2 ^ 32 }
     ensures measured { IfOk result (λ meter. MeasuresText (tokens_of text.now) meter) }
     ensures refused { IfErr result (λ fault. fault.kind ≢ OutOfMemory
@@ -29,64 +29,59 @@ pub fn measure_text(alloc: Global, text: &[u8]) -> Result<Meter, ReadFault>
 {
     let mut reader = MarkReader::new(alloc);
     let mut meter = Meter::new(alloc);
-    let line = take_tokens(&mut reader, &mut meter, text, 1)?;
+    let line = take_tokens(&mut reader, &mut meter, text, 0)?;
     reader.finish(line)?;
     Ok(meter)
 }
 
-// Takes the tokens of these bytes, which begin on this line, outside a comment. The result is the
-// line on which they end.
+// Takes the tokens of these bytes, which begin behind so many lines, outside a comment. The result is
+// the line on which they end.
 pub(crate) fn take_tokens(
     reader: &mut MarkReader,
     meter: &mut Meter,
     text: &[u8],
-    line: u32,
-) -> Result<u32, ReadFault>
+    lines: u64,
+) -> Result<u64, LargeFault>
     requires taken { CanMeasure reader.old meter.old }
-    requires first { 1 ≤ line }
-    requires lines { line + length text.now < 2 ^ 32 }
+    requires few { lines ≤ LARGEST_TEXT }
+    requires short { length text.now + 1 < 2 ^ 32 }
     ensures reads { OnOk result ((before : List tokens.Token)
         → MeasuresSoFar before reader.old meter.old
-        → MeasuresSoFar (before ++ tokens_from false line text.now) reader.new meter.new) }
-    ensures line { IfOk result (λ end. end ≡ line_at_end line text.now) }
+        → MeasuresSoFar (before ++ tokens_from false (lines + 1) text.now) reader.new meter.new) }
+    ensures line { IfOk result (λ end. end ≡ line_at_end (lines + 1) text.now) }
     ensures refused { IfErr result (λ fault. fault.kind ≢ OutOfMemory
         → (before later : List tokens.Token) (end_line : ℕ)
         → MeasuresSoFar before reader.old meter.old
-        → IsLargeFirstFault (before ++ (tokens_from false line text.now ++ later)) end_line fault) }
-{
-    let mut scanner = scanner_from(text, line);
-    'tokens: while let Some(token) = scanner.next_token() {
-        take_token(reader, meter, token)?;
-    }
-    Ok(scanner.line)
-}
-
-fn scanner_from<'a>(text: &'a [u8], line: u32) -> Scanner<'a>
-    requires first { 1 ≤ line }
-    requires lines { line + length text.now < 2 ^ 32 }
-    ensures rest { result.rest.now ≡ text.now }
-    ensures line { result.line ≡ line }
+        → IsLargeFirstFault (before ++ (tokens_from false (lines + 1) text.now ++ later)) end_line
+        fault) }
 {
     let mut scanner = Scanner::new(text);
-    scanner.line = line;
-    scanner
+    'tokens: while let Some(token) = scanner.next_token() {
+        take_token(reader, meter, token, lines + token.line as u64)?;
+    }
+    Ok(lines + scanner.line as u64)
 }
 
-// Takes the next token, and the mark that is whole with it, if one is.
-fn take_token(reader: &mut MarkReader, meter: &mut Meter, token: Token<'_>) -> Result<(), ReadFault>
+// Takes the next token, which begins on this line, and the mark that is whole with it, if one is.
+fn take_token(
+    reader: &mut MarkReader,
+    meter: &mut Meter,
+    token: Token<'_>,
+    line: u64,
+) -> Result<(), LargeFault>
     requires { CanMeasure reader.old meter.old }
     ensures reads { OnOk result ((before : List tokens.Token)
         → MeasuresSoFar before reader.old meter.old
-        → MeasuresSoFar (before ++ token_seen token.entry ∷ []) reader.new meter.new) }
+        → MeasuresSoFar (before ++ token_on token.entry line ∷ []) reader.new meter.new) }
     ensures refused { IfErr result (λ fault. fault.kind ≢ OutOfMemory
         → (before later : List tokens.Token) (end_line : ℕ)
         → MeasuresSoFar before reader.old meter.old
-        → IsLargeFirstFault (before ++ token_seen token.entry ∷ later) end_line fault) }
+        → IsLargeFirstFault (before ++ token_on token.entry line ∷ later) end_line fault) }
 {
-    if let Some(mark) = reader.take(token)? {
-        take_mark(meter, &mark)?;
+    match reader.take(token, line)? {
+        Some(mark) => Ok(take_mark(meter, &mark)?),
+        None => Ok(()),
     }
-    Ok(())
 }
 
 fn take_mark(meter: &mut Meter, mark: &TextMark) -> Result<(), AllocFault>

@@ -93,7 +93,7 @@ pub(crate) fn is_inside(place: Place) -> bool
 }
 
 /// How many depend items come with the next token: one, or none.
-pub(crate) fn items_coming(place: Place) -> usize
+pub(crate) fn items_coming(place: Place) -> u32
     ensures { result ≡ items_coming place }
 {
     match place {

@@ -1,15 +1,15 @@
 //! Reading a text of version 1 token by token, without keeping its statements.
 ghost use Rattle.std.specs.Prelude.{ℕ, ◌≡◌, ◌≢◌, ◌+◌, ◌<◌, ◌≤◌, ◌^◌, [], ◌∷◌, ◌++◌, List, IfOk, IfErr};
-ghost use Rattle.std.specs.Prelude.{OnOk, true, length};
+ghost use Rattle.std.specs.Prelude.{OnOk, true, length, nat_lt, ◌||◌};
 ghost use Rattle.program_text.specs.declared.fault.ReadKind.TheVariants.{OutOfMemory};
 ghost use Rattle.program_text.specs.Answers.{Gives};
 ghost use Rattle.program_text.specs.Limits.{work_of};
 ghost use Rattle.program_text.specs.Marks.{Mark};
-ghost use Rattle.program_text.specs.ScannerSeen.{token_seen};
 ghost use Rattle.program_text.specs.Tokens as tokens;
 ghost use Rattle.program_text.specs.Tokens.{texts};
 ghost use Rattle.program_text.specs.Words.{is_number, is_word, value_of, type_of};
-ghost use Rattle.program_text.specs.declared.limits.TheConstants.{LARGEST_COST, MOST_WORK};
+ghost use Rattle.program_text.specs.declared.limits.TheConstants.{LARGEST_COST, MOST_WORK, MOST_ITEMS};
+ghost use Rattle.large_text.specs.declared.limits.TheConstants.{MOST_LARGE_ITEMS};
 ghost use Rattle.task_program.specs.Faults.{after_at, after_statement, after_clause, end_at, at};
 ghost use Rattle.task_program.specs.Faults.{line_of_block, start};
 ghost use Rattle.task_program.specs.TokenCounts.{is_value_too_large, is_work_past};
@@ -17,15 +17,16 @@ ghost use Rattle.task_program.specs.TreeSoFar.{without_innermost};
 ghost use Rattle.large_text.specs.LargeFaults.{large_limit_by, is_inside_at, items_coming};
 ghost use Rattle.large_text.specs.LargeReading.{state_of, marks_after, large_step, with_task};
 ghost use Rattle.large_text.specs.LargeReading.{IsLargeWithin, IsReadSoFar, CanGoOn, HasValue};
-ghost use Rattle.large_text.specs.LargeReading.{block_seen};
+ghost use Rattle.large_text.specs.LargeReading.{block_seen, token_on};
 ghost use Rattle.large_text.specs.LargeTrees.{HasLargeTree, IsLargeRightWhole, IsLargeFirstFault};
 
+use crate::fault::LargeFault;
 use crate::forms::form_fault;
-use crate::limits::MOST_LARGE_NESTING;
+use crate::limits::{MOST_LARGE_ITEMS, MOST_LARGE_NESTING};
 use crate::marks::TextMark;
 use crate::place_tests::{grammar_fault, is_inside, items_coming};
 use crate::words::{is_sign, is_task, is_work};
-use program_text::fault::{ReadFault, ReadKind};
+use program_text::fault::ReadKind;
 use program_text::limits::{LARGEST_COST, MOST_ITEMS, MOST_WORK};
 use program_text::scanner::Token;
 use program_text::statement::{DependKind, Item, Items};
@@ -38,8 +39,8 @@ use task_program::place::Place;
 /// An open block, by the line of its `{`.
 #[derive(Clone, Copy, Debug)]
 enum OpenBlock {
-    OpenTask(u32),
-    OpenGroup(u32),
+    OpenTask(u64),
+    OpenGroup(u64),
 }
 
 /// Takes the tokens of a text one by one, and hands on its marks. What it keeps are the names, the
@@ -49,8 +50,10 @@ pub struct MarkReader {
     alloc: Global,
     place: Place,
     /// How many bytes the tokens have.
-    bytes: u32,
+    bytes: u64,
     names: Names,
+    /// How many depend items all tasks have.
+    all_items: u32,
     has_if: bool,
     undeferred: bool,
     items: Items,
@@ -71,12 +74,14 @@ impl MarkReader {
     fn fresh(alloc: Global) -> MarkReader
         ensures state { state_of result [] ≡ start }
         ensures work { result.work ≡ 0 }
+        ensures all_items { result.all_items ≡ 0 }
     {
         MarkReader {
             alloc,
             place: Place::Header,
             bytes: 0,
             names: Names::new(alloc),
+            all_items: 0,
             has_if: false,
             undeferred: false,
             items: Items::new(alloc),
@@ -85,24 +90,25 @@ impl MarkReader {
         }
     }
 
-    /// Takes the next token, and hands on the mark that is whole with it, if one is. The fault is the
-    /// first of every text that begins so, or out of memory; no more tokens can be taken after it.
-    pub fn take(&mut self, token: Token<'_>) -> Result<Option<TextMark>, ReadFault>
+    /// Takes the next token, which begins on this line of the text, whatever its own line says. It
+    /// hands on the mark that is whole with it, if one is. The fault is the first of every text that
+    /// begins so, or out of memory; no more tokens can be taken after it.
+    pub fn take(&mut self, token: Token<'_>, line: u64) -> Result<Option<TextMark>, LargeFault>
         requires { CanGoOn self.old }
         ensures reads { IfOk result (λ mark. (before : List tokens.Token) (marks : List Mark)
             → IsReadSoFar before marks self.old
-            → IsReadSoFar (before ++ token_seen token.entry ∷ []) (marks_after marks mark)
+            → IsReadSoFar (before ++ token_on token.entry line ∷ []) (marks_after marks mark)
             self.new) }
         ensures refused { IfErr result (λ fault. fault.kind ≢ OutOfMemory
             → (before later : List tokens.Token) (marks : List Mark) (end_line : ℕ)
             → IsReadSoFar before marks self.old
-            → IsLargeFirstFault (before ++ token_seen token.entry ∷ later) end_line fault) }
+            → IsLargeFirstFault (before ++ token_on token.entry line ∷ later) end_line fault) }
     {
-        self.take_any(token)
+        self.take_any(token, line)
     }
 
     /// The text ends here, on this line: it is whole, or the fault is its first.
-    pub fn finish(&self, line: u32) -> Result<(), ReadFault>
+    pub fn finish(&self, line: u64) -> Result<(), LargeFault>
         ensures whole { OnOk result ((before : List tokens.Token) (marks : List Mark)
             → IsReadSoFar before marks self.now
             → HasLargeTree (texts before) marks × IsLargeRightWhole before) }
@@ -117,31 +123,35 @@ impl MarkReader {
 
     // What `take` does, told of the one token. It stands apart for the prover's sake: the proof of
     // `take` cites its clauses.
-    fn take_any(&mut self, token: Token<'_>) -> Result<Option<TextMark>, ReadFault>
+    fn take_any(&mut self, token: Token<'_>, line: u64) -> Result<Option<TextMark>, LargeFault>
         requires { IsLargeWithin self.old }
         ensures step { (marks : List Mark)
             → Gives (λ mark. state_of self.new (marks_after marks mark)) result
-            (large_step self.old.work (state_of self.old marks) (token_seen token.entry)) }
+            (large_step self.old.work self.old.all_items (state_of self.old marks)
+            (token_on token.entry line)) }
         ensures work { IfOk result (λ mark. self.new.work
             ≡ self.old.work + work_of (marks_after [] mark)) }
+        ensures all_items { OnOk result (self.new.all_items
+            ≡ self.old.all_items + items_coming self.old.place) }
     {
         if let Some(kind) = form_fault(self.bytes, token) {
-            return Err(token.fault(kind));
+            return Err(LargeFault { kind, line });
         }
         if let Some(kind) = grammar_fault(self.place, self.has_if, self.blocks.len(), token) {
-            return Err(token.fault(kind));
+            return Err(LargeFault { kind, line });
         }
         if let Some(kind) = self.limit_fault(token) {
-            return Err(token.fault(kind));
+            return Err(LargeFault { kind, line });
         }
-        self.bytes += token.text.len() as u32;
-        self.take_right(token)
+        self.bytes += token.text.len() as u64;
+        self.all_items += items_coming(self.place);
+        self.take_right(token, line)
     }
 
     fn limit_fault(&self, token: Token<'_>) -> Option<ReadKind>
         requires { IsLargeWithin self.now }
         ensures { result ≡ large_limit_by (is_inside_at self.now.place) self.now.work
-            (length self.now.items + items_coming self.now.place) (length self.now.blocks.items)
+            (self.now.all_items + items_coming self.now.place) (length self.now.items + items_coming self.now.place) (length self.now.blocks.items)
             token.entry.text.now }
     {
         let inside = is_inside(self.place);
@@ -149,7 +159,7 @@ impl MarkReader {
             Some(ReadKind::BadNumber)
         } else if is_sign(token, b'{') && self.blocks.len() >= MOST_LARGE_NESTING {
             Some(ReadKind::TooDeep)
-        } else if self.items.len() + items_coming(self.place) > MOST_ITEMS {
+        } else if self.is_item_too_many() {
             Some(ReadKind::TooManyItems)
         } else if is_work_past(inside, self.work, token) {
             Some(ReadKind::WorkTooLarge)
@@ -158,24 +168,35 @@ impl MarkReader {
         }
     }
 
+    // The item that comes, if one does, is too many for its task or for all.
+    fn is_item_too_many(&self) -> bool
+        requires { IsLargeWithin self.now }
+        ensures { result ≡ nat_lt MOST_LARGE_ITEMS (self.now.all_items + items_coming self.now.place)
+            || nat_lt MOST_ITEMS (length self.now.items + items_coming self.now.place) }
+    {
+        let coming = items_coming(self.place);
+        u64::from(self.all_items) + u64::from(coming) > u64::from(MOST_LARGE_ITEMS)
+            || self.items.len() + coming as usize > MOST_ITEMS
+    }
+
     // The token is one of the grammar, and passes no limit.
-    fn take_right(&mut self, token: Token<'_>) -> Result<Option<TextMark>, ReadFault>
+    fn take_right(&mut self, token: Token<'_>, line: u64) -> Result<Option<TextMark>, LargeFault>
         requires names { length self.old.names + 1 < 2 ^ 32 }
         requires value { HasValue self.old token.text.now }
         ensures step { (marks : List Mark)
             → Gives (λ mark. state_of self.new (marks_after marks mark)) result
-            (Ok (after_at self.old.place (state_of self.old marks) token.entry.text.now
-            token.entry.line)) }
+            (Ok (after_at self.old.place (state_of self.old marks) token.entry.text.now line)) }
         ensures work { IfOk result (λ mark. self.new.work
             ≡ self.old.work + work_of (marks_after [] mark)) }
+        ensures all_items { self.new.all_items ≡ self.old.all_items }
     {
         match self.place {
             Place::Header => Ok(self.go_to(Place::Version)),
             Place::Version => Ok(self.go_to(Place::Statement)),
             Place::Statement => Ok(self.statement(token)),
             Place::WorkNumber => Ok(self.work_number(token)),
-            Place::GroupBrace => self.group_brace(token),
-            Place::Clause => self.clause(token),
+            Place::GroupBrace => self.group_brace(token, line),
+            Place::Clause => self.clause(token, line),
             Place::IfOpens => Ok(self.go_to(Place::IfNumber)),
             Place::IfNumber => Ok(self.if_number(token)),
             Place::IfCloses => Ok(self.go_to(Place::Clause)),
@@ -199,6 +220,7 @@ impl MarkReader {
         ensures state { (marks : List Mark) → state_of self.new (marks_after marks result)
             ≡ after_statement (state_of self.old marks) token.entry.text.now }
         ensures work { self.new.work ≡ self.old.work + work_of (marks_after [] result) }
+        ensures all_items { self.new.all_items ≡ self.old.all_items }
     {
         if is_work(token) {
             self.go_to(Place::WorkNumber)
@@ -220,6 +242,7 @@ impl MarkReader {
             ≡ at (record (state_of self.old marks)
             { tree = without_innermost (state_of self.old marks).tree }) Place.Statement }
         ensures work { self.new.work ≡ self.old.work + work_of (marks_after [] result) }
+        ensures all_items { self.new.all_items ≡ self.old.all_items }
     {
         self.place = Place::Statement;
         match self.blocks.pop() {
@@ -237,6 +260,7 @@ impl MarkReader {
             ≡ after_at Place.WorkNumber (state_of self.old marks) token.entry.text.now
             token.entry.line }
         ensures work { self.new.work ≡ self.old.work + work_of (marks_after [] result) }
+        ensures all_items { self.new.all_items ≡ self.old.all_items }
     {
         let cost = value_within(token.text, LARGEST_COST).unwrap();
         self.work += cost;
@@ -244,28 +268,29 @@ impl MarkReader {
         Some(TextMark::Work(cost))
     }
 
-    fn group_brace(&mut self, token: Token<'_>) -> Result<Option<TextMark>, ReadFault>
+    fn group_brace(&mut self, token: Token<'_>, line: u64) -> Result<Option<TextMark>, LargeFault>
         ensures state { (marks : List Mark)
             → Gives (λ mark. state_of self.new (marks_after marks mark)) result
-            (Ok (after_at Place.GroupBrace (state_of self.old marks) token.entry.text.now
-            token.entry.line)) }
+            (Ok (after_at Place.GroupBrace (state_of self.old marks) token.entry.text.now line)) }
         ensures work { IfOk result (λ mark. self.new.work
             ≡ self.old.work + work_of (marks_after [] mark)) }
+        ensures all_items { self.new.all_items ≡ self.old.all_items }
     {
-        self.blocks.push(OpenBlock::OpenGroup(token.line))?;
+        self.blocks.push(OpenBlock::OpenGroup(line))?;
         self.place = Place::Statement;
         Ok(Some(TextMark::GroupOpens))
     }
 
-    fn clause(&mut self, token: Token<'_>) -> Result<Option<TextMark>, ReadFault>
+    fn clause(&mut self, token: Token<'_>, line: u64) -> Result<Option<TextMark>, LargeFault>
         ensures state { (marks : List Mark)
             → Gives (λ mark. state_of self.new (marks_after marks mark)) result
-            (Ok (after_clause (state_of self.old marks) token.entry.text.now token.entry.line)) }
+            (Ok (after_clause (state_of self.old marks) token.entry.text.now line)) }
         ensures work { IfOk result (λ mark. self.new.work
             ≡ self.old.work + work_of (marks_after [] mark)) }
+        ensures all_items { self.new.all_items ≡ self.old.all_items }
     {
         if is_sign(token, b'{') {
-            self.open_task(token.line)
+            self.open_task(line)
         } else if token.is(b"if") {
             Ok(self.go_to(Place::IfOpens))
         } else {
@@ -273,12 +298,13 @@ impl MarkReader {
         }
     }
 
-    fn open_task(&mut self, line: u32) -> Result<Option<TextMark>, ReadFault>
+    fn open_task(&mut self, line: u64) -> Result<Option<TextMark>, LargeFault>
         ensures state { (marks : List Mark)
             → Gives (λ mark. state_of self.new (marks_after marks mark)) result
             (Ok (with_task (state_of self.old marks) line)) }
         ensures work { IfOk result (λ mark. self.new.work
             ≡ self.old.work + work_of (marks_after [] mark)) }
+        ensures all_items { self.new.all_items ≡ self.old.all_items }
     {
         self.blocks.push(OpenBlock::OpenTask(line))?;
         let undeferred = self.undeferred;
@@ -295,6 +321,7 @@ impl MarkReader {
             ≡ after_at Place.IfNumber (state_of self.old marks) token.entry.text.now
             token.entry.line }
         ensures work { self.new.work ≡ self.old.work + work_of (marks_after [] result) }
+        ensures all_items { self.new.all_items ≡ self.old.all_items }
     {
         self.has_if = true;
         self.undeferred = value_within(token.text, 0) == Some(0);
@@ -305,7 +332,7 @@ impl MarkReader {
         &mut self,
         kind: DependKind,
         token: Token<'_>,
-    ) -> Result<Option<TextMark>, ReadFault>
+    ) -> Result<Option<TextMark>, LargeFault>
         requires names { length self.old.names + 1 < 2 ^ 32 }
         requires word { is_word token.text.now ≡ true }
         ensures state { (marks : List Mark)
@@ -314,6 +341,7 @@ impl MarkReader {
             token.entry.line)) }
         ensures work { IfOk result (λ mark. self.new.work
             ≡ self.old.work + work_of (marks_after [] mark)) }
+        ensures all_items { self.new.all_items ≡ self.old.all_items }
     {
         let name = self.names.number_of(self.alloc, text_of(token.text))?;
         self.items.push(Item { kind, name })?;
@@ -325,6 +353,7 @@ impl MarkReader {
             ≡ after_at (Place.DependMore kind) (state_of self.old marks) token.entry.text.now
             token.entry.line }
         ensures work { self.new.work ≡ self.old.work + work_of (marks_after [] result) }
+        ensures all_items { self.new.all_items ≡ self.old.all_items }
     {
         if is_sign(token, b',') {
             self.go_to(Place::DependName(kind))
@@ -334,19 +363,19 @@ impl MarkReader {
     }
 
     // What is wrong where the text ends on this line.
-    fn end_fault(&self, line: u32) -> Option<ReadFault>
+    fn end_fault(&self, line: u64) -> Option<LargeFault>
         ensures { result ≡ end_at self.now.place (state_of self.now []).tree.blocks line }
     {
         match self.place {
-            Place::Header | Place::Version => Some(ReadFault {
+            Place::Header | Place::Version => Some(LargeFault {
                 kind: ReadKind::BadHeader,
                 line,
             }),
-            Place::Statement => Some(ReadFault {
+            Place::Statement => Some(LargeFault {
                 kind: ReadKind::Unclosed,
                 line: line_of(*self.blocks.last()?),
             }),
-            _ => Some(ReadFault {
+            _ => Some(LargeFault {
                 kind: ReadKind::BadWord,
                 line,
             }),
@@ -354,7 +383,7 @@ impl MarkReader {
     }
 }
 
-fn line_of(block: OpenBlock) -> u32
+fn line_of(block: OpenBlock) -> u64
     ensures { result ≡ line_of_block (block_seen block) }
 {
     match block {

@@ -1,32 +1,34 @@
 //! Work and span of a text that comes in pieces.
 ghost use Rattle.std.specs.Prelude.{◌≡◌, ◌≢◌, ◌+◌, ◌<◌, ◌≤◌, ◌^◌, [], ◌++◌, List, ℕ, IfOk, IfErr};
-ghost use Rattle.std.specs.Prelude.{OnOk, None, length, take};
+ghost use Rattle.std.specs.Prelude.{OnOk, None, length, take, drop};
 ghost use Rattle.program_text.specs.declared.fault.ReadKind.TheVariants.{OutOfMemory};
 ghost use Rattle.program_text.specs.Tokens.{tokens_of, line_at_end};
+ghost use Rattle.large_text.specs.declared.limits.TheConstants.{LARGEST_PIECE};
 ghost use Rattle.large_text.specs.LargeTrees.{IsLargeFirstFault};
 ghost use Rattle.large_text.specs.Measured.{MeasuresText};
 ghost use Rattle.large_text.specs.Streamed.{CanTakeBytes, EndsLine, HasTaken};
-ghost use Rattle.large_text.specs.Streamed.{TakesBytes};
+ghost use Rattle.large_text.specs.Streamed.{HasNoLineFeed, TakesBytes};
 
+use crate::fault::LargeFault;
 use crate::measure::take_tokens;
 use crate::reader::MarkReader;
 use online_span::Meter;
 use program_text::AllocFault;
-use program_text::fault::{ReadFault, ReadKind};
+use program_text::fault::ReadKind;
 use std::alloc::{AllocError, Global};
 
 /// Takes the bytes of a text piece by piece, however it is cut, and measures what it says. Beside the
-/// names and what the nesting takes, only a piece and the line on which it ends are kept.
+/// names and what the nesting takes, only the last line is kept, as far as it has come.
 #[derive(Drop)]
 pub struct TextMeter {
     reader: MarkReader,
     meter: Meter,
     /// What came behind the last LF.
     tail: Vec<u8>,
-    /// The line of what came behind it.
-    line: u32,
+    /// How many lines came before it.
+    lines: u64,
     /// The first fault of the text, once it is known.
-    fault: Option<ReadFault>,
+    fault: Option<LargeFault>,
 }
 
 impl TextMeter {
@@ -38,14 +40,16 @@ impl TextMeter {
             reader: MarkReader::new(alloc),
             meter: Meter::new(alloc),
             tail: Vec::new(alloc),
-            line: 1,
+            lines: 0,
             fault: None,
         }
     }
 
-    /// Takes the next bytes of the text. After an `Err` the meter can take no more.
+    /// Takes the next bytes of the text, at most `LARGEST_PIECE`. After an `Err` the meter can take no
+    /// more.
     pub fn take(&mut self, bytes: &[u8]) -> Result<(), AllocFault>
-        requires { CanTakeBytes (length bytes.now) self.old }
+        requires room { CanTakeBytes bytes.now self.old }
+        requires piece { length bytes.now ≤ LARGEST_PIECE }
         ensures { OnOk result (TakesBytes bytes.now self.old self.new) }
     {
         if self.fault.is_some() {
@@ -62,7 +66,7 @@ impl TextMeter {
 
     // Keeps bytes of a line that may go on.
     fn keep(&mut self, bytes: &[u8]) -> Result<(), AllocFault>
-        requires { CanTakeBytes (length bytes.now) self.old }
+        requires { HasNoLineFeed bytes.now }
         ensures { OnOk result (TakesBytes bytes.now self.old self.new) }
     {
         self.tail.extend_from_slice(bytes)
@@ -70,7 +74,8 @@ impl TextMeter {
 
     // Takes the tokens of these lines, the first of which goes on from the tail.
     fn take_lines(&mut self, lines: &[u8]) -> Result<(), AllocFault>
-        requires taken { CanTakeBytes (length lines.now) self.old }
+        requires taken { CanTakeBytes lines.now self.old }
+        requires piece { length lines.now ≤ LARGEST_PIECE }
         requires no_fault { self.old.fault ≡ None }
         requires ends { EndsLine lines.now }
         ensures { OnOk result (TakesBytes lines.now self.old self.new) }
@@ -80,12 +85,12 @@ impl TextMeter {
             &mut self.reader,
             &mut self.meter,
             self.tail.as_slice(),
-            self.line,
+            self.lines,
         );
         self.tail.clear();
         match taken {
             Ok(line) => {
-                self.line = line;
+                self.lines = line - 1;
                 Ok(())
             }
             Err(fault) => {
@@ -100,8 +105,8 @@ impl TextMeter {
 
     /// The text ends here. The meter has taken all of its marks; or the fault is its first, or out of
     /// memory.
-    pub fn finish(mut self) -> Result<Meter, ReadFault>
-        requires { CanTakeBytes 0 self }
+    pub fn finish(mut self) -> Result<Meter, LargeFault>
+        requires { CanTakeBytes [] self }
         ensures measured { IfOk result (λ meter. (text : List ℕ) → HasTaken text self
             → MeasuresText (tokens_of text) meter) }
         ensures refused { IfErr result (λ fault. fault.kind ≢ OutOfMemory
@@ -113,8 +118,8 @@ impl TextMeter {
     }
 
     // What `finish` does before it hands on the meter.
-    fn end(&mut self) -> Result<(), ReadFault>
-        requires { CanTakeBytes 0 self.old }
+    fn end(&mut self) -> Result<(), LargeFault>
+        requires { CanTakeBytes [] self.old }
         ensures measured { OnOk result ((text : List ℕ) → HasTaken text self.old
             → MeasuresText (tokens_of text) self.new.meter) }
         ensures refused { IfErr result (λ fault. fault.kind ≢ OutOfMemory
@@ -128,7 +133,7 @@ impl TextMeter {
             &mut self.reader,
             &mut self.meter,
             self.tail.as_slice(),
-            self.line,
+            self.lines,
         )?;
         self.reader.finish(line)
     }
@@ -138,6 +143,7 @@ impl TextMeter {
 fn whole_lines(bytes: &[u8]) -> usize
     ensures within { result ≤ length bytes.now }
     ensures ends { 0 < result → EndsLine (take result bytes.now) }
+    ensures last { HasNoLineFeed (drop result bytes.now) }
 {
     let mut end = bytes.len();
     'back: while end > 0 && bytes[end - 1] != b'\n' {

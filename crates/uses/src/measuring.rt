@@ -5,12 +5,13 @@ ghost use Rattle.online_span.specs.Spans.{IsSpanOf};
 ghost use Rattle.task_program.specs.Marks.{Mark};
 ghost use Rattle.task_program.specs.Tokens.{line_at_end, texts, tokens_of};
 
+use large_text::fault::LargeFault;
 use large_text::measure_text;
 use std::alloc::Global;
-use task_program::fault::{ReadFault, ReadKind};
+use task_program::fault::ReadKind;
 
 /// The span of a text's program, which may have any number of tasks, or the text's first fault.
-pub fn span_of(alloc: Global, text: &[u8]) -> Result<u64, ReadFault>
+pub fn span_of(alloc: Global, text: &[u8]) -> Result<u64, LargeFault>
     requires { length text.now + 1 < 2 ^ 32 }
     ensures span { IfOk result (λ span. (marks : List Mark)
         × HasLargeTree (texts (tokens_of text.now)) marks × IsSpanOf marks span) }

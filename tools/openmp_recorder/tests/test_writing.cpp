@@ -1,5 +1,8 @@
 // Heads, remarks, names, files.
+#include <sys/resource.h>
 #include <unistd.h>
+
+#include <csignal>
 
 #include "../events.hpp"
 #include "../files.hpp"
@@ -64,19 +67,32 @@ TEST(deeply_nested_tasks_are_written_line_by_line) {
   EXPECT(pieces > 1, true);
 }
 
-TEST(a_new_file_stays_only_where_all_is_written) {
-  std::string name = "/tmp/spanprof_recorder_test." + std::to_string(getpid());
-  NewFile whole(name, 7);
-  whole.put("four");
-  whole.put("two");
-  EXPECT(whole.end(""), true);
-  EXPECT(access(name.c_str(), F_OK), 0);
-  NewFile longer(name, 6);
+// Whether a file of seven bytes is written where the system allows six.
+bool ends_where_six_bytes_fit(const std::string &name) {
+  rlimit before;
+  getrlimit(RLIMIT_FSIZE, &before);
+  auto handler = signal(SIGXFSZ, SIG_IGN);
+  rlimit six = {6, before.rlim_max};
+  setrlimit(RLIMIT_FSIZE, &six);
+  NewFile longer(name);
   longer.put("four");
   longer.put("two");
+  bool ends = longer.end();
+  setrlimit(RLIMIT_FSIZE, &before);
+  signal(SIGXFSZ, handler);
+  return ends;
+}
+
+TEST(a_new_file_stays_only_where_all_is_written) {
+  std::string name = "/tmp/spanprof_recorder_test." + std::to_string(getpid());
+  NewFile whole(name);
+  whole.put("four");
+  whole.put("two");
+  EXPECT(whole.end(), true);
+  EXPECT(access(name.c_str(), F_OK), 0);
   setenv("SPANPROF_MESSAGES", "/dev/null", 1);
-  EXPECT(longer.end("six are allowed"), false);
-  EXPECT(NewFile("/no/such/folder/x", 6).end(""), false);
+  EXPECT(ends_where_six_bytes_fit(name), false);
+  EXPECT(NewFile("/no/such/folder/x").end(), false);
   unsetenv("SPANPROF_MESSAGES");
   EXPECT(access(name.c_str(), F_OK), -1);
 }

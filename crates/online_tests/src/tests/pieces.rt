@@ -1,9 +1,11 @@
 //! Texts in pieces: however a text is cut, the answer is that of the whole.
-ghost use Rattle.std.specs.Prelude.{◌+◌, ◌<◌, ◌≤◌, ◌^◌, length};
+ghost use Rattle.std.specs.Prelude.{◌≤◌, length};
+ghost use Rattle.large_text.specs.declared.limits.TheConstants.{LARGEST_PIECE};
 
+use large_text::fault::LargeFault;
 use large_text::{TextMeter, measure_text};
 use online_span::Meter;
-use program_text::fault::{ReadFault, ReadKind};
+use program_text::fault::ReadKind;
 use std::alloc::Global;
 use std::test::Fail;
 
@@ -20,9 +22,9 @@ static TEXTS: [&str; 8] = [
 ];
 
 /// Tasks, segments, work and span; or the fault and its line.
-type Told = Result<(u64, u64, u64, u64), (ReadKind, u32)>;
+type Told = Result<(u64, u64, u64, u64), (ReadKind, u64)>;
 
-fn told(measured: Result<Meter, ReadFault>) -> Told {
+fn told(measured: Result<Meter, LargeFault>) -> Told {
     match measured {
         Ok(meter) => Ok((
             meter.tasks(),
@@ -34,8 +36,8 @@ fn told(measured: Result<Meter, ReadFault>) -> Told {
     }
 }
 
-fn in_two(alloc: Global, text: &[u8], cut: usize) -> Result<Meter, ReadFault>
-    requires long { length text.now + 1 < 2 ^ 32 }
+fn in_two(alloc: Global, text: &[u8], cut: usize) -> Result<Meter, LargeFault>
+    requires short { length text.now ≤ LARGEST_PIECE }
     requires within { cut ≤ length text.now }
 {
     let (first, rest) = text.split_at(cut);
@@ -45,8 +47,8 @@ fn in_two(alloc: Global, text: &[u8], cut: usize) -> Result<Meter, ReadFault>
     meter.finish()
 }
 
-fn by_bytes(alloc: Global, text: &[u8]) -> Result<Meter, ReadFault>
-    requires { length text.now + 1 < 2 ^ 32 }
+fn by_bytes(alloc: Global, text: &[u8]) -> Result<Meter, LargeFault>
+    requires { length text.now ≤ LARGEST_PIECE }
 {
     let mut meter = TextMeter::new(alloc);
     let mut taken = 0;

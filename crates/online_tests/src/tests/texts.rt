@@ -1,18 +1,19 @@
 //! Texts of any size: the same numbers as of the programs that are read, texts past the limits of
 //! the commands, and each fault.
 use super::WORKED;
+use large_text::fault::LargeFault;
 use large_text::limits::MOST_LARGE_NESTING;
 use large_text::measure_text;
-use program_text::fault::{ReadFault, ReadKind};
+use program_text::fault::ReadKind;
 use std::alloc::Global;
 use std::process::Abort;
 use std::test::Fail;
 use task_program::AllocFault;
 
 /// Tasks, segments, work and span of a text.
-fn numbers_of(alloc: Global, text: &str) -> Result<(u64, u64, u64, u64), ReadFault> {
+fn numbers_of(alloc: Global, text: &str) -> Result<(u64, u64, u64, u64), LargeFault> {
     if text.len() > 1_000_000_000 {
-        return Err(ReadFault {
+        return Err(LargeFault {
             kind: ReadKind::TooLong,
             line: 1,
         });
@@ -27,7 +28,7 @@ fn numbers_of(alloc: Global, text: &str) -> Result<(u64, u64, u64, u64), ReadFau
 }
 
 /// The fault of a text and its line; none where it is whole.
-fn fault_of(alloc: Global, text: &str) -> Option<(ReadKind, u32)> {
+fn fault_of(alloc: Global, text: &str) -> Option<(ReadKind, u64)> {
     match numbers_of(alloc, text) {
         Ok(_) => None,
         Err(fault) => Some((fault.kind, fault.line)),

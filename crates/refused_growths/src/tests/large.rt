@@ -1,15 +1,17 @@
 //! Programs of any size, in one pass: over statements, over a text, and over a text in two pieces.
-ghost use Rattle.std.specs.Prelude.{◌+◌, ◌<◌, ◌^◌, length};
+ghost use Rattle.std.specs.Prelude.{◌+◌, ◌<◌, ◌≤◌, ◌^◌, length};
+ghost use Rattle.large_text.specs.declared.limits.TheConstants.{LARGEST_PIECE};
 
 use super::supply::Supply;
 use super::texts::program_of;
+use large_text::fault::LargeFault;
 use large_text::{TextMeter, measure_text};
 use online_span::{Meter, measure};
 use std::alloc::{AllocGlobal, Global};
 use std::process::Abort;
 use std::test::Fail;
 use task_program::AllocFault;
-use task_program::fault::{ReadFault, ReadKind};
+use task_program::fault::ReadKind;
 use task_program::program::Program;
 
 /// Six tasks are open at once, and six names are mentioned.
@@ -52,7 +54,7 @@ pub(super) fn program<H: AllocGlobal + Abort>(rt: &H, supply: &mut Supply) -> Re
     Ok(())
 }
 
-fn of_text(alloc: Global, text: &[u8]) -> Result<Numbers, ReadFault>
+fn of_text(alloc: Global, text: &[u8]) -> Result<Numbers, LargeFault>
     requires { length text.now + 1 < 2 ^ 32 }
 {
     let meter = measure_text(alloc, text)?;
@@ -74,8 +76,8 @@ pub(super) fn text<H: AllocGlobal + Abort>(rt: &H, supply: &mut Supply) -> Resul
     Ok(())
 }
 
-fn of_pieces(alloc: Global, supply: &mut Supply, text: &[u8]) -> Result<Numbers, ReadFault>
-    requires { length text.now + 1 < 2 ^ 32 }
+fn of_pieces(alloc: Global, supply: &mut Supply, text: &[u8]) -> Result<Numbers, LargeFault>
+    requires { length text.now ≤ LARGEST_PIECE }
 {
     let (first, rest) = text.split_at(text.len() / 2);
     let mut pieces = TextMeter::new(alloc);

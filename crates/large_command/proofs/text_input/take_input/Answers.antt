@@ -1,38 +1,44 @@
-use Rattle.std.proofs.Common.{◌≡◌, ◌<◌, ◌≤◌, length, arith}
+use Rattle.std.proofs.Common.{◌≡◌, ◌+◌, ◌≤◌, length, arith}
 use Rattle.std.proofs.lemmas.Grind.{common_steps}
 use Rattle.std.proofs.lemmas.List.{take-append-le}
-use Rattle.large_command.proofs.TextInput.{as_many_more, is_taken, one_too_many}
+use Rattle.large_command.specs.declared.text_input.TheConstants.{PIECE}
+use Rattle.large_command.proofs.TextInput.{as_many_more, is_taken, line_fits, reads_too_long}
 use Rattle.large_command.proofs.text_input.take_input.Goals as goal
 
-pub returns-then-taken-left-clause-too_long : goal.returns-then-taken-left-clause-too_long
-returns-then-taken-left-clause-too_long g c = λ told.
-    let all : c.in-Ok.taken ≡ c.pieces.left = omega (arith, c.if-taken-left.true) in
+pub after-requires-clause-line : goal.after-requires-clause-line
+after-requires-clause-line g c =
+    line_fits _ _ c.pieces.room c.pieces.text c.pieces.invariant.taken
+
+pub returns-in-None-clause-too_long : goal.returns-in-None-clause-too_long
+returns-in-None-clause-too_long g c = λ told.
     let within : c.in-Ok.taken ≤ length c.read_piece.new.buffer =
     omega (arith, c.in-Ok.ensures.within, c.in-Ok.ensures.room) in
-    one_too_many _ _ _ c.pieces.left c.in-Ok.taken c.read_piece.new.buffer c.pieces.text
-    c.pieces.invariant.taken c.in-Ok.ensures.reads all within
+    let few : c.in-Ok.taken ≤ c.pieces.room.left + 1 = grind (arith, common_steps) in
+    let small : c.in-Ok.taken ≤ PIECE = grind (arith, common_steps) in
+    reads_too_long _ _ _ c.pieces.room c.in-Ok.taken c.read_piece.new.buffer _ c.pieces.text
+    c.pieces.invariant.taken c.in-Ok.ensures.reads
+    (take-append-le c.in-Ok.taken c.read_piece.new.buffer _ within) few small c.in-None.ensures
 
-pub returns-then-taken-left-clause-limited : goal.returns-then-taken-left-clause-limited
-returns-then-taken-left-clause-limited g c =
-    let few : c.in-Ok.taken ≤ c.pieces.left = omega (arith, c.if-taken-left.true) in
-    as_many_more _ _ _ c.pieces.left c.in-Ok.taken c.read_piece.new.buffer c.pieces.text
+pub returns-in-None-clause-limited : goal.returns-in-None-clause-limited
+returns-in-None-clause-limited g c =
+    let few : c.in-Ok.taken ≤ c.pieces.room.left + 1 = grind (arith, common_steps) in
+    as_many_more _ _ _ c.pieces.room c.in-Ok.taken c.read_piece.new.buffer c.pieces.text
     c.pieces.invariant.taken c.in-Ok.ensures.reads few
 
 pub returns-in-Err-take-clause-limited : goal.returns-in-Err-take-clause-limited
 returns-in-Err-take-clause-limited g c =
-    let few : c.in-Ok.taken ≤ c.pieces.left = grind (arith, common_steps) in
-    as_many_more _ _ _ c.pieces.left c.in-Ok.taken c.read_piece.new.buffer c.pieces.text
+    let few : c.in-Ok.taken ≤ c.pieces.room.left + 1 = grind (arith, common_steps) in
+    as_many_more _ _ _ c.pieces.room c.in-Ok.taken c.read_piece.new.buffer c.pieces.text
     c.pieces.invariant.taken c.in-Ok.ensures.reads few
 
 pub pieces-preserved : goal.pieces-preserved
 pieces-preserved g c =
     let within : c.in-Ok.taken ≤ length c.read_piece.new.buffer =
     omega (arith, c.in-Ok.ensures.within, c.in-Ok.ensures.room) in
-    let few : c.in-Ok.taken < c.pieces.left = grind (arith, common_steps) in
     record {
-      taken = is_taken _ _ _ c.pieces.left c.in-Ok.taken c.read_piece.new.buffer _ c.pieces.text
-          c.take.new.self c.pieces.invariant.taken c.in-Ok.ensures.reads
-          (take-append-le c.in-Ok.taken c.read_piece.new.buffer _ within) within few
+      taken = is_taken _ _ _ c.pieces.room c.in-Some.rest _ _ c.pieces.text c.take.new.self
+          c.pieces.invariant.taken c.in-Ok.ensures.reads
+          (take-append-le c.in-Ok.taken c.read_piece.new.buffer _ within) c.in-Some.ensures
           c.in-Ok-take.ensures;
       fewer = omega arith;
       paid = omega (arith, c.in-Ok.ensures.paid, c.pieces.invariant.paid);

@@ -8,10 +8,10 @@ abbrev pub invariant-pieces : goal.invariant-pieces
 invariant-pieces g l =
     let remaining = g.R.Read.remaining in
     record {
-      taken : IsTaken (remaining (inner_of l.fn.reader)) (remaining (inner_of l.reader)) l.left l.text;
+      taken : IsTaken (remaining (inner_of l.fn.reader)) (remaining (inner_of l.reader)) l.room l.text;
       fewer : l.retries ≤ l.fn.retries;
       paid : faults_of l.reader + l.retries ≡ faults_of l.fn.reader + l.fn.retries;
     }
 
 abbrev pub decreases-pieces : goal.decreases-pieces
-decreases-pieces g l = l.left
+decreases-pieces g l = l.room.left

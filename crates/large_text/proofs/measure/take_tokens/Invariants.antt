@@ -3,7 +3,7 @@ use Rattle.large_text.proofs.Measuring.{GoesThrough}
 use Rattle.large_text.proofs.measure.take_tokens.Given as goal
 
 abbrev pub invariant-tokens : goal.invariant-tokens
-invariant-tokens l = GoesThrough l.text l.line l.scanner l.fn.reader l.reader l.fn.meter l.meter
+invariant-tokens l = GoesThrough l.text l.lines l.scanner l.fn.reader l.reader l.fn.meter l.meter
 
 abbrev pub decreases-tokens : goal.decreases-tokens
 decreases-tokens l = length l.scanner.rest.now

@@ -1,4 +1,4 @@
-use Rattle.program_text.specs.ScannerSeen.{token_seen}
+use Rattle.large_text.specs.LargeReading.{token_on}
 use Rattle.large_text.proofs.Taken.{sound, reads_on, is_refused}
 use Rattle.large_text.proofs.reader.MarkReader.take.Goals as goal
 
@@ -8,10 +8,10 @@ take_any-requires c =
 
 pub returns-clause-reads : goal.returns-clause-reads
 returns-clause-reads c =
-    reads_on c.take_any.result c.args.self.now c.take_any.new.self (token_seen c.args.token)
-    c.take_any.ensures.step c.take_any.ensures.work
+    reads_on c.take_any.result c.args.self.now c.take_any.new.self (token_on c.args.token c.args.line)
+    c.take_any.ensures.step c.take_any.ensures.work c.take_any.ensures.all_items
 
 pub returns-clause-refused : goal.returns-clause-refused
 returns-clause-refused c =
-    is_refused c.take_any.result c.args.self.now c.take_any.new.self (token_seen c.args.token)
+    is_refused c.take_any.result c.args.self.now c.take_any.new.self (token_on c.args.token c.args.line)
     c.take_any.ensures.step

@@ -1,7 +1,6 @@
-use Rattle.std.proofs.Common.{◌≡◌, ◌∙◌, ◌+◌, sym, arith, length}
-use Rattle.program_text.specs.ScannerSeen.{token_seen}
+use Rattle.std.proofs.Common.{◌≡◌, ◌∙◌, ◌+◌, refl, sym, arith, length}
 use Rattle.large_text.specs.LargeFaults.{is_inside_at, items_coming}
-use Rattle.large_text.specs.LargeReading.{state_of}
+use Rattle.large_text.specs.LargeReading.{state_of, token_on}
 use Rattle.large_text.proofs.Steps.{is_formed}
 use Rattle.large_text.proofs.Taken.{form_fails, grammar_fails, limit_fails, grammar_told}
 use Rattle.large_text.proofs.Taken.{limit_told}
@@ -9,16 +8,8 @@ use Rattle.large_text.proofs.reader.MarkReader.take_any.Goals as goal
 
 pub returns-in-Some-clause-step : goal.returns-in-Some-clause-step
 returns-in-Some-clause-step c = λ marks.
-    form_fails c.args.self.now.work (state_of c.args.self.now marks) (token_seen c.args.token)
-    c.in-Some.kind _ (sym c.form_fault.ensures ∙ c.in-Some.is) c.fault.ensures
-
-pub overflow_cast-self : goal.overflow_cast-self
-overflow_cast-self c =
-    omega (
-      arith,
-      (is_formed c.args.self.now.bytes c.args.token.text.now
-          (sym c.form_fault.ensures ∙ c.in_default.is)).bytes_fit,
-    )
+    form_fails c.args.self.now.work c.args.self.now.all_items (state_of c.args.self.now marks) (token_on c.args.token c.args.line)
+    c.in-Some.kind _ (sym c.form_fault.ensures ∙ c.in-Some.is) refl
 
 pub overflow_add-self : goal.overflow_add-self
 overflow_add-self c =
@@ -32,21 +23,21 @@ pub returns-in-Some-grammar_fault-clause-step : goal.returns-in-Some-grammar_fau
 returns-in-Some-grammar_fault-clause-step c = λ marks.
     let reader = c.args.self.now in
     let depth : c.len.result ≡ length reader.blocks.items = omega (arith, c.len.ensures) in
-    grammar_fails reader.work (state_of reader marks) (token_seen c.args.token)
+    grammar_fails reader.work reader.all_items (state_of reader marks) (token_on c.args.token c.args.line)
     c.in-Some-grammar_fault.kind _ (sym c.form_fault.ensures ∙ c.in_default.is)
     (grammar_told reader.place reader.has_if reader.blocks.items c.len.result c.args.token.text.now
     c.grammar_fault.result _ depth c.grammar_fault.ensures c.in-Some-grammar_fault.is)
-    c.fault-in-Some-grammar_fault.ensures
+    refl
 
 pub returns-in-Some-limit_fault-clause-step : goal.returns-in-Some-limit_fault-clause-step
 returns-in-Some-limit_fault-clause-step c = λ marks.
     let reader = c.args.self.now in
     let depth : c.len.result ≡ length reader.blocks.items = omega (arith, c.len.ensures) in
-    limit_fails reader.work (state_of reader marks) (token_seen c.args.token)
+    limit_fails reader.work reader.all_items (state_of reader marks) (token_on c.args.token c.args.line)
     c.in-Some-limit_fault.kind _ (sym c.form_fault.ensures ∙ c.in_default.is)
     (grammar_told reader.place reader.has_if reader.blocks.items c.len.result c.args.token.text.now
     c.grammar_fault.result _ depth c.grammar_fault.ensures c.in_default-grammar_fault.is)
     (limit_told (is_inside_at reader.place) reader.work
-    (length reader.items + items_coming reader.place) reader.blocks.items c.args.token.text.now
+    (reader.all_items + items_coming reader.place) (length reader.items + items_coming reader.place) reader.blocks.items c.args.token.text.now
     c.limit_fault.result _ c.limit_fault.ensures c.in-Some-limit_fault.is)
-    c.fault-in-Some-limit_fault.ensures
+    refl

@@ -1,4 +1,4 @@
-use Rattle.std.proofs.Common.{◌≢◌, ℕ, List, rules}
+use Rattle.std.proofs.Common.{◌≢◌, ◌+◌, ℕ, List, rules}
 use Rattle.std.proofs.lemmas.Result.{IfErr-weaker, on_ok_weaker}
 use Rattle.program_text.specs.declared.fault.ReadKind.TheVariants.{OutOfMemory}
 use Rattle.program_text.specs.Tokens.{tokens_of, line_at_end}
@@ -10,7 +10,7 @@ use Rattle.large_text.proofs.stream.TextMeter.end.Goals as goal
 pub returns-in-Some-clause-refused : goal.returns-in-Some-clause-refused
 returns-in-Some-clause-refused c = λ some text h.
     let self = c.args.self.now in
-    told self.fault text self.tail.items self.line self.reader self.meter c.in-Some.fault
+    told self.fault text self.tail.items (self.lines + 1) self.reader self.meter c.in-Some.fault
     c.in-Some.is h.taken (line_at_end 1 text)
 
 pub returns-in_err-line-clause-refused : goal.returns-in_err-line-clause-refused
@@ -19,8 +19,8 @@ returns-in_err-line-clause-refused c =
     let fault = c.in_err-line.field-0.0 in
     let stops : fault.kind ≢ OutOfMemory → (text : List ℕ) → HasTaken text self
     → IsLargeFirstFault (tokens_of text) (line_at_end 1 text) fault =
-    λ some text h. fault_last self.fault text self.tail.items c.as_slice.result.now self.line
-    self.reader self.meter fault c.in_default.is c.as_slice.ensures.value h.taken
+    λ some text h. fault_last self.fault text self.tail.items c.as_slice.result.now
+    (self.lines + 1) self.reader self.meter fault c.in_default.is c.as_slice.ensures.value h.taken
     (c.in_err-line.ensures.refused some) (line_at_end 1 text) in
     search (stops, rules)
 
@@ -29,7 +29,7 @@ returns-clause-refused c =
     let self = c.args.self.now in
     IfErr-weaker c.finish.result _ _
     (λ fault early some text h. ends_early self.fault text self.tail.items c.as_slice.result.now
-    self.line c.in_ok-line.line self.reader c.take_tokens.new.reader self.meter
+    (self.lines + 1) c.in_ok-line.line self.reader c.take_tokens.new.reader self.meter
     c.take_tokens.new.meter fault c.in_default.is c.as_slice.ensures.value h.taken
     c.in_ok-line.ensures.line c.in_ok-line.ensures.reads early) c.finish.ensures.early
 
@@ -37,6 +37,6 @@ pub returns-clause-measured : goal.returns-clause-measured
 returns-clause-measured c =
     let self = c.args.self.now in
     on_ok_weaker c.finish.result
-    (λ whole text h. ends_whole self.fault text self.tail.items c.as_slice.result.now self.line
-    self.reader c.take_tokens.new.reader self.meter c.take_tokens.new.meter c.in_default.is
+    (λ whole text h. ends_whole self.fault text self.tail.items c.as_slice.result.now
+    (self.lines + 1) self.reader c.take_tokens.new.reader self.meter c.take_tokens.new.meter c.in_default.is
     c.as_slice.ensures.value h.taken c.in_ok-line.ensures.reads whole) c.finish.ensures.whole

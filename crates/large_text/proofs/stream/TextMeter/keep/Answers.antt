@@ -1,4 +1,6 @@
-use Rattle.large_text.proofs.Streaming.{kept, where_ok, long_more}
+use Rattle.std.proofs.Common.{◌+◌, subst, sym}
+use Rattle.large_text.specs.Streamed.{HasNoLineFeed}
+use Rattle.large_text.proofs.Streaming.{kept, where_ok, no_feed_more}
 use Rattle.large_text.proofs.stream.TextMeter.keep.Goals as goal
 
 pub returns : goal.returns
@@ -6,7 +8,9 @@ returns c =
     let self = c.args.self.now in
     where_ok c.extend_from_slice.result _ c.extend_from_slice.new.self.items self.tail.items
     c.args.bytes.now c.extend_from_slice.ensures.items (λ is taken fits h. record {
-      fits = long_more taken c.args.bytes.now fits;
+      fits = fits;
+      last = subst HasNoLineFeed (sym is)
+          (no_feed_more self.tail.items c.args.bytes.now h.last c.requires);
       taken = kept self.fault taken self.tail.items c.args.bytes.now
-          c.extend_from_slice.new.self.items self.line self.reader self.meter is h.taken;
+          c.extend_from_slice.new.self.items (self.lines + 1) self.reader self.meter is h.taken;
     })

@@ -1,6 +1,15 @@
 use Rattle.std.proofs.lemmas.Result.{on_ok_weaker}
-use Rattle.large_text.proofs.Streaming.{takes_two, split_whole}
+use Rattle.large_text.proofs.Streaming.{can_front, takes_two, split_whole}
 use Rattle.large_text.proofs.stream.TextMeter.take.Goals as goal
+
+pub take_lines-requires-clause-taken : goal.take_lines-requires-clause-taken
+take_lines-requires-clause-taken c =
+    let bytes = c.args.bytes.now in
+    let lines = c.split_at.result.0.now in
+    let tail = c.split_at.result.1.now in
+    can_front bytes lines tail c.args.self.now
+    (split_whole bytes lines tail c.whole_lines-end.result c.split_at.ensures.front
+    c.split_at.ensures.back) c.requires.room
 
 pub returns : goal.returns
 returns c =
