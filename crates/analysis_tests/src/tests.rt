@@ -1,6 +1,7 @@
 //! The tests, a module for each crate, and what several of them need.
 mod certificates;
 mod greedy;
+mod messages;
 mod spans;
 mod what_if;
 

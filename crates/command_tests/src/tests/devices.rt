@@ -169,6 +169,29 @@ fn interruptions(rt: HostRuntime) -> Result<(), Fail> {
     Ok(())
 }
 
+/// Interruptions of writes have the same budget where an input is refused, and where words are wrong.
+#[test]
+fn interrupted_lines(rt: HostRuntime) -> Result<(), Fail> {
+    let rows: [(&[&str], &str, Status); 3] = [
+        (&["spanprof", "slack"], "error: line 2: Unopened\n", Status::Refused),
+        (&["spanprof", "check"], "error: line 2: Unopened\n", Status::Refused),
+        (&["spanprof", "run"], "error: wrong words\n", Status::Usage),
+    ];
+    for (words, line, status) in rows {
+        for (writes, status, written) in [(1000, status, line), (1001, Status::Fault, "")] {
+            let writer = slow_sink(rt.alloc(), 8, Faults::interrupt_calls(0, writes));
+            let (got, _, writer) = run_on(&rt, words, source(b"omptasks 1\n}\n---\n"), writer)?;
+            let flushes = usize::from(!written.is_empty());
+            assert!(rt; got == status && writer.flushes == flushes, "{writes} {line}");
+            assert!(rt;
+                writer.taken.as_slice() == written.as_bytes(),
+                "{writes} {line}"
+            );
+        }
+    }
+    Ok(())
+}
+
 /// A program text, and a certificate, that never end.
 #[test]
 fn endless_inputs(rt: HostRuntime) -> Result<(), Fail> {

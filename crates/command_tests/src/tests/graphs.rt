@@ -1,7 +1,7 @@
 //! Tables of slacks and greedy runs, changed costs, and runs on workers.
 
 use super::examples::WORKED;
-use super::{all_answer, all_give, gives};
+use super::{all_answer, all_give, gives, repeated};
 use spanprof_command::Status;
 use std::alloc::AllocGlobal;
 use std::process::Abort;
@@ -102,6 +102,30 @@ fn curves(rt: HostRuntime) -> Result<(), Fail> {
     Ok(())
 }
 
+/// So many independent tasks of cost 1 on up to so many threads: as many threads as may be, and as
+/// many tasks.
+#[test]
+fn long_curves(rt: HostRuntime) -> Result<(), Fail> {
+    for (count, most) in [(128, 1024), (4096, 2)] {
+        let tasks = repeated(rt.alloc(), "task { work 1 }\n", count)?;
+        let program = format!(in rt.alloc(); "omptasks 1\n{tasks}")?;
+        let mut table = String::new(rt.alloc());
+        table.push_str("threads,end,least,bound\n")?;
+        for threads in 1..=most {
+            let end = (count - 1) / threads + 1;
+            let row = format!(in rt.alloc(); "{threads},{end},{end},{end}\n")?;
+            table.push_str(row.as_str())?;
+        }
+        let upto = format!(in rt.alloc(); "{most}")?;
+        let words = ["spanprof", "curve", "--upto", upto.as_str()];
+        assert!(rt;
+            gives(&rt, &words, program.as_str(), table.as_str(), Status::Done)?,
+            "{count}"
+        );
+    }
+    Ok(())
+}
+
 /// The words give each row's line on a program, and the text's own fault on another text.
 fn all_refuse_after_text<H: AllocGlobal + Threads + Wait + Abort + Sync>(
     rt: &H,
@@ -116,12 +140,12 @@ fn all_refuse_after_text<H: AllocGlobal + Threads + Wait + Abort + Sync>(
     Ok(())
 }
 
-/// A count out of range is told only of a text that is a program.
+/// What is out of range is told only of a text that is a program.
 #[test]
-fn counts_out_of_range(rt: HostRuntime) -> Result<(), Fail> {
+fn out_of_range(rt: HostRuntime) -> Result<(), Fail> {
     let threads = "error: ThreadCount\n";
     let workers = "error: WorkerCount\n";
-    let rows: [(&[&str], &str); 7] = [
+    let rows: [(&[&str], &str); 8] = [
         (&["spanprof", "greedy", "--threads", "0"], threads),
         (&["spanprof", "greedy", "--threads", "1025"], threads),
         (&["spanprof", "greedy", "--threads", "4294967295"], threads),
@@ -129,6 +153,7 @@ fn counts_out_of_range(rt: HostRuntime) -> Result<(), Fail> {
         (&["spanprof", "curve", "--upto", "1025"], threads),
         (&["spanprof", "run", "--workers", "0"], workers),
         (&["spanprof", "run", "--workers", "65"], workers),
+        (&["spanprof", "whatif", "4=1"], "error: UnknownSegment\n"),
     ];
     all_refuse_after_text(&rt, &rows)?;
     Ok(())
@@ -137,13 +162,18 @@ fn counts_out_of_range(rt: HostRuntime) -> Result<(), Fail> {
 /// Changes are made in their order, up to the first that is refused.
 #[test]
 fn tried_costs(rt: HostRuntime) -> Result<(), Fail> {
-    let rows: [(&[&str], &str, Status); 11] = [
+    let rows: [(&[&str], &str, Status); 12] = [
         (&["2=4"], "work 13\nspan 10\nwas 9\n", Status::Done),
         (&["2=3"], "work 12\nspan 9\nwas 9\n", Status::Done),
         (&["2=4", "1=5"], "work 15\nspan 11\nwas 9\n", Status::Done),
         (&["2=4", "2=2"], "work 11\nspan 9\nwas 9\n", Status::Done),
         (
             &["2=4", "2=2", "0=0"],
+            "work 6\nspan 4\nwas 9\n",
+            Status::Done,
+        ),
+        (
+            &["2=4", "2=2", "0=0", "1=9", "3=2", "1=3", "3=1"],
             "work 6\nspan 4\nwas 9\n",
             Status::Done,
         ),
@@ -177,9 +207,10 @@ fn tried_costs(rt: HostRuntime) -> Result<(), Fail> {
 #[test]
 fn worker_runs(rt: HostRuntime) -> Result<(), Fail> {
     let text = "segments 4\nedges 4\ndigest 704969\npreds 0\npreds 1 0\npreds 2 0\npreds 3 1 2\n";
-    let rows: [(&[&str], &str, Status); 3] = [
+    let rows: [(&[&str], &str, Status); 4] = [
         (&["1"], text, Status::Done),
         (&["2"], text, Status::Done),
+        (&["16"], text, Status::Done),
         (&["64"], text, Status::Done),
     ];
     all_answer(&rt, &["spanprof", "run", "--workers"], WORKED, &rows)?;

@@ -73,6 +73,7 @@ fn wrong_forms(rt: HostRuntime) -> Result<(), Fail> {
     let rows = [
         ("start 0", bad),
         ("start 0 0 0", bad),
+        ("start start", bad),
         ("go", bad),
         ("start 0 4294967296", bad),
         ("start 0 0 # begins", bad),

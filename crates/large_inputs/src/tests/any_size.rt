@@ -28,21 +28,46 @@ fn assert_ends(
     Ok(())
 }
 
-/// Children without end: more than a command takes.
+/// So many children, each with a location of its own.
 fn children(alloc: Global, count: u32) -> Result<String, Fail> {
     let mut text = String::from_str(alloc, "omptasks 1\n")?;
-    for _ in 0..count {
-        text.push_str("task { work 2 }\n")?;
+    for name in 0..count {
+        text.push_str(&format!(in alloc; "task depend(inout: a{name}) {{ work 2 }}\n")?)?;
     }
     text.push_str("taskwait work 3\n")?;
     Ok(text)
 }
 
+/// More tasks, lines, names and items than 16 bits can number, and a fault behind them.
 #[test]
 fn many_tasks(rt: HostRuntime) -> Result<(), Fail> {
-    let text = children(rt.alloc(), 20_000)?;
-    let numbers = b"tasks 20000\nsegments 40002\nwork 40003\nspan 5\n";
+    let mut text = children(rt.alloc(), 70_000)?;
+    let numbers = b"tasks 70000\nsegments 140002\nwork 140003\nspan 5\n";
+    assert_ends(&rt, &[], text.as_bytes(), (Status::Done, numbers))?;
+    text.push_str("}\n")?;
+    let fault = b"error: line 70003: Unopened\n";
+    assert_ends(&rt, &[], text.as_bytes(), (Status::Refused, fault))
+}
+
+/// Tasks in one another, behind a line that comes in several pieces.
+#[test]
+fn deep_tasks(rt: HostRuntime) -> Result<(), Fail> {
+    let alloc = rt.alloc();
+    let mut text = String::from_str(alloc, "omptasks 1 # ")?;
+    add(&mut text, "long ", 40_000)?;
+    add(&mut text, "\ntask {", 5_000)?;
+    text.push_str("\nwork 7\n")?;
+    add(&mut text, "}\n", 5_000)?;
+    let numbers = b"tasks 5000\nsegments 10001\nwork 7\nspan 7\n";
     assert_ends(&rt, &[], text.as_bytes(), (Status::Done, numbers))
+}
+
+/// Adds a piece so many times.
+fn add(text: &mut String, piece: &str, times: u32) -> Result<(), Fail> {
+    for _ in 0..times {
+        text.push_str(piece)?;
+    }
+    Ok(())
 }
 
 #[test]
