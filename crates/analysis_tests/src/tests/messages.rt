@@ -43,10 +43,7 @@ fn messages(rt: HostRuntime) -> Result<(), Fail> {
             format!(in alloc; "{}", WhatFault::WorkTooLarge)?,
             "work too large",
         ),
-        (
-            format!(in alloc; "{KernelFault}")?,
-            "the kernel faulted",
-        ),
+        (format!(in alloc; "{KernelFault}")?, "the kernel faulted"),
         (
             format!(in alloc; "{}", RunFault::WorkerCount)?,
             "the number of workers is not from 1 to 64",

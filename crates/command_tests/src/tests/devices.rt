@@ -173,8 +173,16 @@ fn interruptions(rt: HostRuntime) -> Result<(), Fail> {
 #[test]
 fn interrupted_lines(rt: HostRuntime) -> Result<(), Fail> {
     let rows: [(&[&str], &str, Status); 3] = [
-        (&["spanprof", "slack"], "error: line 2: Unopened\n", Status::Refused),
-        (&["spanprof", "check"], "error: line 2: Unopened\n", Status::Refused),
+        (
+            &["spanprof", "slack"],
+            "error: line 2: Unopened\n",
+            Status::Refused,
+        ),
+        (
+            &["spanprof", "check"],
+            "error: line 2: Unopened\n",
+            Status::Refused,
+        ),
         (&["spanprof", "run"], "error: wrong words\n", Status::Usage),
     ];
     for (words, line, status) in rows {
@@ -182,7 +190,10 @@ fn interrupted_lines(rt: HostRuntime) -> Result<(), Fail> {
             let writer = slow_sink(rt.alloc(), 8, Faults::interrupt_calls(0, writes));
             let (got, _, writer) = run_on(&rt, words, source(b"omptasks 1\n}\n---\n"), writer)?;
             let flushes = usize::from(!written.is_empty());
-            assert!(rt; got == status && writer.flushes == flushes, "{writes} {line}");
+            assert!(rt;
+                got == status && writer.flushes == flushes,
+                "{writes} {line}"
+            );
             assert!(rt;
                 writer.taken.as_slice() == written.as_bytes(),
                 "{writes} {line}"
