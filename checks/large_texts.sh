@@ -11,7 +11,7 @@ divisor=${1:-1}
 lines=$((4294967296 / divisor)) line=$((4000000000 / divisor)) wrong=0
 
 line_feeds() { yes '' | head -c "$1"; }
-comments() { yes '# A comment of sixty-four bytes, which stands on a line of its own' | head -c "$1"; }
+comments() { yes '# A comment, which stands on a line of its own' | head -c "$1"; }
 zeros() { head -c "$1" /dev/zero; }
 
 behind_many_lines() { echo 'omptasks 1'; line_feeds "$lines"; echo '}'; }
