@@ -68,6 +68,7 @@ def commands(name, segments):
     if name in CHAINS:
         yield ["curve", "--upto", "1024"]
     yield ["whatif", "0=1000", "%d=7" % last, "%d=3" % (last // 2)]
+    yield ["run", "--workers", "1"]
     yield ["certify"]
     yield ["check"]
 

@@ -38,6 +38,7 @@ for name in "${names[@]}"; do
     row "$name" "$text" slack
     row "$name" "$text" greedy --threads 64
     row "$name" "$text" curve --upto 64
+    row "$name" "$text" run --workers 1
     row "$name" "$text" certify
     "$scratch/plain" certify < "$text" > "$scratch/certificate"
     row "$name" "$scratch/certificate" check

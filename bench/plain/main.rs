@@ -3,8 +3,8 @@
 //!
 //!     plain COMMAND [--jobs N] < TEXT
 //!
-//! COMMAND is span, slack, greedy --threads P, curve --upto P, whatif SEG=COST .., certify or check. `--jobs N` lets
-//! `curve` and `check` use N threads; without it everything is done on one.
+//! COMMAND is span, slack, greedy --threads P, curve --upto P, whatif SEG=COST .., run --workers N, certify or check.
+//! `--jobs N` lets `curve` and `check` use N threads; without it everything is done on one, and `run` always is.
 
 mod analysis;
 mod certificate;
@@ -15,6 +15,7 @@ mod jobs;
 mod precede;
 mod read;
 mod report;
+mod run;
 mod scan;
 mod siblings;
 
@@ -28,12 +29,17 @@ enum Command {
     Greedy(u32),
     Curve(u32),
     WhatIf(Vec<(usize, u64)>),
+    Run,
     Certify,
     Check,
 }
 
 fn threads(word: Option<&String>) -> Option<u32> {
     word?.parse().ok().filter(|threads| (1..=1024).contains(threads))
+}
+
+fn workers(word: Option<&String>) -> Option<u32> {
+    word?.parse().ok().filter(|workers| (1..=64).contains(workers))
 }
 
 fn change(word: &String) -> Option<(usize, u64)> {
@@ -48,6 +54,7 @@ fn command(words: &[String]) -> Option<Command> {
         "greedy" => Command::Greedy(threads(words.get(2))?),
         "curve" => Command::Curve(threads(words.get(2))?),
         "whatif" => Command::WhatIf(words[1..].iter().map(change).collect::<Option<_>>()?),
+        "run" => workers(words.get(2)).map(|_| Command::Run)?,
         "certify" => Command::Certify,
         "check" => Command::Check,
         _ => return None,
@@ -77,6 +84,7 @@ fn answer(command: &Command, jobs: usize, input: &[u8]) -> Result<Vec<u8>, Strin
         Command::Greedy(threads) => Ok(report::greedy(&graph, *threads)),
         Command::Curve(upto) => Ok(report::curve(&graph, *upto, jobs)),
         Command::WhatIf(changes) => report::what_if(graph, changes),
+        Command::Run => Ok(run::run(&graph)),
         Command::Certify => Ok(certificate::write(&program, &graph)),
         Command::Check => unreachable!(),
     }
