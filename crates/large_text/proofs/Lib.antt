@@ -6,6 +6,7 @@ pub mod SoFar
 pub mod Refused
 pub mod Ended
 pub mod Taken
+pub mod Memory
 pub mod Fitting
 pub mod Measuring
 pub mod Whole

@@ -143,7 +143,7 @@ is_refused (Err fault) old new token step = λ other before later marks end_line
 
 -- ---- the tests, in their order
 
-form_no_memory : (bytes : ℕ) (text : List ℕ) (kind : ReadKind)
+pub form_no_memory : (bytes : ℕ) (text : List ℕ) (kind : ReadKind)
     → large_form_fault bytes text ≡ Some kind
     → is_memory kind ≡ false
 form_no_memory bytes text kind h =
@@ -166,7 +166,7 @@ either_no_memory : (many : Bool) (kind : ReadKind) (later : Option ReadKind)
 either_no_memory true kind later quiet h = row_no_memory true TooManyItems kind None refl (no_row kind) h
 either_no_memory false kind later quiet h = quiet h
 
-limit_no_memory : (inside : Bool) (work all_items items open_blocks : ℕ) (text : List ℕ)
+pub limit_no_memory : (inside : Bool) (work all_items items open_blocks : ℕ) (text : List ℕ)
     (kind : ReadKind)
     → large_limit_by inside work all_items items open_blocks text ≡ Some kind
     → is_memory kind ≡ false

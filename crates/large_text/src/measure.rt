@@ -20,12 +20,13 @@ use program_text::scanner::{Scanner, Token};
 use std::alloc::Global;
 
 /// The meter that has taken all marks of a text of version 1, which is gone through once. The fault
-/// is the text's first, or out of memory.
+/// is the text's first, or out of memory, on line 0.
 pub fn measure_text(alloc: Global, text: &[u8]) -> Result<Meter, LargeFault>
     requires { length text.now + 1 < 2 ^ 32 }
     ensures measured { IfOk result (λ meter. MeasuresText (tokens_of text.now) meter) }
     ensures refused { IfErr result (λ fault. fault.kind ≢ OutOfMemory
         → IsLargeFirstFault (tokens_of text.now) (line_at_end 1 text.now) fault) }
+    ensures memory { IfErr result (λ fault. fault.kind ≡ OutOfMemory → fault.line ≡ 0) }
 {
     let mut reader = MarkReader::new(alloc);
     let mut meter = Meter::new(alloc);
@@ -54,6 +55,7 @@ pub(crate) fn take_tokens(
         → MeasuresSoFar before reader.old meter.old
         → IsLargeFirstFault (before ++ (tokens_from false (lines + 1) text.now ++ later)) end_line
         fault) }
+    ensures memory { IfErr result (λ fault. fault.kind ≡ OutOfMemory → fault.line ≡ 0) }
 {
     let mut scanner = Scanner::new(text);
     'tokens: while let Some(token) = scanner.next_token() {
@@ -77,6 +79,7 @@ fn take_token(
         → (before later : List tokens.Token) (end_line : ℕ)
         → MeasuresSoFar before reader.old meter.old
         → IsLargeFirstFault (before ++ token_on token.entry line ∷ later) end_line fault) }
+    ensures memory { IfErr result (λ fault. fault.kind ≡ OutOfMemory → fault.line ≡ 0) }
 {
     match reader.take(token, line)? {
         Some(mark) => Ok(take_mark(meter, &mark)?),

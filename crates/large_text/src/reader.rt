@@ -92,7 +92,7 @@ impl MarkReader {
 
     /// Takes the next token, which begins on this line of the text, whatever its own line says. It
     /// hands on the mark that is whole with it, if one is. The fault is the first of every text that
-    /// begins so, or out of memory; no more tokens can be taken after it.
+    /// begins so, or out of memory, on line 0; no more tokens can be taken after it.
     pub fn take(&mut self, token: Token<'_>, line: u64) -> Result<Option<TextMark>, LargeFault>
         requires { CanGoOn self.old }
         ensures reads { IfOk result (λ mark. (before : List tokens.Token) (marks : List Mark)
@@ -103,6 +103,7 @@ impl MarkReader {
             → (before later : List tokens.Token) (marks : List Mark) (end_line : ℕ)
             → IsReadSoFar before marks self.old
             → IsLargeFirstFault (before ++ token_on token.entry line ∷ later) end_line fault) }
+        ensures memory { IfErr result (λ fault. fault.kind ≡ OutOfMemory → fault.line ≡ 0) }
     {
         self.take_any(token, line)
     }

@@ -104,7 +104,7 @@ impl TextMeter {
     }
 
     /// The text ends here. The meter has taken all of its marks; or the fault is its first, or out of
-    /// memory.
+    /// memory, on line 0.
     pub fn finish(mut self) -> Result<Meter, LargeFault>
         requires { CanTakeBytes [] self }
         ensures measured { IfOk result (λ meter. (text : List ℕ) → HasTaken text self
@@ -112,6 +112,7 @@ impl TextMeter {
         ensures refused { IfErr result (λ fault. fault.kind ≢ OutOfMemory
             → (text : List ℕ) → HasTaken text self
             → IsLargeFirstFault (tokens_of text) (line_at_end 1 text) fault) }
+        ensures memory { IfErr result (λ fault. fault.kind ≡ OutOfMemory → fault.line ≡ 0) }
     {
         self.end()?;
         Ok(self.meter)
@@ -125,6 +126,7 @@ impl TextMeter {
         ensures refused { IfErr result (λ fault. fault.kind ≢ OutOfMemory
             → (text : List ℕ) → HasTaken text self.old
             → IsLargeFirstFault (tokens_of text) (line_at_end 1 text) fault) }
+        ensures memory { IfErr result (λ fault. fault.kind ≡ OutOfMemory → fault.line ≡ 0) }
     {
         if let Some(fault) = self.fault {
             return Err(fault);

@@ -1,9 +1,10 @@
-use Rattle.std.proofs.Common.{◌≢◌, [], None, refl, rules}
+use Rattle.std.proofs.Common.{◌≡◌, ◌≢◌, [], None, refl, rules}
 use Rattle.program_text.specs.declared.fault.ReadKind.TheVariants.{OutOfMemory}
 use Rattle.program_text.specs.Tokens.{tokens_of, line_at_end}
 use Rattle.large_text.specs.LargeTrees.{IsLargeFirstFault}
 use Rattle.large_text.specs.Streamed.{HasTakenLines}
 use Rattle.large_text.proofs.Streaming.{taken_first, keeps_more, fault_last, ends_early, ends_whole}
+use Rattle.large_text.proofs.Memory.{line_of_first}
 use Rattle.large_text.proofs.measure.measure_text.Goals as goal
 
 pub returns-in_err-line-clause-refused : goal.returns-in_err-line-clause-refused
@@ -46,3 +47,19 @@ returns-clause-measured c =
     (taken_first reader meter c.new-reader.ensures c.new-meter.ensures) in
     ends_whole None text text text 1 reader c.take_tokens.new.reader meter
     c.take_tokens.new.meter refl refl h c.in_ok-line.ensures.reads c.in_ok-finish.ensures.whole
+
+pub returns-in_err-finish-clause-memory : goal.returns-in_err-finish-clause-memory
+returns-in_err-finish-clause-memory c =
+    let text = c.args.text.now in
+    let reader = c.new-reader.result in
+    let meter = c.new-meter.result in
+    let fault = c.in_err-finish.field-0.0 in
+    let h : HasTakenLines text text 1 reader meter =
+    keeps_more [] [] text 1 reader meter
+    (taken_first reader meter c.new-reader.ensures c.new-meter.ensures) in
+    let line_is : fault.kind ≡ OutOfMemory → fault.line ≡ 0 =
+    line_of_first (tokens_of text) (line_at_end 1 text) fault
+    (ends_early None text text text 1 c.in_ok-line.line reader c.take_tokens.new.reader meter
+    c.take_tokens.new.meter fault refl refl h c.in_ok-line.ensures.line c.in_ok-line.ensures.reads
+    c.in_err-finish.ensures.early) in
+    search (line_is, rules)

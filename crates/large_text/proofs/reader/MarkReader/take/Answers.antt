@@ -1,5 +1,6 @@
 use Rattle.large_text.specs.LargeReading.{token_on}
 use Rattle.large_text.proofs.Taken.{sound, reads_on, is_refused}
+use Rattle.large_text.proofs.Memory.{line_at_token}
 use Rattle.large_text.proofs.reader.MarkReader.take.Goals as goal
 
 pub take_any-requires : goal.take_any-requires
@@ -14,4 +15,9 @@ returns-clause-reads c =
 pub returns-clause-refused : goal.returns-clause-refused
 returns-clause-refused c =
     is_refused c.take_any.result c.args.self.now c.take_any.new.self (token_on c.args.token c.args.line)
+    c.take_any.ensures.step
+
+pub returns-clause-memory : goal.returns-clause-memory
+returns-clause-memory c =
+    line_at_token c.take_any.result c.args.self.now c.take_any.new.self (token_on c.args.token c.args.line)
     c.take_any.ensures.step
