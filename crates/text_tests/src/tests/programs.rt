@@ -31,11 +31,7 @@ fn assert_fault(rt: &impl Abort, alloc: Global, text: &str, wanted: Option<(Read
 /// Asserts that each text has its fault, on its line.
 fn assert_faults(rt: &impl Abort, alloc: Global, rows: &[(&str, ReadKind, u32)]) {
     for (text, kind, line) in rows {
-        assert_eq!(rt;
-            fault_of(alloc, text.as_bytes()),
-            Some((*kind, *line)),
-            "{text}"
-        );
+        assert_fault(rt, alloc, text, Some((*kind, *line)));
     }
 }
 
@@ -65,6 +61,34 @@ fn names_of(alloc: Global, text: &str) -> Result<u32, Fail> {
 /// Whether the program of a text has this name under this number, or no name.
 fn is_named(alloc: Global, text: &str, number: u32, name: Option<&str>) -> Result<bool, Fail> {
     Ok(read_program(alloc, text.as_bytes())?.name(number) == name)
+}
+
+/// Asserts that a text has so many names.
+fn assert_names(rt: &impl Abort, alloc: Global, text: &str, wanted: u32) -> Result<(), Fail> {
+    assert_eq!(rt; names_of(alloc, text)?, wanted);
+    Ok(())
+}
+
+/// Asserts that the program of a text has this name under this number, or no name.
+fn assert_named(
+    rt: &impl Abort,
+    alloc: Global,
+    text: &str,
+    number: u32,
+    name: Option<&str>,
+) -> Result<(), Fail> {
+    assert!(rt; is_named(alloc, text, number, name)?, "{number} {text}");
+    Ok(())
+}
+
+/// A text that begins with this, goes on with so many zeros, and ends with that.
+fn zeros(alloc: Global, before: &str, count: u32, after: &str) -> Result<String, AllocFault> {
+    let mut text = String::from_str(alloc, before)?;
+    for _ in 0..count {
+        text.push('0')?;
+    }
+    text.push_str(after)?;
+    Ok(text)
 }
 
 /// A header, and then each of these lines so many times.

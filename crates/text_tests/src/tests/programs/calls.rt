@@ -1,8 +1,9 @@
 //! What the calls on a program answer.
-use super::{is_named, names_of};
+use super::{assert_named, assert_names};
 use program_text::fault::{ReadFault, ReadKind};
 use program_text::statement::{Body, DependKind, Item, Items, Stmt, conflicts};
 use std::alloc::Global;
+use std::process::Abort;
 use std::test::Fail;
 use task_program::read::read_program;
 
@@ -58,16 +59,18 @@ fn undeferred_of(alloc: Global, text: &[u8]) -> Result<bool, Fail> {
     Ok(task.undeferred)
 }
 
+/// The text of one task, and whether it is undeferred.
+const TASKS: &[(&[u8], bool)] = &[
+    (b"omptasks 1 task { }", false),
+    (b"omptasks 1 task if(1) { }", false),
+    (b"omptasks 1 task if(0) { }", true),
+    (b"omptasks 1 task depend(in: a) if(00) { }", true),
+];
+
 #[test]
 fn undeferred(rt: HostRuntime) -> Result<(), Fail> {
-    let rows = [
-        (b"omptasks 1 task { }".as_slice(), false),
-        (b"omptasks 1 task if(1) { }".as_slice(), false),
-        (b"omptasks 1 task if(0) { }".as_slice(), true),
-        (b"omptasks 1 task depend(in: a) if(00) { }".as_slice(), true),
-    ];
-    for (text, wanted) in rows {
-        assert_eq!(rt; undeferred_of(rt.alloc(), text)?, wanted);
+    for (text, wanted) in TASKS {
+        assert_eq!(rt; undeferred_of(rt.alloc(), *text)?, *wanted);
     }
     Ok(())
 }
@@ -77,27 +80,31 @@ fn is_empty(alloc: Global, text: &str) -> Result<bool, Fail> {
     Ok(read_program(alloc, text.as_bytes())?.body().is_empty())
 }
 
+const FIVE_NAMES: &str =
+    "omptasks 1 task depend(in: b, a) { task depend(out: a, c) { } } task depend(in: B, b, d) { }";
+
+const NO_NAMES: &str = "omptasks 1";
+
+/// A text, a number, and the name under it.
+const NAMED: &[(&str, u32, Option<&str>)] = &[
+    (FIVE_NAMES, 0, Some("b")),
+    (FIVE_NAMES, 1, Some("a")),
+    (FIVE_NAMES, 2, Some("c")),
+    (FIVE_NAMES, 3, Some("B")),
+    (FIVE_NAMES, 4, Some("d")),
+    (FIVE_NAMES, 5, None),
+    (FIVE_NAMES, u32::MAX, None),
+    (NO_NAMES, 0, None),
+];
+
 #[test]
 fn names_by_first_mention(rt: HostRuntime) -> Result<(), Fail> {
-    let text =
-        "omptasks 1 task depend(in: b, a) { task depend(out: a, c) { } } task depend(in: B, b, d) \
-        { }";
-    let empty = "omptasks 1";
-    let alloc = rt.alloc();
-    assert!(rt; names_of(alloc, text)? == 5 && names_of(alloc, empty)? == 0);
-    for (text, number, name) in [
-        (text, 0, Some("b")),
-        (text, 1, Some("a")),
-        (text, 2, Some("c")),
-        (text, 3, Some("B")),
-        (text, 4, Some("d")),
-        (text, 5, None),
-        (text, u32::MAX, None),
-        (empty, 0, None),
-    ] {
-        assert!(rt; is_named(alloc, text, number, name)?, "{number} {text}");
+    assert_names(&rt, rt.alloc(), FIVE_NAMES, 5)?;
+    assert_names(&rt, rt.alloc(), NO_NAMES, 0)?;
+    for (text, number, name) in NAMED {
+        assert_named(&rt, rt.alloc(), text, *number, *name)?;
     }
-    assert!(rt; is_empty(alloc, empty)?);
+    assert!(rt; is_empty(rt.alloc(), NO_NAMES)?);
     Ok(())
 }
 
@@ -110,27 +117,44 @@ fn kinds_conflict(earlier: DependKind, later: DependKind, name: u32) -> bool {
     conflicts(&one, &[Item { kind: later, name }])
 }
 
+const KINDS: &[DependKind] = &[
+    DependKind::DependIn,
+    DependKind::DependOut,
+    DependKind::DependInOut,
+    DependKind::DependInOutSet,
+];
+
 /// Rows are the later item's kind, columns the earlier item's.
+const CONFLICTS: &[&[bool]] = &[
+    &[false, true, true, true],
+    &[true, true, true, true],
+    &[true, true, true, true],
+    &[true, true, true, false],
+];
+
+/// Asserts what these kinds do at one name, and that they do not conflict at two.
+fn assert_conflict(rt: &impl Abort, earlier: DependKind, later: DependKind, wanted: bool) {
+    assert_eq!(rt;
+        (
+            kinds_conflict(earlier, later, 3),
+            kinds_conflict(earlier, later, 4)
+        ),
+        (wanted, false),
+        "{earlier:?} {later:?}"
+    );
+}
+
+/// Asserts what an item of each kind does with a later one of this kind.
+fn assert_row(rt: &impl Abort, later: DependKind, row: &[bool]) {
+    for (earlier, wanted) in KINDS.iter().zip(row.iter()) {
+        assert_conflict(rt, *earlier, later, *wanted);
+    }
+}
+
 #[test]
 fn conflicts_by_kind(rt: HostRuntime) {
-    let kinds = [
-        DependKind::DependIn,
-        DependKind::DependOut,
-        DependKind::DependInOut,
-        DependKind::DependInOutSet,
-    ];
-    let table = [
-        [false, true, true, true],
-        [true, true, true, true],
-        [true, true, true, true],
-        [true, true, true, false],
-    ];
-    for (later, row) in kinds.iter().zip(table.iter()) {
-        for (earlier, wanted) in kinds.iter().zip(row.iter()) {
-            let same = kinds_conflict(*earlier, *later, 3);
-            assert_eq!(rt; same, *wanted, "{earlier:?} {later:?}");
-            assert!(rt; !kinds_conflict(*earlier, *later, 4));
-        }
+    for (later, row) in KINDS.iter().zip(CONFLICTS.iter()) {
+        assert_row(&rt, *later, *row);
     }
 }
 
@@ -154,35 +178,39 @@ fn conflicts_of_lists(rt: HostRuntime) {
     assert!(rt; !conflicts(&[], &[read]) && !conflicts(&[elsewhere], &[]));
 }
 
+/// The faults in the order of their numbers, from 1 on.
+const FAULTS: &[ReadKind] = &[
+    ReadKind::TooLong,
+    ReadKind::BadHeader,
+    ReadKind::BadByte,
+    ReadKind::BadWord,
+    ReadKind::BadNumber,
+    ReadKind::Unclosed,
+    ReadKind::Unopened,
+    ReadKind::TooDeep,
+    ReadKind::TooManyTasks,
+    ReadKind::TooManySegments,
+    ReadKind::TooManyItems,
+    ReadKind::WorkTooLarge,
+    ReadKind::OutOfMemory,
+    ReadKind::TooManyTurns,
+];
+
+/// Whether a fault is told so.
+fn is_told(alloc: Global, fault: ReadFault, wanted: &str) -> Result<bool, Fail> {
+    Ok(format!(in alloc; "{fault}")?.as_str() == wanted)
+}
+
 #[test]
 fn numbers_of_the_faults(rt: HostRuntime) -> Result<(), Fail> {
-    let kinds = [
-        ReadKind::TooLong,
-        ReadKind::BadHeader,
-        ReadKind::BadByte,
-        ReadKind::BadWord,
-        ReadKind::BadNumber,
-        ReadKind::Unclosed,
-        ReadKind::Unopened,
-        ReadKind::TooDeep,
-        ReadKind::TooManyTasks,
-        ReadKind::TooManySegments,
-        ReadKind::TooManyItems,
-        ReadKind::WorkTooLarge,
-        ReadKind::OutOfMemory,
-        ReadKind::TooManyTurns,
-    ];
-    for (before, kind) in kinds.iter().enumerate() {
+    for (before, kind) in FAULTS.iter().enumerate() {
         assert_eq!(rt; *kind as usize, before + 1);
     }
     let fault = ReadFault {
         kind: ReadKind::Unclosed,
         line: 2,
     };
-    assert_eq!(rt;
-        format!(in rt.alloc(); "{fault}")?.as_str(),
-        "line 2: Unclosed"
-    );
+    assert!(rt; is_told(rt.alloc(), fault, "line 2: Unclosed")?);
     Ok(())
 }
 

@@ -2,13 +2,14 @@
 use super::{assert_fault, fault_of, lines};
 use program_text::fault::ReadKind;
 use std::alloc::Global;
+use std::process::Abort;
 use std::test::Fail;
 use task_program::AllocFault;
 
 /// A text is a header and then each of these lines so many times.
 type Lines = &'static [(&'static str, u32)];
 
-const AT_THE_LIMITS: [Lines; 9] = [
+const AT_THE_LIMITS: &[Lines] = &[
     &[("work 1000000000000", 1000), ("work 0", 1)],
     &[("task {", 64), ("}", 64)],
     &[("taskgroup {", 64), ("}", 64)],
@@ -20,7 +21,7 @@ const AT_THE_LIMITS: [Lines; 9] = [
     &[("task if(1) { }", 1), ("task if(01) { }", 1)],
 ];
 
-const PAST_THE_LIMITS: [(Lines, ReadKind, u32); 12] = [
+const PAST_THE_LIMITS: &[(Lines, ReadKind, u32)] = &[
     (
         &[("work 1000000000000", 1001)],
         ReadKind::WorkTooLarge,
@@ -63,11 +64,22 @@ const PAST_THE_LIMITS: [(Lines, ReadKind, u32); 12] = [
     (&[("task if(2) { }", 1)], ReadKind::BadNumber, 2),
 ];
 
+/// Asserts that this is the fault of a text and its line; none where it is a program.
+fn assert_lines(
+    rt: &impl Abort,
+    alloc: Global,
+    parts: Lines,
+    wanted: Option<(ReadKind, u32)>,
+) -> Result<(), Fail> {
+    let text = lines(alloc, parts)?;
+    assert_eq!(rt; fault_of(alloc, text.as_bytes()), wanted, "{parts:?}");
+    Ok(())
+}
+
 #[test]
 fn accepted_at_the_limits(rt: HostRuntime) -> Result<(), Fail> {
     for parts in AT_THE_LIMITS {
-        let text = lines(rt.alloc(), parts)?;
-        assert_eq!(rt; fault_of(rt.alloc(), text.as_bytes()), None, "{parts:?}");
+        assert_lines(&rt, rt.alloc(), *parts, None)?;
     }
     Ok(())
 }
@@ -75,12 +87,7 @@ fn accepted_at_the_limits(rt: HostRuntime) -> Result<(), Fail> {
 #[test]
 fn refused_past_the_limits(rt: HostRuntime) -> Result<(), Fail> {
     for (parts, kind, line) in PAST_THE_LIMITS {
-        let text = lines(rt.alloc(), parts)?;
-        assert_eq!(rt;
-            fault_of(rt.alloc(), text.as_bytes()),
-            Some((kind, line)),
-            "{parts:?}"
-        );
+        assert_lines(&rt, rt.alloc(), *parts, Some((*kind, *line)))?;
     }
     Ok(())
 }
@@ -108,29 +115,31 @@ fn items_of_a_task(rt: HostRuntime) -> Result<(), Fail> {
     Ok(())
 }
 
+/// A text, its fault and the line; none where it is a program.
+const WORDS: &[(&str, Option<(ReadKind, u32)>)] = &[
+    (
+        "omptasks 1 task depend(in: a234567890123456789012345678901) { }",
+        None,
+    ),
+    (
+        "omptasks 1 task depend(in: a2345678901234567890123456789012) { }",
+        Some((ReadKind::BadWord, 1)),
+    ),
+    // Two of 31 bytes that differ in the last.
+    (
+        "omptasks 1 task depend(in: a23456789012345678901234567890x, \
+            a23456789012345678901234567890y) { }",
+        None,
+    ),
+    (
+        "omptasks 1 a234567890123456789012345678901",
+        Some((ReadKind::BadWord, 1)),
+    ),
+];
+
 #[test]
 fn bytes_of_a_word(rt: HostRuntime) {
-    let rows = [
-        (
-            "omptasks 1 task depend(in: a234567890123456789012345678901) { }",
-            None,
-        ),
-        (
-            "omptasks 1 task depend(in: a2345678901234567890123456789012) { }",
-            Some((ReadKind::BadWord, 1)),
-        ),
-        // Two of 31 bytes that differ in the last.
-        (
-            "omptasks 1 task depend(in: a23456789012345678901234567890x, \
-            a23456789012345678901234567890y) { }",
-            None,
-        ),
-        (
-            "omptasks 1 a234567890123456789012345678901",
-            Some((ReadKind::BadWord, 1)),
-        ),
-    ];
-    for (text, wanted) in rows {
-        assert_eq!(rt; fault_of(rt.alloc(), text.as_bytes()), wanted, "{text}");
+    for (text, wanted) in WORDS {
+        assert_fault(&rt, rt.alloc(), text, *wanted);
     }
 }

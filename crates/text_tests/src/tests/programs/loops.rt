@@ -1,7 +1,8 @@
 //! Texts of version 2: what they are read as, and what is wrong with them.
-use super::{assert_fault, assert_shown, fault_of, is_named, names_of};
+use super::{assert_fault, assert_named, assert_names, assert_shown, zeros};
 use program_text::fault::ReadKind;
 use std::alloc::Global;
+use std::process::Abort;
 use std::test::Fail;
 use task_program::AllocFault;
 use task_program::read::read_program;
@@ -13,10 +14,16 @@ fn with_header(alloc: Global, body: &str) -> Result<String, AllocFault> {
     Ok(text)
 }
 
-/// The fault of a body on the line after the header.
-fn fault_of_body(alloc: Global, body: &str) -> Result<Option<(ReadKind, u32)>, Fail> {
+/// Asserts that this is the fault of a body on the line after the header; none where it is one.
+fn assert_body(
+    rt: &impl Abort,
+    alloc: Global,
+    body: &str,
+    wanted: Option<(ReadKind, u32)>,
+) -> Result<(), Fail> {
     let text = with_header(alloc, body)?;
-    Ok(fault_of(alloc, text.as_bytes()))
+    assert_fault(rt, alloc, text.as_str(), wanted);
+    Ok(())
 }
 
 /// A body, and the canonical text after its header.
@@ -144,9 +151,7 @@ fn loops_shown(rt: HostRuntime) -> Result<(), Fail> {
 #[test]
 fn loops_refused(rt: HostRuntime) -> Result<(), Fail> {
     for (body, kind, line) in REFUSED {
-        let alloc = rt.alloc();
-        let fault = fault_of_body(alloc, body)?;
-        assert_eq!(rt; fault, Some((*kind, *line)), "{body}");
+        assert_body(&rt, rt.alloc(), body, Some((*kind, *line)))?;
     }
     Ok(())
 }
@@ -190,50 +195,64 @@ fn stands_in_a_block(count: usize) -> bool {
     count == 5 || count == 27 || count >= 29
 }
 
+/// What is wrong with a text that ends after so many of its tokens.
+fn fault_of_cut(count: usize) -> Option<(ReadKind, u32)> {
+    if count == 0 {
+        None
+    } else if stands_in_a_block(count) {
+        Some((ReadKind::Unclosed, 2))
+    } else {
+        Some((ReadKind::BadWord, 2))
+    }
+}
+
+/// Writes a token and a blank.
+fn push_token(text: &mut String, token: &str) -> Result<(), AllocFault> {
+    text.push_str(token)?;
+    text.push(' ')?;
+    Ok(())
+}
+
 /// A text that ends after each of its tokens in turn.
 #[test]
 fn cut_at_each_token(rt: HostRuntime) -> Result<(), Fail> {
     let alloc = rt.alloc();
     let mut text = with_header(alloc, "")?;
     for (count, token) in TOKENS.iter().enumerate() {
-        let wanted = if count == 0 {
-            None
-        } else if stands_in_a_block(count) {
-            Some((ReadKind::Unclosed, 2))
-        } else {
-            Some((ReadKind::BadWord, 2))
-        };
-        assert_fault(&rt, alloc, text.as_str(), wanted);
-        text.push_str(*token)?;
-        text.push_str(" ")?;
+        assert_fault(&rt, alloc, text.as_str(), fault_of_cut(count));
+        push_token(&mut text, *token)?;
     }
     assert_fault(&rt, alloc, text.as_str(), Some((ReadKind::Unclosed, 2)));
-    text.push_str("} ")?;
+    push_token(&mut text, "}")?;
     assert_fault(&rt, alloc, text.as_str(), Some((ReadKind::Unclosed, 2)));
     text.push_str("}")?;
     assert_fault(&rt, alloc, text.as_str(), None);
     Ok(())
 }
 
+/// The text without one of its tokens.
+fn without_token(alloc: Global, left_out: usize) -> Result<String, AllocFault> {
+    let mut text = with_header(alloc, "")?;
+    for (count, token) in TOKENS.iter().enumerate() {
+        if count != left_out {
+            push_token(&mut text, *token)?;
+        }
+    }
+    text.push_str("} }")?;
+    Ok(text)
+}
+
 /// A text that lacks each of its tokens in turn. Without its variable the first index is -1.
 #[test]
 fn each_token_left_out(rt: HostRuntime) -> Result<(), Fail> {
-    let alloc = rt.alloc();
     for left_out in 0..TOKENS.len() {
-        let mut text = with_header(alloc, "")?;
-        for (count, token) in TOKENS.iter().enumerate() {
-            if count != left_out {
-                text.push_str(*token)?;
-                text.push_str(" ")?;
-            }
-        }
-        text.push_str("} }")?;
+        let text = without_token(rt.alloc(), left_out)?;
         let wanted = if left_out == 12 {
             None
         } else {
             Some((ReadKind::BadWord, 2))
         };
-        assert_fault(&rt, alloc, text.as_str(), wanted);
+        assert_fault(&rt, rt.alloc(), text.as_str(), wanted);
     }
     Ok(())
 }
@@ -301,32 +320,32 @@ const LIMITS: &[(&str, &str, ReadKind)] = &[
 #[test]
 fn limits_of_loops(rt: HostRuntime) -> Result<(), Fail> {
     for (most, more, kind) in LIMITS {
-        let alloc = rt.alloc();
-        assert_eq!(rt; fault_of_body(alloc, most)?, None, "{most}");
-        assert_eq!(rt; fault_of_body(alloc, more)?, Some((*kind, 2)), "{more}");
+        assert_body(&rt, rt.alloc(), most, None)?;
+        assert_body(&rt, rt.alloc(), more, Some((*kind, 2)))?;
     }
     Ok(())
 }
 
+/// A body with a fault of its text on its second line, and one of its expansion before.
+const TWO_FAULTS: &[(&str, ReadKind)] = &[
+    ("for i 0 65536 { }\n;", ReadKind::BadByte),
+    ("task depend(in: x[1000001]) { }\n}", ReadKind::Unopened),
+    ("for i 1 4097 { task { } }\nwait", ReadKind::BadWord),
+    (
+        "for i 1 16384 { taskwait }\nfor i 1 1x",
+        ReadKind::BadNumber,
+    ),
+    (
+        "for i 1 1001 { work 1000000000000 }\ntask final(2)",
+        ReadKind::BadNumber,
+    ),
+];
+
 /// What is wrong with the text is told before what is wrong with its expansion.
 #[test]
 fn text_before_expansion(rt: HostRuntime) -> Result<(), Fail> {
-    for (body, kind) in [
-        ("for i 0 65536 { }\n;", ReadKind::BadByte),
-        ("task depend(in: x[1000001]) { }\n}", ReadKind::Unopened),
-        ("for i 1 4097 { task { } }\nwait", ReadKind::BadWord),
-        (
-            "for i 1 16384 { taskwait }\nfor i 1 1x",
-            ReadKind::BadNumber,
-        ),
-        (
-            "for i 1 1001 { work 1000000000000 }\ntask final(2)",
-            ReadKind::BadNumber,
-        ),
-    ] {
-        let alloc = rt.alloc();
-        let fault = fault_of_body(alloc, body)?;
-        assert_eq!(rt; fault, Some((kind, 3)), "{body}");
+    for (body, kind) in TWO_FAULTS {
+        assert_body(&rt, rt.alloc(), body, Some((*kind, 3)))?;
     }
     Ok(())
 }
@@ -348,11 +367,7 @@ fn very_many_turns(rt: HostRuntime) -> Result<(), Fail> {
 fn zeros_of_a_header(rt: HostRuntime) -> Result<(), Fail> {
     for (digit, wanted) in [("1", Some((ReadKind::TooLong, 1))), ("2", None)] {
         let alloc = rt.alloc();
-        let mut text = String::from_str(alloc, "omptasks ")?;
-        for _ in 0..1_048_568 {
-            text.push('0')?;
-        }
-        text.push_str(digit)?;
+        let text = zeros(alloc, "omptasks ", 1_048_568, digit)?;
         assert_fault(&rt, alloc, text.as_str(), wanted);
     }
     Ok(())
@@ -363,15 +378,16 @@ fn version_of(alloc: Global, text: &str) -> Result<u32, Fail> {
     Ok(read_program(alloc, text.as_bytes())?.version())
 }
 
+/// A text and its version.
+const VERSIONS: &[(&str, u32)] = &[("omptasks 1", 1), ("omptasks 2", 2), ("omptasks 0002", 2)];
+
 #[test]
 fn versions(rt: HostRuntime) -> Result<(), Fail> {
-    for (text, version) in [("omptasks 1", 1), ("omptasks 2", 2), ("omptasks 0002", 2)] {
-        assert_eq!(rt; version_of(rt.alloc(), text)?, version);
+    for (text, version) in VERSIONS {
+        assert_eq!(rt; version_of(rt.alloc(), text)?, *version);
     }
     let text = "omptasks 2 task depend(in: x, x[3]) depend(out: x[-1]) { }";
-    assert_eq!(rt; names_of(rt.alloc(), text)?, 3);
-    for (number, name) in [(1, "x[3]"), (2, "x[-1]")] {
-        assert!(rt; is_named(rt.alloc(), text, number, Some(name))?, "{name}");
-    }
-    Ok(())
+    assert_names(&rt, rt.alloc(), text, 3)?;
+    assert_named(&rt, rt.alloc(), text, 1, Some("x[3]"))?;
+    assert_named(&rt, rt.alloc(), text, 2, Some("x[-1]"))
 }
