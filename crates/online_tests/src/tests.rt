@@ -1,6 +1,6 @@
 //! Worked programs: how many tasks and segments they have, their work and their span, as they follow
 //! by hand from what must precede what.
-use online_span::measure;
+use online_span::{Meter, measure};
 use std::alloc::Global;
 use std::process::Abort;
 use std::test::Fail;
@@ -129,32 +129,38 @@ static WORKED: [Worked; 14] = [
     },
 ];
 
-/// Tasks, segments, work and span of a text's program.
-fn measured(alloc: Global, text: &str) -> Result<(u64, u64, u64, u64), Fail> {
-    let program = read_program(alloc, text.as_bytes())?;
-    let meter = measure(alloc, &program)?;
-    Ok((
+/// Tasks, segments, work and span.
+type Numbers = (u64, u64, u64, u64);
+
+fn numbers_of(meter: &Meter) -> Numbers {
+    (
         meter.tasks(),
         meter.segments(),
         meter.total_work(),
         meter.span(),
-    ))
+    )
 }
 
-fn assert_measured(rt: &impl Abort, alloc: Global, worked: &Worked) -> Result<(), Fail> {
+/// The numbers of a text's program.
+fn measured(alloc: Global, text: &str) -> Result<Numbers, Fail> {
+    let program = read_program(alloc, text.as_bytes())?;
+    Ok(numbers_of(&measure(alloc, &program)?))
+}
+
+/// Asserts that these are the numbers of a worked program.
+fn assert_worked(rt: &impl Abort, worked: &Worked, numbers: Numbers) {
     assert_eq!(rt;
-        measured(alloc, worked.text)?,
+        numbers,
         (worked.tasks, worked.segments, worked.work, worked.span),
         "{}",
         worked.text
     );
-    Ok(())
 }
 
 #[test]
 fn worked_programs(rt: HostRuntime) -> Result<(), Fail> {
     for worked in &WORKED {
-        assert_measured(&rt, rt.alloc(), worked)?;
+        assert_worked(&rt, worked, measured(rt.alloc(), worked.text)?);
     }
     Ok(())
 }

@@ -2,11 +2,13 @@
 ghost use Rattle.std.specs.Prelude.{◌≤◌, length};
 ghost use Rattle.large_text.specs.declared.limits.TheConstants.{LARGEST_PIECE};
 
+use super::{Numbers, numbers_of};
 use large_text::fault::LargeFault;
 use large_text::{TextMeter, measure_text};
 use online_span::Meter;
 use program_text::fault::ReadKind;
 use std::alloc::Global;
+use std::process::Abort;
 use std::test::Fail;
 
 /// With comments, CR and names to cut, and with faults early, late and at the end.
@@ -21,17 +23,12 @@ static TEXTS: [&str; 8] = [
     "",
 ];
 
-/// Tasks, segments, work and span; or the fault and its line.
-type Told = Result<(u64, u64, u64, u64), (ReadKind, u64)>;
+/// The numbers of a text, or its fault and the line.
+type Told = Result<Numbers, (ReadKind, u64)>;
 
 fn told(measured: Result<Meter, LargeFault>) -> Told {
     match measured {
-        Ok(meter) => Ok((
-            meter.tasks(),
-            meter.segments(),
-            meter.total_work(),
-            meter.span(),
-        )),
+        Ok(meter) => Ok(numbers_of(&meter)),
         Err(fault) => Err((fault.kind, fault.line)),
     }
 }
@@ -59,6 +56,11 @@ fn by_bytes(alloc: Global, text: &[u8]) -> Result<Meter, LargeFault>
     meter.finish()
 }
 
+/// Asserts what is told of a text that was cut there, or into its bytes.
+fn assert_told(rt: &impl Abort, told: Told, whole: Told, text: &str, cut: Option<usize>) {
+    assert_eq!(rt; told, whole, "{text} at {cut:?}");
+}
+
 #[test]
 fn any_cut(rt: HostRuntime) -> Result<(), Fail> {
     for text in &TEXTS {
@@ -66,13 +68,10 @@ fn any_cut(rt: HostRuntime) -> Result<(), Fail> {
         assert!(&rt; bytes.len() < 1000);
         let whole = told(measure_text(rt.alloc(), bytes));
         for cut in 0..bytes.len() + 1 {
-            assert_eq!(&rt;
-                told(in_two(rt.alloc(), bytes, cut)),
-                whole,
-                "{text} at {cut}"
-            );
+            let cut_there = told(in_two(rt.alloc(), bytes, cut));
+            assert_told(&rt, cut_there, whole, text, Some(cut));
         }
-        assert_eq!(&rt; told(by_bytes(rt.alloc(), bytes)), whole, "{text}");
+        assert_told(&rt, told(by_bytes(rt.alloc(), bytes)), whole, text, None);
     }
     Ok(())
 }
