@@ -145,20 +145,45 @@ fn worked_program_in_order(rt: HostRuntime) -> Result<(), Fail> {
     Ok(check_graph(&rt, alloc, &graph, WORKED_PREDS)?)
 }
 
+/// A run of the worked program by two workers.
+const EVENTS: &[Event] = &[
+    Event::Start {
+        worker: 0,
+        segment: 0,
+    },
+    Event::Finish {
+        worker: 0,
+        segment: 0,
+    },
+    Event::Start {
+        worker: 0,
+        segment: 2,
+    },
+    Event::Finish {
+        worker: 0,
+        segment: 2,
+    },
+    Event::Start {
+        worker: 1,
+        segment: 1,
+    },
+    Event::Finish {
+        worker: 1,
+        segment: 1,
+    },
+    Event::Start {
+        worker: 0,
+        segment: 3,
+    },
+    Event::Finish {
+        worker: 0,
+        segment: 3,
+    },
+];
+
 #[test]
 fn worked_replay(rt: HostRuntime) -> Result<(), Fail> {
-    let alloc = rt.alloc();
-    let events = [
-        start(0, 0),
-        finish(0, 0),
-        start(0, 2),
-        finish(0, 2),
-        start(1, 1),
-        finish(1, 1),
-        start(0, 3),
-        finish(0, 3),
-    ];
-    let core = worked_run(alloc, &events)?;
+    let core = worked_run(rt.alloc(), EVENTS)?;
     let state = (core.is_finished(), event_count(&core), core.value(0));
     assert_eq!(rt; state, (true, 8, Some(781)));
     Ok(())
@@ -175,39 +200,49 @@ fn replay_cut_short(rt: HostRuntime) -> Result<(), Fail> {
     Ok(())
 }
 
-#[test]
-fn refused_events(rt: HostRuntime) -> Result<(), Fail> {
-    let alloc = rt.alloc();
-    let cases = [
-        (start(64, 0), StartRefusal::UnknownWorker),
-        (start(0, 4), StartRefusal::UnknownSegment),
-        (start(0, 3), StartRefusal::NotReady { pred: 1 }),
-    ];
-    for (event, refusal) in cases {
-        match replay(alloc, table_of_body(alloc, WORKED)?, &[event]) {
-            Ok(_) => assert!(rt; false, "accepted"),
-            Err((fault, _)) => assert_eq!(rt;
-                fault,
-                ReplayFault::At {
-                    index: 0,
-                    refusal: ReplayRefusal::OfStart(refusal)
-                }
-            ),
-        }
+/// Why a start is refused, as the first event of the worked program.
+fn refusal_of(alloc: Global, event: Event) -> Result<ReplayFault, Fail> {
+    match replay(alloc, table_of_body(alloc, WORKED)?, &[event]) {
+        Ok(_) => Err("accepted".into()),
+        Err((fault, _)) => Ok(fault),
     }
+}
+
+/// This start is refused as the first event of the worked program, for this reason.
+fn check_refused(
+    rt: &impl Abort,
+    alloc: Global,
+    event: Event,
+    refusal: StartRefusal,
+) -> Result<(), Fail> {
+    let wanted = ReplayFault::At {
+        index: 0,
+        refusal: ReplayRefusal::OfStart(refusal),
+    };
+    assert_eq!(rt; refusal_of(alloc, event)?, wanted);
     Ok(())
 }
 
+#[test]
+fn refused_events(rt: HostRuntime) -> Result<(), Fail> {
+    let alloc = rt.alloc();
+    check_refused(&rt, alloc, start(64, 0), StartRefusal::UnknownWorker)?;
+    check_refused(&rt, alloc, start(0, 4), StartRefusal::UnknownSegment)?;
+    check_refused(&rt, alloc, start(0, 3), StartRefusal::NotReady { pred: 1 })
+}
+
+/// A worker, a result, and why it is refused.
+const REFUSALS: &[(u32, (u32, u64, u64, u64), FinishKind)] = &[
+    (0, (2, 2, 781, 19581), FinishKind::NotRunning),
+    (0, (1, 4, 781, 488906), FinishKind::WrongCost),
+    (0, (1, 3, 0, 156), FinishKind::WrongInput),
+    (1, (1, 3, 781, 97781), FinishKind::NotRunning),
+];
+
 /// Results that are refused while worker 0 runs segment 1 of the worked program.
 fn check_refusals(rt: &impl Abort, core: &mut Core<MixKernel>) -> Result<(), Fail> {
-    let cases = [
-        (0, (2, 2, 781, 19581), FinishKind::NotRunning),
-        (0, (1, 4, 781, 488906), FinishKind::WrongCost),
-        (0, (1, 3, 0, 156), FinishKind::WrongInput),
-        (1, (1, 3, 781, 97781), FinishKind::NotRunning),
-    ];
-    for (worker, fields, kind) in cases {
-        check_refusal(rt, core, worker, fields, kind)?;
+    for (worker, fields, kind) in REFUSALS {
+        check_refusal(rt, core, *worker, *fields, *kind)?;
         assert_eq!(rt; event_count(core), 3);
     }
     Ok(())

@@ -271,22 +271,24 @@ fn check_other(rt: &impl Abort, one: &SegTable, other: &SegTable) {
     assert!(rt; !one.same(other) && !other.same(one));
 }
 
+/// Two programs of which the tables differ.
+const PAIRS: &[(&str, &str)] = &[
+    (
+        "work 5 task { work 3 } work 2 taskwait work 1",
+        "work 5 task { work 3 } work 2 work 1",
+    ),
+    ("task depend(in: x) { }", "task depend(out: x) { }"),
+    ("task depend(in: x) { }", "task depend(in: x, y) { }"),
+    ("task { } work 1", "task if(0) { } work 1"),
+    ("work 1 taskwait", "work 2 taskwait"),
+    ("taskwait", "taskgroup { }"),
+    ("task { } taskgroup { }", "taskgroup { task { } }"),
+];
+
 #[test]
 fn other_programs_are_not_the_same(rt: HostRuntime) -> Result<(), Fail> {
     let alloc = rt.alloc();
-    let pairs = [
-        (
-            "work 5 task { work 3 } work 2 taskwait work 1",
-            "work 5 task { work 3 } work 2 work 1",
-        ),
-        ("task depend(in: x) { }", "task depend(out: x) { }"),
-        ("task depend(in: x) { }", "task depend(in: x, y) { }"),
-        ("task { } work 1", "task if(0) { } work 1"),
-        ("work 1 taskwait", "work 2 taskwait"),
-        ("taskwait", "taskgroup { }"),
-        ("task { } taskgroup { }", "taskgroup { task { } }"),
-    ];
-    for (one, other) in pairs {
+    for (one, other) in PAIRS {
         check_other(
             &rt,
             &table_of_body(alloc, one)?,

@@ -8,25 +8,27 @@ use dispatch_core::kernel::{Kernel, KernelFault, SegResult};
 use std::process::Abort;
 use std::test::Fail;
 
+/// A program, and the predecessors of each segment.
+const PROGRAMS: &[(&str, &str)] = &[
+    (
+        "task depend(inoutset: x) { work 4 } task depend(inoutset: x) { work 6 } task \
+            depend(in: x) { work 1 } task depend(inoutset: x) { work 2 } task depend(out: x) { \
+            work 1 }",
+        "0:; 1: 0; 2: 0; 3: 2; 4: 2; 5: 1 3 4; 6: 4; 7: 5 6; 8: 6; 9: 7 8; 10: 8; ",
+    ),
+    (
+        "task depend(in: x) depend(inoutset: x) { work 3 } task depend(in: x) depend(inoutset: \
+            x) { work 3 }",
+        "0:; 1: 0; 2: 0; 3: 1 2; 4: 2; ",
+    ),
+];
+
 /// In each, the first segment of a task has the task's creator and the last segments of its kept
 /// siblings.
 #[test]
 fn graphs_of_siblings(rt: HostRuntime) -> Result<(), Fail> {
     let alloc = rt.alloc();
-    let programs = [
-        (
-            "task depend(inoutset: x) { work 4 } task depend(inoutset: x) { work 6 } task \
-            depend(in: x) { work 1 } task depend(inoutset: x) { work 2 } task depend(out: x) { \
-            work 1 }",
-            "0:; 1: 0; 2: 0; 3: 2; 4: 2; 5: 1 3 4; 6: 4; 7: 5 6; 8: 6; 9: 7 8; 10: 8; ",
-        ),
-        (
-            "task depend(in: x) depend(inoutset: x) { work 3 } task depend(in: x) depend(inoutset: \
-            x) { work 3 }",
-            "0:; 1: 0; 2: 0; 3: 1 2; 4: 2; ",
-        ),
-    ];
-    for (body, predecessors) in programs {
+    for (body, predecessors) in PROGRAMS {
         check_graph(&rt, alloc, &graph_of_body(alloc, body)?, predecessors)?;
     }
     Ok(())
@@ -77,12 +79,15 @@ fn check_adding(
     Ok(())
 }
 
+/// The segment, the cost, the input and the value of each segment of the worked program.
+const ADDED: &[(u32, u64, u64, u64)] = &[(0, 5, 0, 5), (1, 3, 5, 8), (2, 2, 5, 7), (3, 1, 15, 16)];
+
 #[test]
 fn a_run_with_another_kernel(rt: HostRuntime) -> Result<(), Fail> {
     assert!(rt; SegResult::compute(&AddingKernel, 0, 0, 7).is_err());
     let mut core = new_core(rt.alloc(), WORKED)?;
-    for fields in [(0, 5, 0, 5), (1, 3, 5, 8), (2, 2, 5, 7), (3, 1, 15, 16)] {
-        check_adding(&rt, &mut core, fields)?;
+    for fields in ADDED {
+        check_adding(&rt, &mut core, *fields)?;
     }
     assert!(rt; core.into_graph().is_ok());
     Ok(())

@@ -52,33 +52,34 @@ fn check_edges(rt: &impl Abort, core: Core<MixKernel>, edges: u64, body: &str) -
     Ok(())
 }
 
-#[test]
-fn values_of_programs(rt: HostRuntime) -> Result<(), Fail> {
-    let alloc = rt.alloc();
-    let programs: [(&str, &[u64], u64); 4] = [
-        (
-            "work 5 task { work 3 } work 2 taskwait work 1",
-            &[781, 97781, 19581, 586826],
-            4,
-        ),
-        ("task { work 1 } task { work 1 }", &[0, 6, 2, 26, 6], 4),
-        (
-            "task { task if(0) { work 3 } work 1 } work 2",
-            &[0, 1, 406, 2051, 106],
-            5,
-        ),
-        (
-            "task depend(inoutset: x) { work 4 } task depend(inoutset: x) { work 6 } task \
+/// A program, the values of its segments, and the edges of its graph.
+const PROGRAMS: &[(&str, &[u64], u64)] = &[
+    (
+        "work 5 task { work 3 } work 2 taskwait work 1",
+        &[781, 97781, 19581, 586826],
+        4,
+    ),
+    ("task { work 1 } task { work 1 }", &[0, 6, 2, 26, 6], 4),
+    (
+        "task { task if(0) { work 3 } work 1 } work 2",
+        &[0, 1, 406, 2051, 106],
+        5,
+    ),
+    (
+        "task depend(inoutset: x) { work 4 } task depend(inoutset: x) { work 6 } task \
             depend(in: x) { work 1 } task depend(inoutset: x) { work 2 } task depend(out: x) { \
             work 1 }",
-            &[0, 781, 2, 82031, 6, 414116, 12, 10353381, 20, 51767051, 30],
-            14,
-        ),
-    ];
-    for (body, values, edges) in programs {
-        let core = run_in_order(alloc, body, values.len() as u32)?;
-        check_values(&rt, &core, values, body);
-        check_edges(&rt, core, edges, body)?;
+        &[0, 781, 2, 82031, 6, 414116, 12, 10353381, 20, 51767051, 30],
+        14,
+    ),
+];
+
+#[test]
+fn values_of_programs(rt: HostRuntime) -> Result<(), Fail> {
+    for (body, values, edges) in PROGRAMS {
+        let core = run_in_order(rt.alloc(), body, values.len() as u32)?;
+        check_values(&rt, &core, *values, body);
+        check_edges(&rt, core, *edges, body)?;
     }
     Ok(())
 }
@@ -164,23 +165,24 @@ fn check_open(
     Ok(())
 }
 
+/// A segment, those that it makes ready, all that are ready after it, and the predecessors of
+/// segments 3 and 5.
+const STEPS: &[(u32, &[u32], &[u32], Option<&[u32]>, Option<&[u32]>)] = &[
+    (0, &[1, 2], &[1, 2], None, None),
+    (2, &[4], &[1, 4], Some(&[1, 2]), None),
+    (4, &[6], &[1, 6], Some(&[1, 2]), Some(&[1, 4])),
+    (1, &[3, 5], &[3, 5, 6], Some(&[1, 2]), Some(&[1, 4])),
+];
+
 /// Readers that open while their writer runs: its finish makes them ready, and they are recorded as
 /// they open.
 #[test]
 fn siblings_open_before_they_are_ready(rt: HostRuntime) -> Result<(), Fail> {
     let body = "task depend(out: x) { } task depend(in: x) { } task depend(in: x) { }";
     let mut core = new_core(rt.alloc(), body)?;
-    // A segment, those that it makes ready, all that are ready after it, and the predecessors of
-    // segments 3 and 5.
-    let steps: [(u32, &[u32], &[u32], Option<&[u32]>, Option<&[u32]>); 4] = [
-        (0, &[1, 2], &[1, 2], None, None),
-        (2, &[4], &[1, 4], Some(&[1, 2]), None),
-        (4, &[6], &[1, 6], Some(&[1, 2]), Some(&[1, 4])),
-        (1, &[3, 5], &[3, 5, 6], Some(&[1, 2]), Some(&[1, 4])),
-    ];
-    for (segment, becomes, ready, third, fifth) in steps {
-        check_step(&rt, &mut core, segment, becomes)?;
-        check_open(&rt, &core, ready, third, fifth)?;
+    for (segment, becomes, ready, third, fifth) in STEPS {
+        check_step(&rt, &mut core, *segment, *becomes)?;
+        check_open(&rt, &core, *ready, *third, *fifth)?;
     }
     Ok(())
 }

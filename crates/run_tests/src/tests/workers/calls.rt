@@ -186,21 +186,22 @@ fn starts_by_one<R: Threads + Wait + Sync>(
     Ok(starts_of(alloc, &made)?)
 }
 
+/// A program, and its segments in the order in which one worker starts them.
+const STARTS: &[(&str, &[u32])] = &[
+    (WORKED, &[0, 1, 2, 3]),
+    (
+        "task depend(out: a) { work 1 } task depend(in: a) { work 1 } task depend(in: a) { work 1 \
+        }",
+        &[0, 1, 2, 3, 4, 5, 6],
+    ),
+];
+
 /// Two readers become ready by the end of one writer, and each creation by the segment before it.
 /// What is put first goes first, and of what becomes ready at once the lowest is put first.
 #[test]
 fn one_worker_goes_first_in_first_out(rt: HostRuntime) -> Result<(), Fail> {
-    let alloc = rt.alloc();
-    let rows = [
-        (WORKED, [0, 1, 2, 3].as_slice()),
-        (
-            "task depend(out: a) { work 1 } task depend(in: a) { work 1 } task depend(in: a) { \
-            work 1 }",
-            [0, 1, 2, 3, 4, 5, 6].as_slice(),
-        ),
-    ];
-    for (body, starts) in rows {
-        assert_eq!(rt; starts_by_one(&rt, alloc, body)?.as_slice(), starts);
+    for (body, starts) in STARTS {
+        assert_eq!(rt; starts_by_one(&rt, rt.alloc(), body)?.as_slice(), *starts);
     }
     Ok(())
 }
