@@ -1,9 +1,9 @@
 //! Worked certificates, changed in one place each, and cut short.
 use span_cert::{CheckFault, Checked, check};
 use std::alloc::Global;
+use std::process::Abort;
 use std::test::Fail;
 use std::thread::Threads;
-use task_program::fault::{ReadFault, ReadKind};
 
 mod changed;
 mod forms;
@@ -27,47 +27,72 @@ fn worked(alloc: Global) -> Result<String, Fail> {
     Ok(format!(in alloc; "{PROGRAM}---\n{SCHEDULE}{CHAIN}")?)
 }
 
-/// What `check` answers for a document.
-fn answer_to(
-    rt: &(impl Threads + Sync),
-    alloc: Global,
-    document: &[u8],
-) -> Result<Checked, CheckFault> {
+/// What `check` answers.
+type Answer = Result<Checked, CheckFault>;
+
+fn answer_to(rt: &(impl Threads + Sync), alloc: Global, document: &[u8]) -> Answer {
     check(rt, alloc, document)
 }
 
 /// What `check` answers for the worked certificate.
-const ACCEPTED: Result<Checked, CheckFault> = Ok(Checked {
+const ACCEPTED: Answer = Ok(Checked {
     segments: 4,
     ends_at: 9,
 });
 
-/// A certificate that holds.
-fn holds(segments: u32, ends_at: u64) -> Result<Checked, CheckFault> {
-    Ok(Checked { segments, ends_at })
+/// Asserts what `check` answers for a document.
+fn assert_answer(
+    rt: &(impl Threads + Abort + Sync),
+    alloc: Global,
+    document: &str,
+    wanted: Answer,
+) {
+    assert_eq!(rt;
+        answer_to(rt, alloc, document.as_bytes()),
+        wanted,
+        "{document}"
+    );
 }
 
-/// Segment t starts before segment s ends, and these are the first.
-fn broken(s: u32, t: u32) -> Result<Checked, CheckFault> {
-    Err(CheckFault::Broken { s, t })
+/// Asserts what `check` answers for the worked program with this claim.
+fn assert_claim(
+    rt: &(impl Threads + Abort + Sync),
+    alloc: Global,
+    claim: &str,
+    wanted: Answer,
+) -> Result<(), Fail> {
+    let text = document(alloc, claim)?;
+    assert_answer(rt, alloc, text.as_str(), wanted);
+    Ok(())
 }
 
-/// In the chain t follows s, and need not wait for it.
-fn bad_step(s: u32, t: u32) -> Result<Checked, CheckFault> {
-    Err(CheckFault::ChainStep { s, t })
-}
-
-/// A program text that is refused.
-fn bad_program(kind: ReadKind, line: u32) -> Result<Checked, CheckFault> {
-    Err(CheckFault::BadProgram(ReadFault { kind, line }))
+/// Asserts that `check` answers the same for the worked program with each of these claims.
+fn assert_claims(
+    rt: &(impl Threads + Abort + Sync),
+    alloc: Global,
+    claims: &[&str],
+    wanted: Answer,
+) -> Result<(), Fail> {
+    for claim in claims {
+        assert_claim(rt, alloc, claim, wanted)?;
+    }
+    Ok(())
 }
 
 #[test]
 fn worked_certificates_hold(rt: HostRuntime) -> Result<(), Fail> {
     let alloc = rt.alloc();
     let text = worked(alloc)?;
-    assert_eq!(rt; answer_to(&rt, alloc, text.as_bytes()), ACCEPTED);
-    let empty = b"omptasks 1\n---\nend 0\nstart 0 0\nchain 0\n";
-    assert_eq!(rt; answer_to(&rt, alloc, empty), holds(1, 0));
+    assert_answer(&rt, alloc, text.as_str(), ACCEPTED);
+    let empty = "omptasks 1\n---\nend 0\nstart 0 0\nchain 0\n";
+    assert_answer(
+        &rt,
+        alloc,
+        empty,
+        Ok(Checked {
+            segments: 1,
+            ends_at: 0,
+        }),
+    );
     Ok(())
 }

@@ -10,6 +10,7 @@ use greedy_sim::curve::curve;
 use greedy_sim::greedy::{GreedyFault, bound, greedy};
 use std::alloc::Global;
 use std::fmt::Write;
+use std::process::Abort;
 use std::test::Fail;
 use std::thread::Threads;
 
@@ -35,25 +36,39 @@ fn rows(alloc: Global, text: &str, threads: u32) -> Result<String, Fail> {
     Ok(rows)
 }
 
+/// A text, a number of threads, and the rows of the run.
+const RUNS: &[(&str, u32, &str)] = &[
+    (WORKED, 2, "0,0,5,0; 1,5,8,0; 2,5,7,1; 3,8,9,0; end 9"),
+    (WORKED, 1, "0,0,5,0; 1,5,8,0; 2,8,10,0; 3,10,11,0; end 11"),
+    (WORKED, 1_024, "0,0,5,0; 1,5,8,0; 2,5,7,1; 3,8,9,0; end 9"),
+    (
+        CHILDREN,
+        2,
+        "0,0,0,; 1,0,1,0; 2,0,0,; 3,0,1,1; 4,0,0,; 5,1,3,0; 6,0,0,; end 3",
+    ),
+    (
+        "omptasks 1\ntaskgroup { } taskwait",
+        1,
+        "0,0,0,; 1,0,0,; 2,0,0,; end 0",
+    ),
+];
+
+/// Asserts the rows of a run.
+fn assert_rows(
+    rt: &impl Abort,
+    alloc: Global,
+    text: &str,
+    threads: u32,
+    wanted: &str,
+) -> Result<(), Fail> {
+    assert_eq!(rt; rows(alloc, text, threads)?.as_str(), wanted);
+    Ok(())
+}
+
 #[test]
 fn worked_runs(rt: HostRuntime) -> Result<(), Fail> {
-    let alloc = rt.alloc();
-    for (text, threads, wanted) in [
-        (WORKED, 2, "0,0,5,0; 1,5,8,0; 2,5,7,1; 3,8,9,0; end 9"),
-        (WORKED, 1, "0,0,5,0; 1,5,8,0; 2,8,10,0; 3,10,11,0; end 11"),
-        (WORKED, 1_024, "0,0,5,0; 1,5,8,0; 2,5,7,1; 3,8,9,0; end 9"),
-        (
-            CHILDREN,
-            2,
-            "0,0,0,; 1,0,1,0; 2,0,0,; 3,0,1,1; 4,0,0,; 5,1,3,0; 6,0,0,; end 3",
-        ),
-        (
-            "omptasks 1\ntaskgroup { } taskwait",
-            1,
-            "0,0,0,; 1,0,0,; 2,0,0,; end 0",
-        ),
-    ] {
-        assert_eq!(rt; rows(alloc, text, threads)?.as_str(), wanted);
+    for (text, threads, wanted) in RUNS {
+        assert_rows(&rt, rt.alloc(), text, *threads, wanted)?;
     }
     Ok(())
 }
@@ -62,11 +77,8 @@ fn worked_runs(rt: HostRuntime) -> Result<(), Fail> {
 #[test]
 fn a_run_by_no_levels(rt: HostRuntime) -> Result<(), Fail> {
     let text = "omptasks 1\ntask { work 7 } taskgroup { task { work 1 } } work 1";
-    assert_eq!(rt;
-        rows(rt.alloc(), text, 2)?.as_str(),
-        "0,0,0,; 1,0,7,0; 2,0,0,; 3,0,1,1; 4,0,0,; 5,1,2,1; end 7"
-    );
-    Ok(())
+    let wanted = "0,0,0,; 1,0,7,0; 2,0,0,; 3,0,1,1; 4,0,0,; 5,1,2,1; end 7";
+    assert_rows(&rt, rt.alloc(), text, 2, wanted)
 }
 
 /// The ends of a program on one thread up to so many.
@@ -79,14 +91,24 @@ fn ends_of(
     Ok(curve(rt, alloc, &graph_of(alloc, text)?, threads)?)
 }
 
+/// Asserts the ends of a program on one thread up to so many.
+fn assert_ends(
+    rt: &(impl Threads + Abort + Sync),
+    alloc: Global,
+    text: &str,
+    threads: u32,
+    wanted: &[u64],
+) -> Result<(), Fail> {
+    let ends = ends_of(rt, alloc, text, threads)?;
+    assert_eq!(rt; ends.as_slice(), wanted);
+    Ok(())
+}
+
 #[test]
 fn worked_curves(rt: HostRuntime) -> Result<(), Fail> {
-    let alloc = rt.alloc();
-    let ends = ends_of(&rt, alloc, CHILDREN, 3)?;
-    assert_eq!(rt; ends.as_slice(), [4, 3, 2].as_slice());
-    let ends = ends_of(&rt, alloc, WORKED, 2)?;
-    assert_eq!(rt; ends.as_slice(), [11, 9].as_slice());
-    let ends = ends_of(&rt, alloc, CHILDREN, 1_024)?;
+    assert_ends(&rt, rt.alloc(), CHILDREN, 3, &[4, 3, 2])?;
+    assert_ends(&rt, rt.alloc(), WORKED, 2, &[11, 9])?;
+    let ends = ends_of(&rt, rt.alloc(), CHILDREN, 1_024)?;
     assert_eq!(rt; ends.len(), 1_024);
     Ok(())
 }

@@ -242,23 +242,24 @@ fn programs_of_examples(rt: HostRuntime) -> Result<(), Fail> {
     Ok(())
 }
 
+/// The starts of a schedule of the worked program, and whether it is legal.
+const SCHEDULES: &[(&[u64], bool)] = &[
+    (&[0, 5, 5, 8], true),
+    (&[0, 6, 5, 9], true),
+    (&[0, 5, 5, 7], false),
+    (&[0, 5, 5], false),
+    (&[0, 5, 5, 8, 0], false),
+    (&[], false),
+    (&[18446744073709551615, 0, 0, 0], false),
+    (&[0, 18446744073709551612, 5, 18446744073709551615], true),
+    (&[0, 18446744073709551613, 5, 18446744073709551615], false),
+];
+
 #[test]
 fn schedules_of_the_worked_program(rt: HostRuntime) -> Result<(), Fail> {
-    let alloc = rt.alloc();
-    let graph = graph_of(alloc, WORKED_PROGRAM)?;
-    let schedules: [(&[u64], bool); 9] = [
-        (&[0, 5, 5, 8], true),
-        (&[0, 6, 5, 9], true),
-        (&[0, 5, 5, 7], false),
-        (&[0, 5, 5], false),
-        (&[0, 5, 5, 8, 0], false),
-        (&[], false),
-        (&[18446744073709551615, 0, 0, 0], false),
-        (&[0, 18446744073709551612, 5, 18446744073709551615], true),
-        (&[0, 18446744073709551613, 5, 18446744073709551615], false),
-    ];
-    for (starts, legal) in schedules {
-        assert_eq!(rt; is_legal(&graph, starts), legal);
+    let graph = graph_of(rt.alloc(), WORKED_PROGRAM)?;
+    for (starts, legal) in SCHEDULES {
+        assert_eq!(rt; is_legal(&graph, *starts), *legal);
     }
     Ok(())
 }

@@ -4,6 +4,7 @@ ghost use Rattle.std.specs.Prelude.{◌≡◌, ◌<◌, length};
 mod changes;
 
 use crate::tests::graph_of;
+use crate::tests::what_if::changes::MOST;
 use std::alloc::Global;
 use std::process::Abort;
 use std::test::Fail;
@@ -67,15 +68,17 @@ fn a_raised_cost_and_back(rt: HostRuntime) -> Result<(), Fail> {
     Ok(())
 }
 
+/// A trial of the worked program.
+fn worked_trial(alloc: Global) -> Result<WhatIf, Fail> {
+    match WhatIf::new(alloc, graph_of(alloc, WORKED)?) {
+        Ok(trial) => Ok(trial),
+        Err(_) => Err("memory".into()),
+    }
+}
+
 /// What the last of some changes of the worked program answers, and the totals after it.
-fn after(
-    alloc: Global,
-    changes: &[(u32, u64)],
-) -> Result<(Result<u64, WhatFault>, (u64, u64)), Fail> {
-    let mut trial = match WhatIf::new(alloc, graph_of(alloc, WORKED)?) {
-        Ok(trial) => trial,
-        Err(_) => return Err("memory".into()),
-    };
+fn after(alloc: Global, changes: &[(u32, u64)]) -> Result<Answers, Fail> {
+    let mut trial = worked_trial(alloc)?;
     let mut answer = Ok(trial.span());
     for (segment, cost) in changes {
         answer = set(&mut trial, *segment, *cost);
@@ -83,47 +86,54 @@ fn after(
     Ok((answer, totals(&trial)))
 }
 
+/// What the last of some changes answers, and the totals after it.
+type Answers = (Result<u64, WhatFault>, (u64, u64));
+
+/// Changes in this order, and what they answer.
+const CHANGES: &[(&[(u32, u64)], Answers)] = &[
+    (&[], (Ok(9), (11, 9))),
+    (&[(2, 3)], (Ok(9), (12, 9))),
+    (&[(2, 4)], (Ok(10), (13, 10))),
+    (&[(2, 4), (1, 5)], (Ok(11), (15, 11))),
+    (&[(2, 4), (2, 2)], (Ok(9), (11, 9))),
+    (
+        &[(2, 4), (4, 1)],
+        (Err(WhatFault::UnknownSegment), (13, 10)),
+    ),
+    (&[(4, 1), (2, 4)], (Ok(10), (13, 10))),
+];
+
 #[test]
 fn changes_in_order(rt: HostRuntime) -> Result<(), Fail> {
-    let rows: [(&[(u32, u64)], _, _); 7] = [
-        (&[], Ok(9), (11, 9)),
-        (&[(2, 3)], Ok(9), (12, 9)),
-        (&[(2, 4)], Ok(10), (13, 10)),
-        (&[(2, 4), (1, 5)], Ok(11), (15, 11)),
-        (&[(2, 4), (2, 2)], Ok(9), (11, 9)),
-        (&[(2, 4), (4, 1)], Err(WhatFault::UnknownSegment), (13, 10)),
-        (&[(4, 1), (2, 4)], Ok(10), (13, 10)),
-    ];
-    for (changes, answer, totals) in rows {
-        assert_eq!(rt; after(rt.alloc(), changes)?, (answer, totals));
+    for (changes, answers) in CHANGES {
+        assert_eq!(rt; after(rt.alloc(), *changes)?, *answers);
     }
     Ok(())
 }
 
+/// A segment, its cost, and why it is refused.
+const REFUSED: &[(u32, u64, WhatFault)] = &[
+    (4, 1, WhatFault::UnknownSegment),
+    (4294967295, 18446744073709551615, WhatFault::UnknownSegment),
+    (2, MOST + 1, WhatFault::CostTooLarge),
+    (2, 18446744073709551615, WhatFault::CostTooLarge),
+    (2, MOST, WhatFault::WorkTooLarge),
+    (2, MOST - 8, WhatFault::WorkTooLarge),
+];
+
+/// Asserts what a change of a cost answers, and the totals after it.
+fn assert_set(rt: &impl Abort, trial: &mut WhatIf, segment: u32, cost: u64, wanted: Answers) {
+    let answer = set(trial, segment, cost);
+    assert_eq!(rt; (answer, totals(trial)), wanted);
+}
+
 #[test]
 fn refused_changes(rt: HostRuntime) -> Result<(), Fail> {
-    let mut trial = match WhatIf::new(rt.alloc(), graph_of(rt.alloc(), WORKED)?) {
-        Ok(trial) => trial,
-        Err(_) => return Err("memory".into()),
-    };
-    let most = 1_000_000_000_000_000;
-    let changes = [
-        (4, 1, Err(WhatFault::UnknownSegment)),
-        (
-            4294967295,
-            18446744073709551615,
-            Err(WhatFault::UnknownSegment),
-        ),
-        (2, most + 1, Err(WhatFault::CostTooLarge)),
-        (2, 18446744073709551615, Err(WhatFault::CostTooLarge)),
-        (2, most, Err(WhatFault::WorkTooLarge)),
-        (2, most - 8, Err(WhatFault::WorkTooLarge)),
-    ];
-    for (segment, cost, answer) in changes {
-        assert_eq!(rt; set(&mut trial, segment, cost), answer);
-        assert_eq!(rt; totals(&trial), (11, 9));
+    let mut trial = worked_trial(rt.alloc())?;
+    for (segment, cost, fault) in REFUSED {
+        assert_set(&rt, &mut trial, *segment, *cost, (Err(*fault), (11, 9)));
     }
-    assert_eq!(rt; set(&mut trial, 2, most - 9), Ok(most - 3));
-    assert_eq!(rt; totals(&trial).0, most);
+    assert_eq!(rt; set(&mut trial, 2, MOST - 9), Ok(MOST - 3));
+    assert_eq!(rt; totals(&trial).0, MOST);
     Ok(())
 }

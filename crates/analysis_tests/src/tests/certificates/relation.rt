@@ -1,5 +1,5 @@
 //! Chains over a pair that must precede, for which a chain of others stands too.
-use super::{answer_to, bad_step, holds};
+use super::{Answer, assert_answer};
 use span_cert::{CheckFault, Checked};
 use std::test::Fail;
 
@@ -11,22 +11,30 @@ const BEFORE: &str =
 
 const AFTER: &str = " }\ntask depend(out: x) { work 1 }\n---\n";
 
+/// The numbers of the chain, and what is answered.
+const CHAINS: &[(&str, Answer)] = &[
+    (
+        "0 2 3 5 7 9",
+        Ok(Checked {
+            segments: 11,
+            ends_at: 10,
+        }),
+    ),
+    ("0 2 3 5 9", Err(CheckFault::ChainSum)),
+    ("0 2 3 9", Err(CheckFault::ChainSum)),
+    ("0 1 3 9", Err(CheckFault::ChainStep { s: 1, t: 3 })),
+];
+
 /// Segment 9 has to wait for 5, though the way by 7 stands for that step.
 #[test]
 fn whole_relation_is_asked(rt: HostRuntime) -> Result<(), Fail> {
     let alloc = rt.alloc();
-    let rows: [(&str, Result<Checked, CheckFault>); 4] = [
-        ("0 2 3 5 7 9", holds(11, 10)),
-        ("0 2 3 5 9", Err(CheckFault::ChainSum)),
-        ("0 2 3 9", Err(CheckFault::ChainSum)),
-        ("0 1 3 9", bad_step(1, 3)),
-    ];
-    for (chain, wanted) in rows {
+    for (chain, wanted) in CHAINS {
         let text = format!(in alloc;
             "{BEFORE}2{AFTER}end 10 start 0 0 start 1 0 start 2 0 start 3 0 start 4 0 start 5 6 \
             start 6 0 start 7 7 start 8 0 start 9 9 start 10 0 chain {chain}"
         )?;
-        assert_eq!(rt; answer_to(&rt, alloc, text.as_bytes()), wanted, "{chain}");
+        assert_answer(&rt, alloc, text.as_str(), *wanted);
     }
     Ok(())
 }
@@ -40,10 +48,14 @@ fn chain_may_leave_a_segment_out(rt: HostRuntime) -> Result<(), Fail> {
             "{BEFORE}0{AFTER}end 8 start 0 0 start 1 0 start 2 0 start 3 0 start 4 0 start 5 6 \
             start 6 0 start 7 7 start 8 0 start 9 7 start 10 0 chain {chain}"
         )?;
-        assert_eq!(rt;
-            answer_to(&rt, alloc, text.as_bytes()),
-            holds(11, 8),
-            "{chain}"
+        assert_answer(
+            &rt,
+            alloc,
+            text.as_str(),
+            Ok(Checked {
+                segments: 11,
+                ends_at: 8,
+            }),
         );
     }
     Ok(())

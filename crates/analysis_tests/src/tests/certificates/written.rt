@@ -3,7 +3,7 @@ ghost use Rattle.std.specs.Prelude.{◌≡◌, IfOk};
 ghost use Rattle.counted_io.specs.Counted.{faults_of};
 ghost use Rattle.span_cert.specs.Analysed.{IsAnalysisOf};
 
-use super::{ACCEPTED, PROGRAM, answer_to, worked};
+use super::{ACCEPTED, PROGRAM, answer_to, assert_answer, worked};
 use counted_io::Counted;
 use dispatch_core::replay::in_order;
 use span_analysis::analysis::{Analysis, analyse};
@@ -13,6 +13,7 @@ use std::io;
 use std::io::{ErrorKind, Write};
 use std::process::Abort;
 use std::test::Fail;
+use std::thread::Threads;
 use task_program::AllocFault;
 use task_program::program::Program;
 use task_program::read::read_program;
@@ -128,47 +129,86 @@ fn certificates_are_written_whole(rt: HostRuntime) -> Result<(), Fail> {
     assert_written(&rt, alloc, "omptasks 01 # nothing", 1_000, empty)
 }
 
-#[test]
-fn written_certificates_are_accepted(rt: HostRuntime) -> Result<(), Fail> {
-    let alloc = rt.alloc();
-    for (text, segments, ends_at) in [
-        ("omptasks 1 work 5 task { work 3 } work 2", 3, 8),
-        ("omptasks 1 taskgroup { } taskwait", 3, 0),
-        (
-            "omptasks 1 task depend(inoutset: x) { work 4 } task depend(inoutset: x) { work 6 } \
+/// A text, how many segments it has, and where its run ends.
+const TEXTS: &[(&str, u32, u64)] = &[
+    ("omptasks 1 work 5 task { work 3 } work 2", 3, 8),
+    ("omptasks 1 taskgroup { } taskwait", 3, 0),
+    (
+        "omptasks 1 task depend(inoutset: x) { work 4 } task depend(inoutset: x) { work 6 } \
             task depend(in: x) { work 1 } task depend(inoutset: x) { work 2 } task depend(out: x) \
             { work 1 }",
-            11,
-            10,
-        ),
-        (
-            "omptasks 1 task depend(in: x) depend(inoutset: x) { work 3 } task depend(in: x) \
+        11,
+        10,
+    ),
+    (
+        "omptasks 1 task depend(in: x) depend(inoutset: x) { work 3 } task depend(in: x) \
             depend(inoutset: x) { work 3 }",
-            5,
-            6,
-        ),
-        (
-            "omptasks 1 task depend(out: x) { work 9 } task if(0) depend(in: x) { work 1 } work 1",
-            5,
-            11,
-        ),
-        (
-            "omptasks 1 task if(0) { task { work 8 } work 1 } work 2",
-            5,
-            8,
-        ),
-        (
-            "omptasks 1 taskgroup { task { task { work 8 } } } work 2",
-            6,
-            10,
-        ),
-        ("omptasks 1 work 1000000000000", 1, 1_000_000_000_000),
-    ] {
-        let (answer, taken) = written(alloc, text, Sink::new(alloc, 100, None))?;
-        assert_eq!(rt; answer, Ok(()));
-        let checked = Checked { segments, ends_at };
-        assert_eq!(rt; answer_to(&rt, alloc, &taken), Ok(checked), "{text}");
+        5,
+        6,
+    ),
+    (
+        "omptasks 1 task depend(out: x) { work 9 } task if(0) depend(in: x) { work 1 } work 1",
+        5,
+        11,
+    ),
+    (
+        "omptasks 1 task if(0) { task { work 8 } work 1 } work 2",
+        5,
+        8,
+    ),
+    (
+        "omptasks 1 taskgroup { task { task { work 8 } } } work 2",
+        6,
+        10,
+    ),
+    ("omptasks 1 work 1000000000000", 1, 1_000_000_000_000),
+];
+
+/// Asserts that the certificate of a text is written and accepted.
+fn assert_accepted(
+    rt: &(impl Threads + Abort + Sync),
+    alloc: Global,
+    text: &str,
+    wanted: Checked,
+) -> Result<(), Fail> {
+    let (answer, taken) = written(alloc, text, Sink::new(alloc, 100, None))?;
+    let told = (answer, answer_to(rt, alloc, &taken));
+    assert_eq!(rt; told, (Ok(()), Ok(wanted)), "{text}");
+    Ok(())
+}
+
+#[test]
+fn written_certificates_are_accepted(rt: HostRuntime) -> Result<(), Fail> {
+    for (text, segments, ends_at) in TEXTS {
+        let (segments, ends_at) = (*segments, *ends_at);
+        assert_accepted(&rt, rt.alloc(), text, Checked { segments, ends_at })?;
     }
+    Ok(())
+}
+
+/// The bytes of each call, the call that fails, how it fails, and the bytes that are taken.
+const FAILED: &[(usize, u32, ErrorKind, usize)] = &[
+    (1_000, 0, ErrorKind::Other, 0),
+    (50, 0, ErrorKind::Interrupted, 0),
+    (50, 1, ErrorKind::Other, 50),
+    (50, 2, ErrorKind::Interrupted, 100),
+    // it takes no byte
+    (0, 9, ErrorKind::Other, 0),
+];
+
+/// Asserts that a failed write of the worked certificate leaves so many of its first bytes.
+fn assert_prefix(
+    rt: &impl Abort,
+    alloc: Global,
+    sink: Counted<Sink>,
+    whole: &[u8],
+    taken: usize,
+) -> Result<(), Fail>
+    requires { faults_of sink ≡ 0 }
+{
+    let (answer, prefix) = written(alloc, PROGRAM, sink)?;
+    assert_eq!(rt; answer, Err(WriteFault::Device));
+    assert_eq!(rt; prefix.as_slice(), &whole[..taken.min(whole.len())]);
     Ok(())
 }
 
@@ -176,25 +216,10 @@ fn written_certificates_are_accepted(rt: HostRuntime) -> Result<(), Fail> {
 fn failed_writes_leave_a_prefix(rt: HostRuntime) -> Result<(), Fail> {
     let alloc = rt.alloc();
     let whole = worked(alloc)?;
-    for (piece, call, kind, taken) in [
-        (1_000, 0, ErrorKind::Other, 0),
-        (50, 0, ErrorKind::Interrupted, 0),
-        (50, 1, ErrorKind::Other, 50),
-        (50, 2, ErrorKind::Interrupted, 100),
-        // it takes no byte
-        (0, 9, ErrorKind::Other, 0),
-    ] {
-        let (answer, prefix) = written(
-            alloc,
-            PROGRAM,
-            Sink::new(alloc, piece, Some((call, kind))),
-        )?;
-        assert_eq!(rt; answer, Err(WriteFault::Device));
-        assert_eq!(rt;
-            prefix.as_slice(),
-            &whole.as_bytes()[..taken.min(whole.len())]
-        );
+    for (piece, call, kind, taken) in FAILED {
+        let sink = Sink::new(alloc, *piece, Some((*call, *kind)));
+        assert_prefix(&rt, alloc, sink, whole.as_bytes(), *taken)?;
     }
-    assert_eq!(rt; answer_to(&rt, alloc, whole.as_bytes()), ACCEPTED);
+    assert_answer(&rt, alloc, whole.as_str(), ACCEPTED);
     Ok(())
 }

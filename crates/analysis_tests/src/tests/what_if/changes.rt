@@ -12,7 +12,7 @@ use task_program::AllocFault;
 use whatif_costs::fault::WhatFault;
 use whatif_costs::what_if::WhatIf;
 
-const MOST: u64 = 1_000_000_000_000_000;
+pub(super) const MOST: u64 = 1_000_000_000_000_000;
 
 /// A generator of numbers that look random.
 #[derive(Drop)]
@@ -201,21 +201,27 @@ fn compare(alloc: Global, text: &str, calls: u32) -> Result<Counts, Fail> {
     Ok(counts)
 }
 
-#[test]
-fn a_thousand_changes(rt: HostRuntime) -> Result<(), Fail> {
-    let texts = [
-        WORKED,
-        "omptasks 1\ntask depend(inoutset: x) { work 4 } task depend(inoutset: x) { work 6 } task \
+const TEXTS: &[&str] = &[
+    WORKED,
+    "omptasks 1\ntask depend(inoutset: x) { work 4 } task depend(inoutset: x) { work 6 } task \
         depend(in: x) { work 1 } task depend(inoutset: x) { work 2 } task depend(out: x) { work 1 \
         }",
-        "omptasks 1\ntask { work 1 } task { work 1 } task { work 2 }",
-    ];
-    for text in texts {
+    "omptasks 1\ntask { work 1 } task { work 1 } task { work 2 }",
+];
+
+/// Whether each answer came often.
+fn has_all_answers(counts: &Counts) -> bool {
+    counts.accepted > 500
+        && counts.unknown_segment > 10
+        && counts.cost_too_large > 10
+        && counts.work_too_large > 10
+}
+
+#[test]
+fn a_thousand_changes(rt: HostRuntime) -> Result<(), Fail> {
+    for text in TEXTS {
         let counts = compare(rt.alloc(), text, 1000)?;
-        assert!(rt; counts.accepted > 500, "{counts:?}");
-        assert!(rt; counts.unknown_segment > 10, "{counts:?}");
-        assert!(rt; counts.cost_too_large > 10, "{counts:?}");
-        assert!(rt; counts.work_too_large > 10, "{counts:?}");
+        assert!(rt; has_all_answers(&counts), "{counts:?}");
     }
     Ok(())
 }
