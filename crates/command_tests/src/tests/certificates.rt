@@ -9,76 +9,78 @@ const CHECK: [&str; 2] = ["spanprof", "check"];
 
 const ACCEPTED: &str = "accepted\nsegments 4\nend 9\n";
 
+/// A claim, and what is told.
+const CHANGED_CLAIMS: &[(&str, &str)] = &[
+    (
+        "end 9\nstart 0 0 start 1 5 start 2 5 start 3 7\nchain 0 1 3\n",
+        "error: Broken 1 3\n",
+    ),
+    (
+        "end 10\nstart 0 0 start 1 5 start 2 5 start 3 8\nchain 0 1 3\n",
+        "error: EndWrong\n",
+    ),
+    (
+        "end 9\nstart 0 0 start 1 5 start 2 5 start 3 9\nchain 0 1 3\n",
+        "error: EndWrong\n",
+    ),
+    (
+        "end 9\nstart 0 0 start 1 5 start 2 5 start 3 8\nchain 0 3\n",
+        "error: ChainStep 0 3\n",
+    ),
+    (
+        "end 9\nstart 0 0 start 1 5 start 2 5 start 3 8\nchain 0 2 3\n",
+        "error: ChainSum\n",
+    ),
+    (
+        "end 9\nstart 0 0 start 1 5 start 2 5 start 3 8\nchain 1 3\n",
+        "error: ChainSum\n",
+    ),
+    (
+        "end 9\nstart 0 0 start 1 5 start 2 5 start 3 8\nchain 0 1 4\n",
+        "error: WrongCount\n",
+    ),
+    (
+        "end 9\nstart 0 0 start 1 5 start 3 8\nchain 0 1 3\n",
+        "error: WrongCount\n",
+    ),
+    (
+        "end 9\nstart 0 0 start 1 5 start 2 5 start 3 8 start 3 8\nchain 0 1 3\n",
+        "error: WrongCount\n",
+    ),
+    (
+        "end 9\nstart 0 0 start 1 0 start 2 5 start 3 8\nchain 0 1 3\n",
+        "error: Broken 0 1\n",
+    ),
+    (
+        "end 9\nstart 0 1 start 1 5 start 2 5 start 3 8\nchain 0 1 3\n",
+        "error: Broken 0 1\n",
+    ),
+    (
+        "end 9\nstart 0 0 start 1 5 start 2 7 start 3 8\nchain 0 1 3\n",
+        "error: Broken 2 3\n",
+    ),
+    (
+        "end 9 end 9\nstart 0 0 start 1 5 start 2 5 start 3 8\nchain 0 1 3\n",
+        "error: BadForm\n",
+    ),
+    (
+        "end 9\n--- start 0 0 start 1 5 start 2 5 start 3 8\nchain 0 1 3\n",
+        "error: BadForm\n",
+    ),
+    (
+        "end 9\nstart 0 0 start 1 5 start 2 5 start 3 1000000000000000000\nchain 0 1 3\n",
+        "error: EndWrong\n",
+    ),
+    (
+        "end 9\nstart 0 0 start 1 5 start 2 5 start 3 1000000000000000001\nchain 0 1 3\n",
+        "error: BadForm\n",
+    ),
+];
+
 /// Each with a change in the claim.
 #[test]
 fn changed_claims(rt: HostRuntime) -> Result<(), Fail> {
-    let rows = [
-        (
-            "end 9\nstart 0 0 start 1 5 start 2 5 start 3 7\nchain 0 1 3\n",
-            "error: Broken 1 3\n",
-        ),
-        (
-            "end 10\nstart 0 0 start 1 5 start 2 5 start 3 8\nchain 0 1 3\n",
-            "error: EndWrong\n",
-        ),
-        (
-            "end 9\nstart 0 0 start 1 5 start 2 5 start 3 9\nchain 0 1 3\n",
-            "error: EndWrong\n",
-        ),
-        (
-            "end 9\nstart 0 0 start 1 5 start 2 5 start 3 8\nchain 0 3\n",
-            "error: ChainStep 0 3\n",
-        ),
-        (
-            "end 9\nstart 0 0 start 1 5 start 2 5 start 3 8\nchain 0 2 3\n",
-            "error: ChainSum\n",
-        ),
-        (
-            "end 9\nstart 0 0 start 1 5 start 2 5 start 3 8\nchain 1 3\n",
-            "error: ChainSum\n",
-        ),
-        (
-            "end 9\nstart 0 0 start 1 5 start 2 5 start 3 8\nchain 0 1 4\n",
-            "error: WrongCount\n",
-        ),
-        (
-            "end 9\nstart 0 0 start 1 5 start 3 8\nchain 0 1 3\n",
-            "error: WrongCount\n",
-        ),
-        (
-            "end 9\nstart 0 0 start 1 5 start 2 5 start 3 8 start 3 8\nchain 0 1 3\n",
-            "error: WrongCount\n",
-        ),
-        (
-            "end 9\nstart 0 0 start 1 0 start 2 5 start 3 8\nchain 0 1 3\n",
-            "error: Broken 0 1\n",
-        ),
-        (
-            "end 9\nstart 0 1 start 1 5 start 2 5 start 3 8\nchain 0 1 3\n",
-            "error: Broken 0 1\n",
-        ),
-        (
-            "end 9\nstart 0 0 start 1 5 start 2 7 start 3 8\nchain 0 1 3\n",
-            "error: Broken 2 3\n",
-        ),
-        (
-            "end 9 end 9\nstart 0 0 start 1 5 start 2 5 start 3 8\nchain 0 1 3\n",
-            "error: BadForm\n",
-        ),
-        (
-            "end 9\n--- start 0 0 start 1 5 start 2 5 start 3 8\nchain 0 1 3\n",
-            "error: BadForm\n",
-        ),
-        (
-            "end 9\nstart 0 0 start 1 5 start 2 5 start 3 1000000000000000000\nchain 0 1 3\n",
-            "error: EndWrong\n",
-        ),
-        (
-            "end 9\nstart 0 0 start 1 5 start 2 5 start 3 1000000000000000001\nchain 0 1 3\n",
-            "error: BadForm\n",
-        ),
-    ];
-    all_give(&rt, &CHECK, WORKED_BEGUN, &rows, Status::Refused)?;
+    all_give(&rt, &CHECK, WORKED_BEGUN, CHANGED_CLAIMS, Status::Refused)?;
     // A legal schedule that is not the earliest.
     let later = "end 9 start 0 0 start 1 5 start 2 6 start 3 8 chain 0 1 3";
     all_give(
@@ -91,43 +93,47 @@ fn changed_claims(rt: HostRuntime) -> Result<(), Fail> {
     Ok(())
 }
 
+/// What is left of it, and what is told.
+const CUT_CERTIFICATES: &[(&str, &str)] = &[
+    (
+        "---\nend 9\nstart 0 0\nstart 1 5\nstart 2 5\nstart 3 8\nchain 0 1",
+        "error: ChainSum\n",
+    ),
+    (
+        "---\nend 9\nstart 0 0\nstart 1 5\nstart 2 5\nstart 3 8\nchain",
+        "error: BadForm\n",
+    ),
+    ("---\nend 9", "error: BadForm\n"),
+    ("--", "error: line 9: BadByte\n"),
+    ("", "error: BadForm\n"),
+];
+
 /// What is left of it, after the program or within.
 #[test]
 fn cut_certificates(rt: HostRuntime) -> Result<(), Fail> {
     let program = "omptasks 1\nwork 5\ntask {\nwork 3\n}\nwork 2\ntaskwait\nwork 1\n";
     let whole = "---\nend 9\nstart 0 0\nstart 1 5\nstart 2 5\nstart 3 8\nchain 0 1 3";
     all_give(&rt, &CHECK, program, &[(whole, ACCEPTED)], Status::Done)?;
-    let rows = [
-        (
-            "---\nend 9\nstart 0 0\nstart 1 5\nstart 2 5\nstart 3 8\nchain 0 1",
-            "error: ChainSum\n",
-        ),
-        (
-            "---\nend 9\nstart 0 0\nstart 1 5\nstart 2 5\nstart 3 8\nchain",
-            "error: BadForm\n",
-        ),
-        ("---\nend 9", "error: BadForm\n"),
-        ("--", "error: line 9: BadByte\n"),
-        ("", "error: BadForm\n"),
-    ];
-    all_give(&rt, &CHECK, program, &rows, Status::Refused)?;
+    all_give(&rt, &CHECK, program, CUT_CERTIFICATES, Status::Refused)?;
     let begun = [("omptasks 1\nwork 5\ntask {", "error: line 3: Unclosed\n")];
     all_give(&rt, &CHECK, "", &begun, Status::Refused)?;
     Ok(())
 }
 
+/// A document, and what is told.
+const REFUSED_PROGRAMS: &[(&str, &str)] = &[
+    ("omptasks 3\n---\nend", "error: line 1: BadHeader\n"),
+    (
+        "omptasks 1\n}\n---\nend 0 start 0 0 chain 0\n",
+        "error: line 2: Unopened\n",
+    ),
+    (WORKED, "error: BadForm\n"),
+];
+
 /// The program's own fault comes first.
 #[test]
 fn refused_programs(rt: HostRuntime) -> Result<(), Fail> {
-    let rows = [
-        ("omptasks 3\n---\nend", "error: line 1: BadHeader\n"),
-        (
-            "omptasks 1\n}\n---\nend 0 start 0 0 chain 0\n",
-            "error: line 2: Unopened\n",
-        ),
-        (WORKED, "error: BadForm\n"),
-    ];
-    all_give(&rt, &CHECK, "", &rows, Status::Refused)?;
+    all_give(&rt, &CHECK, "", REFUSED_PROGRAMS, Status::Refused)?;
     Ok(())
 }
 

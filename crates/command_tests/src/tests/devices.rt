@@ -1,6 +1,6 @@
 //! Each command over devices that are slow, are interrupted, or fail.
 
-use super::examples::{Example, examples};
+use super::examples::{EXAMPLES, Example};
 use super::fake_devices::{Endless, Faults};
 use super::{run_on, sink, slow_sink, slow_source, source};
 use spanprof_command::Status;
@@ -27,8 +27,8 @@ fn is_done_slowly<H: AllocGlobal + Threads + Wait + Sync>(
 /// A byte in each call, to read and to write, and one flush.
 #[test]
 fn slow_devices(rt: HostRuntime) -> Result<(), Fail> {
-    for example in examples() {
-        assert!(rt; is_done_slowly(&rt, example)?, "{}", example.text);
+    for example in EXAMPLES {
+        assert!(rt; is_done_slowly(&rt, *example)?, "{}", example.text);
     }
     Ok(())
 }
@@ -42,23 +42,33 @@ fn kind_at(call: usize) -> ErrorKind {
     }
 }
 
+/// Whether an example ends at a read that fails: it is not tried again, and the line that tells of
+/// it is written whole and flushed once.
+fn ends_at_read<H: AllocGlobal + Threads + Wait + Sync>(
+    rt: &H,
+    example: Example,
+    call: usize,
+) -> Result<bool, Fail> {
+    let faults = Faults::fail_call(call, kind_at(call));
+    let reader = slow_source(example.input.as_bytes(), 1, faults);
+    let writer = slow_sink(rt.alloc(), 8, Faults::interrupt_calls(1, 3));
+    let (status, reader, writer) = run_on(rt, example.words, reader, writer)?;
+    let is_last = reader.calls.saturating_sub(1) == call;
+    let is_told = writer.taken.as_slice() == b"error: read fault\n".as_slice();
+    Ok(status == Status::Fault && writer.flushes == 1 && is_last && is_told)
+}
+
 /// A failure at each read in turn, which is not tried again. The line that tells of it is written
 /// whole and flushed once, also where its writes are interrupted.
 #[test]
 fn failing_readers(rt: HostRuntime) -> Result<(), Fail> {
-    let line = b"error: read fault\n".as_slice();
-    for Example { words, input, text } in examples() {
-        for call in 0..=input.len() {
-            let faults = Faults::fail_call(call, kind_at(call));
-            let reader = slow_source(input.as_bytes(), 1, faults);
-            let writer = slow_sink(rt.alloc(), 8, Faults::interrupt_calls(1, 3));
-            let (status, reader, writer) = run_on(&rt, words, reader, writer)?;
+    for example in EXAMPLES {
+        for call in 0..=example.input.len() {
             assert!(rt;
-                status == Status::Fault && writer.flushes == 1,
-                "{call} {text}"
+                ends_at_read(&rt, *example, call)?,
+                "{call} {}",
+                example.text
             );
-            assert!(rt; reader.calls.saturating_sub(1) == call, "{call} {text}");
-            assert!(rt; writer.taken.as_slice() == line, "{call} {text}");
         }
     }
     Ok(())
@@ -82,10 +92,10 @@ fn ends_at_write<H: AllocGlobal + Threads + Wait + Sync>(
 /// A failure at each write in turn, which is not tried again; nothing is flushed then.
 #[test]
 fn failing_writers(rt: HostRuntime) -> Result<(), Fail> {
-    for example in examples() {
+    for example in EXAMPLES {
         for call in 0..example.text.len() {
             assert!(rt;
-                ends_at_write(&rt, example, call)?,
+                ends_at_write(&rt, *example, call)?,
                 "{call} {}",
                 example.text
             );
@@ -119,86 +129,128 @@ fn ends_at_flush<H: AllocGlobal + Threads + Wait + Sync>(
     Ok(status == Status::Fault && writer.flushes == 1 && is_written)
 }
 
+const FLUSH_FAULTS: &[ErrorKind] = &[
+    ErrorKind::Interrupted,
+    ErrorKind::WouldBlock,
+    ErrorKind::Other,
+];
+
 /// A writer that takes no byte, and a flush that fails, which is not tried again.
 #[test]
 fn stuck_writers(rt: HostRuntime) -> Result<(), Fail> {
-    for example in examples() {
-        assert!(rt; ends_when_full(&rt, example)?, "{}", example.text);
-        for kind in [
-            ErrorKind::Interrupted,
-            ErrorKind::WouldBlock,
-            ErrorKind::Other,
-        ] {
-            assert!(rt; ends_at_flush(&rt, example, kind)?, "{}", example.text);
+    for example in EXAMPLES {
+        assert!(rt; ends_when_full(&rt, *example)?, "{}", example.text);
+        for kind in FLUSH_FAULTS {
+            assert!(rt; ends_at_flush(&rt, *example, *kind)?, "{}", example.text);
         }
     }
     Ok(())
+}
+
+/// How many calls come before interruptions, how many reads and writes are interrupted, and what is
+/// written: the example's text where the budget suffices, and else what is told of a fault.
+const INTERRUPTIONS: &[(usize, usize, usize, Option<&str>)] = &[
+    (0, 1000, 0, None),
+    (1, 1000, 0, None),
+    (0, 0, 1000, None),
+    (1, 0, 1000, None),
+    (1, 600, 400, None),
+    (0, 1001, 0, Some("error: read fault\n")),
+    (1, 1001, 0, Some("error: read fault\n")),
+    (0, 0, 1001, Some("")),
+    (0, 600, 401, Some("")),
+];
+
+/// Whether an example ends with this status under such interruptions, and writes this. What is
+/// written whole is flushed once, and nothing else is.
+fn is_interrupted<H: AllocGlobal + Threads + Wait + Sync>(
+    rt: &H,
+    example: Example,
+    (before, reads, writes): (usize, usize, usize),
+    status: Status,
+    written: &str,
+) -> Result<bool, Fail> {
+    let faults = Faults::interrupt_calls(before, reads);
+    let reader = slow_source(example.input.as_bytes(), 16, faults);
+    let writer = slow_sink(rt.alloc(), 8, Faults::interrupt_calls(before, writes));
+    let (got, _, writer) = run_on(rt, example.words, reader, writer)?;
+    let flushes = usize::from(!written.is_empty());
+    let is_written = writer.taken.as_slice() == written.as_bytes();
+    Ok(got == status && writer.flushes == flushes && is_written)
+}
+
+/// Whether an example does what a row of `INTERRUPTIONS` tells.
+fn goes_as_told<H: AllocGlobal + Threads + Wait + Sync>(
+    rt: &H,
+    example: Example,
+    calls: (usize, usize, usize),
+    fault: Option<&str>,
+) -> Result<bool, Fail> {
+    match fault {
+        None => is_interrupted(rt, example, calls, Status::Done, example.text),
+        Some(line) => is_interrupted(rt, example, calls, Status::Fault, line),
+    }
 }
 
 /// Interruptions of reads and of writes have one budget, wherever they come. What is written whole
 /// is flushed once, and nothing else is.
 #[test]
 fn interruptions(rt: HostRuntime) -> Result<(), Fail> {
-    let fault = "error: read fault\n";
-    for Example { words, input, text } in examples() {
-        for (before, reads, writes, status, written) in [
-            (0, 1000, 0, Status::Done, text),
-            (1, 1000, 0, Status::Done, text),
-            (0, 0, 1000, Status::Done, text),
-            (1, 0, 1000, Status::Done, text),
-            (1, 600, 400, Status::Done, text),
-            (0, 1001, 0, Status::Fault, fault),
-            (1, 1001, 0, Status::Fault, fault),
-            (0, 0, 1001, Status::Fault, ""),
-            (0, 600, 401, Status::Fault, ""),
-        ] {
-            let reader = slow_source(input.as_bytes(), 16, Faults::interrupt_calls(before, reads));
-            let writer = slow_sink(rt.alloc(), 8, Faults::interrupt_calls(before, writes));
-            let (got, _, writer) = run_on(&rt, words, reader, writer)?;
-            let flushes = usize::from(!written.is_empty());
+    for example in EXAMPLES {
+        for (before, reads, writes, fault) in INTERRUPTIONS {
             assert!(rt;
-                got == status && writer.flushes == flushes,
-                "{before} {reads} {writes} {text}"
-            );
-            assert!(rt;
-                writer.taken.as_slice() == written.as_bytes(),
-                "{before} {reads} {writes} {text}"
+                goes_as_told(&rt, *example, (*before, *reads, *writes), *fault)?,
+                "{before} {reads} {writes} {}",
+                example.text
             );
         }
     }
     Ok(())
 }
 
+/// Words, the line that is told, and the status.
+const LINES: &[(&[&str], &str, Status)] = &[
+    (
+        &["spanprof", "slack"],
+        "error: line 2: Unopened\n",
+        Status::Refused,
+    ),
+    (
+        &["spanprof", "check"],
+        "error: line 2: Unopened\n",
+        Status::Refused,
+    ),
+    (&["spanprof", "run"], "error: wrong words\n", Status::Usage),
+];
+
+/// Whether a line ends with this status where so many of its writes are interrupted, and this is
+/// written. What is written whole is flushed once, and nothing else is.
+fn is_line_interrupted<H: AllocGlobal + Threads + Wait + Sync>(
+    rt: &H,
+    words: &[&str],
+    writes: usize,
+    status: Status,
+    written: &str,
+) -> Result<bool, Fail> {
+    let writer = slow_sink(rt.alloc(), 8, Faults::interrupt_calls(0, writes));
+    let (got, _, writer) = run_on(rt, words, source(b"omptasks 1\n}\n---\n"), writer)?;
+    let flushes = usize::from(!written.is_empty());
+    let is_written = writer.taken.as_slice() == written.as_bytes();
+    Ok(got == status && writer.flushes == flushes && is_written)
+}
+
 /// Interruptions of writes have the same budget where an input is refused, and where words are wrong.
 #[test]
 fn interrupted_lines(rt: HostRuntime) -> Result<(), Fail> {
-    let rows: [(&[&str], &str, Status); 3] = [
-        (
-            &["spanprof", "slack"],
-            "error: line 2: Unopened\n",
-            Status::Refused,
-        ),
-        (
-            &["spanprof", "check"],
-            "error: line 2: Unopened\n",
-            Status::Refused,
-        ),
-        (&["spanprof", "run"], "error: wrong words\n", Status::Usage),
-    ];
-    for (words, line, status) in rows {
-        for (writes, status, written) in [(1000, status, line), (1001, Status::Fault, "")] {
-            let writer = slow_sink(rt.alloc(), 8, Faults::interrupt_calls(0, writes));
-            let (got, _, writer) = run_on(&rt, words, source(b"omptasks 1\n}\n---\n"), writer)?;
-            let flushes = usize::from(!written.is_empty());
-            assert!(rt;
-                got == status && writer.flushes == flushes,
-                "{writes} {line}"
-            );
-            assert!(rt;
-                writer.taken.as_slice() == written.as_bytes(),
-                "{writes} {line}"
-            );
-        }
+    for (words, line, status) in LINES {
+        assert!(rt;
+            is_line_interrupted(&rt, *words, 1000, *status, line)?,
+            "1000 {line}"
+        );
+        assert!(rt;
+            is_line_interrupted(&rt, *words, 1001, Status::Fault, "")?,
+            "1001 {line}"
+        );
     }
     Ok(())
 }

@@ -40,34 +40,36 @@ fn events_in_order(rt: HostRuntime) {
     }
 }
 
+/// A text, its fault, and its number of events.
+const FORMS: &[(&[u8], Option<EventsFault>, usize)] = &[
+    (b"", None, 0),
+    (b" \t\r\n", None, 0),
+    (b"start 0 0", None, 1),
+    (b"start 0 0 finish 0 0", None, 2),
+    (b"start", Some(EventsFault::BadForm), 0),
+    (b"start 0", Some(EventsFault::BadForm), 0),
+    (b"start 0 0 0", Some(EventsFault::BadForm), 0),
+    (b"start 0 finish 0 0", Some(EventsFault::BadForm), 0),
+    (b"start 0 0 finish", Some(EventsFault::BadForm), 0),
+    (b"0 start 0", Some(EventsFault::BadForm), 0),
+    (b"go", Some(EventsFault::BadForm), 0),
+    (b"Start 0 0", Some(EventsFault::BadForm), 0),
+    (b"start 0 4294967296", Some(EventsFault::BadForm), 0),
+    (b"start 4294967296 0", Some(EventsFault::BadForm), 0),
+    (b"start 0 -1", Some(EventsFault::BadForm), 0),
+    (b"start 0 0 # later", Some(EventsFault::BadForm), 0),
+    (b"start 0,0", Some(EventsFault::BadForm), 0),
+    (
+        b"start 0 99999999999999999999999",
+        Some(EventsFault::BadForm),
+        0,
+    ),
+];
+
 #[test]
 fn forms(rt: HostRuntime) {
-    let rows: [(&[u8], Option<EventsFault>, usize); 18] = [
-        (b"", None, 0),
-        (b" \t\r\n", None, 0),
-        (b"start 0 0", None, 1),
-        (b"start 0 0 finish 0 0", None, 2),
-        (b"start", Some(EventsFault::BadForm), 0),
-        (b"start 0", Some(EventsFault::BadForm), 0),
-        (b"start 0 0 0", Some(EventsFault::BadForm), 0),
-        (b"start 0 finish 0 0", Some(EventsFault::BadForm), 0),
-        (b"start 0 0 finish", Some(EventsFault::BadForm), 0),
-        (b"0 start 0", Some(EventsFault::BadForm), 0),
-        (b"go", Some(EventsFault::BadForm), 0),
-        (b"Start 0 0", Some(EventsFault::BadForm), 0),
-        (b"start 0 4294967296", Some(EventsFault::BadForm), 0),
-        (b"start 4294967296 0", Some(EventsFault::BadForm), 0),
-        (b"start 0 -1", Some(EventsFault::BadForm), 0),
-        (b"start 0 0 # later", Some(EventsFault::BadForm), 0),
-        (b"start 0,0", Some(EventsFault::BadForm), 0),
-        (
-            b"start 0 99999999999999999999999",
-            Some(EventsFault::BadForm),
-            0,
-        ),
-    ];
-    for (text, fault, events) in rows {
-        assert_eq!(rt; outcome(rt.alloc(), text), (fault, events));
+    for (text, fault, events) in FORMS {
+        assert_eq!(rt; outcome(rt.alloc(), *text), (*fault, *events));
     }
 }
 

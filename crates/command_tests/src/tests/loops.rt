@@ -20,93 +20,101 @@ const CLAIM: &str =
     "---\nend 6\nstart 0 0\nstart 1 0\nstart 2 0\nstart 3 2\nstart 4 0\nstart 5 4\nstart 6 0\n\
     chain 0 1 3 5\n";
 
+/// A body, and the report on it.
+const MEASURES: &[(&str, &str)] = &[
+    (
+        "for i 1 3 { task depend(in: x[i-1]) depend(out: x[i]) { work 2 } }",
+        "segments 7\nwork 6\nspan 6\n",
+    ),
+    ("for i 3 1 { work 5 }", "segments 1\nwork 0\nspan 0\n"),
+    (
+        "task final(1) { task { work 3 } work 1 } work 2",
+        "segments 5\nwork 6\nspan 4\n",
+    ),
+    (
+        "task final(0) { task { work 3 } work 1 } work 2",
+        "segments 5\nwork 6\nspan 3\n",
+    ),
+    (
+        "task final(1) { task if(1) { task { work 1 } work 1 } work 1 }",
+        "segments 7\nwork 3\nspan 3\n",
+    ),
+    (
+        "task { task if(1) { task { work 1 } work 1 } work 1 }",
+        "segments 7\nwork 3\nspan 1\n",
+    ),
+    ("for i 0 65535 { }", "segments 1\nwork 0\nspan 0\n"),
+    ("", "segments 1\nwork 0\nspan 0\n"),
+    (
+        "task depend(out: x[-1]) { }",
+        "segments 3\nwork 0\nspan 0\n",
+    ),
+];
+
 #[test]
 fn measures_of_loops(rt: HostRuntime) -> Result<(), Fail> {
-    let rows = [
-        (
-            "for i 1 3 { task depend(in: x[i-1]) depend(out: x[i]) { work 2 } }",
-            "segments 7\nwork 6\nspan 6\n",
-        ),
-        ("for i 3 1 { work 5 }", "segments 1\nwork 0\nspan 0\n"),
-        (
-            "task final(1) { task { work 3 } work 1 } work 2",
-            "segments 5\nwork 6\nspan 4\n",
-        ),
-        (
-            "task final(0) { task { work 3 } work 1 } work 2",
-            "segments 5\nwork 6\nspan 3\n",
-        ),
-        (
-            "task final(1) { task if(1) { task { work 1 } work 1 } work 1 }",
-            "segments 7\nwork 3\nspan 3\n",
-        ),
-        (
-            "task { task if(1) { task { work 1 } work 1 } work 1 }",
-            "segments 7\nwork 3\nspan 1\n",
-        ),
-        ("for i 0 65535 { }", "segments 1\nwork 0\nspan 0\n"),
-        ("", "segments 1\nwork 0\nspan 0\n"),
-        (
-            "task depend(out: x[-1]) { }",
-            "segments 3\nwork 0\nspan 0\n",
-        ),
-    ];
     all_give(
         &rt,
         &["spanprof", "span"],
         "omptasks 2\n",
-        &rows,
+        MEASURES,
         Status::Done,
     )?;
     Ok(())
 }
 
+/// A text, and the line that is told.
+const REFUSED_LOOPS: &[(&str, &str)] = &[
+    (
+        "omptasks 2\nfor i 0 65536 { }",
+        "error: line 2: TooManyTurns\n",
+    ),
+    (
+        "omptasks 2\ntask depend(in: x[j]) { }",
+        "error: line 2: BadWord\n",
+    ),
+    (
+        "omptasks 1\nfor i 1 3 { task depend(in: x[i-1]) depend(out: x[i]) { work 2 } }",
+        "error: line 2: BadWord\n",
+    ),
+    ("omptasks 3\nfor i 1 3 { }", "error: line 1: BadHeader\n"),
+];
+
+/// The words of commands.
+const COMMANDS: &[&[&str]] = &[
+    &["spanprof", "span"],
+    &["spanprof", "show"],
+    &["spanprof", "slack"],
+    &["spanprof", "certify"],
+    &["spanprof", "check"],
+    &["spanprof", "run", "--workers", "2"],
+];
+
 #[test]
 fn refused_loops(rt: HostRuntime) -> Result<(), Fail> {
-    let rows = [
-        (
-            "omptasks 2\nfor i 0 65536 { }",
-            "error: line 2: TooManyTurns\n",
-        ),
-        (
-            "omptasks 2\ntask depend(in: x[j]) { }",
-            "error: line 2: BadWord\n",
-        ),
-        (
-            "omptasks 1\nfor i 1 3 { task depend(in: x[i-1]) depend(out: x[i]) { work 2 } }",
-            "error: line 2: BadWord\n",
-        ),
-        ("omptasks 3\nfor i 1 3 { }", "error: line 1: BadHeader\n"),
-    ];
-    let commands: [&[&str]; 6] = [
-        &["spanprof", "span"],
-        &["spanprof", "show"],
-        &["spanprof", "slack"],
-        &["spanprof", "certify"],
-        &["spanprof", "check"],
-        &["spanprof", "run", "--workers", "2"],
-    ];
-    for words in commands {
-        all_give(&rt, words, "", &rows, Status::Refused)?;
+    for words in COMMANDS {
+        all_give(&rt, *words, "", REFUSED_LOOPS, Status::Refused)?;
     }
     Ok(())
 }
 
+/// A text, and its canonical text.
+const SHOWN_LOOPS: &[(&str, &str)] = &[
+    (CHAIN, SHOWN),
+    (SHOWN, SHOWN),
+    (
+        "omptasks 2\ntask depend(out: x[-1]) { }",
+        "omptasks 2\ntask depend(out: x[-1]) {\n}\n",
+    ),
+    (
+        UNDER_FINAL,
+        "omptasks 2\ntask {\ntask if(0) {\nwork 3\n}\nwork 1\n}\nwork 2\n",
+    ),
+];
+
 #[test]
 fn shown_loops(rt: HostRuntime) -> Result<(), Fail> {
-    let rows = [
-        (CHAIN, SHOWN),
-        (SHOWN, SHOWN),
-        (
-            "omptasks 2\ntask depend(out: x[-1]) { }",
-            "omptasks 2\ntask depend(out: x[-1]) {\n}\n",
-        ),
-        (
-            UNDER_FINAL,
-            "omptasks 2\ntask {\ntask if(0) {\nwork 3\n}\nwork 1\n}\nwork 2\n",
-        ),
-    ];
-    all_give(&rt, &["spanprof", "show"], "", &rows, Status::Done)?;
+    all_give(&rt, &["spanprof", "show"], "", SHOWN_LOOPS, Status::Done)?;
     Ok(())
 }
 

@@ -53,57 +53,62 @@ fn ask_for_changes(alloc: Global, words: &[&str], wanted: &[Change]) -> Result<b
     })
 }
 
+/// Words, and the place of the example.
+const COMMANDS: &[(&[&str], usize)] = &[
+    (&[], 0),
+    (&["spanprof"], 0),
+    (&["spanprof", "span"], 0),
+    (&["spanprof", "show"], 1),
+    (&["spanprof", "replay"], 2),
+    (&["spanprof", "slack"], 4),
+    (&["spanprof", "certify"], 5),
+    (&["spanprof", "check"], 6),
+];
+
 /// At the places of their examples.
 #[test]
 fn commands(rt: HostRuntime) -> Result<(), Fail> {
-    let rows: [(&[&str], usize); 8] = [
-        (&[], 0),
-        (&["spanprof"], 0),
-        (&["spanprof", "span"], 0),
-        (&["spanprof", "show"], 1),
-        (&["spanprof", "replay"], 2),
-        (&["spanprof", "slack"], 4),
-        (&["spanprof", "certify"], 5),
-        (&["spanprof", "check"], 6),
-    ];
-    for (words, place) in rows {
-        assert!(rt; place_asked(rt.alloc(), words)? == Some(place), "{place}");
+    for (words, place) in COMMANDS {
+        assert!(rt; place_asked(rt.alloc(), *words)? == Some(*place), "{place}");
     }
     worked_words();
     Ok(())
 }
 
+/// Words, their command, and its number.
+const OPTIONS: &[(&[&str], &str, u32)] = &[
+    (&["spanprof", "run", "--workers", "002"], "run", 2),
+    (
+        &["spanprof", "greedy", "--threads", "4294967295"],
+        "greedy",
+        u32::MAX,
+    ),
+    (&["spanprof", "curve", "--upto=0"], "curve", 0),
+];
+
 #[test]
 fn options(rt: HostRuntime) -> Result<(), Fail> {
-    let rows: [(&[&str], &str, u32); 3] = [
-        (&["spanprof", "run", "--workers", "002"], "run", 2),
-        (
-            &["spanprof", "greedy", "--threads", "4294967295"],
-            "greedy",
-            u32::MAX,
-        ),
-        (&["spanprof", "curve", "--upto=0"], "curve", 0),
-    ];
-    for (words, command, number) in rows {
-        let asked = number_asked(rt.alloc(), words)?;
-        assert!(rt; asked == Some((command, number)), "{command}");
+    for (words, command, number) in OPTIONS {
+        let asked = number_asked(rt.alloc(), *words)?;
+        assert!(rt; asked == Some((*command, *number)), "{command}");
     }
     Ok(())
 }
 
+const WRONG_NUMBERS: &[&str] = &[
+    "4294967296",
+    "99999999999999999999999",
+    "-1",
+    "+1",
+    "1.0",
+    " 1",
+    "two",
+    "",
+];
+
 #[test]
 fn wrong_options(rt: HostRuntime) -> Result<(), Fail> {
-    let numbers = [
-        "4294967296",
-        "99999999999999999999999",
-        "-1",
-        "+1",
-        "1.0",
-        " 1",
-        "two",
-        "",
-    ];
-    all_are_wrong(&rt, &["spanprof", "run", "--workers"], &numbers)?;
+    all_are_wrong(&rt, &["spanprof", "run", "--workers"], WRONG_NUMBERS)?;
     all_are_wrong(&rt, &["spanprof", "run", "--threads"], &["2"])?;
     all_are_wrong(&rt, &["spanprof", "run", "2"], &["--workers"])?;
     all_are_wrong(&rt, &["spanprof", "slack", "--workers"], &["2"])?;
@@ -138,47 +143,49 @@ fn changes(rt: HostRuntime) -> Result<(), Fail> {
     Ok(())
 }
 
+const WRONG_CHANGES: &[&str] = &[
+    "2",
+    "2=",
+    "=4",
+    "=",
+    "2==4",
+    "2=4=5",
+    "2=-4",
+    "2=+4",
+    "x=4",
+    "2=4x",
+    "2=18446744073709551616",
+    "4294967296=4",
+    "2 =4",
+    "",
+];
+
 #[test]
 fn wrong_changes(rt: HostRuntime) -> Result<(), Fail> {
-    let changes = [
-        "2",
-        "2=",
-        "=4",
-        "=",
-        "2==4",
-        "2=4=5",
-        "2=-4",
-        "2=+4",
-        "x=4",
-        "2=4x",
-        "2=18446744073709551616",
-        "4294967296=4",
-        "2 =4",
-        "",
-    ];
-    all_are_wrong(&rt, &["spanprof", "whatif", "1=1"], &changes)?;
+    all_are_wrong(&rt, &["spanprof", "whatif", "1=1"], WRONG_CHANGES)?;
     Ok(())
 }
 
+const WRONG_WORDS: &[&str] = &[
+    "help",
+    "--help",
+    "-h",
+    "--version",
+    "-V",
+    "spam",
+    "Span",
+    "sho",
+    "",
+    "run",
+    "greedy",
+    "curve",
+    "whatif",
+    "replays",
+];
+
 #[test]
 fn wrong_words(rt: HostRuntime) -> Result<(), Fail> {
-    let first_words = [
-        "help",
-        "--help",
-        "-h",
-        "--version",
-        "-V",
-        "spam",
-        "Span",
-        "sho",
-        "",
-        "run",
-        "greedy",
-        "curve",
-        "whatif",
-        "replays",
-    ];
-    all_are_wrong(&rt, &["spanprof"], &first_words)?;
+    all_are_wrong(&rt, &["spanprof"], WRONG_WORDS)?;
     Ok(())
 }
 

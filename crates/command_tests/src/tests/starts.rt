@@ -58,29 +58,35 @@ fn is_silent<H: AllocGlobal + Threads + Wait + Sync>(
     Ok(code == ExitCode::from(3) && written.is_empty())
 }
 
+/// A word, the exit status, and what is written.
+const STARTED: &[(&str, u8, &str)] = &[
+    ("span", 0, "segments 1\nwork 3\nspan 3\n"),
+    ("replay", 1, "error: BadForm\n"),
+    ("--help", 2, "error: wrong words\n"),
+];
+
 #[test]
 fn given_words(rt: HostRuntime) -> Result<(), Fail> {
-    for (word, code, text) in [
-        ("span", 0, "segments 1\nwork 3\nspan 3\n"),
-        ("replay", 1, "error: BadForm\n"),
-        ("--help", 2, "error: wrong words\n"),
-    ] {
-        assert!(rt; word_starts(&rt, word, code, text)?, "{code}");
+    for (word, code, text) in STARTED {
+        assert!(rt; word_starts(&rt, word, *code, text)?, "{code}");
     }
     assert!(rt; is_silent(&rt, Ok(words_of(rt.alloc(), &["spanprof"])?))?);
     Ok(())
 }
 
+/// Why there are no words, the exit status, and what is written.
+const UNREAD: &[(ErrorKind, u8, &str)] = &[
+    (ErrorKind::InvalidData, 2, "error: wrong words\n"),
+    (ErrorKind::Other, 2, "error: wrong words\n"),
+    (ErrorKind::OutOfMemory, 3, "error: out of memory\n"),
+];
+
 /// Words that are no text are wrong words, and nothing is read.
 #[test]
 fn no_words(rt: HostRuntime) -> Result<(), Fail> {
-    for (kind, code, text) in [
-        (ErrorKind::InvalidData, 2, "error: wrong words\n"),
-        (ErrorKind::Other, 2, "error: wrong words\n"),
-        (ErrorKind::OutOfMemory, 3, "error: out of memory\n"),
-    ] {
-        assert!(rt; none_starts(&rt, kind, code, text)?, "{code}");
-        assert!(rt; is_silent(&rt, Err(io::Error::from(kind)))?, "{code}");
+    for (kind, code, text) in UNREAD {
+        assert!(rt; none_starts(&rt, *kind, *code, text)?, "{code}");
+        assert!(rt; is_silent(&rt, Err(io::Error::from(*kind)))?, "{code}");
     }
     Ok(())
 }

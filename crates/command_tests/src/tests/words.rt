@@ -17,39 +17,40 @@ fn are_wrong<H: AllocGlobal + Threads + Wait + Sync>(rt: &H, row: &[&str]) -> Re
     Ok(status == Status::Usage && is_told && reader.calls == 0)
 }
 
+const WRONG_WORDS: &[&[&str]] = &[
+    &["help"],
+    &["--help"],
+    &["-h"],
+    &["--version"],
+    &["help", "span"],
+    &["spam"],
+    &["Span"],
+    &[""],
+    &["span", "span"],
+    &["show", "--help"],
+    &["replay", "-h"],
+    &["slack", "0"],
+    &["certify", "--version"],
+    &["check", "certificate"],
+    &["run"],
+    &["run", "--workers"],
+    &["run", "--workers", "two"],
+    &["run", "--workers", "4294967296"],
+    &["run", "--threads", "2"],
+    &["greedy", "2"],
+    &["greedy", "--threads", "-1"],
+    &["curve", "--upto", "1", "--upto", "1"],
+    &["whatif"],
+    &["whatif", "2"],
+    &["whatif", "2=4", "=1"],
+    &["whatif", "4294967296=1"],
+    &["whatif", "1=18446744073709551616"],
+];
+
 /// They read nothing.
 #[test]
 fn wrong_words(rt: HostRuntime) -> Result<(), Fail> {
-    let rows: [&[&str]; 27] = [
-        &["help"],
-        &["--help"],
-        &["-h"],
-        &["--version"],
-        &["help", "span"],
-        &["spam"],
-        &["Span"],
-        &[""],
-        &["span", "span"],
-        &["show", "--help"],
-        &["replay", "-h"],
-        &["slack", "0"],
-        &["certify", "--version"],
-        &["check", "certificate"],
-        &["run"],
-        &["run", "--workers"],
-        &["run", "--workers", "two"],
-        &["run", "--workers", "4294967296"],
-        &["run", "--threads", "2"],
-        &["greedy", "2"],
-        &["greedy", "--threads", "-1"],
-        &["curve", "--upto", "1", "--upto", "1"],
-        &["whatif"],
-        &["whatif", "2"],
-        &["whatif", "2=4", "=1"],
-        &["whatif", "4294967296=1"],
-        &["whatif", "1=18446744073709551616"],
-    ];
-    for (place, row) in rows.iter().enumerate() {
+    for (place, row) in WRONG_WORDS.iter().enumerate() {
         assert!(rt; are_wrong(&rt, row)?, "{place}");
     }
     Ok(())
