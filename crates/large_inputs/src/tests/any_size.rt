@@ -70,83 +70,90 @@ fn add(text: &mut String, piece: &str, times: u32) -> Result<(), Fail> {
     Ok(())
 }
 
+/// Words, a text, and the status and what is written.
+const ENDS: &[(&[&str], &str, (Status, &str))] = &[
+    (
+        &[],
+        "omptasks 1\nwork 5 task { work 3 } work 2 taskwait work 1",
+        (Status::Done, "tasks 1\nsegments 4\nwork 11\nspan 9\n"),
+    ),
+    (
+        &[],
+        "omptasks 1\nwork 1\n}\n",
+        (Status::Refused, "error: line 3: Unopened\n"),
+    ),
+    (
+        &[],
+        "omptasks 1\ntask {\nwork 1\n",
+        (Status::Refused, "error: line 2: Unclosed\n"),
+    ),
+    (
+        &[],
+        "omptasks 2\n",
+        (
+            Status::Refused,
+            "error: line 1: BadHeader, only version 1 is read\n",
+        ),
+    ),
+    (
+        &["--upto", "3"],
+        "omptasks 1\nwork 1\n}\n",
+        (Status::Refused, "error: line 3: Unopened\n"),
+    ),
+];
+
 #[test]
 fn ends(rt: HostRuntime) -> Result<(), Fail> {
-    let worked = "omptasks 1\nwork 5 task { work 3 } work 2 taskwait work 1";
-    let rows: [(&[&str], &str, (Status, &str)); 5] = [
-        (
-            &[],
-            worked,
-            (Status::Done, "tasks 1\nsegments 4\nwork 11\nspan 9\n"),
-        ),
-        (
-            &[],
-            "omptasks 1\nwork 1\n}\n",
-            (Status::Refused, "error: line 3: Unopened\n"),
-        ),
-        (
-            &[],
-            "omptasks 1\ntask {\nwork 1\n",
-            (Status::Refused, "error: line 2: Unclosed\n"),
-        ),
-        (
-            &[],
-            "omptasks 2\n",
-            (
-                Status::Refused,
-                "error: line 1: BadHeader, only version 1 is read\n",
-            ),
-        ),
-        (
-            &["--upto", "3"],
-            "omptasks 1\nwork 1\n}\n",
-            (Status::Refused, "error: line 3: Unopened\n"),
-        ),
-    ];
-    for (words, input, (status, text)) in rows {
-        assert_ends(&rt, words, input.as_bytes(), (status, text.as_bytes()))?;
+    for (words, input, (status, text)) in ENDS {
+        assert_ends(&rt, *words, input.as_bytes(), (*status, text.as_bytes()))?;
     }
     Ok(())
 }
+
+/// Words, and what is written.
+const BOUNDS: &[(&[&str], &str)] = &[
+    (
+        &["--upto", "3"],
+        "threads,least,bound\n1,10,10\n2,5,7\n3,4,6\n",
+    ),
+    (
+        &["--upto=03"],
+        "threads,least,bound\n1,10,10\n2,5,7\n3,4,6\n",
+    ),
+    (&["--upto", "1"], "threads,least,bound\n1,10,10\n"),
+    (&[], "tasks 2\nsegments 5\nwork 10\nspan 4\n"),
+];
 
 #[test]
 fn bounds(rt: HostRuntime) -> Result<(), Fail> {
     let input = b"omptasks 1\ntask { work 4 } task { work 4 } work 2";
-    let rows: [(&[&str], &str); 4] = [
-        (
-            &["--upto", "3"],
-            "threads,least,bound\n1,10,10\n2,5,7\n3,4,6\n",
-        ),
-        (
-            &["--upto=03"],
-            "threads,least,bound\n1,10,10\n2,5,7\n3,4,6\n",
-        ),
-        (&["--upto", "1"], "threads,least,bound\n1,10,10\n"),
-        (&[], "tasks 2\nsegments 5\nwork 10\nspan 4\n"),
-    ];
-    for (words, text) in rows {
-        assert_ends(&rt, words, input, (Status::Done, text.as_bytes()))?;
+    for (words, text) in BOUNDS {
+        assert_ends(&rt, *words, input, (Status::Done, text.as_bytes()))?;
     }
     Ok(())
 }
 
+const WRONG_WORDS: (Status, &str) = (Status::Usage, "error: wrong words\n");
+
+const THREAD_COUNT: (Status, &str) = (Status::Refused, "error: ThreadCount\n");
+
+/// Words, and the status and what is written.
+const WORDS: &[(&[&str], (Status, &str))] = &[
+    (&["span"], WRONG_WORDS),
+    (&["--help"], WRONG_WORDS),
+    (&["--upto"], WRONG_WORDS),
+    (&["--upto=4294967296"], WRONG_WORDS),
+    (&["--upto=1", "--upto=1"], WRONG_WORDS),
+    (&["--upto", "0"], THREAD_COUNT),
+    (&["--upto", "1025"], THREAD_COUNT),
+    (&["--upto", "4294967295"], THREAD_COUNT),
+];
+
 #[test]
 fn words_before_the_text(rt: HostRuntime) -> Result<(), Fail> {
-    let wrong = (Status::Usage, "error: wrong words\n");
-    let count = (Status::Refused, "error: ThreadCount\n");
-    let rows: [(&[&str], (Status, &str)); 8] = [
-        (&["span"], wrong),
-        (&["--help"], wrong),
-        (&["--upto"], wrong),
-        (&["--upto=4294967296"], wrong),
-        (&["--upto=1", "--upto=1"], wrong),
-        (&["--upto", "0"], count),
-        (&["--upto", "1025"], count),
-        (&["--upto", "4294967295"], count),
-    ];
-    for (words, (status, text)) in rows {
+    for (words, (status, text)) in WORDS {
         // The text is wrong too, and nobody reads it.
-        assert_ends(&rt, words, b"omptasks 2\n", (status, text.as_bytes()))?;
+        assert_ends(&rt, *words, b"omptasks 2\n", (*status, text.as_bytes()))?;
     }
     Ok(())
 }

@@ -18,20 +18,22 @@ fn fan(alloc: Global) -> Result<String, Fail> {
     Ok(text)
 }
 
+/// Words, and what is written.
+const REPORTS: &[(&[&str], &str)] = &[
+    (&["span"], "segments 8191\nwork 4095\nspan 2\n"),
+    (
+        &["curve", "--upto", "2"],
+        "threads,end,least,bound\n1,4095,4095,4095\n2,2048,2048,2048\n",
+    ),
+    (&["whatif", "1=3"], "work 4097\nspan 4\nwas 2\n"),
+];
+
 /// All that share run first, and then all that read.
 #[test]
 fn analysed(rt: HostRuntime) -> Result<(), Fail> {
     let text = fan(rt.alloc())?;
-    let rows: [(&[&str], &str); 3] = [
-        (&["span"], "segments 8191\nwork 4095\nspan 2\n"),
-        (
-            &["curve", "--upto", "2"],
-            "threads,end,least,bound\n1,4095,4095,4095\n2,2048,2048,2048\n",
-        ),
-        (&["whatif", "1=3"], "work 4097\nspan 4\nwas 2\n"),
-    ];
-    for (words, wanted) in rows {
-        assert_report(&rt, words, text.as_bytes(), wanted.as_bytes())?;
+    for (words, wanted) in REPORTS {
+        assert_report(&rt, *words, text.as_bytes(), wanted.as_bytes())?;
     }
     assert_report(&rt, &["show"], text.as_bytes(), text.as_bytes())
 }

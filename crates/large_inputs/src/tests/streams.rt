@@ -69,16 +69,18 @@ const READ_FAULT: (Status, &str) = (Status::Fault, "error: read fault\n");
 /// A text with a fault, behind which more comes.
 const WRONG: &str = "omptasks 1\nwork 1 # 2\n}\nworm }\n";
 
+/// A text, and the status and what is written.
+const ENDS: &[(&str, (Status, &str))] = &[
+    (TEXT, (Status::Done, NUMBERS)),
+    (WRONG, (Status::Refused, "error: line 3: Unopened\n")),
+];
+
 #[test]
 fn cut_anywhere(rt: HostRuntime) -> Result<(), Fail> {
-    let rows = [
-        (TEXT, (Status::Done, NUMBERS)),
-        (WRONG, (Status::Refused, "error: line 3: Unopened\n")),
-    ];
-    for (text, wanted) in rows {
+    for (text, wanted) in ENDS {
         for piece in 1..100 {
             let stream = Stream::of(text.as_bytes(), piece);
-            assert!(rt; is_told(rt.alloc(), stream, wanted)?, "{piece} {text}");
+            assert!(rt; is_told(rt.alloc(), stream, *wanted)?, "{piece} {text}");
         }
     }
     Ok(())
