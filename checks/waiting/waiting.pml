@@ -227,7 +227,7 @@ steal:  /* Station::steal: a patient worker may pass over a lane. LaneThief::try
     goto again;
 
 start:  /* Crew::run_segments, then the kernel */
-    /* crew.rt: let mut job = self.dispatcher.start(self.rt, station.number, segment)?; */
+    /* crew.rt: let mut job = self.dispatcher.start(self.rt, worker, segment)?; */
     atomic { !locked -> computes[me] = true; at = 0; lane = 0; passed = 0 };
 
 kernel:
@@ -321,7 +321,7 @@ init {
     back[0] = 1;                                    /* open_stations */
     /* crew.rt: for station in stations { */
     do
-    /* crew.rt: let spawned = scope.spawn(move || crew.work(station)); */
+    /* crew.rt: let spawned = scope.spawn_with(EndOf { worker }, work); */
     :: next < WORKERS -> run worker(next); next++
     :: next < WORKERS && faults > 0 ->
         faults--;

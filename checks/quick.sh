@@ -1,0 +1,42 @@
+#!/usr/bin/env bash
+# Runs every check that needs neither the program nor a compiler, in half a minute: that the documents, the tables of
+# definitions and of proofs, and the model of waiting agree with the sources, and the unit tests of the scripts and
+# tools. It prints a line for each, and what a check told where it failed; the status is 0 where none did.
+set -uo pipefail
+cd "$(dirname "$0")/.."
+failed=0
+
+# passes NAME WORD..: runs the words, which have to end with status 0.
+passes() {
+    local name=$1 told
+    shift
+    if told=$("$@" 2>&1); then
+        echo "ok      $name"
+    else
+        printf 'FAILED  %s\n%s\n' "$name" "$told"
+        failed=1
+    fi
+}
+
+# tested FOLDER TOP: the unit tests of a folder, which import from TOP.
+tested() { passes "$1" python3 -B -m unittest discover -q -s "$1" -t "$2"; }
+
+passes definitions.sh checks/definitions.sh
+for script in clauses believed_lines proof_map sentences speed_numbers waiting/lines; do
+    passes "$script.py" python3 -B "checks/$script.py"
+done
+for test in checks/*_test.py checks/waiting/*_test.py checks/large_recordings/*_test.py bench/*test*.py \
+    bench/recording/test_*.py; do
+    passes "$test" python3 -B "$test"
+done
+tested checks/believed/tests checks
+for folder in openmp_cases openmp_regions page; do
+    tested "checks/$folder/tests" "checks/$folder"
+done
+tested tools/tests tools
+for folder in record path report; do
+    tested "tools/$folder/tests" tools
+done
+tested tools/plots/tests tools/plots
+tested tools/conformance/tests tools/conformance
+exit "$failed"
