@@ -1,6 +1,6 @@
 #!/usr/bin/env bash
 # Counts the instructions of the commands beside those of a plain Rust program that prints the same, in millions, on the texts of
-# make_texts.py. valgrind counts them. Other work on the machine changes nothing but how the threads of `curve` and `check` wait.
+# make_texts.py. valgrind counts them. Other work on the machine changes nothing but how the threads of `curve`, `run` and `check` wait.
 #
 #     bench/instructions.sh [TEXT..]      PROGRAM names the program, if it is built
 set -euo pipefail

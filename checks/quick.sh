@@ -1,7 +1,7 @@
 #!/usr/bin/env bash
-# Runs every check that needs neither the program nor a compiler, in half a minute: that the documents, the tables of
-# definitions and of proofs, and the model of waiting agree with the sources, and the unit tests of the scripts and
-# tools. It prints a line for each, and what a check told where it failed; the status is 0 where none did.
+# Runs the checks of the documents, of the tables of definitions and proofs, and of the model of waiting against the
+# sources, and the unit tests of the scripts and tools. It needs neither the program nor a compiler, and half a minute. It
+# prints a line for each, and what a check told where it failed; the status is 0 where none did.
 set -uo pipefail
 cd "$(dirname "$0")/.."
 failed=0

@@ -4,12 +4,14 @@ ghost use Rattle.std.specs.Prelude.{◌≡◌, ◌<◌, length};
 mod changes;
 
 use crate::tests::graph_of;
-use crate::tests::what_if::changes::MOST;
 use std::alloc::Global;
 use std::process::Abort;
 use std::test::Fail;
 use whatif_costs::fault::WhatFault;
 use whatif_costs::what_if::WhatIf;
+
+/// The largest cost that a change may set, and the most work.
+const MOST: u64 = 1_000_000_000_000_000;
 
 const WORKED: &str = "omptasks 1\nwork 5 task { work 3 } work 2 taskwait work 1";
 

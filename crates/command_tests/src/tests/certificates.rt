@@ -93,7 +93,7 @@ fn changed_claims(rt: HostRuntime) -> Result<(), Fail> {
     Ok(())
 }
 
-/// What is left of it, and what is told.
+/// What is left of a certificate, and what is told.
 const CUT_CERTIFICATES: &[(&str, &str)] = &[
     (
         "---\nend 9\nstart 0 0\nstart 1 5\nstart 2 5\nstart 3 8\nchain 0 1",

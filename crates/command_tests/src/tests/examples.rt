@@ -111,6 +111,7 @@ pub(super) fn place_asked(alloc: Global, words: &[&str]) -> Result<Option<usize>
 
 #[test]
 fn each_command(rt: HostRuntime) -> Result<(), Fail> {
+    assert_eq!(rt; EXAMPLES.len(), 10);
     for (place, example) in EXAMPLES.iter().enumerate() {
         let Example { words, input, text } = example;
         assert!(rt; place_asked(rt.alloc(), words)? == Some(place), "{place}");

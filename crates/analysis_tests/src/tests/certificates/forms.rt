@@ -120,7 +120,7 @@ fn certificates_cut_short(rt: HostRuntime) -> Result<(), Fail> {
     Ok(())
 }
 
-/// A document, and the fault of its program.
+/// A document, and what is answered.
 const DOCUMENTS: &[(&str, Answer)] = &[
     (
         "omptasks 3\nwork 5\ntask {\nwork 3\n}\nwork 2\ntaskwait\nwork 1\n---\nend 9\n\

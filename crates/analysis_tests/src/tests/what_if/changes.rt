@@ -2,7 +2,7 @@
 //! from nothing.
 ghost use Rattle.std.specs.Prelude.{◌≡◌, ◌-◌, ◌<◌, ◌≤◌, ◌^◌, IsTrue, length, sum};
 
-use super::{WORKED, reset, set};
+use super::{MOST, WORKED, reset, set};
 use crate::tests::graph_of;
 use dispatch_core::graph::Graph;
 use span_analysis::analysis::analyse;
@@ -11,8 +11,6 @@ use std::test::Fail;
 use task_program::AllocFault;
 use whatif_costs::fault::WhatFault;
 use whatif_costs::what_if::WhatIf;
-
-pub(super) const MOST: u64 = 1_000_000_000_000_000;
 
 /// A generator of numbers that look random.
 #[derive(Drop)]

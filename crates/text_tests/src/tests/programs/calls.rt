@@ -117,7 +117,7 @@ fn kinds_conflict(earlier: DependKind, later: DependKind, name: u32) -> bool {
     conflicts(&one, &[Item { kind: later, name }])
 }
 
-const KINDS: &[DependKind] = &[
+const KINDS: &[DependKind; 4] = &[
     DependKind::DependIn,
     DependKind::DependOut,
     DependKind::DependInOut,
@@ -125,7 +125,7 @@ const KINDS: &[DependKind] = &[
 ];
 
 /// Rows are the later item's kind, columns the earlier item's.
-const CONFLICTS: &[&[bool]] = &[
+const CONFLICTS: &[&[bool; 4]; 4] = &[
     &[false, true, true, true],
     &[true, true, true, true],
     &[true, true, true, true],
@@ -145,7 +145,7 @@ fn assert_conflict(rt: &impl Abort, earlier: DependKind, later: DependKind, want
 }
 
 /// Asserts what an item of each kind does with a later one of this kind.
-fn assert_row(rt: &impl Abort, later: DependKind, row: &[bool]) {
+fn assert_row(rt: &impl Abort, later: DependKind, row: &[bool; 4]) {
     for (earlier, wanted) in KINDS.iter().zip(row.iter()) {
         assert_conflict(rt, *earlier, later, *wanted);
     }
@@ -196,9 +196,9 @@ const FAULTS: &[ReadKind] = &[
     ReadKind::TooManyTurns,
 ];
 
-/// Whether a fault is told so.
-fn is_told(alloc: Global, fault: ReadFault, wanted: &str) -> Result<bool, Fail> {
-    Ok(format!(in alloc; "{fault}")?.as_str() == wanted)
+/// What is told of a fault.
+fn told(alloc: Global, fault: ReadFault) -> Result<String, Fail> {
+    Ok(format!(in alloc; "{fault}")?)
 }
 
 #[test]
@@ -210,7 +210,7 @@ fn numbers_of_the_faults(rt: HostRuntime) -> Result<(), Fail> {
         kind: ReadKind::Unclosed,
         line: 2,
     };
-    assert!(rt; is_told(rt.alloc(), fault, "line 2: Unclosed")?);
+    assert_eq!(rt; told(rt.alloc(), fault)?.as_str(), "line 2: Unclosed");
     Ok(())
 }
 

@@ -14,7 +14,8 @@ fn with_header(alloc: Global, body: &str) -> Result<String, AllocFault> {
     Ok(text)
 }
 
-/// Asserts that this is the fault of a body on the line after the header; none where it is one.
+/// Asserts that this is the fault of a body on the line after the header; none where the text is a
+/// program.
 fn assert_body(
     rt: &impl Abort,
     alloc: Global,
