@@ -46,7 +46,7 @@ pub fn command<R: Read, W: Write>(
         (R.remaining (inner_of reader.old)) (R.remaining (inner_of reader.new)))
         (HadFaults (faults_of reader.old) (faults_of reader.new))
         (W.contents (inner_of writer.old)) (W.contents (inner_of writer.new))
-        (HadFaults (faults_of writer.old) (faults_of writer.new)) result }
+        (is_flushed writer.new) (HadFaults (faults_of writer.old) (faults_of writer.new)) result }
     ensures flushed { result ≢ Status.Fault → is_flushed writer.new ≡ true }
     // Whatever the status.
     ensures flushed_without_fault { faults_of writer.new ≡ faults_of writer.old

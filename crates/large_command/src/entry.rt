@@ -48,13 +48,13 @@ pub fn start<R: Read, W: Write>(
         (R.remaining (inner_of reader.old)) (R.remaining (inner_of reader.new)))
         (HadFaults (faults_of reader.old) (faults_of reader.new))
         (W.contents (inner_of writer.old)) (W.contents (inner_of writer.new))
-        (HadFaults (faults_of writer.old) (faults_of writer.new)) result) }
+        (is_flushed writer.new) (HadFaults (faults_of writer.old) (faults_of writer.new)) result) }
     ensures memory { IfErr words (λ error. error_kind error ≡ OutOfMemory → ExitsAfter out_of_memory
         (W.contents (inner_of writer.old)) (W.contents (inner_of writer.new))
-        (HadFaults (faults_of writer.old) (faults_of writer.new)) result) }
+        (is_flushed writer.new) (HadFaults (faults_of writer.old) (faults_of writer.new)) result) }
     ensures no_text { IfErr words (λ error. error_kind error ≢ OutOfMemory → ExitsAfter wrong_words
         (W.contents (inner_of writer.old)) (W.contents (inner_of writer.new))
-        (HadFaults (faults_of writer.old) (faults_of writer.new)) result) }
+        (is_flushed writer.new) (HadFaults (faults_of writer.old) (faults_of writer.new)) result) }
     ensures reads_nothing { OnErr words (reader.new ≡ reader.old) }
     ensures reads_for_words { IfOk words (λ given.
         wants_text (large_request_of (map string_bytes given.items)) ≡ false
