@@ -7,7 +7,7 @@ trap 'rm -rf "$scratch"' EXIT
 # build_program: spanprof is $PROGRAM; where none is named, it is proved and built.
 build_program() {
     [ -z "${PROGRAM:-}" ] || return 0
-    (cd "$top/crates/spanprof" && rt run < stdin > "$scratch/told" 2>&1) || { cat "$scratch/told" >&2; exit 1; }
+    "$top/tools/prove_program.sh" > "$scratch/told" 2>&1 || { cat "$scratch/told" >&2; exit 1; }
     PROGRAM=$top/crates/spanprof/out/spanprof
 }
 

@@ -8,7 +8,7 @@ set -euo pipefail
 . "$(dirname "$0")/common.sh"
 tasks=${1:-1000000}
 if [ -z "${LARGE:-}" ]; then
-    (cd "$top/crates/spanprof_large" && rt run < stdin > "$scratch/told" 2>&1) || { cat "$scratch/told" >&2; exit 1; }
+    "$top/tools/prove_program.sh" spanprof_large > "$scratch/told" 2>&1 || { cat "$scratch/told" >&2; exit 1; }
     LARGE=$top/crates/spanprof_large/out/spanprof_large
 fi
 rustc -O --edition 2024 -o "$scratch/plain" "$top/bench/plain_large/main.rs"

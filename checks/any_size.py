@@ -5,7 +5,7 @@ with a plain computation, and on the smaller programs with the bounds of `spanpr
 
     checks/any_size.py [COUNT [LARGE [SPANPROF]]]     COUNT random programs (300); the built programs if none are given
 
-Build both first: the gate does, or `rt run` in crates/spanprof and in crates/spanprof_large.
+Build both first: the gate does, or tools/prove_program.sh for spanprof and once more for spanprof_large.
 """
 import random
 import re

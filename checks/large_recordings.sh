@@ -11,7 +11,7 @@ skip() { echo "skipped: $1"; exit 0; }
 command -v "clang++-$llvm" > /dev/null || skip "clang-$llvm is missing (package clang-$llvm)"
 [ -e "/usr/lib/llvm-$llvm/lib/libomp.so" ] || skip "LLVM's OpenMP runtime is missing (package libomp-$llvm-dev)"
 built=crates/spanprof_large/out/spanprof_large
-[ -n "${SPANPROF_LARGE:-}" ] || [ -x $built ] || skip "no program $built; \`rt run\` in crates/spanprof_large makes it"
+[ -n "${SPANPROF_LARGE:-}" ] || [ -x $built ] || skip "no program $built; tools/prove_program.sh spanprof_large makes it"
 (cd checks/large_recordings && python3 -B -m unittest -q whole_graph_test)
 make -s -C tools/openmp_recorder LLVM="$llvm" librecorder.so
 exec python3 -B checks/large_recordings/compare.py "$@"

@@ -6,7 +6,7 @@
 set -euo pipefail
 cd "$(dirname "$0")/.."
 large=${SPANPROF_LARGE:-crates/spanprof_large/out/spanprof_large}
-[ -x "$large" ] || { echo "skipped: no program $large; \`rt run\` in crates/spanprof_large makes it"; exit 0; }
+[ -x "$large" ] || { echo "skipped: no program $large; tools/prove_program.sh spanprof_large makes it"; exit 0; }
 divisor=${1:-1}
 lines=$((4294967296 / divisor)) line=$((4000000000 / divisor)) wrong=0
 

@@ -10,7 +10,7 @@ import subprocess
 import sys
 
 ROOT = pathlib.Path(__file__).resolve().parents[1]
-CRATES = ("worker_run", "spanprof_command", "spanprof", "spanprof_words", "spanprof_wrong_words")
+CRATES = ("worker_run", "spanprof_command", "spanprof", "spanprof_wrong_words")
 
 
 def listed(crates_txt, crate):

@@ -204,8 +204,8 @@ def gate(library, program):
 def main():
     kind, *given = sys.argv[1:] or ["commands"]
     kinds = {
-        "commands": (commands, "crates/spanprof/out/spanprof", "`rt run` in crates/spanprof"),
-        "large": (large, "crates/spanprof_large/out/spanprof_large", "`rt run` in crates/spanprof_large"),
+        "commands": (commands, "crates/spanprof/out/spanprof", "tools/prove_program.sh"),
+        "large": (large, "crates/spanprof_large/out/spanprof_large", "tools/prove_program.sh spanprof_large"),
         "tests": (tests, "crates/refused_growths/out/refused_growths_tests", "`rt test` in crates/refused_growths"),
         "gate": (gate, "crates/refused_growths/out/refused_growths_tests", "`rt test` in crates/refused_growths"),
     }

@@ -1,29 +1,33 @@
 #!/usr/bin/env bash
-# Proves the program alone, without tests and without edits that must be refused: crates/spanprof/out/spanprof.
-# It is the gate over a copy that has the program's crates and nothing else, every proof from nothing.
+# Proves a program alone, without tests and without edits that must be refused: crates/PROGRAM/out/PROGRAM. It is the gate
+# over a copy that has the program's crates and nothing else, every proof from nothing.
+#
+#     tools/prove_program.sh [PROGRAM]      spanprof, if none is named, or spanprof_large
 set -euo pipefail
 top=$(cd "$(dirname "$0")/.." && pwd)
+program=${1:-spanprof}
+[ -f "$top/crates/$program/src/main.rt" ] || { echo "$0: crates/$program is no program" >&2; exit 2; }
 copy=$(mktemp -d)
 trap 'rm -rf "$copy"' EXIT
 
 # The lines of crates.txt that the program needs, in their order.
-awk -F: '
+awk -F: -v program="$program" '
     function take(crate,    it, needed) {
         if (!(crate in line) || crate in taken) return
         taken[crate] = 1
         for (it = split(below[crate], needed, " "); it > 0; it--) take(needed[it])
     }
     { split($1, head, " "); name[NR] = head[1]; line[head[1]] = $0; below[head[1]] = $2 }
-    END { take("spanprof"); for (at = 1; at <= NR; at++) if (name[at] in taken) print line[name[at]] }
+    END { take(program); for (at = 1; at <= NR; at++) if (name[at] in taken) print line[name[at]] }
 ' "$top/crates.txt" > "$copy/crates.txt"
 
 cp "$top/HANDLES" "$copy/"
 for crate in $(cut -d: -f1 "$copy/crates.txt" | cut -d' ' -f1); do
     mkdir -p "$copy/crates/$crate"
-    for part in src specs proofs stdin stdout; do
+    for part in src specs proofs args stdin stdout; do
         [ ! -e "$top/crates/$crate/$part" ] || cp -R "$top/crates/$crate/$part" "$copy/crates/$crate/"
     done
 done
 (cd "$copy" && rt ci)
-mkdir -p "$top/crates/spanprof/out"
-cp "$copy/crates/spanprof/out/spanprof" "$top/crates/spanprof/out/spanprof"
+mkdir -p "$top/crates/$program/out"
+cp "$copy/crates/$program/out/$program" "$top/crates/$program/out/$program"

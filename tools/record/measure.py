@@ -10,7 +10,7 @@ from report.answers import named_numbers
 TOP = os.path.dirname(os.path.dirname(os.path.dirname(os.path.abspath(__file__))))
 PLACES = (os.path.join(TOP, "crates", "spanprof_large", "out", "spanprof_large"),
           os.path.join(TOP, "..", "bin", "spanprof_large"))  # where this file is in PREFIX/share/spanprof/record
-HOW = "spanprof_large, which measures it, is not found; `rt run` in crates/spanprof_large proves and builds it"
+HOW = "spanprof_large, which measures it, is not found; tools/prove_program.sh spanprof_large proves and builds it"
 
 
 def spanprof_large():

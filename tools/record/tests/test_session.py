@@ -168,7 +168,7 @@ remarks       a note
     def test_without_the_program(self):
         self.assertEqual(self.told([]), """\
 mine.large.tasks, region at mine.c:9, 4 threads, costs in us of wall time
-remarks       spanprof_large, which measures it, is not found; `rt run` in crates/spanprof_large proves and builds it
+remarks       spanprof_large, which measures it, is not found; tools/prove_program.sh spanprof_large proves and builds it
               a note
               mine.large.tasks: 9000 tasks, 20001 segments, work 100 us
               mine.tasks is not written: 9000 tasks, and spanprof takes 4096
