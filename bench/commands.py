@@ -3,60 +3,16 @@
 
     commands.py PROGRAM PLAIN FOLDER [TEXT.. | scaling | changes | where]
 """
-import os
 import subprocess
 import sys
-import tempfile
-import time
 from pathlib import Path
+
+from timing import TIMEOUT, TooSlow, best, best_in_turns, peak, run
 
 PROGRAM, PLAIN, FOLDER = sys.argv[1], sys.argv[2], Path(sys.argv[3])
 PROCESSORS = "0-3"
-RUNS = int(os.environ.get("RUNS", "5"))
-TIMEOUT = 60
 VERSION_2 = ("loops",)
 CHAINS = ("chain", "waits")
-
-
-class TooSlow(Exception):
-    pass
-
-
-def run(words, path):
-    """What is printed, the processor time and the wall time in milliseconds."""
-    began = time.monotonic()
-    with open(path, "rb") as text, tempfile.TemporaryFile() as printed:
-        process = subprocess.Popen(words, stdin=text, stdout=printed, stderr=subprocess.DEVNULL)
-        while True:
-            ended, status, usage = os.wait4(process.pid, os.WNOHANG)
-            if ended:
-                break
-            if time.monotonic() - began > TIMEOUT:
-                process.kill()
-                process.wait()
-                raise TooSlow
-            time.sleep(0.0005)
-        process.returncode = os.waitstatus_to_exitcode(status)
-        wall = time.monotonic() - began
-        printed.seek(0)
-        return (process.returncode, printed.read()), 1000 * (usage.ru_utime + usage.ru_stime), 1000 * wall
-
-
-def peak(words, path):
-    """The peak of memory in MiB."""
-    with open(path, "rb") as text:
-        told = subprocess.run(["/usr/bin/time", "-f", "%M", *words], stdin=text, stdout=subprocess.DEVNULL,
-                              stderr=subprocess.PIPE, check=False)
-    return int(told.stderr.split()[-1]) / 1024
-
-
-def best(words, path, column):
-    """The least of the times, and what was printed."""
-    told, *times = run(words, path)
-    least = times[column]
-    for _ in range(1, RUNS if least < 5000 else 1):
-        least = min(least, run(words, path)[1 + column])
-    return told, least
 
 
 def commands(name, segments):
@@ -124,14 +80,11 @@ def changed(certificate):
 def tell(name, words, path):
     asked = " ".join(words if words[0] != "whatif" else words[:1])
     lead = "%-14s %-20s" % (name, asked)
-    try:
-        told, mine = best([PROGRAM, *words], path, 0)
-    except TooSlow:
+    (told, mine), (other, plain) = best_in_turns([[program, *words] for program in (PROGRAM, PLAIN)], path, 0)
+    if told is None:
         print(lead + " over %d s" % TIMEOUT, flush=True)
         return
-    try:
-        other, plain = best([PLAIN, *words], path, 0)
-    except TooSlow:
+    if other is None:
         print(lead + " %9.1f  plain: over %d s" % (mine, TIMEOUT), flush=True)
         return
     memory = [peak([program, *words], path) for program in (PROGRAM, PLAIN)]

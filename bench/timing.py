@@ -1,0 +1,65 @@
+"""Processor time, wall time and memory of programs that read a text and print."""
+import os
+import subprocess
+import tempfile
+import time
+
+RUNS = int(os.environ.get("RUNS", "15"))
+LONG = 5000  # milliseconds: what takes so long runs once
+TIMEOUT = 60  # seconds
+
+
+class TooSlow(Exception):
+    pass
+
+
+def run(words, path):
+    """The status and what is printed, the processor time and the wall time in milliseconds."""
+    began = time.monotonic()
+    with open(path, "rb") as text, tempfile.TemporaryFile() as printed:
+        process = subprocess.Popen(words, stdin=text, stdout=printed, stderr=subprocess.DEVNULL)
+        while True:
+            ended, status, usage = os.wait4(process.pid, os.WNOHANG)
+            if ended:
+                break
+            if time.monotonic() - began > TIMEOUT:
+                process.kill()
+                process.wait()
+                raise TooSlow
+            time.sleep(0.0005)
+        process.returncode = os.waitstatus_to_exitcode(status)
+        wall = time.monotonic() - began
+        printed.seek(0)
+        return (process.returncode, printed.read()), 1000 * (usage.ru_utime + usage.ru_stime), 1000 * wall
+
+
+def peak(words, path):
+    """The peak of memory in MiB."""
+    with open(path, "rb") as text:
+        told = subprocess.run(["/usr/bin/time", "-f", "%M", *words], stdin=text, stdout=subprocess.DEVNULL,
+                              stderr=subprocess.PIPE, check=False)
+    return int(told.stderr.split()[-1]) / 1024
+
+
+def best_in_turns(asked, path, column):
+    """For each list of words what it printed and the least of its times, or nothing where it took too long. They run in
+    turns, so that a slow minute of the machine meets them all. Column 0 is the processor's time, 1 the wall's."""
+    told, least = [None] * len(asked), [float("inf")] * len(asked)
+    for turn in range(RUNS):
+        for number, words in enumerate(asked):
+            if turn > 0 and (told[number] is None or least[number] >= LONG):
+                continue
+            try:
+                told[number], *times = run(words, path)
+            except TooSlow:
+                continue
+            least[number] = min(least[number], times[column])
+    return list(zip(told, least))
+
+
+def best(words, path, column):
+    """What the words printed, and the least of their times."""
+    told, least = best_in_turns([words], path, column)[0]
+    if told is None:
+        raise TooSlow
+    return told, least
