@@ -1,7 +1,7 @@
 #!/usr/bin/env bash
 # Times the commands beside a plain Rust program that prints the same, on the texts of make_texts.py, and compares what
 # both print there and on random programs. The times are the processor's, of user and system, in milliseconds, the best
-# of nine (of RUNS, if that is set), and the two programs run in turns; the memory is the peak, in MiB.
+# of five (of RUNS, if that is set), and the two programs run in turns; the memory is the peak, in MiB.
 #
 #     bench/commands.sh [TEXT..]      PROGRAM names the program, if it is built
 #     bench/commands.sh scaling       wall time of curve and check on one processor and on four

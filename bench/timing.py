@@ -4,7 +4,7 @@ import subprocess
 import tempfile
 import time
 
-RUNS = int(os.environ.get("RUNS", "9"))
+RUNS = int(os.environ.get("RUNS", "5"))
 LONG = 5000  # milliseconds: what takes so long runs once
 TIMEOUT = 60  # seconds
 
