@@ -64,6 +64,11 @@ class Turns(unittest.TestCase):
         self.assertEqual((told, least, other), (None, float("inf"), ("B", 1)))
         self.assertEqual(self.ran, ["a", "b", "b", "b"])
 
+    def test_one_run_that_is_too_slow_is_not_hidden_by_the_others(self):
+        (told, least), other = self.told({"a": [(5, 9), None, (3, 8)], "b": [(2, 1), (1, 1), (3, 1)]})
+        self.assertEqual((told, least, other), (None, float("inf"), ("B", 1)))
+        self.assertEqual(self.ran, ["a", "b", "a", "b", "b"])
+
     def test_alone_it_is_an_error(self):
         def slow(_words, _path):
             raise TooSlow

@@ -42,18 +42,20 @@ def peak(words, path):
 
 
 def best_in_turns(asked, path, column):
-    """For each list of words what it printed and the least of its times, or nothing where it took too long. They run in
-    turns, so that a slow minute of the machine meets them all. Column 0 is the processor's time, 1 the wall's."""
-    told, least = [None] * len(asked), [float("inf")] * len(asked)
-    for turn in range(RUNS):
-        for number, words in enumerate(asked):
-            if turn > 0 and (told[number] is None or least[number] >= LONG):
-                continue
+    """For each list of words what it printed and the least of its times, or nothing where a run took too long. They run
+    in turns, so that a slow minute of the machine meets them all. Column 0 is the processor's time, 1 the wall's."""
+    told, least, going = [None] * len(asked), [float("inf")] * len(asked), set(range(len(asked)))
+    for _ in range(RUNS):
+        for number in sorted(going):
             try:
-                told[number], *times = run(words, path)
+                told[number], *times = run(asked[number], path)
             except TooSlow:
+                told[number], least[number] = None, float("inf")
+                going.remove(number)
                 continue
             least[number] = min(least[number], times[column])
+            if least[number] >= LONG:
+                going.remove(number)
     return list(zip(told, least))
 
 
