@@ -22,7 +22,7 @@ passes() {
 tested() { passes "$1" python3 -B -m unittest discover -q -s "$1" -t "$2"; }
 
 passes definitions.sh checks/definitions.sh
-for script in clauses believed_lines proof_map sentences speed_numbers waiting/lines; do
+for script in clauses believed_lines left_edits proof_map sentences speed_numbers waiting/lines; do
     passes "$script.py" python3 -B "checks/$script.py"
 done
 for test in checks/*_test.py checks/waiting/*_test.py checks/large_recordings/*_test.py bench/*test*.py \

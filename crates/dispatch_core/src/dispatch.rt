@@ -144,10 +144,11 @@ impl<K: Kernel> Core<K> {
         }
     }
 
-    /// The program's graph, its costs and kept edges, exactly where every segment is finished. If
-    /// not, the core comes back.
-    pub fn into_graph(self) -> Result<Graph, Unfinished<K>>
-        ensures ok { IfOk result (IsGraphOf self.table) }
+    /// The history, and the program's graph: its costs and kept edges. There is one exactly where
+    /// every segment is finished. If not, the core comes back.
+    pub fn into_record(self) -> Result<(Vec<Event>, Graph), Unfinished<K>>
+        ensures history { IfOk result (λ made. made.0.items ≡ self.history) }
+        ensures graph { IfOk result (λ made. IsGraphOf self.table made.1) }
         ensures finished { OnOk result (IsFinished self.table self.history) }
         ensures err { OnErr result (¬ IsFinished self.table self.history) }
         ensures back { IfErr result (λ unfinished. unfinished.core ≡ self) }
@@ -155,7 +156,21 @@ impl<K: Kernel> Core<K> {
         if !self.is_finished() {
             return Err(Unfinished { core: self });
         }
-        Ok(make_graph(self.costs, self.counters.into_preds()))
+        let graph = make_graph(self.costs, self.counters.into_preds());
+        Ok((self.history, graph))
+    }
+
+    /// The program's graph, exactly where every segment is finished. If not, the core comes back.
+    pub fn into_graph(self) -> Result<Graph, Unfinished<K>>
+        ensures ok { IfOk result (IsGraphOf self.table) }
+        ensures finished { OnOk result (IsFinished self.table self.history) }
+        ensures err { OnErr result (¬ IsFinished self.table self.history) }
+        ensures back { IfErr result (λ unfinished. unfinished.core ≡ self) }
+    {
+        match self.into_record() {
+            Ok((_, graph)) => Ok(graph),
+            Err(unfinished) => Err(unfinished),
+        }
     }
 
     /// The program's table, given back.

@@ -26,12 +26,12 @@ fn fault_by<H: AllocGlobal + Threads + Wait + Abort + Sync>(
     Ok(told)
 }
 
-/// Where there is room for the thread of one worker, but not for those of 64, a run by 64 is out of
-/// memory, though the first of them could work off all segments.
+/// Where there is room for the threads of two workers, but not for those of 64, a run by 64 is out
+/// of memory, though the first of them could work off all segments.
 #[test]
 fn threads_after_the_first_are_refused(rt: HostRuntime) -> Result<(), Fail> {
     let mut supply = Supply::scarce(rt.alloc())?;
-    assert_eq!(rt; fault_by(&rt, &mut supply, 1)?, None);
+    assert_eq!(rt; fault_by(&rt, &mut supply, 2)?, None);
     let told = fault_by(&rt, &mut supply, 64)?;
     assert_eq!(rt; told, Some(RunFault::OutOfMemory));
     Ok(())

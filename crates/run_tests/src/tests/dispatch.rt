@@ -137,6 +137,22 @@ fn check_worked_graph(rt: &impl Abort, alloc: Global, core: Core<MixKernel>) -> 
     Ok(check_graph(rt, alloc, &finished_graph(core)?, WORKED_PREDS)?)
 }
 
+/// The finished run of the worked program has these events, and the program's graph.
+fn check_worked_record(
+    rt: &impl Abort,
+    alloc: Global,
+    core: Core<MixKernel>,
+    events: &[Event],
+) -> Result<(), Fail> {
+    match core.into_record() {
+        Ok((history, graph)) => {
+            assert_eq!(rt; history.as_slice(), events);
+            Ok(check_graph(rt, alloc, &graph, WORKED_PREDS)?)
+        }
+        Err(_) => Err("unfinished".into()),
+    }
+}
+
 #[test]
 fn worked_program_in_order(rt: HostRuntime) -> Result<(), Fail> {
     let alloc = rt.alloc();
@@ -186,7 +202,7 @@ fn worked_replay(rt: HostRuntime) -> Result<(), Fail> {
     let core = worked_run(rt.alloc(), EVENTS)?;
     let state = (core.is_finished(), event_count(&core), core.value(0));
     assert_eq!(rt; state, (true, 8, Some(781)));
-    Ok(())
+    check_worked_record(&rt, rt.alloc(), core, EVENTS)
 }
 
 /// The same run, cut short after its first segment.

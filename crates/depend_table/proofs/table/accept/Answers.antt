@@ -1,4 +1,5 @@
-use Rattle.std.proofs.Common.{ℕ, ◌≡◌, ◌<◌, List, length, Contains, ap, ◌∙◌, sym, subst, rules}
+use Rattle.std.proofs.Common.{ℕ, ◌≡◌, ◌<◌, List, length, Contains, ap, ◌∙◌, sym}
+use Rattle.std.proofs.Common.{◌∷◌, [], ◌++◌, subst, arith}
 use Rattle.std.proofs.lemmas.List.Elements.{All-contains}
 use Rattle.program_text.specs.declared.statement.Item.{Item}
 use Rattle.depend_table.specs.declared.table.Call.{Call}
@@ -14,7 +15,7 @@ returns-clause-table c =
     let items = c.args.items.now in
     let call : Call = record { task = c.args.task; items = c.in_ok-copy.copy } in
     let copied : items_of call.items ≡ items = c.in_ok-copy.ensures in
-    let place : c.len-place.result ≡ length calls = search rules in
+    let place : c.len-place.result ≡ length calls = grind arith in
     let above : (s : Sibling) → Contains (newest_first calls) s → s.task < c.args.task =
     λ s held. All-contains (λ (x : Sibling). x.task < c.args.task) (newest_first calls) s
     c.requires.above held in
@@ -28,16 +29,12 @@ returns-clause-table c =
     ∙ ap (λ n. entry_after n items items name (entry_at names name)) place
     ∙ ap (λ (is : List Item). entry_after (length calls) is is name (entry_at names name))
     (sym copied) in
-    subst (IsTableOf c.enter_all.new.names) (sym c.in_ok-push.ensures.items)
+    subst (IsTableOf c.enter_all.new.names) (sym (c.push_reserved.ensures.items
+    ∙ ap (λ (xs : List Call). xs ++ call ∷ []) c.in_ok-make_room_in.ensures.same))
     (table_after names c.enter_all.new.names calls call c.requires.table above same)
 
 pub returns-in_err-make_all_room-clause-table : goal.returns-in_err-make_all_room-clause-table
 returns-in_err-make_all_room-clause-table c =
-    table_same c.args.names.now c.make_all_room.new.names c.args.calls.now.items c.requires.table
-    c.in_err-make_all_room.ensures.same
-
-pub returns-in_err-push-clause-table : goal.returns-in_err-push-clause-table
-returns-in_err-push-clause-table c =
-    subst (IsTableOf c.make_all_room.new.names) (sym c.in_err-push.ensures.items)
+    subst (IsTableOf c.make_all_room.new.names) (sym c.in_ok-make_room_in.ensures.same)
     (table_same c.args.names.now c.make_all_room.new.names c.args.calls.now.items c.requires.table
-    c.in_ok-make_all_room.ensures.same)
+    c.in_err-make_all_room.ensures.same)

@@ -194,10 +194,15 @@ const STARTS: &[(&str, &[u32])] = &[
         }",
         &[0, 1, 2, 3, 4, 5, 6],
     ),
+    (
+        "task { work 1 task { work 1 } work 1 } task { work 1 }",
+        &[0, 1, 4, 2, 3, 5, 6],
+    ),
 ];
 
 /// Two readers become ready by the end of one writer, and each creation by the segment before it.
-/// What is put first goes first, and of what becomes ready at once the lowest is put first.
+/// What is put first goes first, so a task's own child waits for what was ready before it. Of what
+/// becomes ready at once the lowest is put first.
 #[test]
 fn one_worker_goes_first_in_first_out(rt: HostRuntime) -> Result<(), Fail> {
     for (body, starts) in STARTS {
