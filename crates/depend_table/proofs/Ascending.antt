@@ -1,7 +1,7 @@
 -- Items whose names ascend: each name has one item.
 use Rattle.std.proofs.Common.{ℕ, zero, suc, ◌+◌, ◌≡◌, ◌<◌, ◌≤◌, true, false, ◌==◌}
 use Rattle.std.proofs.Common.{List, [], ◌∷◌, length, get_or, take, refl, sym, ap, ◌∙◌, arith}
-use Rattle.std.proofs.Common.{Contains, Option, Some, None, subst, cond, inl, inr, ◌⊎◌}
+use Rattle.std.proofs.Common.{Contains, Option, Some, None, cond, inl, inr, ◌⊎◌}
 use Rattle.std.specs.Prelude.{nat_le}
 use Rattle.std.proofs.Math.Bool.{and-true}
 use Rattle.std.proofs.lemmas.Bool.{and_parts, leb-true, ne_eqb, eq-eqb}

@@ -1,4 +1,4 @@
-use Rattle.std.proofs.Common.{◌+◌, ◌-◌, ◌<◌, ◌≤◌, length, get_or, arith, rules}
+use Rattle.std.proofs.Common.{arith}
 use Rattle.depend_table.proofs.MarkedPlaces.{between_ends, within_wider}
 use Rattle.depend_table.proofs.table.Window.with_places.Goals as goal
 
