@@ -2,7 +2,7 @@
 # Tries the edits of checks/edits, each of which the prover has to refuse. The gate leaves them out: they turn a clause of
 # a function that only its crate sees, or one that another edit turns in the gate. They are tried as in the gate, over a
 # copy of the crates, each over a second proof of its crate. What a gate on this machine has passed is kept. All of them
-# take half an hour on four processors.
+# take twenty minutes on four processors.
 #
 #     checks/edits.sh [CRATE..]      all crates, if none is named
 set -euo pipefail
