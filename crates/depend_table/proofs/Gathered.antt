@@ -10,6 +10,9 @@ use Rattle.program_text.specs.declared.statement.Item.{Item}
 abbrev no_item : Item
 no_item = record { kind = DependIn; name = 0 }
 
+abbrev pub no_places : Bor (List ℕ)
+no_places = record { ref_ptr = (0, 0); now = [] }
+
 -- what holds for the list of any item holds for each of them
 pub gathered_each : (P : List ℕ → Type 0) (lists : List (Bor (List ℕ))) (of : Item → List ℕ)
     (items : List Item) → map (λ places. places.now) lists ≡ map of items

@@ -15,4 +15,3 @@ pub mod SiblingSteps
 pub mod AtFirst
 pub mod Stages
 pub mod KeptLists
-pub mod Dropped

@@ -115,7 +115,6 @@ impl Counters {
         self.lower(finished);
         self.open(values.as_slice(), allocations.next, &mut ready);
         self.open(values.as_slice(), allocations.first, &mut ready);
-        self.drop_successors(alloc, finished);
         ready.sort_unstable();
         Ok(ready)
     }
@@ -176,16 +175,6 @@ impl Counters {
             &mut self.counts,
             self.successors[finished as usize].as_slice(),
         );
-    }
-
-    /// Frees the list of the segments that a finished one is kept before: no later finish reads it.
-    fn drop_successors(&mut self, alloc: Global, finished: u32)
-        requires known { finished < length self.old.successors.items }
-        ensures dropped { lists_of self.new.successors.items
-            ≡ slice_set (lists_of self.old.successors.items) finished [] }
-        ensures others { self.new ≡ record self.old { successors = self.new.successors } }
-    {
-        self.successors[finished as usize] = Vec::new(alloc);
     }
 
     /// Opens a segment, if there is one, and adds it to the list of ready ones if no kept

@@ -10,13 +10,10 @@ use Rattle.depend_table.specs.Siblings.{IsKept}
 use Rattle.depend_table.specs.Generations.{sharing_at}
 use Rattle.depend_table.specs.Entries.{newest_first, tasks_of, predecessors_for}
 use Rattle.depend_table.specs.MarkedPlaces.{AreWithin, IsMarked, AreMarkedToo, IsMarkedNumber}
-use Rattle.depend_table.proofs.Gathered.{gathered_each, gathered_together}
+use Rattle.depend_table.proofs.Gathered.{gathered_each, gathered_together, no_places}
 use Rattle.depend_table.proofs.MarkedPlaces.{marked_in_turn, marked_within, written_back}
 use Rattle.depend_table.proofs.Places.{kept_listed, predecessors_in_order, predecessors_below}
 use Rattle.depend_table.proofs.table.kept_at_each.Goals as goal
-
-abbrev no_places : Bor (List ℕ)
-no_places = record { ref_ptr = (0, 0); now = [] }
 
 pub window_of-window-requires-clause-ascending : goal.window_of-window-requires-clause-ascending
 window_of-window-requires-clause-ascending c =

@@ -1,13 +1,11 @@
-use Rattle.std.proofs.Common.{ℕ, ◌≤◌, List, Bor, [], get_or, take, All, subst, sym}
+use Rattle.std.proofs.Common.{ℕ, ◌≤◌, List, Bor, get_or, take, All, subst, sym}
 use Rattle.std.proofs.Common.{take_all, arith}
 use Rattle.std.proofs.lemmas.List.{take_more}
 use Rattle.std.proofs.lemmas.List.Elements.{All-push, All-weaker}
 use Rattle.depend_table.specs.MarkedPlaces.{AreWithin}
+use Rattle.depend_table.proofs.Gathered.{no_places}
 use Rattle.depend_table.proofs.MarkedPlaces.{within_wider}
 use Rattle.depend_table.proofs.table.window_of.Goals as goal
-
-abbrev no_places : Bor (List ℕ)
-no_places = record { ref_ptr = (0, 0); now = [] }
 
 pub with_places-window-requires-clause-ascending : goal.with_places-window-requires-clause-ascending
 with_places-window-requires-clause-ascending c =
