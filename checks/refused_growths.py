@@ -36,6 +36,7 @@ WRONG_CLAIM = "end 9 start 0 0 start 1 5 start 2 5 start 3 7 chain 0 1 3"
 DEEP = ("omptasks 1\nwork 1\ntask depend(in: a, b, c) depend(out: d, e, f) {\ntaskgroup { task if(0) { work 2 } }\n"
         "task { work 3 task { work 4 task { task { taskgroup { work 5 } } } } }\nwork 13\n}\n"
         "task depend(in: d) { work 1 }\ntaskwait\n")
+MANY_RUNS = "omptasks 2\nfor i 1 256 { task { work 1 } }\n"  # its curve is made on more than one thread
 LOOPS = "omptasks 2\nfor i 1 3 { task depend(in: x[i-1]) depend(out: x[i]) { work 2 } }\n"
 
 
@@ -130,6 +131,7 @@ def commands(refuser, program):
         ("certify", "omptasks 1\ntask {"),
         ("span", LOOPS),
         ("show", LOOPS),
+        ("curve --upto 256", MANY_RUNS),
     ):
         command(refuser, program, words.split(), text)
     for words in ("span", "show", "slack", "greedy --threads 4", "curve --upto 4", "whatif 1=7", "certify",

@@ -109,10 +109,10 @@ fn curves(rt: HostRuntime) -> Result<(), Fail> {
 }
 
 /// So many independent tasks of cost 1 on up to so many threads: as many threads as may be, and as
-/// many tasks.
+/// many tasks, with so many runs that several threads of the process make them.
 #[test]
 fn long_curves(rt: HostRuntime) -> Result<(), Fail> {
-    for (count, most) in [(128, 1024), (4096, 2)] {
+    for (count, most) in [(128, 1024), (4096, 16)] {
         let tasks = repeated(rt.alloc(), "task { work 1 }\n", count)?;
         let program = format!(in rt.alloc(); "omptasks 1\n{tasks}")?;
         let mut table = String::new(rt.alloc());

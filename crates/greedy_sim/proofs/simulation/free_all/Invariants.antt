@@ -1,5 +1,5 @@
 use Rattle.std.proofs.Common.{ℕ, ◌<◌, Contains}
-use Rattle.greedy_sim.proofs.simulation.all_free.Given as goal
+use Rattle.greedy_sim.proofs.simulation.free_all.Given as goal
 
 -- so many threads are free
 abbrev pub invariant-loop-thread : goal.invariant-loop-thread

@@ -1,11 +1,11 @@
 use Rattle.std.proofs.Common.{Contains, refl, arith, inl, inr, below_more}
 use Rattle.greedy_sim.proofs.Members.{nothing_in}
-use Rattle.greedy_sim.proofs.simulation.all_free.Goals as goal
+use Rattle.greedy_sim.proofs.simulation.free_all.Goals as goal
 
 pub loop-thread-init : goal.loop-thread-init
 loop-thread-init c = record {
   free = λ k l. absurd (omega arith);
-  only = λ k h. nothing_in c.new-free.result k c.new-free.ensures h;
+  only = λ k h. nothing_in c.clear.new.self k c.clear.ensures h;
 }
 
 pub loop-thread-preserved : goal.loop-thread-preserved
