@@ -24,6 +24,7 @@ def commands(name, segments):
     if name in CHAINS:
         yield ["curve", "--upto", "1024"]
     yield ["whatif", "0=1000", "%d=7" % last, "%d=3" % (last // 2)]
+    yield ["whatif", *("%d=%d" % (segment, segment % 7) for segment in range(segments))]
     yield ["run", "--workers", "1"]
     yield ["certify"]
     yield ["check"]
@@ -77,8 +78,15 @@ def changed(certificate):
         yield path
 
 
+def called(words):
+    """What a row calls the command: `whatif all` has a change for each segment."""
+    if words[0] != "whatif":
+        return " ".join(words)
+    return "whatif" if len(words) == 4 else "whatif all"
+
+
 def tell(name, words, path):
-    asked = " ".join(words if words[0] != "whatif" else words[:1])
+    asked = called(words)
     lead = "%-14s %-20s" % (name, asked)
     (told, mine), (other, plain) = best_in_turns([[program, *words] for program in (PROGRAM, PLAIN)], path, 0)
     if told is None:

@@ -18,15 +18,21 @@ count() {
         sed -n 's/.*I *refs: *//p' | tr -d ,
 }
 
-# row TEXT FILE WORD..: the row of a command on a text, whose input is this file.
-row() {
-    local name=$1 input=$2 ours plain
-    shift 2
+# named_row TEXT COMMAND FILE WORD..: the row of a command on a text, whose input is this file.
+named_row() {
+    local name=$1 command=$2 input=$3 ours plain
+    shift 3
     ours=$(count "$input" "$PROGRAM" "$@")
     plain=$(count "$input" "$scratch/plain" "$@")
-    awk -v name="$name" -v words="$*" -v ours="$ours" -v plain="$plain" \
+    awk -v name="$name" -v words="$command" -v ours="$ours" -v plain="$plain" \
         'BEGIN { printf "%-14s %-20s %9.1f %9.1f %6.2f\n", name, words, ours / 1e6, plain / 1e6, ours / plain }'
 }
+
+# row TEXT FILE WORD..: the row of a command that is called by all its words.
+row() { named_row "$1" "${*:3}" "$2" "${@:3}"; }
+
+# changes SEGMENTS: a change of the cost of each of so many segments.
+changes() { seq 0 $(($1 - 1)) | awk '{ print $1 "=" $1 % 7 }'; }
 
 printf '%-14s %-20s %9s %9s %6s\n' text command spanprof plain times
 names=("$@")
@@ -38,6 +44,10 @@ for name in "${names[@]}"; do
     row "$name" "$text" slack
     row "$name" "$text" greedy --threads 64
     row "$name" "$text" curve --upto 64
+    segments=$("$scratch/plain" span < "$text" | sed -n 's/^segments //p')
+    named_row "$name" whatif "$text" whatif 0=1000 "$((segments - 1))=7" "$(((segments - 1) / 2))=3"
+    mapfile -t words < <(changes "$segments")
+    named_row "$name" "whatif all" "$text" whatif "${words[@]}"
     row "$name" "$text" run --workers 1
     row "$name" "$text" certify
     "$scratch/plain" certify < "$text" > "$scratch/certificate"

@@ -1,17 +1,21 @@
 #!/usr/bin/env bash
 # Times spanprof_large beside a plain Rust program that makes the same pass, on programs of a million tasks, and tells the most
-# memory that each held. Compares what both print first.
+# memory that each held. Compares what both print first. In `items` there are a tenth of the tasks, with 32 names each, and
+# `one_line` is a line of 1 GB, or of 1,000 bytes for each task where there are fewer.
 #
-#     bench/large.sh [TASKS]      LARGE names the program, if it is built
+#     bench/large.sh [TASKS]           LARGE names the program, if it is built
+#     bench/large.sh path [TASKS]      times spanprof-path on the same texts: all of it, and the most memory of a part
 set -euo pipefail
 # shellcheck source=bench/common.sh
 . "$(dirname "$0")/common.sh"
+with=plain
+if [ "${1:-}" = path ]; then with=path; shift; fi
 tasks=${1:-1000000}
 if [ -z "${LARGE:-}" ]; then
     "$top/tools/prove_program.sh" spanprof_large > "$scratch/told" 2>&1 || { cat "$scratch/told" >&2; exit 1; }
     LARGE=$top/crates/spanprof_large/out/spanprof_large
 fi
-rustc -O --edition 2024 -o "$scratch/plain" "$top/bench/plain_large/main.rs"
+[ "$with" = path ] || rustc -O --edition 2024 -o "$scratch/plain" "$top/bench/plain_large/main.rs"
 
 # timed FILE PROGRAM: processor time in seconds, the least of five, and the most memory in MiB.
 timed() {
@@ -35,8 +39,23 @@ row() {
             ours / (plain > 0 ? plain : 0.01), held, plainly }'
 }
 
-printf '%-12s %6s %8s %6s %6s %8s %6s\n' text MB seconds plain times MiB plain
-for name in independent chain tree nested stencil grid; do
-    python3 "$top/bench/large_texts.py" "$name" "$tasks" > "$scratch/$name.tasks"
-    row "$name" "$scratch/$name.tasks"
+# path_row NAME FILE: the row of a text under spanprof-path: processor time in seconds, and the most memory of one of its
+# processes in MiB.
+path_row() {
+    SPANPROF_LARGE=$LARGE /usr/bin/time -f '%U %S %M' -o "$scratch/used" "$top/tools/spanprof-path" "$2" > /dev/null
+    awk -v name="$1" -v bytes="$(stat -c %s "$2")" '{ printf "%-12s %6.1f %8.2f %8.1f\n", name, bytes / 1e6, $1 + $2, $3 / 1024 }' \
+        "$scratch/used"
+}
+
+if [ "$with" = path ]; then
+    printf '%-12s %6s %8s %8s\n' text MB seconds MiB
+else
+    printf '%-12s %6s %8s %6s %6s %8s %6s\n' text MB seconds plain times MiB plain
+fi
+for name in independent chain tree nested stencil grid names colliding items same_items groups one_line; do
+    count=$tasks
+    if [ "$name" = items ]; then count=$((tasks / 10)); fi
+    python3 "$top/bench/large_texts.py" "$name" "$count" > "$scratch/$name.tasks"
+    if [ "$with" = path ]; then path_row "$name" "$scratch/$name.tasks"; else row "$name" "$scratch/$name.tasks"; fi
+    rm "$scratch/$name.tasks"
 done

@@ -1,11 +1,13 @@
 #!/usr/bin/env python3
-"""Writes a program of some number of tasks for large.sh.
-
-    large_texts.py independent|chain|tree|nested|stencil|grid TASKS
-"""
+"""Writes a program of some number of tasks for large.sh. The shapes are the functions below."""
+import argparse
 import sys
 
 STENCIL_CELLS = 1_000
+ITEMS = 32
+LONGEST_LINE = 1_000_000_000
+LINE_BYTES = 1_000
+COLLIDING = "Kuxo0343OZaYBI_9gQiE18r"
 
 
 def independent(tasks):
@@ -59,14 +61,66 @@ def grid(tasks):
             yield f"task depend(in: {above}, {left}) depend(out: a_{row}_{column}) {{ work {1 + (row + column) % 5} }}\n"
 
 
-SHAPES = {shape.__name__: shape for shape in (independent, chain, tree, nested, stencil, grid)}
+def names(tasks):
+    """A name for each task, mentioned once."""
+    for number in range(tasks):
+        yield f"task depend(out: n{number}) {{ work 1 }}\n"
 
 
-def main():
-    if len(sys.argv) != 3 or sys.argv[1] not in SHAPES or not sys.argv[2].isdigit():
-        sys.exit(__doc__)
+def colliding(tasks):
+    """As many names, which collide under the fixed key of the table's hash."""
+    for number in range(tasks):
+        yield f"task depend(out: {COLLIDING}{number:08}) {{ work 1 }}\n"
+
+
+def items(tasks):
+    """The most depend items for each task, all on names of its own."""
+    for number in range(tasks):
+        mentioned = ", ".join(f"n{ITEMS * number + place}" for place in range(ITEMS))
+        yield f"task depend(out: {mentioned}) {{ work 1 }}\n"
+
+
+def same_items(tasks):
+    """The most depend items for each task, all on the same names."""
+    mentioned = ", ".join(f"n{place}" for place in range(ITEMS))
+    for _ in range(tasks):
+        yield f"task depend(inout: {mentioned}) {{ work 1 }}\n"
+
+
+def groups(tasks):
+    """As many open groups."""
+    for _ in range(tasks):
+        yield "taskgroup { work 1\n"
+    for _ in range(tasks):
+        yield "}\n"
+
+
+def one_line(tasks):
+    """All tasks on a line, which is kept whole: 1,000 bytes for each, and 1 GB at most."""
+    task = "task { work 2 }"
+    blanks = " " * max(1, min(LINE_BYTES, LONGEST_LINE // max(1, tasks)) - len(task))
+    for _ in range(tasks):
+        yield task + blanks
+    yield "\n"
+
+
+SHAPES = {shape.__name__: shape for shape in (independent, chain, tree, nested, stencil, grid, names, colliding, items,
+                                              same_items, groups, one_line)}
+
+
+def number(word):
+    if not word.isdigit():
+        raise argparse.ArgumentTypeError("%r is no number of tasks" % word)
+    return int(word)
+
+
+def main(words=None):
+    parser = argparse.ArgumentParser(description=__doc__)
+    parser.add_argument("shape", choices=SHAPES)
+    parser.add_argument("tasks", type=number, help="how many")
+    asked = parser.parse_args(words)
     sys.stdout.write("omptasks 1\n")
-    sys.stdout.writelines(SHAPES[sys.argv[1]](int(sys.argv[2])))
+    sys.stdout.writelines(SHAPES[asked.shape](asked.tasks))
 
 
 if __name__ == "__main__":

@@ -1,12 +1,10 @@
 #!/usr/bin/env python3
 """Writes the texts that run.sh times, each near a limit of the program text: NAME.tasks, and NAME.replay, which has
-behind the text a whole run on one worker, in the order of the segments' numbers.
+behind the text a whole run on one worker, in the order of the segments' numbers."""
 
-    make_texts.py FOLDER
-"""
-
+import argparse
 import re
-import sys
+import string
 from pathlib import Path
 
 TEXT_BYTES = 4_194_304
@@ -145,9 +143,84 @@ def recorded():
     return HEADER + "".join(each)
 
 
+def task_of(clauses):
+    """A task of cost 1 with clauses, each a type and its names; a clause without names is left out."""
+    depends = ("depend(%s: %s) " % (kind, ", ".join(names)) for kind, names in clauses if names)
+    return "task " + "".join(depends) + "{ work 1 }\n"
+
+
+def halving():
+    """The most kept edges that there may be: the second half of the tasks waits for the first, and so do the halves of
+    each half, and so on twelve times, each on a name of its own. So each task waits for all before it."""
+    def task(n):
+        items = [("inoutset", "in")[n >> level & 1] for level in range(12)]
+        names = ["l%d_%d" % (level, n >> level + 1) for level in range(12)]
+        return task_of([(kind, [name]) for kind, name in zip(items, names)])
+
+    return HEADER + "".join(task(n) for n in range(TASKS - 1))
+
+
+def in_parts(parts):
+    """Children in so many parts, each of which waits for all parts before it and for nothing in its own."""
+    children = TASKS - 1
+    begins = [(children * (part + 1) // parts, "n%d" % part) for part in range(parts - 1)]
+    each = ((["n%d" % part for part, (begin, _) in enumerate(begins) if n < begin],
+             ["n%d" % part for part, (begin, _) in enumerate(begins) if n >= begin]) for n in range(children))
+    return HEADER + "".join(task_of([("inoutset", before), ("in", behind)]) for before, behind in each)
+
+
+def parts4():
+    """Four parts."""
+    return in_parts(4)
+
+
+def parts32():
+    """As many parts as 32 items for each task can tell apart, which are 33."""
+    return in_parts(33)
+
+
+def fan_waits():
+    """As fan, and then waits up to the limit of segments."""
+    children = TASKS - 1
+    changes = "task depend(inoutset: x) { work 1 }\n" * (children // 2)
+    reads = "task depend(in: x) { work 1 }\n" * (children - children // 2)
+    return HEADER + changes + reads + "work 1 taskwait\n" * (SEGMENTS - 1 - 2 * children)
+
+
+def glance():
+    """Siblings with 32 items each that are free to run at once. Each has, of twelve pairs of names, the one or the
+    other by the bits of its number. No two conflict, which only a look at nearly all of their items tells."""
+    def name(n):
+        return "p%x" % n
+
+    first, second = (["%s%d" % (letter, bit) for bit in range(12)] for letter in "AB")
+    fillers = iter(name(n) for n in range(32 * TASKS))
+    lines = [task_of([("in", first)])]
+    for room in [20] * 204 + [4]:
+        lines.append(task_of([("in", first), ("out", [next(fillers) for _ in range(room)])]))
+    lines.append(task_of([("inoutset", second)]))
+    for n in range(1, TASKS - len(lines)):
+        reads = [first[bit] for bit in range(12) if not n >> bit & 1]
+        sets = [second[bit] for bit in range(12) if n >> bit & 1]
+        lines.append(task_of([("in", reads), ("inoutset", sets), ("out", [next(fillers) for _ in range(20)])]))
+    return HEADER + "".join(lines)
+
+
+def colliding():
+    """32,000 names of 31 bytes that one hash of multiplications takes to one number, without a key made from the text:
+    after this prefix a factor is 0."""
+    letters = string.ascii_letters + string.digits + "_"
+
+    def name(n):
+        return "Kuxo0343OZaYBI_9gQiE18r" + "".join(letters[n // 63 ** place % 63] for place in range(8))
+
+    return HEADER + "".join(task_of([("out", [name(32 * n + i) for i in range(32)])]) for n in range(1000))
+
+
 TEXTS = (
     gaps, tokens, shared_items, own_items, readers, mixed_items, fan_of_items, all_limits, all_limits_cut, waits,
-    largest, deep, fan, chain, uneven, loops, loops_written, recorded,
+    largest, deep, fan, chain, uneven, loops, loops_written, recorded, halving, parts4, parts32, fan_waits, glance,
+    colliding,
 )
 
 
@@ -163,8 +236,10 @@ def run_in_order(text):
     return "".join("start 0 %d\nfinish 0 %d\n" % (s, s) for s in range(segments(text)))
 
 
-def main():
-    folder = Path(sys.argv[1])
+def main(words=None):
+    parser = argparse.ArgumentParser(description=__doc__)
+    parser.add_argument("folder", type=Path, help="where the texts go; it is made where there is none")
+    folder = parser.parse_args(words).folder
     folder.mkdir(parents=True, exist_ok=True)
     for make in TEXTS:
         text = make()

@@ -1,10 +1,7 @@
 #!/usr/bin/env python3
-"""Writes small random programs, in which every construct stands beside every other: 0.tasks, 1.tasks, ..
-
-    random_texts.py FOLDER [COUNT] [SEED]
-"""
+"""Writes small random programs, in which every construct stands beside every other: 0.tasks, 1.tasks, .."""
+import argparse
 import random
-import sys
 from pathlib import Path
 
 
@@ -35,14 +32,18 @@ def statements(dice, depth, budget):
     return "".join(line + "\n" for line in text)
 
 
-def main():
-    folder = Path(sys.argv[1])
-    count = int(sys.argv[2]) if len(sys.argv) > 2 else 200
-    dice = random.Random(int(sys.argv[3]) if len(sys.argv) > 3 else 1)
-    folder.mkdir(parents=True, exist_ok=True)
-    for number in range(count):
+def main(words=None):
+    parser = argparse.ArgumentParser(description=__doc__)
+    parser.add_argument("folder", type=Path, help="where the programs go; it is made where there is none")
+    parser.add_argument("count", type=int, nargs="?", default=200, help="how many, 200 if not told")
+    parser.add_argument("seed", type=int, nargs="?", default=1, help="of the random numbers, 1 if not told")
+    asked = parser.parse_args(words)
+    dice = random.Random(asked.seed)
+    asked.folder.mkdir(parents=True, exist_ok=True)
+    for number in range(asked.count):
         body = "".join(statements(dice, 5, [dice.randint(0, 60)]) for _ in range(dice.randint(1, 3)))
-        (folder / ("%d.tasks" % number)).write_text("omptasks 1\n" + body)
+        (asked.folder / ("%d.tasks" % number)).write_text("omptasks 1\n" + body)
 
 
-main()
+if __name__ == "__main__":
+    main()

@@ -65,7 +65,13 @@ def region_logged(folder):
     return (last - first) / 1e6
 
 
-REGIONS = {"recorder": region_recorded, "logged": region_logged}
+def converted(folder):
+    """The folder, once the recorder's log there is a text."""
+    subprocess.run([folder + "/recorder/convert_log", folder + "/record.log"], stdout=subprocess.DEVNULL, check=True)
+    return folder
+
+
+REGIONS = {"recorder": lambda folder: region_recorded(converted(folder)), "logged": region_logged}
 
 
 def measured(ways, folder, times):

@@ -1,11 +1,16 @@
 #!/usr/bin/env bash
-# Measures what recording costs a program of OpenMP tasks, on four threads (OMP_NUM_THREADS): recording.sh [RUNS].
+# Measures what recording costs a program of OpenMP tasks, on four threads (OMP_NUM_THREADS), and what its log takes to be
+# converted: recording.sh [RUNS].
 set -euo pipefail
 # shellcheck source=bench/common.sh
 . "$(dirname "$0")/common.sh"
-llvm=${LLVM:-16}
-library=/usr/lib/llvm-$llvm/lib
-make -s -C "$top/tools/openmp_recorder" LLVM="$llvm"
-"clang-$llvm" -O2 -g -fopenmp "$top/bench/recording/tasks.c" -o "$scratch/tasks" -L"$library" -Wl,-rpath,"$library"
+# shellcheck source=checks/llvm.sh
+. "$top/checks/llvm.sh"
+find_llvm || { echo "$no_llvm" >&2; exit 1; }
+recorder=$top/tools/openmp_recorder
+make -s -C "$recorder" LLVM="$llvm"
+"clang-$llvm" -O2 -g -fopenmp "$top/bench/recording/tasks.c" -o "$scratch/tasks" "${llvm_flags[@]}"
+"clang-$llvm" -O2 "$top/bench/recording/calls.c" -o "$scratch/calls" -ldl
+"clang-$llvm" -O2 -shared -fPIC "$top/bench/recording/nothing.c" -o "$scratch/nothing.so" "${llvm_flags[@]}"
 export OMP_NUM_THREADS=${OMP_NUM_THREADS:-4}
-python3 "$top/bench/recording/measure.py" "$scratch/tasks" "$top/tools/openmp_recorder/librecorder.so" "$@"
+python3 "$top/bench/recording/measure.py" "$scratch" "$recorder/librecorder.so" "$recorder/convert_log" "$@"

@@ -50,6 +50,9 @@ spanprof-report mine.tasks --source so|sources
 spanprof-path mi|mine.tasks
 spanprof-path mine.tasks --cs|--csv
 spanprof-path -o mi|mine.tasks
+spanprof-whatif mi|mine.tasks
+spanprof-whatif mine.tasks --cut|--cutoff
+spanprof-whatif -o mi|mine.tasks
 spanprof-conformance mu|mutants
 spanprof-conformance run --tasks un|untied
 spanprof-conformance run --pre|--preload
@@ -57,7 +60,7 @@ LINES
 
 every=$(in_bash 'spanprof ')
 expect bash "$every" 'span show slack greedy curve whatif certify check run replay' 'spanprof '
-for name in record report path; do
+for name in record report path whatif; do
     listed=$(spanprof-$name --help | grep -oE -e '(^| )--[a-z-]+' | tr -d ' ' | sort -u)
     expect bash "$(in_bash "spanprof-$name --" | tr ' ' '\n' | grep -e '--.' | sort -u)" "$listed" "spanprof-$name --"
     for option in $listed; do

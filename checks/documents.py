@@ -1,7 +1,7 @@
 #!/usr/bin/env python3
 """Runs the commands that the documents show, and compares what they print. Build spanprof first.
 
-    checks/documents.py [PROGRAM]
+    checks/documents.py [PROGRAM] [--write]     --write puts what they print into the documents
 A command is a line that begins with `$ ` in a block of README.md, docs/ or examples/; what follows is what it prints.
 Commands that record a run, or read a recording that is not kept in examples/openmp/recorded, are left out, and so are
 pictures where matplotlib or Graphviz is missing.
@@ -53,8 +53,22 @@ def make_folder(program):
     return folder
 
 
+def replaced(text, command, expected, printed):
+    """The document with what the command prints now in the place of what it says."""
+    shown = "\n$ %s\n" % command
+    return text.replace(shown + expected, shown + printed, 1)
+
+
+def put(path, command, expected, printed):
+    with open(path, encoding="utf-8") as file:
+        text = file.read()
+    with open(path, "w", encoding="utf-8") as file:
+        file.write(replaced(text, command, expected, printed))
+
+
 def main():
-    program = os.path.abspath(sys.argv[1] if len(sys.argv) > 1 else TOP + "/crates/spanprof/out/spanprof")
+    words = [word for word in sys.argv[1:] if word != "--write"]
+    program = os.path.abspath(words[0] if words else TOP + "/crates/spanprof/out/spanprof")
     if not os.access(program, os.X_OK):
         sys.exit("no program " + program)
     folder = make_folder(program)
@@ -69,6 +83,9 @@ def main():
             done = subprocess.run(["bash", "-c", command], cwd=folder, env=environment, capture_output=True, text=True)
             if "has no matplotlib" in done.stderr or "Graphviz's dot is missing" in done.stderr:
                 print("left out:", command)
+            elif done.stdout != expected and not done.stderr and "--write" in sys.argv:
+                put(document, command, expected, done.stdout)
+                print("written:", command)
             elif done.stdout != expected or done.stderr:
                 wrong += 1
                 print("%s: %s\nprints\n%s%s" % (os.path.relpath(document, TOP), command, done.stdout, done.stderr))

@@ -4,10 +4,12 @@
 # sees that nothing stays. Build spanprof first. Another program than crates/spanprof/out/spanprof may be named.
 set -euo pipefail
 cd "$(dirname "$0")/.."
+# shellcheck source=checks/llvm.sh
+. checks/llvm.sh
 top=$PWD
 spanprof=$(realpath "${1:-crates/spanprof/out/spanprof}")
 [ -x "$spanprof" ] || { echo "no program $spanprof"; exit 1; }
-command -v clang++-16 > /dev/null || { echo "skipped: clang-16 is missing (package clang-16)"; exit 0; }
+find_llvm || { echo "skipped: $no_llvm"; exit 0; }
 folder=$(mktemp -d)
 trap 'rm -rf "$folder"' EXIT
 prefix=$folder/usr/local
@@ -46,7 +48,9 @@ large=${SPANPROF_LARGE:-$prefix/bin/spanprof_large} words='work 11, span 9, .*, 
 installed SPANPROF_LARGE="$large" spanprof-path worked.tasks > found 2> told || status=$?
 cat found told | grep -q "$words" || { fail "spanprof-path"; cat found told; }
 [ $status -eq $wanted ] || fail "spanprof-path ends with $status"
-for name in spanprof spanprof-record spanprof-report spanprof-path spanprof-conformance; do
+installed spanprof-whatif worked.tasks --drop-wait taskwait > found 2> told || fail "spanprof-whatif fails"
+grep -q '^span *9 *8 ' found || { fail "spanprof-whatif"; cat found told; }
+for name in spanprof spanprof-record spanprof-convert spanprof-report spanprof-path spanprof-whatif spanprof-conformance; do
     [ "$(man -M "$prefix/share/man" -w $name)" = "$prefix/share/man/man1/$name.1" ] || fail "man $name"
     [ -e "$prefix/share/bash-completion/completions/$name" ] || fail "no completion of $name"
 done

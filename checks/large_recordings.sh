@@ -6,12 +6,12 @@
 # large_recordings.sh [NAME=NUMBER ..]: these programs, such as tree=18. Ends with status 1 where one is wrong.
 set -euo pipefail
 cd "$(dirname "$0")/.."
-llvm=${LLVM:-16}
+# shellcheck source=checks/llvm.sh
+. checks/llvm.sh
 skip() { echo "skipped: $1"; exit 0; }
-command -v "clang++-$llvm" > /dev/null || skip "clang-$llvm is missing (package clang-$llvm)"
-[ -e "/usr/lib/llvm-$llvm/lib/libomp.so" ] || skip "LLVM's OpenMP runtime is missing (package libomp-$llvm-dev)"
+find_llvm || skip "$no_llvm"
 built=crates/spanprof_large/out/spanprof_large
 [ -n "${SPANPROF_LARGE:-}" ] || [ -x $built ] || skip "no program $built; tools/prove_program.sh spanprof_large makes it"
 (cd checks/large_recordings && python3 -B -m unittest -q whole_graph_test)
 make -s -C tools/openmp_recorder LLVM="$llvm" librecorder.so
-exec python3 -B checks/large_recordings/compare.py "$@"
+LLVM=$llvm exec python3 -B checks/large_recordings/compare.py "$@"

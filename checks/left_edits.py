@@ -1,9 +1,10 @@
 #!/usr/bin/env python3
-"""Looks whether each edit of checks/edits can still be applied: every old text occurs exactly once in its file.
+"""Looks whether each edit of the gate and of checks/edits can still be applied: every old text occurs exactly once in
+its file.
 
     left_edits.py [TOP]      the top of the repository, if it is another
 
-Whether the prover refuses the edits is asked by checks/edits.sh.
+Whether the prover refuses the edits is asked by the gate, and by checks/edits.sh.
 """
 import sys
 from pathlib import Path
@@ -41,9 +42,17 @@ def faults(crate, edit):
         texts[file] = text.replace(old, new)
 
 
+def edits_of(top):
+    """Each edit, and the folder of the crate that it changes: those beside the gate, and those of the gate."""
+    for edit in sorted(top.glob("checks/edits/*/*.edit")):
+        yield edit, top / "crates" / edit.parent.name
+    for edit in sorted(top.glob("crates/*/must-fail/*.edit")):
+        yield edit, edit.parents[1]
+
+
 def main(top):
-    edits = sorted(top.glob("checks/edits/*/*.edit"))
-    told = ["%s: %s" % (it.relative_to(top), why) for it in edits for why in faults(top / "crates" / it.parent.name, it)]
+    edits = list(edits_of(top))
+    told = ["%s: %s" % (edit.relative_to(top), why) for edit, crate in edits for why in faults(crate, edit)]
     print("\n".join([*told, "%d edits, %d faults" % (len(edits), len(told))]))
     return 1 if told or not edits else 0
 

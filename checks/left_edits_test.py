@@ -46,6 +46,14 @@ class LeftEdits(unittest.TestCase):
     def test_a_file_that_is_not_there(self):
         self.assertEqual(self.faults_of(EDIT.replace("lib", "two")), ["there is no file src/two.rt"])
 
+    def test_the_edits_of_the_gate(self):
+        folder = self.top / "crates/one/must-fail"
+        folder.mkdir()
+        (folder / "wrong.edit").write_text(EDIT)
+        self.assertEqual(main(self.top), 0)
+        (folder / "stale.edit").write_text(EDIT.replace("a < b", "a > b"))
+        self.assertEqual(main(self.top), 1)
+
     def test_no_edits(self):
         self.assertEqual(main(self.top / "crates"), 1)
 

@@ -11,9 +11,10 @@ import sys
 
 TOP = os.path.dirname(os.path.dirname(os.path.abspath(__file__)))
 TOOLS = os.path.join(TOP, "tools")
-CONFORMANCE = ("run", "mutants", "shrink", "emit", "judge", "list")
-HELP = {"spanprof-record": [[]], "spanprof-report": [[]], "spanprof-path": [[]],
-        "spanprof-conformance": [[word] for word in CONFORMANCE]}
+CONFORMANCE = ("run", "mutants", "shrink", "merge", "bisect", "emit", "judge", "list")
+HELP = {"spanprof-record": [[]], "spanprof-convert": [[]], "spanprof-report": [[]], "spanprof-path": [[]],
+        "spanprof-whatif": [[]],
+        "spanprof-conformance": [[]] + [[word] for word in CONFORMANCE]}
 NAME = re.compile(r"\b(?:[A-Z][a-z]+){2,}\b|\bUnclosed\b|\bUnopened\b|\bBroken\b")
 ERROR = re.compile(r"error: ([A-Za-z]+(?: [a-z]+)*)")
 

@@ -4,12 +4,11 @@
 # are tried too. Build spanprof first. Another program than crates/spanprof/out/spanprof may be named.
 set -euo pipefail
 cd "$(dirname "$0")/.."
+# shellcheck source=checks/llvm.sh
+. checks/llvm.sh
 program=${1:-crates/spanprof/out/spanprof}
-llvm=${LLVM:-16}
-library=/usr/lib/llvm-$llvm/lib
 skip() { echo "skipped: $1"; exit 0; }
-command -v "clang++-$llvm" > /dev/null || skip "clang-$llvm is missing (package clang-$llvm)"
-[ -e "$library/libomp.so" ] || skip "LLVM's OpenMP runtime is missing (package libomp-$llvm-dev)"
+find_llvm || skip "$no_llvm"
 [ -x "$program" ] || { echo "no program $program"; exit 1; }
 
 folder=$(mktemp -d)
@@ -17,6 +16,7 @@ trap 'rm -rf "$folder"' EXIT
 make -s -C tools/openmp_recorder LLVM="$llvm"
 export OMP_TOOL_LIBRARIES=$PWD/tools/openmp_recorder/librecorder.so
 export OMP_NUM_THREADS SPANPROF_OUT=$folder/out
+export SPANPROF_PARTS=none  # the counts by hand are of tasks alone
 wrong=0
 fail() { # WHAT: tells it, with the last that the recorder said
     echo "  $1"
@@ -26,11 +26,12 @@ fail() { # WHAT: tells it, with the last that the recorder said
 
 compile() { # SOURCE: to a program of the folder
     "clang-$llvm" -O2 -g -fopenmp -fopenmp-version=51 "$1" -o "$folder/$(basename "$1" .c)" -lm \
-        -L"$library" -Wl,-rpath,"$library"
+        "${llvm_flags[@]}"
 }
 record() { # NAME WORD ..: runs a program of the folder
-    rm -f "$folder"/out.*
+    rm -rf "$folder"/out.*
     "$folder/$1" "${@:2}" > "$folder/printed" 2> "$folder/told" || fail "$* fails on $OMP_NUM_THREADS threads"
+    tools/spanprof-convert "$folder/out.log" 2>> "$folder/told" || fail "$*: its log is not converted"
 }
 number() { # WORD: the number after it in what `span` prints
     "$program" span < "$folder/out.tasks" | sed -n "s/^$1 //p"
@@ -102,11 +103,10 @@ SPANPROF_CLOCK=cpu SPANPROF_FOLD_COST=100000 record fibonacci 27 12
 expect_whole "fold by cost"
 record fibonacci 27 10
 grep -q 'is not written: .* tasks, and spanprof takes 4096' "$folder/told" || fail "no word of a limit"
-advised=$(grep -o 'SPANPROF_FOLD_[A-Z]*=[0-9]*' "$folder/told" | head -1)
-export "${advised:?}"
-record fibonacci 27 10
+advised=$(grep -o -- '--fold [a-z]*=[0-9]*' "$folder/told" | head -1)
+# shellcheck disable=SC2086
+tools/spanprof-convert ${advised:?} "$folder/out.log" 2>> "$folder/told" || fail "the fold that was advised"
 expect_whole "the fold that was advised"
-unset "${advised%%=*}"
 echo "folds and a limit"
 
 echo "$wrong wrong"

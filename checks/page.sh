@@ -1,12 +1,14 @@
 #!/usr/bin/env bash
 # Tries tools/spanprof-report: its unit tests; then for each example, each recorded text, a text at the limits and,
-# where clang-16 and LLVM's OpenMP runtime are there, each program of docs/TUNING.md recorded anew: the page is made,
+# where clang and LLVM's OpenMP runtime are there, each program of docs/TUNING.md recorded anew: the page is made,
 # each of its numbers is compared with spanprof's answers, and it is opened in Chromium: errors, sizes, looks in light,
 # dark, narrow and print, keys and mouse. Build spanprof first.
 #
 #     checks/page.sh [PROGRAM [FOLDER]]    instead of crates/spanprof/out/spanprof; where pages and pictures go
 set -euo pipefail
 cd "$(dirname "$0")/.."
+# shellcheck source=checks/llvm.sh
+. checks/llvm.sh
 program=$(realpath "${1:-crates/spanprof/out/spanprof}")
 [ -x "$program" ] || { echo "no program $program"; exit 1; }
 export SPANPROF=$program
@@ -17,7 +19,6 @@ else
     folder=$(mktemp -d)
     trap 'rm -rf "$folder"' EXIT
 fi
-llvm=/usr/lib/llvm-16/lib
 wrong=0
 fail() { echo "  $1"; wrong=$((wrong + 1)); }
 
@@ -33,12 +34,14 @@ record() { # NAME CLOCK WORD ..: a program of examples/openmp, which `compile` h
     SPANPROF_QUIET=1 OMP_TOOL_LIBRARIES=$PWD/tools/openmp_recorder/librecorder.so OMP_NUM_THREADS=4 SPANPROF_UNIT=us \
         SPANPROF_CLOCK=$clock SPANPROF_OUT=$folder/$name-$clock "$folder/$name" "$@" > "$folder/said" 2>&1 ||
         fail "$name cannot be recorded: $(tail -1 "$folder/said")"
+    SPANPROF_UNIT=us tools/spanprof-convert "$folder/$name-$clock.log" > "$folder/said" 2>&1 ||
+        fail "$name cannot be converted: $(tail -1 "$folder/said")"
 }
 
 record_all() { # the programs of docs/TUNING.md, by both clocks
-    make -s -C tools/openmp_recorder LLVM=16
+    make -s -C tools/openmp_recorder LLVM="$llvm"
     while read -r name words; do
-        clang-16 -O2 -g -fopenmp "examples/openmp/$name.c" -o "$folder/$name" -lm -L$llvm -Wl,-rpath,$llvm
+        "clang-$llvm" -O2 -g -fopenmp "examples/openmp/$name.c" -o "$folder/$name" -lm "${llvm_flags[@]}"
         # shellcheck disable=SC2086
         for clock in wall cpu; do record "$name" $clock $words; done
     done <<'PROGRAMS'
@@ -66,11 +69,7 @@ unit_tests
 cp examples/*.tasks "$folder"
 for text in examples/openmp/recorded/*.tasks; do cp "$text" "$folder/kept_$(basename "$text")"; done
 checks/page/large_text.py "$folder"
-if command -v clang-16 > /dev/null && [ -e $llvm/libomp.so ]; then
-    record_all
-else
-    echo "skipped: no program is recorded (packages clang-16, libomp-16-dev)"
-fi
+if find_llvm; then record_all; else echo "skipped: no program is recorded: $no_llvm"; fi
 
 names=()
 for text in "$folder"/*.tasks; do names+=("$(basename "$text" .tasks)"); done

@@ -1,26 +1,18 @@
 #!/usr/bin/env python3
-"""Compares docs/PROOFS.md with the proofs: which lemma file is for what, stands on what, and serves which function.
+"""Prints the map of the proofs: which lemma file is for what, stands on what, and serves which function.
 
-    checks/proof_map.py            fails where the page is not what the files say
-    checks/proof_map.py --write    writes the page anew
+    checks/proof_map.py [CRATE ..]    that of these crates, or of all
+    checks/proof_map.py --check       fails where a lemma file says nothing of itself, or nothing names it
 A lemma file says in its first line what it is for. What it stands on are the lemma files that it imports; it serves
-the functions whose written proofs import it.
+the functions whose written proofs import it. A `+` stands before functions that call one another.
 """
 import pathlib
 import re
 import sys
 
 TOP = pathlib.Path(__file__).resolve().parent.parent
-PAGE = TOP / "docs" / "PROOFS.md"
+BY_TACTIC = re.compile(r"\bcrate::proofs::(\w+)::")
 IMPORT = re.compile(r"^(?:pub )?use Rattle\.(\w+)\.proofs\.(\w+)\b", re.M)
-HEAD = """# The map of the proofs
-
-For each crate its lemma files, in the order and under the headings of `proofs/Lib.antt`. Of each the table tells what
-it is for, the lemma files that it stands on, and the functions and laws whose written proofs cite it. A `+` stands
-before functions that call one another. What another crate cites is named with that crate. A function that is not here
-needs no written proof, or none with a lemma of its own. `checks/proof_map.py` compares this page with the files, and
-`checks/proof_map.py --write` makes it anew.
-"""
 
 
 def imports_of(text, own):
@@ -61,17 +53,21 @@ def rooms_of(library):
 class Crate:
     """The lemma files of a crate, room by room, and the written proofs of its functions."""
 
-    def __init__(self, name, files):
-        """Of the texts of all files below proofs/ by their path."""
+    def __init__(self, name, files, source=""):
+        """Of the texts of all files below proofs/ by their path, and of all its source."""
+        self.by_tactic = set(BY_TACTIC.findall(source))
         self.name = name
         self.rooms = rooms_of(files.get("Lib.antt", ""))
         self.lemmas = {one: files[one + ".antt"] for _, names in self.rooms for one in names}
         self.proofs = {path: text for path, text in files.items() if "/" in path}
+        listed = {name + ".antt" for name in self.lemmas} | {"Lib.antt"}
+        self.left_out = sorted(path.removesuffix(".antt") for path in set(files) - set(self.proofs) - listed)
 
 
 def crate_at(folder):
     files = {str(path.relative_to(folder)): path.read_text() for path in sorted(folder.rglob("*.antt"))}
-    return Crate(folder.parent.name, files)
+    source = "\n".join(path.read_text() for path in sorted((folder.parent / "src").rglob("*.rt")))
+    return Crate(folder.parent.name, files, source)
 
 
 def served_by(crates):
@@ -107,9 +103,30 @@ def section(crate, served, own):
     return "\n\n".join(parts)
 
 
-def page_of(crates):
+def page_of(crates, names):
+    """The sections of the named crates."""
     served, own = served_by(crates), {crate.name for crate in crates}
-    return "\n\n".join([HEAD.rstrip()] + [section(crate, served, own) for crate in crates if crate.lemmas]) + "\n"
+    return "\n\n".join(section(crate, served, own) for crate in crates if crate.name in names and crate.lemmas) + "\n"
+
+
+def cited(crates):
+    """The lemma files that others, or written proofs, import, or that a tactic of the source names."""
+    own = {crate.name for crate in crates}
+    imported = {lemma for crate in crates for text in [*crate.lemmas.values(), *crate.proofs.values()]
+                for lemma in imports_of(text, own)}
+    return imported | {(crate.name, name) for crate in crates for name in crate.by_tactic}
+
+
+def faults(crates):
+    """What is wrong with the lemma files: a line for each."""
+    named = cited(crates)
+    for crate in crates:
+        for name, text in crate.lemmas.items():
+            if not purpose_of(text):
+                yield "%s/proofs/%s.antt does not say what it is for" % (crate.name, name)
+            if (crate.name, name) not in named:
+                yield "%s/proofs/%s.antt: no proof cites it" % (crate.name, name)
+        yield from ("%s/proofs/%s.antt is not in Lib.antt" % (crate.name, name) for name in crate.left_out)
 
 
 def crates_in_order():
@@ -118,21 +135,19 @@ def crates_in_order():
     return [crate_at(TOP / "crates" / name / "proofs") for name in names if (TOP / "crates" / name / "proofs").is_dir()]
 
 
-def main():
-    page = page_of(crates_in_order())
-    if sys.argv[1:] == ["--write"]:
-        PAGE.write_text(page)
-        return
-    told = PAGE.read_text() if PAGE.exists() else ""
-    if told == page:
-        print("docs/PROOFS.md is what the files say")
-        return
-    there, wanted = set(told.splitlines()), page.splitlines()
-    for line in wanted:
-        if line not in there:
-            print("not in docs/PROOFS.md: " + line)
-    sys.exit("docs/PROOFS.md is not what the files say: checks/proof_map.py --write")
+def main(words):
+    crates = crates_in_order()
+    if words == ["--check"]:
+        wrong = list(faults(crates))
+        print(*wrong, "%d wrong" % len(wrong), sep="\n")
+        return 1 if wrong else 0
+    names = [crate.name for crate in crates]
+    unknown = [word for word in words if word not in names]
+    if unknown:
+        sys.exit("proof_map.py: no proofs in crates/%s" % ", ".join(unknown))
+    print(page_of(crates, words or names), end="")
+    return 0
 
 
 if __name__ == "__main__":
-    main()
+    sys.exit(main(sys.argv[1:]))

@@ -1,7 +1,7 @@
 #!/usr/bin/env bash
-# Runs the checks of the documents, of the tables of definitions and proofs, and of the model of waiting against the
+# Runs the checks of the documents, of the files of definitions and proofs, and of the model of waiting against the
 # sources, and the unit tests of the scripts and tools. It needs neither the program nor a compiler, and half a minute. It
-# prints a line for each, and what a check told where it failed; the status is 0 where none did.
+# prints a line for each, and what a check printed where it failed; the status is 0 where none did.
 set -uo pipefail
 cd "$(dirname "$0")/.."
 failed=0
@@ -21,8 +21,10 @@ passes() {
 # tested FOLDER TOP: the unit tests of a folder, which import from TOP.
 tested() { passes "$1" python3 -B -m unittest discover -q -s "$1" -t "$2"; }
 
-passes definitions.sh checks/definitions.sh
-for script in clauses believed_lines left_edits proof_map sentences speed_numbers waiting/lines; do
+for script in definitions proof_map; do
+    passes "$script.py" python3 -B "checks/$script.py" --check
+done
+for script in crate_picture version signatures places clauses believed_lines left_edits sentences speed_numbers waiting/lines; do
     passes "$script.py" python3 -B "checks/$script.py"
 done
 for test in checks/*_test.py checks/waiting/*_test.py checks/large_recordings/*_test.py bench/*test*.py \
@@ -30,11 +32,11 @@ for test in checks/*_test.py checks/waiting/*_test.py checks/large_recordings/*_
     passes "$test" python3 -B "$test"
 done
 tested checks/believed/tests checks
-for folder in openmp_cases openmp_regions page; do
+for folder in killed_runs llvm mutants openmp_cases openmp_regions page true_words runtime_calls whatif; do
     tested "checks/$folder/tests" "checks/$folder"
 done
 tested tools/tests tools
-for folder in record path report; do
+for folder in record path whatif report; do
     tested "tools/$folder/tests" tools
 done
 tested tools/plots/tests tools/plots

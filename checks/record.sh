@@ -1,14 +1,14 @@
 #!/usr/bin/env bash
-# Tries tools/spanprof-record: its unit tests, then real programs of clang-16 and gcc: what they print, how they end,
+# Tries tools/spanprof-record: its unit tests, then real programs of clang and gcc: what they print, how they end,
 # the files, the summary, and each error. Build spanprof first. Another program than crates/spanprof/out/spanprof may
 # be named.
 set -euo pipefail
 cd "$(dirname "$0")/.."
-spanprof=$(realpath "${1:-crates/spanprof/out/spanprof}")
-library=/usr/lib/llvm-16/lib
+# shellcheck source=checks/llvm.sh
+. checks/llvm.sh
+spanprof=$(realpath "${1:-${SPANPROF:-crates/spanprof/out/spanprof}}")
 skip() { echo "skipped: $1"; exit 0; }
-command -v clang++-16 > /dev/null || skip "clang-16 is missing (package clang-16)"
-[ -e $library/libomp.so.5 ] || skip "LLVM's OpenMP runtime is missing (package libomp-16-dev)"
+find_llvm || skip "$no_llvm"
 [ -x "$spanprof" ] || { echo "no program $spanprof"; exit 1; }
 
 (cd tools && python3 -B -m unittest discover -s record/tests -t .)
@@ -39,14 +39,14 @@ expect_recording() { # NAME: that spanprof accepts its text and its run
     "$spanprof" span < "$1.tasks" > counted || fail "$1.tasks is refused"
     "$spanprof" replay < "$1.replay" > replayed || fail "$1.replay is refused"
 }
-expect_summary() { # WHAT: ten lines with their names
-    for name in tasks work span parallelism elapsed threads 'span by place' remarks; do
+expect_summary() { # WHAT: lines with their names
+    for name in covers tasks runs work span parallelism elapsed threads 'span by place' remarks; do
         grep -q "^$name  *[0-9a-z]" err || fail "$1: no line '$name'"
     done
-    expect_word "$1" 'its run was legal (proved)'
+    expect_word "$1" 'its run was legal (proved of the recorded text and events)'
 }
 
-clang-16 -g -O1 -fopenmp "$top/checks/record/program.c" -o llvm -L$library -Wl,-rpath,$library
+"clang-$llvm" -g -O1 -fopenmp "$top/checks/record/program.c" -o llvm "${llvm_flags[@]}"
 gcc -g -O1 -fopenmp "$top/checks/record/program.c" -o gcc
 gcc -g -O1 "$top/checks/record/program.c" -o plain 2> /dev/null
 gcc -O1 -fopenmp -static "$top/checks/record/program.c" -o static 2> /dev/null
@@ -54,7 +54,18 @@ gcc -O1 -fopenmp -c "$top/checks/record/program.c" -o inside.o
 gcc inside.o "$(gcc -print-file-name=libgomp.a)" -ldl -lpthread -o inside 2> /dev/null
 seq 5 > in
 
-for program in llvm gcc; do
+# The same of LLVM's other versions that are there.
+others=
+while read -r number other headers; do
+    [ "$number" != "$llvm" ] || continue
+    "clang-$number" -g -O1 -fopenmp "-isystem$headers" "$top/checks/record/program.c" -o "llvm$number" "-L$other" \
+        "-Wl,-rpath,$other"
+    others+=" llvm$number"
+done < <("$top/checks/llvm/versions.py")
+
+echo "LLVM $llvm"
+# shellcheck disable=SC2086
+for program in llvm gcc $others; do
     expect "$program" 0 spanprof-record --unit us -- ./$program
     cmp -s in out || fail "$program: standard output is not the program's own"
     expect_word $program 'a line of the program'
@@ -64,7 +75,8 @@ for program in llvm gcc; do
     expect "$program 3" 3 spanprof-record ./$program 3
     expect_recording $program
     expect "$program abort" 134 spanprof-record -- ./$program abort
-    expect_word "$program abort" 'nothing is recorded: the program ended by SIGABRT'
+    expect_word "$program abort" 'the program ended by SIGABRT'
+    expect_recording $program
     expect "$program two" 0 spanprof-record --out two -- ./$program two
     expect_recording two.2
     expect_word "$program two" 'two.2.tasks, region at program.c:'
@@ -110,23 +122,34 @@ echo "options"
 expect "five runs" 0 spanprof-record --runs 5 --out five -- ./llvm
 [ "$(wc -l < out)" = 25 ] || fail "not every run reads standard input"
 expect_recording five
-expect_word "five runs" 'remarks       each cost is the median of 5 recordings'
+expect_word "five runs" 'each cost is the median of 5 recordings'
 [ "$(grep -c '^ *remarks\|^              five' err)" = 1 ] || fail "five runs: the single runs stand in the summary"
 [ -e five.runs/run5.tasks ] || fail "the fifth run is not kept"
 expect "a run that fails" 3 spanprof-record --runs 2 --out failing -- ./llvm 3
 expect_word "a run that fails" 'run 1 of 2 is the last, and there is no median: the program ended with status 3'
 echo "several runs"
 
-clang-16 -g -O1 -fopenmp "$top/checks/large_recordings/program.c" -o many -L$library -Wl,-rpath,$library
+expect "another fold of a log" 0 spanprof-convert --fold depth=1 --unit us --out again llvm.log
+expect_word "another fold of a log" 'spanprof-convert: again.tasks and again.replay: 8 tasks, '
+expect_recording again
+expect "no log" 125 spanprof-convert none.log
+expect_word "no log" 'spanprof-convert: none.log cannot be converted: no log of the recorder'
+echo "a log once more"
+
+"clang-$llvm" -g -O1 -fopenmp "$top/checks/large_recordings/program.c" -o many "${llvm_flags[@]}"
 cat > large <<'SH'
 #!/bin/sh
 cat > /dev/null
 printf 'tasks 8190\nsegments 20476\nwork 90\nspan 30\n'
 SH
 chmod +x large
-SPANPROF_LARGE=$folder/large expect "a large recording" 0 spanprof-record -- ./many tree 13
+# By the processor's clock and without parts, since a busy machine would move the numbers or add to the tasks.
+export SPANPROF_PARTS=none
+SPANPROF_LARGE=$folder/large expect "a large recording" 0 spanprof-record --clock cpu -- ./many tree 13
 expect_word "a large recording" 'many.large.tasks, region at program.c:'
-expect_word "a large recording" '30 ns: no run ends sooner (proved for the recorded text, of measured costs)'
+expect_word "a large recording" '30 ns: it ends no sooner on any number of threads (proved of the recorded text'
+SPANPROF_LARGE=$folder/large expect "a page of it" 0 spanprof-record --clock cpu --html large.html -- ./many tree 13
+expect_word "a page of it" 'spanprof-record: no page is written: the recording is beyond the limits of the ten commands'
 expect_word "a large recording" 'many.tasks is not written: 8190 tasks, and spanprof takes 4096; parallelism is'
 [ -e many.large.tasks ] && [ ! -e many.tasks ] || fail "a large recording: other files"
 SPANPROF_LARGE=/none expect "no spanprof_large" 125 spanprof-record -- ./many tree 13
@@ -135,7 +158,27 @@ expect "an exact fold" 0 spanprof-record --fold exact -- ./many tree 13
 expect_word "an exact fold" 'exact fold'
 "$spanprof" span < many.tasks > counted || fail "an exact fold is refused"
 [ ! -e many.large.tasks ] || fail "an exact fold: the large text of the run before is left"
+unset SPANPROF_PARTS
 echo "recordings of any size"
+
+if command -v mpicc > /dev/null && command -v mpirun > /dev/null; then
+    export OMPI_ALLOW_RUN_AS_ROOT=1 OMPI_ALLOW_RUN_AS_ROOT_CONFIRM=1
+    mpicc -g -O1 -fopenmp "$top/checks/record/ranks.c" -o ranks
+    expect "a launcher" 0 spanprof-record --unit us -- mpirun --oversubscribe -n 3 ./ranks
+    expect_word "a launcher" 'other ranks   ranks.rank'
+    [ "$(grep -c 'ranks.rank[0-2].tasks, region at\|^ranks.rank' err)" = 3 ] || fail "a launcher: not a line for each rank"
+    for rank in 0 1 2; do expect_recording ranks.rank$rank; done
+    rm -r ranks.rank*
+    expect "ranks" 0 mpirun --oversubscribe -n 3 spanprof-record --unit us -- ./ranks
+    [ "$(grep -c '^ranks.rank[0-2].tasks, region at' err)" = 3 ] || fail "ranks: not a line for each"
+    for rank in 0 1 2; do expect_recording ranks.rank$rank; done
+    [ ! -e ranks.tasks ] || fail "ranks: a file without a number"
+    expect_error 125 '--runs takes no launcher; as in: mpirun -n 4 spanprof-record --runs 5 -- PROGRAM' \
+        spanprof-record --runs 2 -- mpirun -n 3 ./ranks
+    echo "processes of MPI"
+else
+    echo "skipped: processes of MPI (package openmpi-bin libopenmpi-dev)"
+fi
 
 expect_error 127 './none: no such program' spanprof-record -- ./none
 expect_error 127 'llvm: no such program on the PATH; llvm of this folder is ./llvm' spanprof-record -- llvm

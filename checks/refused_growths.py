@@ -3,6 +3,7 @@
 
     checks/refused_growths.py commands [PROGRAM]    the ten commands of crates/spanprof/out/spanprof, or of this program
     checks/refused_growths.py large [PROGRAM]       crates/spanprof_large/out/spanprof_large, or this program
+    checks/refused_growths.py account [PROGRAM]     crates/spanprof_account/out/spanprof_account, or this program
     checks/refused_growths.py tests                 the tests of crates/refused_growths, as `rt test` there built them
     checks/refused_growths.py gate                  counts what the same tests refuse by themselves, as in the gate
 
@@ -31,6 +32,7 @@ SECONDS = 60
 OUT_OF_MEMORY = b"error: out of memory\n"
 
 WORKED = "omptasks 1\nwork 5 task { work 3 } work 2 taskwait work 1\n"
+TIMES = "times 2 0 14\n0 0 0 5\n1 0 6 9\n2 0 9 11\n3 1 12 13"
 IN_ORDER = "start 0 0 finish 0 0 start 0 2 finish 0 2 start 1 1 finish 1 1 start 0 3 finish 0 3"
 WRONG_CLAIM = "end 9 start 0 0 start 1 5 start 2 5 start 3 7 chain 0 1 3"
 DEEP = ("omptasks 1\nwork 1\ntask depend(in: a, b, c) depend(out: d, e, f) {\ntaskgroup { task if(0) { work 2 } }\n"
@@ -157,6 +159,22 @@ def large(refuser, program):
         command(refuser, program, words.split(), text)
 
 
+def account(refuser, program):
+    """The program for timed documents: its three reports, and every kind of refusal."""
+    for words in ("", "--rows", "--path"):
+        command(refuser, program, words.split(), f"{WORKED}---\n{TIMES}\n")
+    for words, text in (
+        ("", WORKED),
+        ("", "omptasks 1\ntask {"),
+        ("--rows", f"{WORKED}---\n{TIMES}\n{TIMES}\n"),
+        ("--rows", f"{WORKED}---\ntimes 2 0 14\n0 0 0 5\n"),
+        ("--path", f"{WORKED}---\n{TIMES.replace('9 11', '4 11')}\n"),
+        ("--path", f"{WORKED}---\n{TIMES.replace('9 11', '8 11')}\n"),
+        ("help", WORKED),
+    ):
+        command(refuser, program, words.split(), text)
+
+
 def named(program, module):
     """The tests of a module."""
     listed = subprocess.run([program, "--list"], capture_output=True, check=True).stdout.decode()
@@ -208,6 +226,8 @@ def main():
     kinds = {
         "commands": (commands, "crates/spanprof/out/spanprof", "tools/prove_program.sh"),
         "large": (large, "crates/spanprof_large/out/spanprof_large", "tools/prove_program.sh spanprof_large"),
+        "account": (account, "crates/spanprof_account/out/spanprof_account",
+                    "tools/prove_program.sh spanprof_account"),
         "tests": (tests, "crates/refused_growths/out/refused_growths_tests", "`rt test` in crates/refused_growths"),
         "gate": (gate, "crates/refused_growths/out/refused_growths_tests", "`rt test` in crates/refused_growths"),
     }

@@ -1,6 +1,7 @@
 #!/usr/bin/env python3
 """Compares the numbers that README.md tells with the tables of bench/README.md that they are taken from, and the rows
-over 1.5 times there with those for which the page tells why.
+over 1.5 times there with those for which the page tells why. A row of README.md may have `–` in place of numbers that
+the table does not have yet.
 
     checks/speed_numbers.py [--write]
 With `--write` the rows of README.md are made anew from the table first.
@@ -15,6 +16,7 @@ SECTION = re.compile(r"^### How fast it is$(.*?)^##", re.MULTILINE | re.DOTALL)
 COUNTS = re.compile(r"^## Instructions$(.*?)(?:^## |\Z)", re.MULTILINE | re.DOTALL)
 MEASURED = re.compile(r"^(\w+) +(\w[-\w ]*?) {2,}(\d+\.\d) +(\d+\.\d) +(\d+\.\d\d)$", re.MULTILINE)
 LIMIT = decimal.Decimal("1.5")
+UNTOLD = "–"
 WHY = re.compile(r"^## Where it takes over 1\.5 times .*?$(.*?)^## ", re.MULTILINE | re.DOTALL)
 REASON = re.compile(r"^- `([-\w ]+)` (?:on|of) `(\w+)`: (\d+\.\d) times", re.MULTILINE)
 TIMES = re.compile(r"^## Times and memory$(.*?)(?:^## |\Z)", re.MULTILINE | re.DOTALL)
@@ -26,17 +28,27 @@ def cells(row):
     return [cell.strip() for cell in row.strip().strip("|").split("|")]
 
 
-def quoted(readme):
-    """By text and command, the two numbers that the README tells: spanprof's and the plain program's."""
+def pairs(readme):
+    """The text, the command and the two cells of each pair of numbers in the README's table."""
     section = SECTION.search(readme)
     head, _, *rows = [cells(line) for line in section[1].splitlines() if line.startswith("|")]
-    numbers = {}
     for text, *row in rows:
         name = re.search(r"`(\w+)`", text)[1]
         for place in range(0, len(row), 2):
-            command = head[1 + place].strip("`")
-            numbers[name, command] = tuple(int(number.replace(",", "")) for number in row[place:place + 2])
-    return numbers
+            yield name, head[1 + place].strip("`"), row[place:place + 2]
+
+
+def quoted(readme):
+    """By text and command, the two numbers that the README tells: spanprof's and the plain program's."""
+    return {(text, command): tuple(int(cell.replace(",", "")) for cell in both)
+            for text, command, both in pairs(readme) if both != [UNTOLD, UNTOLD]}
+
+
+def untold(readme, table):
+    """A line for each pair that has a place in the README and numbers in the table, and not in the README."""
+    for text, command, both in pairs(readme):
+        if both == [UNTOLD, UNTOLD] and (text, command) in table:
+            yield "%s %s: not told, and %s and %s were measured" % (text, command, *table[text, command])
 
 
 def measured(bench):
@@ -122,7 +134,7 @@ def main():
         readme = written(readme, measured(bench))
         (TOP / "README.md").write_text(readme, encoding="utf-8")
     told = quoted(readme)
-    wrong = [*differences(told, measured(bench)), *range_differences(readme, told, timed(bench)),
+    wrong = [*differences(told, measured(bench)), *untold(readme, measured(bench)), *range_differences(readme, told, timed(bench)),
              *reason_differences(bench)]
     for line in wrong:
         print(line)

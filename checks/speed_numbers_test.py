@@ -5,7 +5,7 @@ import unittest
 
 sys.path.insert(0, str(pathlib.Path(__file__).resolve().parent))
 from speed_numbers import (differences, measured, nearest_tenth, quoted, range_differences, reason_differences,
-                           rounded, timed, written)
+                           rounded, timed, untold, written)
 
 README = """\
 ### How fast it is
@@ -85,6 +85,27 @@ class Written(unittest.TestCase):
     def test_numbers_that_the_table_lacks_stay(self):
         self.assertEqual(written(README, measured(TABLE)), README)
         self.assertEqual(written(README, {}), README)
+
+
+class Places(unittest.TestCase):
+    PLACE = README.replace("| 75 | 45 | 609 | 444 |", "| – | – | – | – |")
+
+    def test_a_place_tells_nothing(self):
+        self.assertEqual(quoted(self.PLACE), {("chain", "span"): (9, 4), ("chain", "curve --upto 64"): (1532, 27)})
+
+    def test_numbers_that_have_a_place(self):
+        self.assertEqual(list(untold(self.PLACE, measured(TABLE))),
+                         ["fan span: not told, and 75.0 and 45.0 were measured"])
+        self.assertEqual(list(untold(self.PLACE, {})), [])
+        self.assertEqual(list(untold(README, measured(TABLE))), [])
+
+    def test_they_are_put_there(self):
+        self.assertEqual(written(self.PLACE, measured(TABLE)),
+                         README.replace("| 75 | 45 | 609 | 444 |", "| 75 | 45 | – | – |"))
+
+    def test_half_a_pair_is_no_place(self):
+        with self.assertRaises(ValueError):
+            quoted(README.replace("| 75 | 45 |", "| 75 | – |"))
 
 
 class Reasons(unittest.TestCase):

@@ -2,9 +2,10 @@
 """Tries docs/TUNING.md letter by letter: all its commands, one after the other, in a fresh clone.
 
     checks/tutorial.py [PROGRAM [LARGE]]
-A clone of what is committed, with a spanprof that is built already; clang-16 and LLVM's runtime are needed. Where
-spanprof_large is not built, spanprof-path, which needs it, is left out. Costs are measured anew, so of what a command
-prints only the words of the first line are compared; checks/documents.py compares all of it where the texts are kept.
+A clone of what is committed, with a spanprof that is built already; the clang that the page names, and its runtime, are
+needed. Where spanprof_large is not built, spanprof-path, which needs it, is left out. Costs are measured anew, so of
+what a command prints only the words of the first line are compared; checks/documents.py compares all of it where the
+texts are kept.
 The clone must be as git left it afterwards, but for what git ignores.
 """
 import os
@@ -40,6 +41,12 @@ def named_programs(words):
     return {name: path for name, path in zip(PROGRAMS, paths) if name == "spanprof" or os.access(path, os.X_OK)}
 
 
+def compiler_of(document):
+    """The clang that its commands call."""
+    with open(document, encoding="utf-8") as file:
+        return re.search(r"(?m)^\$ .*\b(clang-\d+) ", file.read())[1]
+
+
 def commands_for(programs, document):
     for command, expected in commands(document):
         if "spanprof_large" in programs or not command.startswith("spanprof-path"):
@@ -60,7 +67,9 @@ def run_all(pairs, folder):
 
 
 def words_of_first_line(text):
-    return re.sub(r"[0-9][0-9,.]*", "N", text.split("\n")[0])
+    """But for what a recording on a busy machine remarks."""
+    lines = [line for line in text.split("\n") if not line.startswith(("remark: ", "lock "))]
+    return re.sub(r"[0-9][0-9,.]*", "N", (lines or [""])[0])
 
 
 def fault(expected, printed, status):
@@ -83,8 +92,9 @@ def main():
     programs = named_programs(sys.argv[1:])
     if not os.access(programs["spanprof"], os.X_OK):
         sys.exit("no program " + programs["spanprof"])
-    if not shutil.which("clang-16"):
-        print("skipped: clang-16 is missing (package clang-16)")
+    compiler = compiler_of(os.path.join(TOP, DOCUMENT))
+    if not shutil.which(compiler):
+        print("skipped: %s is missing (package %s)" % (compiler, compiler))
         return
     folder = fresh_clone(programs)
     pairs, wrong = list(commands_for(programs, os.path.join(folder, DOCUMENT))), 0

@@ -25,6 +25,9 @@ class Faults(unittest.TestCase):
     def test_numbers_are_left_out(self):
         self.assertEqual(words_of_first_line("a 1,186.5 b2\nc"), "a N bN")
 
+    def test_remarks_are_passed_over(self):
+        self.assertEqual(fault("work 12\n", "remark: asleep, 2 times at a.c:3\nwork 15\n", 0), "")
+
 
 class Programs(unittest.TestCase):
     def test_the_second_one_may_be_missing(self):

@@ -14,7 +14,12 @@
 The texts beside this file are fibonacci, matrix_product, pipeline and stencil without numbers, under heads by hand.
 """
 import inspect
+import os
 import sys
+
+sys.path.append(os.path.join(os.path.dirname(os.path.abspath(__file__)), "..", "tools"))
+
+from spanprof_version import answer  # noqa: E402
 
 
 def fibonacci(n=7, cutoff=-1):
@@ -183,6 +188,7 @@ KERNELS = {kernel.__name__: kernel for kernel in (
 
 def main():
     words = sys.argv[1:]
+    answer(__doc__, words)
     if not words or words[0] not in KERNELS or not all(word.isdigit() for word in words[1:]):
         sys.exit(__doc__)
     kernel = KERNELS[words[0]]
@@ -193,4 +199,5 @@ def main():
         print(line)
 
 
-main()
+if __name__ == "__main__":
+    main()

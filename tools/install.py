@@ -9,14 +9,20 @@ import os
 import shutil
 import sys
 
+from spanprof_version import commit_of
+
 TOOLS = os.path.dirname(os.path.abspath(__file__))
 SPANPROF = os.path.join(TOOLS, "..", "crates", "spanprof", "out", "spanprof")
 LARGE = os.path.join(TOOLS, "..", "crates", "spanprof_large", "out", "spanprof_large")
+VERSION = "share/spanprof/VERSION"
+ACCOUNT = os.path.join(TOOLS, "..", "crates", "spanprof_account", "out", "spanprof_account")
 LIST = os.path.join("share", "spanprof", "installed")
-COMMANDS = ("spanprof-record", "spanprof-report", "spanprof-path", "spanprof-conformance")
-EXECUTABLE = ("bin/", "lib/spanprof/spanprof_path")
-SHARED = ("*.py", "record/*.py", "path/*.py", "report/*.py", "report/template/*", "plots/*.py", "conformance/*.py",
-          "conformance/*/*.py", "conformance/directed/*.tasks", "conformance/harness/*", "conformance/mutants/*")
+COMMANDS = ("spanprof-record", "spanprof-convert", "spanprof-report", "spanprof-path", "spanprof-whatif",
+            "spanprof-conformance")
+EXECUTABLE = ("bin/", "lib/spanprof/spanprof_path", "lib/spanprof/convert_log")
+SHARED = ("*.py", "record/*.py", "path/*.py", "whatif/*.py", "report/*.py", "report/template/*", "plots/*.py",
+          "conformance/*.py", "conformance/*.txt", "conformance/*.sh", "conformance/*/*.py",
+          "conformance/directed/*.tasks", "conformance/harness/*", "conformance/mutants/*")
 LEFT_OUT = ("install.py", "/tests/")
 
 
@@ -27,23 +33,28 @@ def shared_files():
             and not any(part in "/" + path for part in LEFT_OUT)]
 
 
-def plan(spanprof=SPANPROF, large=LARGE):
-    """Where each file goes: pairs of a file and its path below the prefix. The program for texts of any size goes there
-    where it is built."""
+def plan(spanprof=SPANPROF, large=LARGE, account=ACCOUNT):
+    """Where each file goes: pairs of a file and its path below the prefix. The programs for texts of any size and for
+    timed documents go there where they are built."""
     pairs = [(spanprof, "bin/spanprof")]
     if os.path.isfile(large):
         pairs += [(large, "bin/spanprof_large"),
                   (os.path.join(TOOLS, "completion", "spanprof.bash"),
                    "share/bash-completion/completions/spanprof_large"),
                   (os.path.join(TOOLS, "man", "spanprof.1"), "share/man/man1/spanprof_large.1")]
+    if os.path.isfile(account):
+        pairs += [(account, "bin/spanprof_account"),
+                  (os.path.join(TOOLS, "man", "spanprof-account.1"), "share/man/man1/spanprof_account.1")]
     pairs += [(os.path.join(TOOLS, name), "bin/" + name) for name in COMMANDS]
     pairs += [(os.path.join(TOOLS, "openmp_recorder", "librecorder.so"), "lib/spanprof/librecorder.so"),
+              (os.path.join(TOOLS, "openmp_recorder", "convert_log"), "lib/spanprof/convert_log"),
               (os.path.join(TOOLS, "large_path", "spanprof_path"), "lib/spanprof/spanprof_path")]
     pairs += [(os.path.join(TOOLS, path), "share/spanprof/" + path) for path in shared_files()]
     for name in ("spanprof",) + COMMANDS:
         pairs += [(os.path.join(TOOLS, "man", name + ".1"), "share/man/man1/%s.1" % name),
                   (os.path.join(TOOLS, "completion", "spanprof.bash"), "share/bash-completion/completions/" + name)]
-    return pairs + [(os.path.join(TOOLS, "completion", "_spanprof"), "share/zsh/site-functions/_spanprof")]
+    return pairs + [(os.path.join(TOOLS, "completion", "_spanprof"), "share/zsh/site-functions/_spanprof"),
+                    (os.path.join(TOOLS, "..", "VERSION"), VERSION)]
 
 
 def mode(path):
@@ -78,7 +89,15 @@ def install(root, pairs):
     for source, path in pairs:
         shutil.copyfile(source, os.path.join(root, path))
         os.chmod(os.path.join(root, path), mode(path))
+        if path == VERSION:
+            add_commit(os.path.join(root, path), commit_of(TOOLS))
     print("%d files below %s" % (len(pairs) + 1, root))
+
+
+def add_commit(path, commit):
+    if commit:
+        with open(path, "a", encoding="utf-8") as file:
+            file.write("commit %s\n" % commit)
 
 
 def uninstall(root):

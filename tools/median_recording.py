@@ -3,16 +3,20 @@
 
     median_recording.py OUT.tasks FIRST.tasks SECOND.tasks ..
 
-Each cost is the median of that cost in all of them, and so is each time of the head; lines and places are the first
-one's. Status 1: the shapes differ, and the first line that does is told. Status 2: a file is no recorded text.
+Each cost is the median of that cost in all of them, and so is each number of the head; lines and places are the first
+one's. What the text covers is that of the recording that covers a median share. Status 1: the shapes differ, and the first line that does is told. Status 2: a file is no recorded text.
 """
 import re
 import statistics
 import sys
+from collections import Counter
 from dataclasses import dataclass, field
 
+from spanprof_version import answer
+
 HEADER = "omptasks 1"
-TIMES = ("elapsed", "outside regions", "in other regions", "in parts without tasks", "in tasks")
+NUMBER = re.compile(r"(?<=[ (])\d+(?=[ ,)]|$)")  # of a line of the head, without those of places
+OF_ONE_RUN = ("recorded", "region", "remark", "covers", "not covered")  # lines whose numbers have no median by itself
 
 
 @dataclass
@@ -74,26 +78,61 @@ def median(numbers):
     return int(statistics.median_low(numbers))
 
 
-def time_of(line):
-    """The name and number of a line of the head that tells a time."""
-    found = re.match(r"# ([a-z ]+): (\d+)$", line)
-    return (found[1], int(found[2])) if found and found[1] in TIMES else None
+def name_of(line):
+    return line.lstrip("# ").partition(":")[0]
+
+
+def without_numbers(line):
+    return NUMBER.sub("0", line)
+
+
+def median_line(lines):
+    """A line of the head that stands in several recordings but for its numbers, with the median of each."""
+    medians = iter([median(numbers) for numbers in zip(*[map(int, NUMBER.findall(line)) for line in lines])])
+    return NUMBER.sub(lambda _: str(next(medians)), lines[0])
+
+
+def with_names(head):
+    """The lines of a head, each with a name by which it is known in other heads: its words and how often they came."""
+    met = Counter()
+    for line in head:
+        words = without_numbers(line)
+        met[words] += 1
+        yield (words, met[words]), line
+
+
+def share_covered(one):
+    """Of the program's thread-time, by `# covers: .. (N of M UNIT)`; 0 where that is not told."""
+    found = re.search(r"(?m)^# covers: .*\((\d+) of (\d+) ", "\n".join(one.head))
+    return int(found[1]) / max(int(found[2]), 1) if found else 0
+
+
+def coverage(recordings):
+    """The lines on what the text covers, of the recording whose share is the median."""
+    one = sorted(recordings, key=share_covered)[(len(recordings) - 1) // 2]
+    return {name_of(line): line for line in one.head if name_of(line) in ("covers", "not covered")}
+
+
+def remarks_of(recordings):
+    """Each remark once, though it may tell of other numbers."""
+    lines = (line for one in recordings for line in one.head if name_of(line) == "remark")
+    return list({without_numbers(line): line for line in reversed(list(lines))}.values())[::-1]
 
 
 def head_of(recordings):
-    out, times = [], {}
+    out, alike = [], {}
     for one in recordings:
-        for name, number in filter(None, map(time_of, one.head)):
-            times.setdefault(name, []).append(number)
-    remarks = dict.fromkeys(line for one in recordings for line in one.head if line.startswith("# remark: "))
-    for line in recordings[0].head:
-        time = time_of(line)
-        if time:
-            out.append("# %s: %d" % (time[0], median(times[time[0]])))
-        elif not line.startswith("# remark: "):
-            out.append(line)
+        for known, line in with_names(one.head):
+            alike.setdefault(known, []).append(line)
+    covered = coverage(recordings)
+    for known, line in with_names(recordings[0].head):
+        name = name_of(line)
+        if name not in OF_ONE_RUN:
+            out.append(median_line(alike[known]))
+        elif name != "remark":
+            out.append(covered.get(name, line))
     told = "# remark: each cost is the median of %d recordings: work and span are of no single run" % len(recordings)
-    return out + list(remarks) + [told]
+    return out + remarks_of(recordings) + [told]
 
 
 def depth_change(line):
@@ -126,6 +165,7 @@ def combine(recordings):
 
 
 def main(words):
+    answer(__doc__, words)
     if len(words) < 2 or words[0].startswith("-"):
         print(__doc__, file=sys.stderr)
         return 2

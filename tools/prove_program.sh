@@ -2,10 +2,11 @@
 # Proves a program alone, without tests and without edits that must be refused: crates/PROGRAM/out/PROGRAM. It is the gate
 # over a copy that has the program's crates and nothing else, every proof from nothing.
 #
-#     tools/prove_program.sh [PROGRAM]      spanprof, if none is named, or spanprof_large
+#     tools/prove_program.sh [PROGRAM]      spanprof, if none is named, spanprof_large or spanprof_account
 set -euo pipefail
 top=$(cd "$(dirname "$0")/.." && pwd)
 program=${1:-spanprof}
+case $program in -h | --help) sed -n '2,/^set/{/^set/!s/^# \{0,1\}//p}' "$0"; exit ;; esac
 [ -f "$top/crates/$program/src/main.rt" ] || { echo "$0: crates/$program is no program" >&2; exit 2; }
 copy=$(mktemp -d)
 trap 'rm -rf "$copy"' EXIT

@@ -17,8 +17,7 @@ struct Claim {
 
 pub fn write(program: &Program, graph: &Graph) -> Vec<u8> {
     let found = analyse(graph);
-    let mut text = Vec::new();
-    program.print(&mut text);
+    let mut text = program.text();
     writeln!(text, "---\nend {}", found.span).unwrap();
     for (segment, start) in found.starts.iter().enumerate() {
         writeln!(text, "start {segment} {start}").unwrap();
@@ -32,7 +31,7 @@ pub fn write(program: &Program, graph: &Graph) -> Vec<u8> {
 }
 
 /// The program text, and what stands after the divider, if there is one.
-fn split(document: &[u8]) -> (&[u8], Option<&[u8]>) {
+pub fn split(document: &[u8]) -> (&[u8], Option<&[u8]>) {
     let mut at = 0;
     for line in document.split_inclusive(|byte| *byte == b'\n') {
         if matches!(line, b"---\n" | b"---\r\n" | b"---" | b"---\r") {

@@ -3,7 +3,8 @@
 //!
 //!     plain COMMAND [--jobs N] < TEXT
 //!
-//! COMMAND is span, slack, greedy --threads P, curve --upto P, whatif SEG=COST .., run --workers N, certify or check.
+//! COMMAND is span, show, slack, greedy --threads P, curve --upto P, whatif SEG=COST .., run --workers N, certify,
+//! check or replay.
 //! `--jobs N` lets `curve` and `check` use N threads; without it everything is done on one, and `run` always is.
 
 mod analysis;
@@ -14,6 +15,7 @@ mod greedy;
 mod jobs;
 mod precede;
 mod read;
+mod replay;
 mod report;
 mod run;
 mod scan;
@@ -25,6 +27,7 @@ use std::process::ExitCode;
 /// What the words ask for.
 enum Command {
     Span,
+    Show,
     Slack,
     Greedy(u32),
     Curve(u32),
@@ -32,6 +35,7 @@ enum Command {
     Run,
     Certify,
     Check,
+    Replay,
 }
 
 fn threads(word: Option<&String>) -> Option<u32> {
@@ -50,6 +54,7 @@ fn change(word: &String) -> Option<(usize, u64)> {
 fn command(words: &[String]) -> Option<Command> {
     Some(match words.first().map_or("span", String::as_str) {
         "span" => Command::Span,
+        "show" => Command::Show,
         "slack" => Command::Slack,
         "greedy" => Command::Greedy(threads(words.get(2))?),
         "curve" => Command::Curve(threads(words.get(2))?),
@@ -57,6 +62,7 @@ fn command(words: &[String]) -> Option<Command> {
         "run" => workers(words.get(2)).map(|_| Command::Run)?,
         "certify" => Command::Certify,
         "check" => Command::Check,
+        "replay" => Command::Replay,
         _ => return None,
     })
 }
@@ -72,10 +78,15 @@ fn jobs(words: &mut Vec<String>) -> Option<usize> {
 }
 
 fn answer(command: &Command, jobs: usize, input: &[u8]) -> Result<Vec<u8>, String> {
-    if let Command::Check = command {
-        return certificate::check(input, jobs);
+    match command {
+        Command::Check => return certificate::check(input, jobs),
+        Command::Replay => return replay::replay(input),
+        _ => {}
     }
     let program = read::read(input)?;
+    if let Command::Show = command {
+        return Ok(program.text());
+    }
     let table = cut::cut(&program);
     let graph = edges::graph(&program, &table);
     match command {
@@ -86,7 +97,7 @@ fn answer(command: &Command, jobs: usize, input: &[u8]) -> Result<Vec<u8>, Strin
         Command::WhatIf(changes) => report::what_if(graph, changes),
         Command::Run => Ok(run::run(&graph)),
         Command::Certify => Ok(certificate::write(&program, &graph)),
-        Command::Check => unreachable!(),
+        Command::Show | Command::Check | Command::Replay => unreachable!(),
     }
 }
 

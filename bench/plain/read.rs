@@ -245,19 +245,20 @@ impl Kind {
 }
 
 impl Program<'_> {
-    /// Adds the canonical text.
-    pub fn print(&self, text: &mut Vec<u8>) {
-        text.extend_from_slice(b"omptasks 1\n");
+    /// The canonical text.
+    pub fn text(&self) -> Vec<u8> {
+        let mut text = b"omptasks 1\n".to_vec();
         for mark in &self.marks {
             match mark {
                 Mark::Work(cost) => text.extend_from_slice(format!("work {cost}").as_bytes()),
-                Mark::Task(number) => self.print_clauses(&self.tasks[*number], text),
+                Mark::Task(number) => self.print_clauses(&self.tasks[*number], &mut text),
                 Mark::Wait => text.extend_from_slice(b"taskwait"),
                 Mark::Group => text.extend_from_slice(b"taskgroup {"),
                 Mark::EndTask | Mark::EndGroup => text.push(b'}'),
             }
             text.push(b'\n');
         }
+        text
     }
 
     fn print_clauses(&self, clauses: &Clauses, text: &mut Vec<u8>) {

@@ -1,63 +1,104 @@
 #!/usr/bin/env python3
-"""What recording costs: measure.py PROGRAM RECORDER [RUNS], with the program of tasks.c and the recorder's library.
+"""What recording costs: measure.py FOLDER RECORDER CONVERTER [RUNS], with the programs that recording.sh built in the
+folder, the recorder's library and the converter of logs.
 
-For tasks of 1, 10 and 100 microseconds: the time of the region without the recorder, and with it by each clock, as it
-passed and as the processors spent it. For a million tasks: the memory that is kept while the region runs, and the whole
-process with reading and writing at its end. Each number is the least of RUNS (7), which take turns.
+All of it is processor time, which a machine that does other things tells too. For tasks of 1, 10 and 100 microseconds:
+that of the region without a tool, with a tool that does nothing, and with the recorder by each clock. Then that of the
+tools alone, which `calls` calls as a runtime does, on one thread. For a million tasks the bytes of the log and what the
+converter takes. Each number is the least of RUNS (7), which take turns.
 """
 import os
 import subprocess
 import sys
 import tempfile
-import time
-from dataclasses import dataclass, fields
+from dataclasses import dataclass
 
 SIZES = ((1, 200_000), (10, 40_000), (100, 8_000))  # microseconds of a task, and how many tasks
 MILLION = 1_000_000
-RECORDINGS = ("", "wall", "cpu")  # by which clock; none
+CALLED = 200_000
+WAYS = ("without", "a tool that does nothing", "the recorder, wall", "the recorder, cpu")
 
 
 @dataclass
-class Run:
-    """A region's wall and processor time and memory, and those times of the whole process; in seconds and bytes."""
-    region: float
-    region_processor: float
-    memory: float
-    whole: float
-    whole_processor: float
+class Built:
+    folder: str
+    recorder: str
+    converter: str
+
+    def tool(self, way):
+        """The library of one of the ways; none without a tool."""
+        if way == WAYS[0]:
+            return ""
+        return self.recorder if way.startswith("the recorder") else os.path.join(self.folder, "nothing.so")
+
+    def program(self, name):
+        return os.path.join(self.folder, name)
 
 
-def environment(recorder, clock, folder):
-    out = dict(os.environ, OMP_WAIT_POLICY="passive", SPANPROF_OUT=os.path.join(folder, "out"))
-    out.pop("OMP_TOOL_LIBRARIES", None)
-    if clock:
-        out.update(OMP_TOOL_LIBRARIES=recorder, SPANPROF_CLOCK=clock)
-    return out
+def environment(tool, way, out):
+    new = dict(os.environ, OMP_WAIT_POLICY="passive", SPANPROF_OUT=out, SPANPROF_QUIET="1",
+               SPANPROF_CLOCK="cpu" if way.endswith("cpu") else "wall")
+    new.pop("OMP_TOOL_LIBRARIES", None)
+    if tool:
+        new["OMP_TOOL_LIBRARIES"] = tool
+    return new
 
 
-def run(program, count, loops, recorder, clock):
+def numbers(words, variables):
+    done = subprocess.run(words, env=variables, check=True, capture_output=True, text=True)
+    return [float(word) for word in done.stdout.split()]
+
+
+def region_of(built, way, count, loops):
+    """Processor time of the region, in microseconds a task."""
     with tempfile.TemporaryDirectory() as folder:
-        began, before = time.monotonic(), os.times()
-        done = subprocess.run([program, str(count), str(loops)], env=environment(recorder, clock, folder), check=True,
-                              capture_output=True, text=True)
-        whole, after = time.monotonic() - began, os.times()
-    took, spent, memory = map(int, done.stdout.split())
-    processor = after.children_user + after.children_system - before.children_user - before.children_system
-    return Run(took / 1e9, spent / 1e9, memory, whole, processor)
+        words = [built.program("tasks"), str(count), str(loops)]
+        told = numbers(words, environment(built.tool(way), way, os.path.join(folder, "out")))
+    return told[1] / count / 1000
 
 
-def least(runs):
-    """The least of each number."""
-    return Run(*(min(getattr(one, field.name) for one in runs) for field in fields(Run)))
+def calls_of(built, way):
+    """Processor time of the tool alone, in microseconds a task."""
+    with tempfile.TemporaryDirectory() as folder:
+        words = [built.program("calls"), built.tool(way), str(CALLED)]
+        return numbers(words, environment("", way, os.path.join(folder, "out")))[0] / 1000
 
 
-def compare(clocks, measure, runs):
-    """The least numbers by each clock; the clocks take turns, so that each meets the machine in the same state."""
-    taken = {clock: [] for clock in clocks}
+def size_of(folder):
+    return sum(os.path.getsize(os.path.join(folder, name)) for name in os.listdir(folder))
+
+
+def converted(built, log):
+    """Processor time in seconds, and the most memory in bytes."""
+    done = subprocess.run([sys.executable, "-c", MEASURED, built.converter, log], check=True,
+                          capture_output=True, text=True, env=dict(os.environ, SPANPROF_LINES="0"))
+    spent, memory = done.stdout.split("\n")[-2].split()
+    return float(spent), int(memory)
+
+
+MEASURED = """
+import resource, subprocess, sys
+subprocess.run(sys.argv[1:], check=True, stdout=subprocess.DEVNULL)
+use = resource.getrusage(resource.RUSAGE_CHILDREN)
+print(use.ru_utime + use.ru_stime, use.ru_maxrss * 1024)
+"""
+
+
+def million_of(built):
+    """Bytes of the log a task, and seconds and bytes of its conversion."""
+    with tempfile.TemporaryDirectory() as folder:
+        out = os.path.join(folder, "out")
+        numbers([built.program("calls"), built.recorder, str(MILLION)], environment("", "wall", out))
+        return (size_of(out + ".log") / MILLION, *converted(built, out + ".log"))
+
+
+def least(ways, measure, runs):
+    """The least number of each way; the ways take turns, so that each meets the machine in the same state."""
+    taken = {way: [] for way in ways}
     for _ in range(runs):
-        for clock in clocks:
-            taken[clock].append(measure(clock))
-    return {clock: least(some) for clock, some in taken.items()}
+        for way in ways:
+            taken[way].append(measure(way))
+    return {way: min(some) for way, some in taken.items()}
 
 
 def row(cells):
@@ -68,37 +109,31 @@ def table(*heads):
     return row(heads) + "\n" + row(["---"] * len(heads))
 
 
-def region_row(microseconds, count, plain, recorded):
-    """More microseconds a task, and how many times as long: as it passed, and as the processors spent it."""
-    cells = ["%d us" % microseconds]
-    for one, other in ((plain.region, recorded.region), (plain.region_processor, recorded.region_processor)):
-        cells += ["%.2f" % (one / count * 1e6), "%.2f" % ((other - one) / count * 1e6), "%.2f" % (other / one)]
-    return row(cells)
-
-
-def whole_row(name, one):
-    return row([name, "%.2f" % one.whole, "%.2f" % one.whole_processor, "%.0f" % (one.memory / MILLION)])
+def more_row(name, measured):
+    """What the first way takes, and how much more each other one does."""
+    first, *others = measured.values()
+    return row([name, "%.2f" % first] + ["%.2f" % (other - first) for other in others])
 
 
 def main():
-    program, recorder = sys.argv[1:3]
-    runs = int(sys.argv[3]) if len(sys.argv) > 3 else 7
-    turns = int(subprocess.run([program, "0"], check=True, capture_output=True, text=True).stdout)
-
-    def by_clock(count, loops):
-        return compare(RECORDINGS, lambda clock: run(program, count, loops, recorder, clock), runs)
-
-    regions = [(size, count, by_clock(count, size * turns)) for size, count in SIZES]
-    for clock in RECORDINGS[1:]:
-        print("SPANPROF_CLOCK=%s" % clock)
-        print(table("A task", "Without, us a task", "More", "Times", "Processor time without", "More", "Times"))
-        for size, count, measured in regions:
-            print(region_row(size, count, measured[""], measured[clock]))
-        print()
-    whole = by_clock(MILLION, turns * 3 // 10)
-    print(table("A million tasks of 0.3 us", "Whole process, s", "Processor time, s", "Bytes a task in the region"))
-    for clock in RECORDINGS:
-        print(whole_row("SPANPROF_CLOCK=" + clock if clock else "without", whole[clock]))
+    built = Built(*map(os.path.abspath, sys.argv[1:4]))
+    runs = int(sys.argv[4]) if len(sys.argv) > 4 else 7
+    turns = int(numbers([built.program("tasks"), "0"], dict(os.environ))[0])
+    print(table("Processor time, us a task", "Without", *("More with " + way for way in WAYS[1:])))
+    for size, count in SIZES:
+        print(more_row("A task of %d us" % size,
+                       least(WAYS, lambda way, c=count, s=size: region_of(built, way, c, s * turns), runs)), flush=True)
+    print()
+    alone = least(WAYS[1:], lambda way: calls_of(built, way), runs)
+    print(table("The tool alone", "Processor time, us a task"))
+    for way, taken in alone.items():
+        print(row([way, "%.3f" % taken]))
+    print()
+    log, spent, memory = map(min, zip(*(million_of(built) for _ in range(runs))))
+    print(table("A million tasks", ""))
+    print(row(["bytes of the log a task", "%.0f" % log]))
+    print(row(["conversion, s of processor time", "%.2f" % spent]))
+    print(row(["conversion, MB", "%.0f" % (memory / 1e6)]))
 
 
 if __name__ == "__main__":

@@ -1,27 +1,39 @@
 """python3 -m unittest, in this folder."""
+import os
+import tempfile
 import unittest
 
-from measure import Run, compare, least, region_row, table
+from measure import WAYS, Built, environment, least, more_row, size_of, table
+
+BUILT = Built("/built", "/r.so", "/convert")
 
 
 class Measures(unittest.TestCase):
-    def test_the_least_of_each_number(self):
-        self.assertEqual(least([Run(1, 5, 3, 9, 2), Run(2, 4, 8, 7, 6)]), Run(1, 4, 3, 7, 2))
-
-    def test_clocks_take_turns(self):
+    def test_ways_take_turns_and_the_least_counts(self):
         order = []
 
-        def measure(clock):
-            order.append(clock)
-            return Run(len(order), 0, 0, 0, 0)
-        measured = compare(("", "wall"), measure, 2)
-        self.assertEqual(order, ["", "wall", "", "wall"])
-        self.assertEqual((measured[""].region, measured["wall"].region), (1, 2))
+        def measure(way):
+            order.append(way)
+            return 10 - len(order)
+        self.assertEqual(least(("a", "b"), measure, 2), {"a": 7, "b": 6})
+        self.assertEqual(order, ["a", "b", "a", "b"])
+
+    def test_each_way_has_its_tool_and_clock(self):
+        self.assertEqual([BUILT.tool(way) for way in WAYS], ["", "/built/nothing.so", "/r.so", "/r.so"])
+        told = [environment(BUILT.tool(way), way, "o") for way in WAYS]
+        self.assertEqual([one.get("OMP_TOOL_LIBRARIES") for one in told], [None, "/built/nothing.so", "/r.so", "/r.so"])
+        self.assertEqual([one["SPANPROF_CLOCK"] for one in told], ["wall", "wall", "wall", "cpu"])
 
     def test_rows(self):
-        told = region_row(10, 1000, Run(0.01, 0.02, 0, 0, 0), Run(0.012, 0.02, 0, 0, 0))
-        self.assertEqual(told, "| 10 us | 10.00 | 2.00 | 1.20 | 20.00 | 0.00 | 1.00 |")
+        self.assertEqual(more_row("10 us", {"without": 2.0, "a": 2.25, "b": 3.0}), "| 10 us | 2.00 | 0.25 | 1.00 |")
         self.assertEqual(table("a", "b"), "| a | b |\n| --- | --- |")
+
+    def test_the_size_of_a_log(self):
+        with tempfile.TemporaryDirectory() as folder:
+            for name, count in (("head", 400), ("thread.0", 24)):
+                with open(os.path.join(folder, name), "wb") as file:
+                    file.write(bytes(count))
+            self.assertEqual(size_of(folder), 424)
 
 
 if __name__ == "__main__":

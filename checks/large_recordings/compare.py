@@ -15,10 +15,13 @@ from whole_graph import read
 
 HERE = os.path.dirname(os.path.abspath(__file__))
 TOP = os.path.dirname(os.path.dirname(HERE))
+sys.path.append(os.path.join(TOP, "checks", "llvm"))
+from versions import asked  # noqa: E402
+
 LARGE = shlex.split(os.environ.get("SPANPROF_LARGE", "")) or [TOP + "/crates/spanprof_large/out/spanprof_large"]
 SPANPROF = os.environ.get("SPANPROF", TOP + "/crates/spanprof/out/spanprof")
 RECORDER = os.path.abspath(os.environ.get("RECORDER", TOP + "/tools/openmp_recorder/librecorder.so"))
-LIBRARY = "/usr/lib/llvm-%s/lib" % os.environ.get("LLVM", "16")
+CONVERT = TOP + "/tools/spanprof-convert"
 SECONDS = 600  # for one run
 USUAL = {"tree": 18, "grid": 400, "row": 1000000}
 TASKS = {"tree": lambda levels: 2 ** levels - 2, "grid": lambda side: side * side, "row": lambda count: count}
@@ -30,8 +33,8 @@ class Wrong(Exception):
 
 def build(folder):
     program = os.path.join(folder, "program")
-    subprocess.run(["clang-" + os.environ.get("LLVM", "16"), "-O2", "-g", "-fopenmp", os.path.join(HERE, "program.c"),
-                    "-o", program, "-L" + LIBRARY, "-Wl,-rpath," + LIBRARY], check=True)
+    compiler = asked(os.environ.get("LLVM", ""))[0].compiler()
+    subprocess.run(compiler + ["-O2", "-g", "-fopenmp", os.path.join(HERE, "program.c"), "-o", program], check=True)
     return program
 
 
@@ -43,8 +46,13 @@ def run(words, **settings):
     return time.monotonic() - began, done.stderr
 
 
-def recorded(words, out, **settings):
-    return run(words, OMP_TOOL_LIBRARIES=RECORDER, SPANPROF_OUT=out, **settings)
+def recorded(words, out):
+    return run(words, OMP_TOOL_LIBRARIES=RECORDER, SPANPROF_OUT=out)
+
+
+def converted(out, *options):
+    """How long the log takes to be made a text, in seconds, and what is said."""
+    return run([CONVERT, *options, out + ".log"])
 
 
 def told(program, path):
@@ -72,9 +80,10 @@ def compare(path, numbers):
 def try_whole(words, out, fewest):
     alone, _ = run(words)
     took, said = recorded(words, out)
+    reading, news = converted(out)
     path = out + ".large.tasks"
     if not os.path.exists(path):
-        raise Wrong("nothing is written: " + said)
+        raise Wrong("nothing is written: " + said + news)
     began = time.monotonic()
     numbers = told(LARGE, path)
     measured = time.monotonic() - began
@@ -83,12 +92,12 @@ def try_whole(words, out, fewest):
         raise Wrong("%d tasks of %d" % (numbers["tasks"], fewest))
     print("  %s tasks, %s segments, work %s ns, span %s ns: as the whole graph has them" % tuple(
         "{:,}".format(numbers[name]) for name in ("tasks", "segments", "work", "span")))
-    print("  %.2f s alone, %.2f s recorded; %d MB, measured in %.2f s" % (
-        alone, took, os.path.getsize(path) // 1000000, measured), flush=True)
+    print("  %.2f s alone, %.2f s recorded, %.2f s converted; %d MB, measured in %.2f s" % (
+        alone, took, reading, os.path.getsize(path) // 1000000, measured), flush=True)
 
 
-def try_exact(words, out):
-    _, said = recorded(words, out, SPANPROF_FOLD_EXACT="1")
+def try_exact(out):
+    _, said = converted(out, "--fold", "exact")
     path = out + ".tasks"
     if not os.path.exists(path):
         raise Wrong("no exact fold is written: " + said)
@@ -112,7 +121,7 @@ def main(asked):
             words, out = [program, name, str(number)], os.path.join(folder, name)
             try:
                 try_whole(words, out, TASKS[name](number))
-                try_exact(words, out)
+                try_exact(out)
             except Wrong as fault:
                 print("  " + str(fault))
                 wrong += 1

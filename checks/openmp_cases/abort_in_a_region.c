@@ -1,7 +1,7 @@
-// A fatal signal: nothing is written, a word says so, and no file of an earlier run stays.
+// A fatal signal before there is a task: a word says where the log ends, and no file of an earlier run stays.
 // status: -6
 // old: out.tasks out.replay out.2.tasks
-// says: nothing is written, since the program ended by signal 06
+// says: the log ends \d+.\d ms after recording began, inside a region: the program was ended there
 // no file: out.tasks out.replay out.2.tasks
 #include <stdlib.h>
 

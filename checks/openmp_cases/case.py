@@ -8,8 +8,9 @@
     // says: PATTERN              on standard error of the first run
     // text: PATTERN              in out.tasks; `no text:` nowhere in it
     // file: NAME ..              which must lie there, or by `no file:` after the first run must not
-    // expect: WHAT OP NUMBER     work, span, tasks, parallelism of out.tasks, `span without folds` of its head, or
-    //                            `inout span` of out.inout.tasks
+    // expect: WHAT OP NUMBER     work, span, tasks, parallelism of out.tasks; `span without folds`, covers (in percent),
+    //                            `most held lock`, affected and `off the processor` of its head; or `inout span` of
+    //                            out.inout.tasks
 """
 import fnmatch
 import operator
@@ -95,10 +96,24 @@ def unfolded_span(text):
     return {found[1]: int(found[2])} if found else {}
 
 
+def count_tasks(text):
+    """The program's tasks, without those that stand for the code of a region's thread."""
+    lines = (line.strip() for line in text.split("\n"))
+    return sum(line.startswith("task ") and "# one of the region's threads" not in line for line in lines)
+
+
+def numbers_of_head(text):
+    """Numbers of the head's lines that tell what a text says of its program, by the names of the lines."""
+    patterns = {"covers": r"# covers: (?:at most )?(\d+\.\d) %", "most held lock": r"# most held lock: (\d+) ",
+                "affected": r"# clocks differ: in (\d+) of", "off the processor": r"# clocks differ: .*, by (\d+) "}
+    found = {name: re.search(pattern, text) for name, pattern in patterns.items()}
+    return {name: float(match[1]) for name, match in found.items() if match}
+
+
 def second_setting(words, said):
     """NAME and VALUE of the second run; nothing where none was advised."""
     if not words.startswith("advised "):
         return tuple(words.split("=", 1))
     name = words[len("advised "):]
-    found = re.search(name + r"=(\d+)", said)
+    found = re.search("--fold %s=(\\d+)" % name.removeprefix("SPANPROF_FOLD_").lower(), said)
     return (name, found[1]) if found else None

@@ -1,28 +1,33 @@
 #!/usr/bin/env python3
 """Records the programs of this folder one by one: cases.py [NAME ..].
 
-What each must leave stands at its head (case.py). SPANPROF names the program, RECORDER the recorder's library, LLVM its
-version. Status 1: something was wrong.
+What each must leave stands at its head (case.py). SPANPROF names the program, RECORDER the recorder's library,
+LLVM_VERSIONS those of LLVM (19,16). Status 1: something was wrong.
 """
 import glob
 import os
+import shutil
 import subprocess
 import sys
 import tempfile
 
-from case import Left, first_faults, is_of_gcc, last_faults, second_setting, unfolded_span, wants
+from case import (Left, count_tasks, first_faults, is_of_gcc, last_faults, numbers_of_head, second_setting,
+                  unfolded_span, wants)
 
 HERE = os.path.dirname(os.path.abspath(__file__))
 TOP = os.path.dirname(os.path.dirname(HERE))
+sys.path.append(os.path.join(TOP, "checks", "llvm"))
+from versions import asked  # noqa: E402
+
 SPANPROF = os.environ.get("SPANPROF", os.path.join(TOP, "crates/spanprof/out/spanprof"))
 RECORDER = os.path.abspath(os.environ.get("RECORDER", os.path.join(TOP, "tools/openmp_recorder/librecorder.so")))
-LLVM = os.environ.get("LLVM", "16")
-LIBRARY = "/usr/lib/llvm-%s/lib" % LLVM
+CONVERT = os.path.join(TOP, "tools", "spanprof-convert")
 SECONDS = 120  # for one run
+TRIED = "19,16"
 
 
-def build(source, program, by_gcc):
-    compiler = ["gcc"] if by_gcc else ["clang-" + LLVM, "-fopenmp-version=51", "-L" + LIBRARY, "-Wl,-rpath," + LIBRARY]
+def build(source, program, by_gcc, version):
+    compiler = ["gcc"] if by_gcc else version.compiler()
     subprocess.run(compiler + ["-O2", "-g", "-fopenmp", source, "-o", program], check=True)
 
 
@@ -32,13 +37,13 @@ def spanprof(command, text):
 
 def numbers_of(files):
     """Work, span and more of the texts, as spanprof tells them."""
-    out = unfolded_span(files.get("out.tasks", ""))
+    out = dict(unfolded_span(files.get("out.tasks", "")), **numbers_of_head(files.get("out.tasks", "")))
     for name, prefix in (("out.tasks", ""), ("out.inout.tasks", "inout ")):
         if name not in files:
             continue
         told = dict(line.split() for line in spanprof("span", files[name]).stdout.split("\n") if line)
         out.update({prefix + what: int(number) for what, number in told.items()})
-        out[prefix + "tasks"] = sum(line.strip().startswith("task ") for line in files[name].split("\n"))
+        out[prefix + "tasks"] = count_tasks(files[name])
         out[prefix + "parallelism"] = out[prefix + "work"] / max(out[prefix + "span"], 1)
     return out
 
@@ -55,18 +60,29 @@ def run(program, folder, settings):
     environment = dict(os.environ, OMP_NUM_THREADS="4", OMP_TOOL_LIBRARIES=RECORDER,
                        SPANPROF_OUT=os.path.join(folder, "out"), **settings)
     done = subprocess.run([program], env=environment, capture_output=True, text=True, timeout=SECONDS)
+    said = done.stderr + converted(folder, environment)
     files = {}
-    for path in glob.glob(os.path.join(folder, "out*")):
+    for path in filter(os.path.isfile, glob.glob(os.path.join(folder, "out*"))):
         with open(path, encoding="utf-8") as file:
             files[os.path.basename(path)] = file.read()
-    return Left(done.returncode, done.stderr, files, numbers_of(files), list(refused_runs(files)))
+    return Left(done.returncode, said, files, numbers_of(files), list(refused_runs(files)))
 
 
-def faults_of(wanted, program, folder):
+def converted(folder, environment):
+    """What the converter says of the run's logs, the program's own first. They are taken away then."""
+    logs = sorted(glob.glob(os.path.join(folder, "out*.log")), key=lambda path: (path.count("."), path))
+    rest = {name: value for name, value in environment.items() if name != "LD_PRELOAD"}
+    done = subprocess.run([CONVERT, *logs], env=rest, capture_output=True, text=True, timeout=SECONDS)
+    for log in logs:
+        shutil.rmtree(log)
+    return done.stderr
+
+
+def faults_of(wanted, program, folder, version):
     for name in " ".join(wanted["old"]).split():
         with open(os.path.join(folder, name), "w", encoding="utf-8") as file:
             file.write("of an earlier run\n")
-    settings = {"LD_PRELOAD": LIBRARY + "/libomp.so.5"} if is_of_gcc(wanted) else {}
+    settings = {"LD_PRELOAD": version.runtime} if is_of_gcc(wanted) else {}
     settings.update(words.split("=", 1) for words in wanted["env"])
     left = run(program, folder, settings)
     out = list(first_faults(wanted, left))
@@ -78,23 +94,25 @@ def faults_of(wanted, program, folder):
     return out + list(last_faults(wanted, left))
 
 
-def judge(source):
+def judge(source, version):
     with open(source, encoding="utf-8") as file:
         wanted = wants(file.read())
     with tempfile.TemporaryDirectory() as folder:
         program = os.path.join(folder, os.path.basename(source)[:-2])
-        build(source, program, is_of_gcc(wanted))
-        return faults_of(wanted, program, folder)
+        build(source, program, is_of_gcc(wanted), version)
+        return faults_of(wanted, program, folder, version)
 
 
 def main(names):
     sources = [os.path.join(HERE, name + ".c") for name in names] or sorted(glob.glob(os.path.join(HERE, "*.c")))
     wrong = 0
-    for source in sources:
-        faults = judge(source)
-        print(os.path.basename(source)[:-2] + "".join("\n  " + fault for fault in faults), flush=True)
-        wrong += bool(faults)
-    print("%d of %d cases wrong" % (wrong, len(sources)))
+    for version in asked(os.environ.get("LLVM_VERSIONS", TRIED)) or asked("")[:1]:
+        print("LLVM " + version.number, flush=True)
+        for source in sources:
+            faults = judge(source, version)
+            print(os.path.basename(source)[:-2] + "".join("\n  " + fault for fault in faults), flush=True)
+            wrong += bool(faults)
+    print("%d cases wrong" % wrong)
     return 1 if wrong else 0
 
 

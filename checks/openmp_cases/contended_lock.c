@@ -3,6 +3,7 @@
 // expect: work >= 64000000
 // expect: work <= 90000000
 // text: # lock critical at contended_lock.c:\d+: 32 times, (3[2-9]|4\d)\d{6} inside
+// expect: most held lock >= 32000000
 // text: # remark: time inside locks, which exclude each other, 32 times at contended_lock.c:\d+: span too low
 #include "spend.h"
 

@@ -1,5 +1,5 @@
 // Costs are measured anew by each run, and the threshold that was advised holds all the same.
-// says: tasks, and spanprof takes 4096; .* SPANPROF_FOLD_COST=\d+ \(
+// says: tasks, and spanprof takes 4096; .* --fold cost=\d+ \(
 // no file: out.tasks
 // again: advised SPANPROF_FOLD_COST
 // text: # remark: folded task, \d+ times.*: span too high

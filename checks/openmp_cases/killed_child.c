@@ -1,5 +1,5 @@
 // A child that met no construct has nothing to write, so its end by a signal is no news; the parent's files are whole.
-// says: ^spanprof recorder: recording to \S+\nspanprof recorder: \S+out.tasks and \S+: 2 tasks, 5 segments
+// says: ^spanprof recorder: recording to \S+\n(spanprof-convert: \S+: [a-z].*\n)*spanprof-convert: \S+out.tasks and \S+: \d+ tasks, \d+ segments
 // file: out.tasks out.replay
 // no file: out.[0-9]*.tasks
 #include <signal.h>

@@ -16,7 +16,7 @@ static void *many_tasks(void *nothing) {
 #pragma omp task
         {
             spend(1);
-            done = i;
+            done++;
         }
     }
     return nothing;

@@ -2,10 +2,10 @@
 // lies below is one work: the advice says what parallelism that leaves, and the text what the span is without the fold.
 // env: SPANPROF_CLOCK=cpu
 // says: not written: .* inside each other
-// says: parallelism is \d{2,}\.\d.* SPANPROF_FOLD_DEPTH=63 \(\d+ tasks left, parallelism 1\.\d\)
+// says: parallelism is \d{2,}\.\d.* --fold depth=63 \(\d+ tasks left, parallelism 1\.\d\)
 // no file: out.tasks
 // again: advised SPANPROF_FOLD_DEPTH
-// text: # remark: folded task, 274 times, first at two_hundred_levels.c:\d+: span too high \(an upper bound\)
+// text: # remark: folded task, 274 times, first at two_hundred_levels.c:\d+: span too high, which is an upper bound
 // expect: span without folds <= 30000000
 // expect: span >= 137000000
 // expect: parallelism <= 1.6

@@ -1,6 +1,6 @@
 // Many independent tasks: the fold that is advised fits the next run, and leaves the parallelism.
 // says: 200000 tasks, and spanprof takes 4096; parallelism is \d+.\d;
-// says: SPANPROF_FOLD_CHUNK=49 \(4082 tasks left, parallelism
+// says: --fold chunk=49 \(4082 tasks left, parallelism
 // no file: out.tasks
 // again: SPANPROF_FOLD_CHUNK=49
 // text: # remark: folded task, 195918 times.*: span too high

@@ -12,8 +12,9 @@ COST_LOST = "untied task whose end another thread told"  # what the recorder say
 class Names:
     """Which tasks name a location, in the program and in the text: the two must agree up to the names."""
 
-    def __init__(self, costs_are_known):
+    def __init__(self, costs_are_known, reading=0):
         self.costs_are_known = costs_are_known
+        self.reading = reading
         self.tasks = 0
         self.wanted = defaultdict(list)
         self.found = defaultdict(list)
@@ -45,7 +46,8 @@ def node_difference(wanted, found, names):
 
 
 def body_difference(wanted, found, names, where):
-    """Nodes are the same one by one, and no cost is less than what the program spends there, if all of it is known."""
+    """Nodes are the same one by one, and no cost is less than what the program spends there, but for one reading of the
+    clock, if all of it is known."""
     first, second = nodes(wanted), nodes(found)
     for one, other in zip(first, second):
         difference = node_difference(one, other, names)
@@ -55,7 +57,7 @@ def body_difference(wanted, found, names, where):
         longer, fault = (first, "missing") if len(first) > len(second) else (second, "too many")
         return "%s: a %s is %s" % (where, longer[min(len(first), len(second))].told(), fault)
     for place, (least, cost) in enumerate(zip(costs(wanted), costs(found))):
-        if cost < least and names.costs_are_known:
+        if cost + names.reading < least and names.costs_are_known:
             return "%s: %d ns before step %d where the program spends %d" % (where, cost, place, least)
     return ""
 
@@ -126,7 +128,7 @@ def difference(shape, recorded):
     found = [bodies for bodies in found if bodies]
     if len(wanted) != len(found):
         return "%d phases with tasks, and not %d" % (len(found), len(wanted))
-    names = Names(not recorded.says(COST_LOST))
+    names = Names(not recorded.says(COST_LOST), recorded.reading)
     for phase, bodies in zip(wanted, found):
         told = phase_difference(phase, bodies, names)
         if told:

@@ -52,4 +52,6 @@ def read(text):
     region = int(where.group(1)) if where else 0
     for node in every_node(root):
         node.line = 0 if node.line == region else node.line
-    return Recorded(region, phases(root), re.findall(r"^# remark: (.*)$", head, re.M))
+    reading = re.search(r"^# clock reading: (\d+) ns", head, re.M)
+    return Recorded(region, phases(root), re.findall(r"^# remark: (.*)$", head, re.M),
+                    int(reading.group(1)) if reading else 0)

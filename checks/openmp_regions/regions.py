@@ -45,7 +45,7 @@ def find_tools():
     top_program = os.path.join(TOP, "crates/spanprof/out/spanprof")
     return toolchain.Tools(
         os.path.abspath(os.environ.get("RECORDER", os.path.join(TOP, "tools/openmp_recorder/librecorder.so"))),
-        shlex.split(os.environ.get("SPANPROF", top_program)), os.environ.get("LLVM", "16"))
+        shlex.split(os.environ.get("SPANPROF", top_program)), toolchain.newest(os.environ.get("LLVM", "")))
 
 
 def judge_drawn(tools, drawn, runs=1):

@@ -42,6 +42,7 @@ class Recorded:
     line: int
     phases: list
     remarks: list = field(default_factory=list)
+    reading: int = 0  # of the clock, in nanoseconds, which the recorder takes off each cost
 
     def says(self, words):
         """Whether its head remarks this."""

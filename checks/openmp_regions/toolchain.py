@@ -1,10 +1,17 @@
 """Compiles a program, runs it with the recorder, and has spanprof replay its run."""
 import glob
 import os
+import shutil
 import subprocess
+import sys
 from dataclasses import dataclass
 
+sys.path.append(os.path.join(os.path.dirname(os.path.dirname(os.path.abspath(__file__))), "llvm"))
+from versions import Version, asked  # noqa: E402
+
 SECONDS = 60  # for one run
+TOP = os.path.dirname(os.path.dirname(os.path.dirname(os.path.abspath(__file__))))
+CONVERT = os.path.join(TOP, "tools", "spanprof-convert")
 
 
 @dataclass
@@ -12,11 +19,7 @@ class Tools:
     """Where things are."""
     recorder: str
     spanprof: list
-    llvm: str = "16"
-
-    @property
-    def library(self):
-        return "/usr/lib/llvm-%s/lib" % self.llvm
+    llvm: Version
 
 
 @dataclass
@@ -29,6 +32,14 @@ class Run:
     said: str
 
 
+def newest(number=""):
+    """Of LLVM's versions that are there, or this one."""
+    there = asked(number)
+    if not there:
+        sys.exit("LLVM%s: no compiler with its runtime" % (" " + number if number else ""))
+    return there[0]
+
+
 class Refused(Exception):
     """The compiler refused the program."""
 
@@ -38,8 +49,8 @@ def compile_words(tools, compiler, source, program):
     common = ["-g", "-fopenmp", "-o", program, "-x", "c++" if compiler.endswith("++") else "c", source]
     if not compiler.startswith("clang"):
         return [compiler, "-O0"] + common
-    words = [compiler + "-" + tools.llvm, "-O1", "-fno-optimize-sibling-calls", "-fopenmp-version=51",
-             "-L" + tools.library, "-Wl,-rpath," + tools.library]
+    words = [compiler + "-" + tools.llvm.number, "-O1", "-fno-optimize-sibling-calls", "-fopenmp-version=51"]
+    words += tools.llvm.flags()
     for option in ("simplifycfg-sink-common=false", "simplifycfg-hoist-common=false", "enable-tail-merge=0"):
         words += ["-mllvm", "-" + option]
     return words + common
@@ -56,9 +67,9 @@ def environment(tools, drawn, threads, folder, is_recorded):
                OMP_WAIT_POLICY="passive", KMP_TASKLOOP_MIN_TASKS="100000")
     if is_recorded:
         out.update(OMP_TOOL_LIBRARIES=tools.recorder, SPANPROF_OUT=os.path.join(folder, "out"),
-                   SPANPROF_CLOCK=drawn.clock, SPANPROF_REGIONS="1000")
+                   SPANPROF_CLOCK=drawn.clock)
     if drawn.compiler in ("gcc", "g++"):
-        out["LD_PRELOAD"] = tools.library + "/libomp.so.5"
+        out["LD_PRELOAD"] = tools.llvm.runtime
     return out
 
 
@@ -75,14 +86,21 @@ def read_texts(folder):
 def run(tools, drawn, threads, program, folder, is_recorded=True):
     """Runs the program once; earlier recordings of the folder are removed."""
     for path in glob.glob(os.path.join(folder, "out*")):
-        os.remove(path)
+        shutil.rmtree(path) if os.path.isdir(path) else os.remove(path)
     try:
         done = subprocess.run([program, str(threads)], capture_output=True, text=True, timeout=SECONDS,
                               env=environment(tools, drawn, threads, folder, is_recorded))
     except subprocess.TimeoutExpired:
         return Run("no end after %d seconds" % SECONDS, 0, 0, {}, "")
     printed = [int(word) for word in done.stdout.split()] if done.returncode == 0 else [0, 0]
-    return Run(done.returncode, printed[0], printed[1], read_texts(folder), done.stderr)
+    said = done.stderr + (converted(folder) if is_recorded else "")
+    return Run(done.returncode, printed[0], printed[1], read_texts(folder), said)
+
+
+def converted(folder):
+    """What is said of the run's log when it is made texts."""
+    words = [CONVERT, "--regions", "1000"] + glob.glob(os.path.join(folder, "out*.log"))
+    return subprocess.run(words, capture_output=True, text=True, timeout=SECONDS).stderr
 
 
 def replay(tools, folder, name):

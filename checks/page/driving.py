@@ -64,8 +64,11 @@ def widest_bar(page, is_close=False):
       const bar = all.reduce((a, b) => b.end - b.start > a.end - a.start ? b : a);
       if (%s) lanes.stretch.show(2 * bar.start - bar.end, 3 * (bar.end - bar.start));
       drawAll();
+      const pixel = Math.floor(lanes.x((bar.start + bar.end) / 2));
       return {x: box.left + lanes.x((bar.start + bar.end) / 2), y: box.top + lanes.top(bar.i) + lanes.height / 2,
-              words: lanes.words([bar]), isThin: (bar.end - bar.start) * lanes.scale < 1};
+              words: lanes.words([bar]), isThin: (bar.end - bar.start) * lanes.scale < 1,
+              isAlone: lanes.rows[bar.i].filter(other => lanes.x(other.end) > pixel
+                && lanes.x(other.start) < pixel + 1).length === 1};
     })()""" % ("true" if is_close else "false"))
 
 
@@ -73,7 +76,8 @@ def mouse_tells(page):
     page.key("0", "0")
     bar = widest_bar(page)
     page.mouse("mouseMoved", bar["x"], bar["y"])
-    if bar["isThin"] and "segments, too thin to be told apart here" not in tip(page):
+    many = "segments, too thin to be told apart here" in tip(page)
+    if bar["isThin"] and not many and not (bar["isAlone"] and tip(page) == bar["words"]):
         yield "the tooltip of bars thinner than a pixel says %r" % tip(page)
     page.mouse("mouseMoved", 5, 5)      # a mouse that stays where it is tells nothing
     bar = widest_bar(page, is_close=True)
@@ -124,7 +128,7 @@ def factors_give_a_line(page, text, program):
     row = page.evaluate("""(() => {
       const box = document.querySelector('input.factor');
       if (!box) return null;
-      const half = box.closest('tr').cells[2].querySelector('data').value;
+      const half = box.closest('tr').querySelector('data[data-from$=" 0.5 span"]').value;
       box.value = '0.5';
       box.dispatchEvent(new Event('input', {bubbles: true}));
       return {half, short: document.getElementById('factors-line').textContent,

@@ -63,7 +63,8 @@ inline end_all() {
     /* signal.rt: self.over.store(true, Ordering::SeqCst); */
     over = true;
 #ifndef SILENT_END
-    /* signal.rt: self.news.fetch_add(1, Ordering::SeqCst); */
+    /* signal.rt: self.news.add(); */
+    /* news_count.rt: self.count.fetch_add(1, Ordering::SeqCst); */
     news++;
 #endif
     /* signal.rt: self.news.wake_all(); */
@@ -100,7 +101,7 @@ inline wake_one() {
     fi
 }
 
-/* Signal::tell, of so many tokens that are for others */
+/* Signal::tell_others, of so many tokens */
 inline tell(others) {
     /* signal.rt: if others == 0 { */
     if
@@ -110,7 +111,7 @@ inline tell(others) {
         someone = (asleep > 0);
         news++;
 #else
-        /* signal.rt: self.news.fetch_add(1, Ordering::SeqCst); */
+        /* signal.rt: self.news.add(); */
         news++;
         /* signal.rt: if self.asleep.load(Ordering::SeqCst) == 0 { */
         someone = (asleep > 0);
@@ -147,7 +148,7 @@ again:  /* Crew::work */
     seen = news;
 #else
     /* crew.rt: let turn = match signal.turn(signal.news()) { */
-    /* signal.rt: count: self.news.load(Ordering::SeqCst), */
+    /* news_count.rt: count: self.count.load(Ordering::SeqCst), */
     seen = news;
     /* signal.rt: if self.is_over() { */
     if :: over -> goto leave :: else fi;
@@ -180,13 +181,14 @@ steal:  /* Station::steal: a patient worker may pass over a lane. LaneThief::try
 #else
             unsure = true
 #endif
-        /* station.rt: match self.end.try_steal() { */
+        /* station.rt: Found::of_steal(self.end.try_steal()) */
         :: at = front[lane];
             if
             :: back[lane] <= at
             :: else ->
                 if
                 :: d_step { front[lane] == at -> front[lane] = at + 1 }; goto start
+                /* look.rt: Steal::Retry => Found::Unsure, */
                 :: d_step { front[lane] != at -> unsure = true }
                 fi
             fi
@@ -203,13 +205,14 @@ steal:  /* Station::steal: a patient worker may pass over a lane. LaneThief::try
 #ifdef COUNT_LAST
     seen = news;
 #endif
-    /* crew.rt: Next::Wait(idle) => signal.wait(self.rt, idle), */
-    /* signal.rt: if self.news() != turn.seen { */
+    /* crew.rt: signal.wait(self.rt, idle); */
+    /* signal.rt: if self.news() != seen { */
     /* Many looks without news are as one. */
     if :: news != seen -> goto again :: else fi;
     /* signal.rt: self.asleep.fetch_add(1, Ordering::SeqCst); */
     asleep++;
-    /* signal.rt: self.news.park(rt, (turn.seen.count % (1 << 32)) as u32); */
+    /* signal.rt: let seen = self.news.sleep(rt, seen); */
+    /* news_count.rt: self.count.park(rt, (seen.count % (1 << 32)) as u32); */
     /* AtomicU64::park compares and falls asleep in one step. */
     atomic {
         if
@@ -291,7 +294,7 @@ kernel:
     :: at < tokens -> d_step { back[me]++; at++ }
     :: else -> break
     od;
-    /* crew.rt: signal.tell(ready.len(), job.is_some()); */
+    /* crew.rt: let told = signal.tell(ready.len(), job.is_some()); */
     /* signal.rt: let others = if is_busy { */
 #ifndef BUSY_AS_IDLE
     if

@@ -45,7 +45,7 @@ _spanprof_record_program() { # the place of the program among the words; none wh
     for ((i = 1; i < COMP_CWORD; i++)); do
         case ${COMP_WORDS[i]} in
             --) echo $((i + 1)); return ;;
-            --open | -h | --help) ;;
+            --open | --version | -h | --help) ;;
             -*) ((i++)) ;;
             *) echo "$i"; return ;;
         esac
@@ -70,6 +70,21 @@ _spanprof_record() {
         *) case $current in
             -*) _spanprof_among "$current" -- "$(_spanprof_options "${COMP_WORDS[0]}")" ;;
             *) _spanprof_files "$current" ;;
+        esac ;;
+    esac
+}
+
+_spanprof_convert() {
+    local current=${COMP_WORDS[COMP_CWORD]} before=${COMP_WORDS[COMP_CWORD - 1]}
+    case $before in
+        --unit) _spanprof_among "$current" ns us ms ;;
+        --parts) _spanprof_among "$current" heavy all none all-or-none ;;
+        --out) _spanprof_files "$current" ;;
+        --fold) _spanprof_among "$current" exact depth= cost= chunk=; compopt -o nospace 2> /dev/null ;;
+        --regions) ;;
+        *) case $current in
+            -*) _spanprof_among "$current" "$(_spanprof_options "${COMP_WORDS[0]}")" ;;
+            *) _spanprof_folders "$current" ;;
         esac ;;
     esac
 }
@@ -100,6 +115,18 @@ _spanprof_path() {
     esac
 }
 
+_spanprof_whatif() {
+    local current=${COMP_WORDS[COMP_CWORD]} before=${COMP_WORDS[COMP_CWORD - 1]}
+    case $before in
+        -o | --output) _spanprof_files "$current" .tasks ;;
+        --factor | --drop-* | --split | --grain | --join | --cutoff | --task | --threads | --creating | --least) ;;
+        *) case $current in
+            -*) _spanprof_among "$current" "$(_spanprof_options "${COMP_WORDS[0]}")" ;;
+            *) _spanprof_files "$current" .tasks ;;
+        esac ;;
+    esac
+}
+
 _spanprof_conformance() {
     local current=${COMP_WORDS[COMP_CWORD]} before=${COMP_WORDS[COMP_CWORD - 1]}
     if [ "$COMP_CWORD" = 1 ]; then
@@ -109,7 +136,8 @@ _spanprof_conformance() {
     case $before in
         --cc) mapfile -t COMPREPLY < <(compgen -c -- "$current" | grep -E '^(gcc|clang|cc|icx)' | sort -u) ;;
         --tasks) _spanprof_among "$current" tied untied mixed ;;
-        --settings) _spanprof_among "$current" free priorities pinned active passive ;;
+        --settings) _spanprof_among "$current" free priorities pinned bound active passive sleepy perturbed stacks \
+            unlogged orphaned nested unthrottled unconstrained ;;
         *) case $current in
             -*) _spanprof_among "$current" "$(_spanprof_options "${COMP_WORDS[@]:0:2}")" ;;
             *) _spanprof_files "$current" ;;
@@ -124,6 +152,8 @@ _spanprof_commands() { # WORD: the commands that its --help lists
 complete -F _spanprof spanprof
 complete -F _spanprof_large spanprof_large
 complete -F _spanprof_record spanprof-record
+complete -F _spanprof_convert spanprof-convert
 complete -F _spanprof_report spanprof-report
 complete -F _spanprof_path spanprof-path
+complete -F _spanprof_whatif spanprof-whatif
 complete -F _spanprof_conformance spanprof-conformance

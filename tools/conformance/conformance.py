@@ -10,6 +10,7 @@ import sys
 import tempfile
 
 from tester.commands import COMMANDS
+from tester.expected import WrongLine
 from tester.journal import OtherCampaign
 from tester.judge import Missing, Refused
 from tester.options import parse
@@ -22,7 +23,7 @@ def main():
     with tempfile.TemporaryDirectory(prefix="conformance-") as folder:
         try:
             return options.call(options, folder)
-        except (BuildFailed, Refused, Missing, OtherCampaign, Unreadable, OSError) as reason:
+        except (BuildFailed, Refused, Missing, OtherCampaign, Unreadable, WrongLine, OSError) as reason:
             print(f"conformance.py: {reason}", file=sys.stderr)
             return 2
         except KeyboardInterrupt:

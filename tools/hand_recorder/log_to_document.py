@@ -5,7 +5,12 @@ events of the run in their order.
     log_to_document.py run.log > run.replay              then: spanprof replay < run.replay
     log_to_document.py --program run.log > run.tasks     then: spanprof span < run.tasks
 """
+import os
 import sys
+
+sys.path.append(os.path.join(os.path.dirname(os.path.abspath(__file__)), ".."))
+
+from spanprof_version import answer  # noqa: E402
 
 
 class Task:
@@ -73,8 +78,9 @@ class Writer:
 
 
 def main():
+    answer(__doc__, sys.argv[1:])
     paths = [word for word in sys.argv[1:] if word != "--program"]
-    if len(paths) != 1:
+    if len(paths) != 1 or paths[0].startswith("-"):
         sys.exit(__doc__)
     tasks, run = read_log(paths[0])
     writer = Writer(tasks)
@@ -87,4 +93,5 @@ def main():
         print(what, worker, task.segments[place])
 
 
-main()
+if __name__ == "__main__":
+    main()

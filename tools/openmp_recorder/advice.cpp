@@ -2,19 +2,12 @@
 
 #include <algorithm>
 #include <cmath>
-#include <cstdio>
 
 #include "exact.hpp"
 #include "fold.hpp"
 #include "span.hpp"
 
 namespace {
-struct Offer {
-  std::string setting;
-  uint64_t tasks;  // that it leaves
-  int64_t span;
-};
-
 class Adviser {
  public:
   Adviser(Region &of, int64_t chosen) : region(of), unit(chosen), whole(fold(of, {})) {}
@@ -28,7 +21,7 @@ class Adviser {
   Trial tried;  // the last one
 
   bool fits(const Folds &folds);
-  Offer offer(const char *setting, uint64_t value) const;
+  Offer offer(const char *fold, uint64_t value) const;
   uint64_t depth();
   uint64_t chunk();
   int64_t cost();  // in units
@@ -36,13 +29,12 @@ class Adviser {
 
 bool Adviser::fits(const Folds &folds) {
   tried = try_fold(region, folds, most_tasks);
-  return over_the_limits(tried.size, unit).empty();
+  return !over_the_limits(tried.size, unit);
 }
 
 // The fold that was tried last.
-Offer Adviser::offer(const char *setting, uint64_t value) const {
-  return {std::string("SPANPROF_FOLD_") + setting + "=" + std::to_string(value), tried.size.tasks,
-          span_of(tried.written)};
+Offer Adviser::offer(const char *fold, uint64_t value) const {
+  return {fold, value, tried.size.tasks, span_of(tried.written)};
 }
 
 // Tasks with items that the region's own code makes: whatever is folded, they stay.
@@ -121,29 +113,20 @@ std::vector<Offer> Adviser::offers() {
 }
 }  // namespace
 
-std::string parallelism(int64_t work, int64_t span) {
-  char text[32];
-  snprintf(text, sizeof text, "%.1f", span ? static_cast<double>(work) / static_cast<double>(span) : 1.0);
-  return text;
-}
-
-std::string advice_for(Region &region, int64_t unit) {
-  uint64_t exact = unit == 1 ? tasks_after_exact_folds(region, unit) : 0;  // first, since other folds change spans
+Advice advice_for(Region &region, int64_t unit) {
+  Advice out;
+  if (unit == 1) out.exact = tasks_after_exact_folds(region, unit);  // first, since other folds change spans
   Adviser adviser(region, unit);
   const Size &whole = adviser.size();
-  if (whole.items > most_items) return "give each task fewer depend items";
   Size one_piece;
   one_piece.largest = whole.largest;
   one_piece.total = whole.total;
-  if (!over_the_limits(one_piece, unit).empty()) return "choose a larger SPANPROF_UNIT";
-  std::string out = "parallelism is " + parallelism(whole.total, region.span) +
-                    "; make the program's own cutoff or blocks larger";
-  std::vector<Offer> offers = adviser.offers();
-  if (offers.empty()) out += "; no fold fits, since tasks with depend are not folded";
-  for (const Offer &one : offers)
-    out += ", or record with " + one.setting + " (" + std::to_string(one.tasks) + " tasks left, parallelism " +
-           parallelism(whole.total, one.span) + ")";
-  if (unit > 1) exact = tasks_after_exact_folds(region, unit);  // last, since it rounds costs
-  if (exact) out += "; with SPANPROF_FOLD_EXACT=1 work and span stay (" + std::to_string(exact) + " tasks left)";
+  out.fewer_items = whole.items > most_items;
+  out.larger_unit = !out.fewer_items && over_the_limits(one_piece, unit);
+  if (out.fewer_items || out.larger_unit) return out;
+  out.work = whole.total;
+  out.span = region.span;
+  out.offers = adviser.offers();
+  if (unit > 1) out.exact = tasks_after_exact_folds(region, unit);  // last, since it rounds costs
   return out;
 }

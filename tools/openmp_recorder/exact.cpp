@@ -201,7 +201,7 @@ void round_costs(Region &region, int64_t unit) {
 bool fits(Region &made, int64_t unit, Size &size) {
   add_up(made);
   size = ::fold(made, {});
-  return over_the_limits(size, unit).empty();
+  return !over_the_limits(size, unit);
 }
 
 // The one that folds least.

@@ -20,6 +20,3 @@ class NewFile {
   FILE *file;
   bool good;
 };
-
-void remove_old_files(const std::string &name, int64_t began);  // that a run wrote before this time of the day
-bool is_of_run(const std::string &file, const std::string &name);  // file names without a folder

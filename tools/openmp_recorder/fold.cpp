@@ -163,15 +163,13 @@ Trial try_fold(Region &region, const Folds &folds, uint64_t enough) {
   return trial;
 }
 
-std::string over_the_limits(const Size &size, int64_t unit, const Limits &limits) {
-  auto more = [&](uint64_t are, const char *what, uint64_t most) {
-    return std::to_string(are) + " " + what + ", and " + limits.program + " takes " + std::to_string(most);
-  };
-  if (size.tasks > limits.tasks) return more(size.tasks, "tasks", limits.tasks);
-  if (size.segments > limits.segments) return more(size.segments, "segments", limits.segments);
-  if (size.blocks > limits.blocks) return more(size.blocks, "tasks and groups inside each other", limits.blocks);
-  if (size.items > most_items) return more(size.items, "depend items of one task", most_items);
-  if (size.largest / unit >= most_work) return more(size.largest / unit, "units of work in one piece", most_work);
-  if (size.total / unit >= most_total) return more(size.total / unit, "units of work", most_total);
-  return "";
+Excess over_the_limits(const Size &size, int64_t unit, const Limits &limits) {
+  auto more = [&](const char *what, uint64_t has, uint64_t takes) { return Excess{what, limits.program, has, takes}; };
+  if (size.tasks > limits.tasks) return more("tasks", size.tasks, limits.tasks);
+  if (size.segments > limits.segments) return more("segments", size.segments, limits.segments);
+  if (size.blocks > limits.blocks) return more("blocks", size.blocks, limits.blocks);
+  if (size.items > most_items) return more("items", size.items, most_items);
+  if (size.largest / unit >= most_work) return more("piece", size.largest / unit, most_work);
+  if (size.total / unit >= most_total) return more("work", size.total / unit, most_total);
+  return {};
 }

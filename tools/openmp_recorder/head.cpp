@@ -6,6 +6,7 @@
 
 namespace {
 constexpr size_t most_locks = 10;
+constexpr int64_t least_difference = 50000;  // of the clocks, that is told
 
 std::string kind_name(int kind) {
   switch (kind) {
@@ -23,6 +24,9 @@ class Head {
   Head(const Options &chosen, const Places &known) : options(chosen), places(known) {}
   std::string words;
   void first_lines(const Region &region, const Recording &recording);
+  void covered(const Region &region, const ThreadTime &threads);
+  void divided(const Region &region);
+  void clocks(const Region &region);
   void times(const Region &region, const Recording &recording);
   void locks(const Region &region);
   void remarks(const Region &region);
@@ -30,7 +34,12 @@ class Head {
  private:
   const Options &options;
   const Places &places;
-  std::string units(int64_t nanoseconds) { return std::to_string((nanoseconds + options.unit / 2) / options.unit); }
+  int64_t in_units(int64_t nanoseconds) { return (nanoseconds + options.unit / 2) / options.unit; }
+  std::string units(int64_t nanoseconds) { return std::to_string(in_units(nanoseconds)); }
+  std::string with_unit(int64_t nanoseconds) { return units(nanoseconds) + unit(); }
+  std::string unit() {  // one that is a number of nanoseconds is a factor
+    return (options.unit_name.find(' ') == std::string::npos ? " " : " x ") + options.unit_name;
+  }
   void line(const std::string &one) { words += "# " + one + "\n"; }
   void lock(const std::string &name, const LockUse &use);
 };
@@ -41,6 +50,65 @@ void Head::first_lines(const Region &region, const Recording &recording) {
   std::string at = places.at(region.code);
   line("region: " + (at.empty() ? "" : "at " + at + ", ") + std::to_string(region.place) + " of " +
        std::to_string(recording.regions));
+}
+
+std::string in_percent(int64_t part, int64_t whole) {  // rounded down to a tenth
+  int64_t tenths = static_cast<int64_t>(1000.0L * part / whole);
+  return std::to_string(tenths / 10) + "." + std::to_string(tenths % 10) + " %";
+}
+
+// How much of the program's thread-time in code the text has, and where the rest was.
+void Head::covered(const Region &region, const ThreadTime &threads) {
+  int64_t all = in_units(threads.all()), own = std::min(in_units(in_code(region)), all);
+  int64_t text = std::clamp<int64_t>(in_units(region.root->total - region.in_own_regions), 0, own);
+  if (!all) return;
+  line("covers: " + std::string(threads.whole ? "" : "at most ") + in_percent(text, all) +
+       " of the program's thread-time (" + std::to_string(text) + " of " + std::to_string(all) +
+       unit() + ")");
+  int64_t outside = std::min(in_units(threads.outside), all - own);
+  line("not covered: " + std::to_string(outside) + " outside regions, " + std::to_string(all - own - outside) +
+       " in other regions, " + std::to_string(own - text) + " of this region");
+}
+
+// What the parts of each phase cost with their tasks, but for the longest of it.
+struct Beside {
+  size_t parts = 0;
+  int64_t cost = 0;
+};
+
+Beside beside_each_other(const Region &region) {
+  std::map<unsigned, std::vector<int64_t>> phases;
+  for (const Part &part : region.parts)
+    if (part.task->parent) phases[part.phase].push_back(part.task->total);
+  Beside out;
+  for (auto &[number, costs] : phases) {
+    if (costs.size() < 2) continue;
+    out.parts += costs.size();
+    for (int64_t cost : costs) out.cost += cost;
+    out.cost -= *std::max_element(costs.begin(), costs.end());
+  }
+  return out;
+}
+
+// What was divided among as many threads as this run had.
+void Head::divided(const Region &region) {
+  if (region.threads == 1) return line("one thread: every task is undeferred, so that this text says nothing of more threads");
+  std::string divided = "divided among " + std::to_string(region.threads) + " threads: ";
+  for (auto &[what, met] : region.divided)
+    line(divided + (what == Divided::Loops ? "loops, " : "sections, ") + times_and_place(met, places));
+  Beside beside = beside_each_other(region);
+  if (!beside.parts) return;
+  line(divided + "code of the region, " + std::to_string(beside.parts) + " parts, " + with_unit(beside.cost) +
+       " beside the longest");
+}
+
+void Head::clocks(const Region &region) {
+  line("clock reading: " + std::to_string(record_clock().reading) + " ns, taken off at each record");
+  const Differing &differing = region.differing;
+  if (differing.off < least_difference) return;
+  std::string times = std::to_string(differing.at.times) + (differing.at.times == 1 ? " time" : " times");
+  line("clocks differ: in " + units(differing.cost) + " of " + with_unit(region.cost) + " of the work, by " +
+       with_unit(differing.off) + ", " + times);
 }
 
 void Head::times(const Region &region, const Recording &recording) {
@@ -64,6 +132,9 @@ void Head::locks(const Region &region) {
   std::vector<LockUse> uses;
   for (auto &[name, use] : region.locks) uses.push_back(use);
   std::stable_sort(uses.begin(), uses.end(), [](auto &a, auto &b) { return a.inside > b.inside; });
+  int64_t alone = 0;
+  for (const LockUse &use : uses) alone = std::max(alone, use.alone);
+  if (alone) line("most held lock: " + with_unit(alone) + " inside, one thread at a time");
   LockUse others;
   for (size_t i = 0; i < uses.size(); i++) {
     std::string at = places.at(uses[i].code);
@@ -81,6 +152,9 @@ void Head::remarks(const Region &region) {
 std::string head_of(const Region &region, const Recording &recording, const Options &options, const Places &places) {
   Head head(options, places);
   head.first_lines(region, recording);
+  head.covered(region, recording.threads);
+  head.divided(region);
+  head.clocks(region);
   head.times(region, recording);
   head.locks(region);
   head.remarks(region);
@@ -97,4 +171,11 @@ void remark_locks(Region &region) {
     seen.times += use.times;
   }
   if (seen.times && inside * 100 >= region.in_parts + region.in_tasks) region.remarks[Remark::HeldLock] = seen;
+}
+
+void remark_clocks(Region &region) {
+  const Differing &differing = region.differing;
+  bool moves_span = differing.longest >= least_difference && differing.longest * 20 > region.span;
+  if (differing.off * 20 <= region.work && !moves_span) return;
+  region.remarks[record_clock().of_processor ? Remark::Slept : Remark::Preempted] = differing.at;
 }

@@ -5,71 +5,30 @@
 #include <time.h>
 #include <unistd.h>
 
-#include <csignal>
-#include <new>
+#include <atomic>
 
-#include "files.hpp"
+#include "log_head.hpp"
 #include "modules.hpp"
 #include "options.hpp"
-#include "program_time.hpp"
-#include "records.hpp"
-#include "remarks.hpp"
-#include "report.hpp"
+#include "program_start.hpp"
+#include "run_files.hpp"
 #include "say.hpp"
-#include "source.hpp"
 
 namespace {
 struct Life {
-  Options options;
-  std::string out;  // the files' first name
-  int64_t start = 0;
+  RecordingOptions options;
+  Beginning log;
+  void (*call)();  // of the recorder, that makes a record
   pid_t process = 0;
-  bool is_child = false;
-  std::atomic<bool> ended{false}, written{false};
+  std::atomic<bool> ended{false};
 };
 
 Life *life = nullptr;  // never destroyed: the runtime says goodbye after the destructors of globals have run
-
-// Whether something was recorded and is not in the files. A child that met no construct has nothing to write.
-bool is_lost() { return !life->written && !(life->is_child && nothing_recorded()); }
-
-// The process dies of the signal as it would have without the recorder, which may only say a word here.
-void on_fatal_signal(int signal) {
-  if (!is_lost()) {
-    raise(signal);
-    return;
-  }
-  char words[] = "spanprof recorder: nothing is written, since the program ended by signal 00\n";
-  char *number = words + sizeof words - 4;
-  number[0] = static_cast<char>('0' + signal / 10);
-  number[1] = static_cast<char>('0' + signal % 10);
-  ssize_t written = write(2, words, sizeof words - 1);
-  static_cast<void>(written);
-  raise(signal);
-}
 
 int64_t time_of_day() {
   timespec t;
   clock_gettime(CLOCK_REALTIME, &t);
   return int64_t{t.tv_sec} * 1000000000 + t.tv_nsec;
-}
-
-// Whether this signal ends no process by itself, or cannot be handled.
-bool is_left_alone(int signal) {
-  for (int other : {SIGKILL, SIGSTOP, SIGTSTP, SIGTTIN, SIGTTOU, SIGCONT, SIGCHLD, SIGURG, SIGWINCH})
-    if (signal == other) return true;
-  return false;
-}
-
-void watch_signals() {
-  for (int signal = 1; signal <= SIGRTMAX; signal++) {
-    if (is_left_alone(signal)) continue;
-    struct sigaction old {}, ours {};
-    if (sigaction(signal, nullptr, &old) || (old.sa_flags & SA_SIGINFO) || old.sa_handler != SIG_DFL) continue;
-    ours.sa_handler = on_fatal_signal;
-    ours.sa_flags = SA_RESETHAND | SA_NODEFER;
-    sigaction(signal, &ours, nullptr);
-  }
 }
 
 std::string program_of(const std::string &process) {
@@ -84,39 +43,40 @@ bool is_child_of_this_program() {
   return !own.empty() && own == program_of(std::to_string(getppid()));
 }
 
-void name_files() {
+std::string absolute(const std::string &name) {  // since the program may go to another folder
+  char here[4096];
+  return name[0] == '/' || !getcwd(here, sizeof here) ? name : std::string(here) + "/" + name;
+}
+
+// NAME.log, and where a child or another program of this process writes beside it, with the number of the process.
+std::string free_folder(const std::string &name, bool is_child) {
+  std::string own = name + "." + std::to_string(life->process), folder = (is_child ? own : name) + ".log";
+  if (access(folder.c_str(), F_OK)) return folder;
+  folder = own + ".log";
+  for (int more = 2; !access(folder.c_str(), F_OK); more++) folder = own + "-" + std::to_string(more) + ".log";
+  return folder;
+}
+
+void name_log() {
   life->process = getpid();
-  life->out = life->options.out + (life->is_child ? "." + std::to_string(life->process) : "");
+  life->log.folder = free_folder(name_of_rank(life->options.out), life->log.is_child);
 }
 
 void after_fork() {
-  forget_records();
-  life->is_child = true;
-  life->ended = life->written = false;
-  life->start = wall_time();
-  name_files();
+  forget_log();
+  life->log.is_child = true;
+  life->log.program_start = wall_time();
+  life->ended = false;
+  name_log();
+  begin_log(life->log, life->call);
 }
 
-bool inside_a_region(const std::vector<const Log *> &logs) {
-  for (const Log *log : logs)
-    for (const RegionTime &time : log->regions)
-      if (!time.end) return true;
-  return false;
-}
-
-// Stops the records. Where threads still run, those that are in the recorder get a moment to leave it.
-Ending stop() {
-  stop_records(Stop::End);
-  Ending ending;
-  ending.full = records_stopped() != Stop::End;
-  bool inside = inside_a_region(all_logs());
-  if (inside) {
-    timespec moment{0, 2000000};
-    nanosleep(&moment, nullptr);
-  }
-  if (inside || ending.full) ending.wall = stopped_at();
-  if (!record_clock().of_processor) ending.clock = ending.wall;
-  return ending;
+void tell_beginning() {
+  if (life->options.quiet) return;
+  say("recording to " + life->log.folder);
+  if (life->log.unseen & log_form::unseen_detach) say("gcc's detach is not seen by LLVM's runtime, and the program may crash");
+  if (life->log.unseen & log_form::unseen_target)
+    say("gcc's target is run by its own runtime beside LLVM's: with nowait or depend the program's results may be wrong");
 }
 
 void end_of_process() {
@@ -124,40 +84,38 @@ void end_of_process() {
 }
 
 // Threads that are in a region go on while the process ends, and the runtime takes from them what they need before it
-// calls the tool's end. What runs after `exit` where no thread is in a region is still recorded.
-void end_inside_a_region() {
-  if (life->process == getpid() && inside_a_region(all_logs())) end_recording();
+// calls the tool's end. What runs after `exit` where no thread is in a region is still recorded. Where several threads
+// call `exit`, each takes one of the functions that are to be called there: so there is one of these for each thread.
+void on_end_by_exit(int, void *) {
+  if (life->process == getpid() && inside_a_region()) end_recording();
 }
 
 // The runtime does not call the tool's end where the program ends inside a region.
 __attribute__((destructor)) void end_of_library() { end_of_process(); }
 }  // namespace
 
-void begin_recording() {
+void begin_recording(void (*call)()) {
   if (life) return;
   life = new Life;
-  life->options = read_options();
-  life->start = program_start();
-  life->is_child = is_child_of_this_program();
-  name_files();
-  start_records(life->options.records, life->options.processor_clock);
-  remove_old_files(life->out, time_of_day() - (wall_time() - life->start));
-  if (!life->options.quiet) say("recording to " + life->out + ".tasks");
-  if (has_unseen_detach()) say(life->out + ": " + remark_line(Remark::UnseenDetach, {}, Places()));
-  watch_signals();
+  life->call = call;
+  life->options = read_recording_options();
+  choose_clocks(life->options.time_stamp, life->options.processor_clock);
+  life->options.out = absolute(life->options.out);
+  life->log.program_start = program_start();
+  life->log.is_child = is_child_of_this_program();
+  life->log.unseen = unseen_of_gcc();
+  life->process = getpid();
+  remove_old_files(name_of_rank(life->options.out), time_of_day() - (wall_time() - life->log.program_start));
+  name_log();
+  begin_log(life->log, life->call);
+  tell_beginning();
   pthread_atfork(nullptr, nullptr, after_fork);
-  atexit(end_inside_a_region);
   at_quick_exit(end_of_process);
 }
 
+void expect_end_by_this_thread() { on_exit(on_end_by_exit, nullptr); }
+
 void end_recording() {
   if (life->ended.exchange(true)) return;
-  int64_t end = wall_time();
-  Ending ending = stop();
-  try {
-    report({life->options, life->out, life->start, end, life->is_child}, ending);
-  } catch (const std::bad_alloc &) {
-    say("out of memory, and what is not written yet is not written");
-  }
-  life->written = true;
+  end_log(inside_a_region() ? log_form::HowEnded::InsideARegion : log_form::HowEnded::ByRuntime);
 }

@@ -1,5 +1,6 @@
 // From the beginning of a run to its end, however it ends.
 #pragma once
 
-void begin_recording();
-void end_recording();  // writes everything, once
+void begin_recording(void (*call)());  // of the recorder, that makes a record and nothing else
+void expect_end_by_this_thread();  // by `exit`, beside others perhaps
+void end_recording();              // the log has when, once

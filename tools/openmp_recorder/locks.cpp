@@ -1,5 +1,6 @@
 #include "locks.hpp"
 
+#include <algorithm>
 #include <iterator>
 
 void Locks::ask(int kind, LockName name, const void *code, int64_t now) { asked = {name, kind, code, 0, now}; }
@@ -9,23 +10,26 @@ void LockUse::add(const LockUse &more) {
   times += more.times;
   inside += more.inside;
   waiting += more.waiting;
+  alone += more.alone;
 }
 
 // The thread's own clock stands still from when the lock was asked for.
-int64_t Locks::get(LockName name, int64_t now, int64_t stood_still) {
+int64_t Locks::get(LockName name, int64_t now, int64_t stood_still, size_t records) {
   if (asked.name != name) asked = {name, 0, nullptr, 0, now};
   int64_t since = asked.since;
-  held.push_back({name, asked.kind, asked.code, now - since, since - stood_still});
+  held.push_back({name, asked.kind, asked.code, now - since, since - stood_still, records});
   asked = {};
   return since;
 }
 
-void Locks::leave(LockName name, uint32_t region, int64_t own_clock) {
+void Locks::leave(LockName name, uint32_t region, int64_t own_clock, size_t records) {
   for (auto lock = held.rbegin(); lock != held.rend(); ++lock) {
     if (lock->name != name) continue;
     LockUse &use = used[{region, name}];
     if (!use.times++) use.kind = lock->kind, use.code = lock->code;
-    use.inside += own_clock - lock->since;
+    int64_t inside = std::max<int64_t>(own_clock - lock->since, 0);
+    use.inside += inside;
+    if (lock->records == records) use.alone += inside;
     use.waiting += lock->waited;
     held.erase(std::next(lock).base());
     return;

@@ -1,5 +1,6 @@
 // How often a thread held each lock, for how long, and how long it waited.
 #pragma once
+#include <cstddef>
 #include <cstdint>
 #include <map>
 #include <utility>
@@ -10,6 +11,7 @@ struct LockUse {
   const void *code = nullptr;  // where it was first asked for
   uint64_t times = 0;
   int64_t inside = 0, waiting = 0;
+  int64_t alone = 0;  // of the time inside: where the runtime told of nothing, so that no other task ran there
   void add(const LockUse &more);
 };
 
@@ -18,8 +20,8 @@ using LockName = uint64_t;
 class Locks {
  public:
   void ask(int kind, LockName name, const void *code, int64_t now);
-  int64_t get(LockName name, int64_t now, int64_t stood_still);  // when it was asked for
-  void leave(LockName name, uint32_t region, int64_t own_clock);
+  int64_t get(LockName name, int64_t now, int64_t stood_still, size_t records);  // when it was asked for
+  void leave(LockName name, uint32_t region, int64_t own_clock, size_t records);
   const std::map<std::pair<uint32_t, LockName>, LockUse> &uses() const { return used; }  // by region and name
 
  private:
@@ -28,6 +30,7 @@ class Locks {
     int kind;
     const void *code;
     int64_t waited, since;
+    size_t records = 0;  // of the thread, so far
   };
   Held asked{};  // a thread waits for one at a time
   std::vector<Held> held;

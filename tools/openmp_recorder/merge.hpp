@@ -6,19 +6,18 @@
 
 class InOrder {
  public:
-  explicit InOrder(const std::vector<const Log *> &logs);
+  explicit InOrder(const std::vector<Records *> &threads);
   const Record *next();  // null after the last
-  const Log &log() const { return *current.log; }
+  const Log &log() const { return current.of->log; }
 
  private:
   struct Next {
-    uint32_t order;
-    const Log *log;
-    std::size_t at, end;
-    bool operator<(const Next &other) const { return order > other.order; }  // the least is the top of the heap
+    const Record *record = nullptr;
+    Records *of = nullptr;
+    bool operator<(const Next &other) const { return record->order > other.record->order; }  // the least is the top of the heap
   };
-  std::vector<Next> others;  // a heap, without that of the log which is read
-  Next current{0, nullptr, 0, 0};
+  std::vector<Next> others;  // a heap, without the thread which is read
+  Next current;
 
-  void change_log();
+  void change_thread();
 };

@@ -38,20 +38,37 @@ void flag(const char *name, const char *no, const char *yes, bool &into) {
   else if (std::string(value) == no) into = false;
   else wrong(name, value, (std::string(no) + " or " + yes).c_str());
 }
+
+void parts(Parts &into) {
+  const char *value = getenv("SPANPROF_PARTS");
+  if (!value) return;
+  std::string name = value;
+  if (name == "heavy") into = Parts::Heavy;
+  else if (name == "all") into = Parts::All;
+  else if (name == "none") into = Parts::None;
+  else if (name == "all-or-none") into = Parts::AllOrNone;
+  else wrong("SPANPROF_PARTS", value, "heavy, all, none or all-or-none");
+}
 }  // namespace
+
+RecordingOptions read_recording_options() {
+  RecordingOptions chosen;
+  if (const char *out = getenv("SPANPROF_OUT")) chosen.out = out;
+  flag("SPANPROF_CLOCK", "wall", "cpu", chosen.processor_clock);
+  flag("SPANPROF_QUIET", "0", "1", chosen.quiet);
+  flag("SPANPROF_TIME_STAMP", "0", "1", chosen.time_stamp);
+  return chosen;
+}
 
 Options read_options() {
   Options chosen;
-  if (const char *out = getenv("SPANPROF_OUT")) chosen.out = out;
   unit(chosen);
-  flag("SPANPROF_CLOCK", "wall", "cpu", chosen.processor_clock);
-  flag("SPANPROF_QUIET", "0", "1", chosen.quiet);
   flag("SPANPROF_LINES", "0", "1", chosen.lines);
-  number("SPANPROF_RECORDS", chosen.records);
   number("SPANPROF_REGIONS", chosen.regions);
   number("SPANPROF_FOLD_DEPTH", chosen.fold_depth);
   number("SPANPROF_FOLD_COST", chosen.fold_cost);
   number("SPANPROF_FOLD_CHUNK", chosen.fold_chunk);
+  parts(chosen.parts);
   flag("SPANPROF_FOLD_EXACT", "0", "1", chosen.fold_exact);
   return chosen;
 }

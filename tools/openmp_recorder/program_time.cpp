@@ -1,42 +1,29 @@
 #include "program_time.hpp"
 
-#include <time.h>
-#include <unistd.h>
-
 #include <algorithm>
-#include <cstdio>
 #include <utility>
 
-namespace {
-int64_t read(clockid_t id) {
-  timespec t;
-  clock_gettime(id, &t);
-  return int64_t{t.tv_sec} * 1000000000 + t.tv_nsec;
+int64_t in_code(const Region &region) {
+  return region.of_program ? std::max<int64_t>(region.cost - region.in_own_regions, 0) : 0;
 }
 
-// How long ago the process began, by the kernel's ticks: at most one of them too much. 0 where it does not tell.
-int64_t age_in_ticks(int64_t tick) {
-  FILE *file = fopen("/proc/self/stat", "r");
-  if (!file) return 0;
-  unsigned long long start = 0;
-  int fields = fscanf(file, "%*d (%*[^)]) %*c %*d %*d %*d %*d %*d %*u %*u %*u %*u %*u %*u %*u "
-                            "%*d %*d %*d %*d %*d %*d %llu", &start);
-  fclose(file);
-  return fields == 1 ? read(CLOCK_BOOTTIME) - static_cast<int64_t>(start) * tick : 0;
-}
-}  // namespace
-
-int64_t program_start() {
-  int64_t tick = 1000000000 / sysconf(_SC_CLK_TCK), age = age_in_ticks(tick);
-  int64_t computed = read(CLOCK_PROCESS_CPUTIME_ID);
-  if (age) computed = std::clamp(computed, std::max<int64_t>(age - tick, 0), age);
-  return read(CLOCK_MONOTONIC) - computed;
+int64_t in_code(const Run &run) {
+  int64_t sum = 0;
+  for (auto &[number, region] : run.regions) sum += in_code(*region);
+  return sum;
 }
 
-ProgramTime divide_time(const std::vector<const Log *> &logs, int64_t start, int64_t end) {
+int64_t processor_time_outside(const Log &own, int64_t now) {
+  int64_t inside = 0;
+  for (const RegionTime &time : own.regions)
+    if (time.is_outermost) inside += time.processor + (time.end ? 0 : now);
+  return std::max<int64_t>(now - inside, 0);
+}
+
+ProgramTime divide_time(const std::vector<Records *> &threads, int64_t start, int64_t end) {
   std::vector<std::pair<int64_t, int64_t>> spans;
-  for (const Log *log : logs)
-    for (const RegionTime &time : log->regions)
+  for (const Records *thread : threads)
+    for (const RegionTime &time : thread->log.regions)
       if (time.is_outermost) spans.push_back({time.begin, time.end ? time.end : end});
   std::sort(spans.begin(), spans.end());
   ProgramTime out;

@@ -3,43 +3,60 @@
 #include "source.hpp"
 
 namespace {
-struct Words {
-  const char *what, *effect;
+constexpr Moved Not = Moved::Not, Low = Moved::Low, High = Moved::High, Either = Moved::Either;
+constexpr bool uncounted = false;
+
+// In the order of the names.
+constexpr RemarkLine lines[] = {
+    {Remark::OneThread, "on one thread every task is undeferred (if(0))", Not, High, ""},
+    {Remark::MutexInOutSet, "mutexinoutset", Not, Low, "and too high in the text .inout.tasks"},
+    {Remark::MutexAsInOut, "mutexinoutset, written as inout", Not, High, ""},
+    {Remark::AllMemory, "dependence on all memory, left out", Not, Low, ""},
+    {Remark::UnknownItem, "depend item of an unknown type, written as inout", Not, High, ""},
+    {Remark::BetweenTurns, "dependence between turns of a loop (ordered), left out", High, Either,
+     "since waiting for other turns counts as code"},
+    {Remark::Detach, "detach, written as complete where the code ends", Not, Low, ""},
+    {Remark::UnseenDetach, "detach of gcc's code, which LLVM's runtime does not see", Not, Low,
+     "and the program may crash", uncounted},
+    {Remark::UnseenTarget, "target of gcc's code, which its own runtime runs beside LLVM's", Low, Low,
+     "and with nowait or depend the program's results may be wrong", uncounted},
+    {Remark::Cancel, "cancellation, left out", Either, Either, "as another run may cancel sooner or later"},
+    {Remark::Target, "target task, left out", Low, Low, ""},
+    {Remark::NestedRegion, "parallel region inside a task, whose time counts there", Low, High, ""},
+    {Remark::NestedWaits, "parallel region inside a task, whose other threads ran longer than the task", Low, Low, ""},
+    {Remark::LeftInside, "the program ended inside the region", Low, Low, "", uncounted},
+    {Remark::RecordsFull, "the records were full inside the region", Low, Low, "", uncounted},
+    {Remark::Unfinished, "task that did not end", Low, Low, ""},
+    {Remark::ToldLate, "untied task whose end was told late", High, High, ""},
+    {Remark::ToldElsewhere, "untied task whose end another thread told", Low, Low, ""},
+    {Remark::PartsLeftOut, "parts without tasks, left out", Low, Low, ""},
+    {Remark::Folded, "folded task", Not, High, "which is an upper bound"},
+    {Remark::FoldedExactly, "exact fold", Not, Not, "work and span are the whole's, other numbers the fold's"},
+    {Remark::HeldLock, "time inside locks, which exclude each other", Not, Low, ""},
+    {Remark::LineOfAnother, "construct at the line of another, since the compiler kept none of its own", Not, Not,
+     "work and span are right, places are not: compile with -g -Og, or by clang with -fno-optimize-sibling-calls"},
+    {Remark::Preempted, "off the processor in the midst of code, where the wall clock goes on", High, High, ""},
+    {Remark::Slept, "asleep or waiting in the midst of code, where the processor's clock stands still", Low, Low, ""},
+    {Remark::RoundedDown, "rounding to whole units, more than a fiftieth of the work", Low, Either, "", uncounted},
+    {Remark::RoundedUp, "rounding to whole units, more than a fiftieth of the work", High, Either, "", uncounted},
 };
+static_assert(std::size(lines) == all_remarks, "one line for each");
 
-Words words(Remark remark) {
-  switch (remark) {
-    case Remark::OneThread: return {"on one thread every task is undeferred (if(0))", "span too high"};
-    case Remark::MutexInOutSet: return {"mutexinoutset", "span too low, and too high in the text .inout.tasks"};
-    case Remark::MutexAsInOut: return {"mutexinoutset, written as inout", "span too high"};
-    case Remark::AllMemory: return {"dependence on all memory, left out", "span too low"};
-    case Remark::UnknownItem: return {"depend item of an unknown type, written as inout", "span too high"};
-    case Remark::Detach: return {"detach, written as complete where the code ends", "span too low"};
-    case Remark::UnseenDetach:
-      return {"detach of gcc's code, which LLVM's runtime does not see", "span too low, and the program may crash"};
-    case Remark::Cancel: return {"cancellation, left out", "another run may have more or less work and span"};
-    case Remark::Target: return {"target task, left out", "work and span too low"};
-    case Remark::NestedRegion:
-      return {"parallel region inside a task, whose time counts there", "span too high, work too low"};
-    case Remark::LeftInside: return {"the program ended inside the region", "work and span too low"};
-    case Remark::RecordsFull: return {"the records were full inside the region", "work and span too low"};
-    case Remark::Unfinished: return {"task that did not end", "work and span too low"};
-    case Remark::ToldLate: return {"untied task whose end was told late", "work and span too high"};
-    case Remark::ToldElsewhere: return {"untied task whose end another thread told", "work and span too low"};
-    case Remark::PartsLeftOut: return {"parts without tasks, left out", "work and span too low"};
-    case Remark::Folded: return {"folded task", "span too high (an upper bound)"};
-    case Remark::FoldedExactly: return {"exact fold", "work and span are the whole's, other numbers the fold's"};
-    case Remark::HeldLock: return {"time inside locks, which exclude each other", "span too low"};
-    case Remark::Rounding: return {"rounding to whole units", "work differs by more than a fiftieth"};
-  }
-  return {"", ""};
-}
-
-bool is_counted(Remark remark) {
-  return remark != Remark::UnseenDetach && remark != Remark::LeftInside && remark != Remark::RecordsFull &&
-         remark != Remark::Rounding;
+std::string direction(Moved moved) {
+  if (moved == Low) return " too low";
+  return moved == High ? " too high" : " too low or too high";
 }
 }  // namespace
+
+const RemarkLine &line_of(Remark remark) { return lines[static_cast<std::size_t>(remark)]; }
+
+std::string effect_of(const RemarkLine &line) {
+  std::string effect;
+  if (line.work != Not) effect = (line.work == line.span ? "work and span" : "work") + direction(line.work);
+  if (line.span != Not && line.span != line.work) effect += (effect.empty() ? "span" : ", span") + direction(line.span);
+  if (*line.more) effect += (effect.empty() ? "" : ", ") + std::string(line.more);
+  return effect;
+}
 
 std::string times_and_place(const Seen &seen, const Places &places) {
   std::string at = places.at(seen.code);
@@ -48,7 +65,6 @@ std::string times_and_place(const Seen &seen, const Places &places) {
 }
 
 std::string remark_line(Remark what, const Seen &seen, const Places &places) {
-  Words line = words(what);
-  std::string counted = is_counted(what) ? ", " + times_and_place(seen, places) : "";
-  return line.what + counted + ": " + line.effect;
+  const RemarkLine &line = line_of(what);
+  return line.what + (line.counted ? ", " + times_and_place(seen, places) : "") + ": " + effect_of(line);
 }

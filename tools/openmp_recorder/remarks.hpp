@@ -1,8 +1,11 @@
-// What a recording lacks: what was seen, how often, where, and what it does to which number.
+// What a recording lacks: what was seen, how often, where, and which number of the text that moves in which direction.
 #pragma once
+#include <cstddef>
 #include <cstdint>
 #include <map>
 #include <string>
+
+#include "seen.hpp"
 
 enum class Remark : uint8_t {
   OneThread,
@@ -10,11 +13,14 @@ enum class Remark : uint8_t {
   MutexAsInOut,
   AllMemory,
   UnknownItem,
+  BetweenTurns,
   Detach,
   UnseenDetach,
+  UnseenTarget,
   Cancel,
   Target,
   NestedRegion,
+  NestedWaits,
   LeftInside,
   RecordsFull,
   Unfinished,
@@ -24,18 +30,28 @@ enum class Remark : uint8_t {
   Folded,
   FoldedExactly,
   HeldLock,
-  Rounding
+  LineOfAnother,
+  Preempted,
+  Slept,
+  RoundedDown,
+  RoundedUp
 };
 
-struct Seen {
-  uint64_t times = 0;
-  const void *code = nullptr;  // of the first
-  bool elsewhere = false;      // too
-  void add(const void *at) {
-    if (!times++) code = at;
-    else if (at != code) elsewhere = true;
-  }
+constexpr std::size_t all_remarks = static_cast<std::size_t>(Remark::RoundedUp) + 1;
+
+// A number of the text beside what it would be of the program that is recorded.
+enum class Moved : uint8_t { Not, Low, High, Either };
+
+struct RemarkLine {
+  Remark remark;
+  const char *what;
+  Moved work, span;
+  const char *more;      // of the effect: a condition, or what else; may be empty
+  bool counted = true;   // how often and where it was seen
 };
+
+const RemarkLine &line_of(Remark remark);
+std::string effect_of(const RemarkLine &line);  // `span too low`, `work too low, span too high`
 
 using Remarks = std::map<Remark, Seen>;
 

@@ -1,8 +1,5 @@
 #include "report.hpp"
 
-#include <errno.h>
-#include <time.h>
-
 #include <algorithm>
 
 #include "advice.hpp"
@@ -12,25 +9,27 @@
 #include "files.hpp"
 #include "fold.hpp"
 #include "head.hpp"
-#include "modules.hpp"
-#include "say.hpp"
+#include "lines.hpp"
 #include "span.hpp"
+#include "tell.hpp"
 #include "text.hpp"
 
 namespace {
 constexpr size_t most_workers = 64;
 
-std::string date_now() {
-  time_t now = time(nullptr);
-  tm parts{};
-  gmtime_r(&now, &parts);
-  char text[32];
-  return {text, strftime(text, sizeof text, "%Y-%m-%dT%H:%M:%SZ", &parts)};
+Line &put_excess(Line &line, const Excess &over) {
+  return line.put("what", over.what).put("program", over.program).put("has", over.has).put("takes", over.takes);
+}
+
+void tell_excess(const std::string &file, const Excess &over) {
+  Line line("too large");
+  put_excess(line.put("file", file), over);
 }
 
 class Reporter {
  public:
-  Reporter(const Options &chosen, Recording what) : options(chosen), recording(std::move(what)) {}
+  Reporter(const Options &chosen, Recording what, const ModulesOfRun &modules)
+      : options(chosen), recording(std::move(what)), places(&modules) {}
   void write(Region &region, const std::string &name);
   void tell_outside(const Seen &outside);
 
@@ -43,10 +42,11 @@ class Reporter {
   std::string head(Region &region, int64_t work);
   Text finish(Region &region, bool exclusion_as_order);
   void tell_remarks(const Region &region, const std::string &name);
-  std::string write_run(const Region &region, const std::string &name, const Text &text);
+  void write_run(const Region &region, const std::string &name, const Text &text, Line &line);
   bool write_piece_by_piece(Region &region, const std::string &file, int64_t work, bool exclusion_as_order);
   void write_large(Region &region, const std::string &name, const Size &size);
-  void tell_size(const std::string &files, const Size &size, int64_t work);
+  void tell_advice(Region &region, const std::string &file, const Excess &over);
+  Line &put_size(Line &line, const std::string &file, const Size &size, int64_t work);
 };
 
 void remark_folds(Region &region, const Size &size) {
@@ -64,9 +64,9 @@ Size Reporter::fold_as_asked(Region &region) {
   region.span = span_of(region);
   Folds folds{options.fold_depth, below, options.fold_chunk};
   Size size = fold(region, folds);
-  if (options.fold_exact && !over_the_limits(size, options.unit).empty()) {
+  if (options.fold_exact && over_the_limits(size, options.unit)) {
     if (fold_exactly(region, options.unit, size)) return size;
-    say("SPANPROF_FOLD_EXACT: no exact fold fits");
+    Line("no exact fold");
     size = fold(region, folds);
   }
   remark_folds(region, size);
@@ -76,7 +76,9 @@ Size Reporter::fold_as_asked(Region &region) {
 // Of a text of this work, in units.
 std::string Reporter::head(Region &region, int64_t work) {
   int64_t lost = region.work - work * options.unit;
-  if (std::abs(lost) > region.work / 50) region.remarks[Remark::Rounding].add(nullptr);
+  if (std::abs(lost) > region.work / 50) region.remarks[lost > 0 ? Remark::RoundedDown : Remark::RoundedUp].add(nullptr);
+  remark_clocks(region);
+  if (options.lines) remark_lines(region, places);
   return head_of(region, recording, options, places);
 }
 
@@ -87,19 +89,22 @@ Text Reporter::finish(Region &region, bool exclusion_as_order) {
 }
 
 void Reporter::tell_remarks(const Region &region, const std::string &name) {
-  for (auto &[what, seen] : region.remarks)
-    if (what != Remark::UnseenDetach) say(name + ": " + remark_line(what, seen, places));  // said when recording began
+  for (auto &[what, seen] : region.remarks) Line("remark").put("name", name).put("remark", remark_line(what, seen, places));
 }
 
 // Which files hold the run; where there is no replay document, why.
-std::string Reporter::write_run(const Region &region, const std::string &name, const Text &text) {
-  if (region.remarks.count(Remark::FoldedExactly)) return "; no replay document, since tasks are folded exactly";
+void Reporter::write_run(const Region &region, const std::string &name, const Text &text, Line &line) {
+  if (region.remarks.count(Remark::FoldedExactly)) {
+    line.put("no replay", "exact folds");
+    return;
+  }
   Events events = event_lines(region);
-  if (events.workers > most_workers)
-    return "; no replay document, since it holds 64 workers and the run had " + std::to_string(events.workers);
-  if (!events.whole) return "; no replay document, since tasks did not run to their ends";
-  if (!options.processor_clock) write_file(name + ".times", events.times);
-  return write_file(name + ".replay", text.words + "---\n" + events.words) ? " and " + name + ".replay" : "";
+  if (events.workers > most_workers) line.put("no replay", "workers").put("workers", events.workers);
+  else if (!events.whole) line.put("no replay", "unfinished");
+  else {
+    if (!options.processor_clock) write_file(name + ".times", events.times);
+    if (write_file(name + ".replay", text.words + "---\n" + events.words)) line.put("replay", name + ".replay");
+  }
 }
 
 // The same run with what excludes each other in the order of creation: its span is too high where that of the first is
@@ -121,44 +126,72 @@ bool Reporter::write_piece_by_piece(Region &region, const std::string &file, int
 
 // What exceeds the limits of the commands is a text for spanprof_large, and has no replay document.
 void Reporter::write_large(Region &region, const std::string &name, const Size &size) {
-  std::string stem = name + ".large", over = over_the_limits(size, options.unit, of_any_size);
-  if (!over.empty()) return say(stem + ".tasks is not written: " + over);
+  std::string file = name + ".large.tasks";
+  if (Excess over = over_the_limits(size, options.unit, of_any_size)) return tell_excess(file, over);
   if (options.lines) places.look_up(codes_of(region));
   int64_t work = work_in_units(region, options.unit);
-  if (!write_piece_by_piece(region, stem + ".tasks", work, false)) return;
+  if (!write_piece_by_piece(region, file, work, false)) return;
   tell_remarks(region, name);
-  tell_size(stem + ".tasks", size, work);
-  if (let_exclusion_be_order(region)) write_piece_by_piece(region, stem + ".inout.tasks", work, true);
+  Line line("text");
+  put_size(line, file, size, work);
+  if (let_exclusion_be_order(region)) write_piece_by_piece(region, name + ".large.inout.tasks", work, true);
 }
 
-void Reporter::tell_size(const std::string &files, const Size &size, int64_t work) {
-  say(files + ": " + std::to_string(size.tasks) + " tasks, " + std::to_string(size.segments) + " segments, work " +
-      std::to_string(work) + " " + options.unit_name);
+Line &Reporter::put_size(Line &line, const std::string &file, const Size &size, int64_t work) {
+  return line.put("file", file).put("tasks", size.tasks).put("segments", size.segments).put("work", work)
+      .put("unit", options.unit_name);
+}
+
+std::string offer_in_json(const Offer &offer) {
+  return "{\"fold\": " + in_json(std::string_view(offer.fold)) + ", \"value\": " + std::to_string(offer.value) +
+         ", \"tasks\": " + std::to_string(offer.tasks) + ", \"span\": " + std::to_string(offer.span) + "}";
+}
+
+// Folds that fit a part of a region say nothing of the whole.
+void Reporter::tell_advice(Region &region, const std::string &file, const Excess &over) {
+  Line line("too large");
+  put_excess(line.put("file", file), over);
+  if (region.remarks.count(Remark::RecordsFull)) {
+    line.put("advice", "beginning only");
+    return;
+  }
+  Advice advice = advice_for(region, options.unit);
+  if (advice.fewer_items) line.put("advice", "fewer items");
+  else if (advice.larger_unit) line.put("advice", "larger unit");
+  else {
+    std::string offers;
+    for (const Offer &offer : advice.offers) offers += (offers.empty() ? "" : ", ") + offer_in_json(offer);
+    line.put("advice", "folds").put("work", advice.work).put("span", advice.span).put("exact", advice.exact)
+        .put_bare("offers", "[" + offers + "]");
+  }
 }
 
 void Reporter::write(Region &region, const std::string &name) {
   Size size = fold_as_asked(region);
-  std::string over = over_the_limits(size, options.unit), before = name + ".tasks is not written: ";
-  if (!over.empty()) {
+  std::string file = name + ".tasks";
+  if (Excess over = over_the_limits(size, options.unit)) {
     write_large(region, name, size);
-    return say(before + over + "; " + advice_for(region, options.unit));
+    return tell_advice(region, file, over);
   }
   if (options.lines) places.look_up(codes_of(region));
   Text text = finish(region, false);
-  over = over_the_length(text.words);
-  if (!over.empty()) {
+  if (Excess over = over_the_length(text.words)) {
     write_large(region, name, size);
-    return say(before + over);
+    return tell_excess(file, over);
   }
   tell_remarks(region, name);
-  if (!write_file(name + ".tasks", text.words)) return;
-  tell_size(name + ".tasks" + write_run(region, name, text), size, text.work);
+  if (!write_file(file, text.words)) return;
+  {
+    Line line("text");
+    write_run(region, name, text, put_size(line, file, size, text.work));
+  }
   if (let_exclusion_be_order(region)) write_file(name + ".inout.tasks", finish(region, true).words);
 }
 
 void Reporter::tell_outside(const Seen &outside) {
+  if (!outside.times) return;
   if (options.lines) places.look_up({outside.code});
-  if (outside.times) say("task outside of a parallel region, not recorded, " + times_and_place(outside, places));
+  Line("outside").put("seen", times_and_place(outside, places));
 }
 
 int64_t work_of(const Region &region) { return region.in_parts + region.in_tasks; }
@@ -169,37 +202,50 @@ void keep_the_heaviest(std::vector<Region *> &regions, const Options &options) {
   std::stable_sort(regions.begin(), regions.end(), [](auto *a, auto *b) { return work_of(*a) > work_of(*b); });
   int64_t left_out = 0;
   for (size_t i = options.regions; i < regions.size(); i++) left_out += work_of(*regions[i]);
-  say(std::to_string(regions.size() - options.regions) +
-      " more regions with tasks, the lightest, are not written: work " + std::to_string(left_out / options.unit) + " " +
-      options.unit_name + "; SPANPROF_REGIONS says how many are");
+  Line("more regions").put("regions", uint64_t{regions.size() - options.regions}).put("work", left_out / options.unit)
+      .put("unit", options.unit_name);
   regions.resize(options.regions);
   std::sort(regions.begin(), regions.end(), [](auto *a, auto *b) { return a->place < b->place; });
 }
 
-// The most tasks of a region that may get a replay document; with folds any number may.
-uint64_t most_to_replay(const Options &options) {
-  bool folds = options.fold_depth || options.fold_chunk || options.fold_cost;
-  return folds ? UINT64_MAX : most_tasks;
-}
-}  // namespace
+bool folds_asked(const Options &options) { return options.fold_depth || options.fold_chunk || options.fold_cost; }
 
-void report(const Job &job, const Ending &ending) {
-  std::vector<const Log *> logs = all_logs();
-  Run &run = *new Run(read_run(logs, ending, most_to_replay(job.options)));  // given back by the end of the process
+// The most tasks of a region that may get a replay document; with folds any number may.
+uint64_t most_to_replay(const Options &options) { return folds_asked(options) ? UINT64_MAX : most_tasks; }
+
+WhichParts parts_asked(const Options &options) {
+  return {options.parts, folds_asked(options) || options.fold_exact};
+}
+
+// Thread-time outside of regions. Where the thread that ended the program met no region, it is not the one whose
+// processor time that is.
+int64_t outside_regions(const Job &job, const ProgramTime &time) {
+  bool by_processor = job.options.processor_clock && job.last && job.last->regions.size();
+  return by_processor ? processor_time_outside(*job.last, job.end_processor) : time.outside;
+}
+
+std::vector<Region *> compose_all(Run &run, const Options &options) {
   std::vector<Region *> with_tasks;
+  WhichParts which = parts_asked(options);
   for (auto &[number, region] : run.regions)
-    if (compose(*region)) {
+    if (compose(*region, which)) {
       with_tasks.push_back(region.get());
       region->place = with_tasks.size();
     }
-  Recording recording{program_invocation_short_name, date_now(), with_tasks.size(),
-                      divide_time(logs, job.start, job.end)};
-  Reporter reporter(job.options, std::move(recording));
-  if (with_tasks.empty() && !job.may_be_empty)
-    say(ending.wall ? "no parallel region with tasks, and the program ended inside a region"
-                    : "no parallel region with tasks");
-  if (has_unseen_detach())
-    for (Region *region : with_tasks) region->remarks[Remark::UnseenDetach];
+  for (auto &[number, region] : run.regions) remark_nested(*region);
+  return with_tasks;
+}
+}  // namespace
+
+void report(const Job &job, Ending &ending) {
+  Run &run = *new Run(read_run(job.threads, ending, most_to_replay(job.options)));  // given back by the end of the process
+  ProgramTime time = divide_time(job.threads, job.start, ending.killed ? ending.last : job.end);
+  std::vector<Region *> with_tasks = compose_all(run, job.options);
+  Recording recording{job.program, job.date, with_tasks.size(), time, {outside_regions(job, time), in_code(run), !ending.full && !ending.killed}};
+  Reporter reporter(job.options, std::move(recording), job.modules);
+  if (with_tasks.empty() && !job.may_be_empty) Line("no tasks").put("inside", ending.wall != 0);
+  for (Region *region : with_tasks)
+    for (Remark remark : job.unseen) region->remarks[remark];
   keep_the_heaviest(with_tasks, job.options);
   for (size_t i = 0; i < with_tasks.size(); i++)
     reporter.write(*with_tasks[i], job.out + (i ? "." + std::to_string(i + 1) : ""));

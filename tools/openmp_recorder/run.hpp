@@ -1,5 +1,6 @@
 // A recorded run, as tasks with their steps and as events of their segments, region by region.
 #pragma once
+#include <algorithm>
 #include <cstdint>
 #include <deque>
 #include <map>
@@ -60,6 +61,7 @@ struct DependWait {
 struct Task {
   bool part = false;  // the code of an implicit task between two barriers
   bool undeferred = false, untied = false;
+  bool auxiliary = false;  // of a taskloop's, made by the runtime to make others
   unsigned segment = 0;  // the one that is open, counted within the task
   unsigned children = 0;
   ShortList<Step> steps;
@@ -69,6 +71,7 @@ struct Task {
   // while it is written
   Fold fold = Fold::No;
   bool shown = true;
+  bool of_loop = false;  // a taskloop's
   unsigned depth = 0;         // of tasks within each other; 0 for a part
   unsigned outer_groups = 0;  // of the parent, open where the task is created
   unsigned joined_tasks = 0;
@@ -82,6 +85,7 @@ struct Task {
   unsigned waits = 0;         // and ends of groups in its own code
   unsigned size = 1;          // tasks, with all below it
   unsigned stands_for = 0;    // tasks, where it or the row that it begins is an exact fold
+  unsigned open_groups = 0;   // of its own code, while the records are read
   std::vector<uint32_t> numbers;  // of its segments in the text; none where a segment is part of a later one
 
   // while the records are read
@@ -96,6 +100,26 @@ struct Task {
 };
 
 constexpr uint32_t none = UINT32_MAX;
+
+// Code of a region in which the wall clock and the processor's differ by more than a twentieth, as the clock that
+// costs are read on must not.
+struct Differing {
+  int64_t cost = 0, off = 0, longest = 0;  // of the code; off the processor there, all and at once
+  Seen at;
+  void add(int64_t code_cost, int64_t off_there, const void *code) {
+    cost += code_cost;
+    off += off_there;
+    longest = std::max(longest, off_there);
+    at.add(code);
+  }
+};
+
+// Where a region was met inside another one's task.
+struct Met {
+  Region *region = nullptr;
+  const Log *by = nullptr;
+  int64_t since = 0, passed = 0;  // on that thread's clock; until the end of its code in the region
+};
 
 // Whether a task that its parent shows stands in the text.
 inline bool is_written(const Task &t) { return t.shown && t.fold != Fold::Whole && t.fold != Fold::Joined; }
@@ -120,12 +144,15 @@ struct Region {
   unsigned threads = 0;
   uint64_t place = 0;    // in the order of time, from 1
   RegionTime time{};
+  Met met;
   std::deque<Task> tasks;  // in the order of creation, each before those that it makes
   Locations locations;     // that its tasks name
   std::vector<Part> parts;
+  std::vector<Part> left_in_groups;  // parts at a barrier inside a group, until it is over
   std::vector<Event> events;
   bool has_events = true;  // else they are given up, since it has more tasks than a replay document holds
   uint64_t created = 0;    // tasks
+  bool of_program = true;  // else of the runtime, for threads that it keeps for itself
   int64_t cost = 0;        // of all its code
   std::map<LockName, LockUse> locks;
   Remarks remarks;
@@ -133,6 +160,9 @@ struct Region {
   int64_t work = 0, span = 0;     // without folds, in nanoseconds
   bool joined = false;            // tasks may be joined
   int64_t in_parts = 0, in_tasks = 0;  // the costs of parts without tasks, and of all else
+  int64_t in_own_regions = 0;          // of the cost: what passed while a task was in a region of its own
+  Differing differing;
+  std::map<Divided, Seen> divided;  // of the thread that met the most
 };
 
 struct Run {
@@ -143,8 +173,10 @@ struct Run {
 // When recording ended before the runtime's own end; the clock of the records and the wall clock, 0 where it did not.
 struct Ending {
   int64_t clock = 0, wall = 0;
-  bool full = false;  // there was no room for more records
+  bool full = false;    // there was no room for more records
+  bool killed = false;  // the last record tells when; filled in where that was inside a region
+  int64_t last = 0;     // the wall clock at the last record
 };
 
 // Of a region with more tasks than these no events are kept.
-Run read_run(const std::vector<const Log *> &logs, const Ending &ending, uint64_t most_replayed = UINT64_MAX);
+Run read_run(const std::vector<Records *> &threads, Ending &ending, uint64_t most_replayed = UINT64_MAX);

@@ -1,12 +1,12 @@
-// A word on standard error, or at the end of the file that SPANPROF_MESSAGES names.
+// A word on standard error.
 #pragma once
-#include <cstdio>
-#include <cstdlib>
+#include <stdio.h>
+#include <unistd.h>
+
 #include <string>
 
-inline void say(const std::string &words) {
-  const char *path = getenv("SPANPROF_MESSAGES");
-  FILE *file = path && *path ? fopen(path, "a") : nullptr;
-  fprintf(file ? file : stderr, "spanprof recorder: %s\n", words.c_str());
-  if (file) fclose(file);
+inline void say(const char *words) {  // without `malloc`
+  dprintf(STDERR_FILENO, "spanprof recorder: %s\n", words);
 }
+
+inline void say(const std::string &words) { say(words.c_str()); }

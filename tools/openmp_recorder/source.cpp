@@ -1,28 +1,13 @@
 #include "source.hpp"
 
-#include <dlfcn.h>
-#include <elf.h>
-#include <unistd.h>
-
 #include <algorithm>
 #include <cstdint>
 #include <cstdio>
 #include <cstring>
 #include <map>
 
-#include "callers.hpp"
-
 namespace {
-std::string program() {
-  char path[4096];
-  ssize_t length = readlink("/proc/self/exe", path, sizeof path);
-  return length > 0 ? std::string(path, length) : "";
-}
-
-std::string base_name(const char *path) {
-  const char *slash = strrchr(path, '/');
-  return slash ? slash + 1 : path;
-}
+std::string base_name(const std::string &path) { return path.substr(path.rfind('/') + 1); }
 
 std::string quoted(const std::string &word) {
   std::string out = "'";
@@ -31,11 +16,7 @@ std::string quoted(const std::string &word) {
 }
 
 // The address as the module's file has it, of the call and not of what follows it.
-uintptr_t in_file(const void *code, const Dl_info &info) {
-  auto *head = static_cast<const Elf64_Ehdr *>(info.dli_fbase);
-  uintptr_t address = reinterpret_cast<uintptr_t>(code) - 1;
-  return head->e_type == ET_EXEC ? address : address - reinterpret_cast<uintptr_t>(info.dli_fbase);
-}
+uint64_t in_file(const void *code, const ModuleOfRun &module) { return reinterpret_cast<uint64_t>(code) - 1 - module.base; }
 
 // `file:line`, where neither is unknown: addr2line then says `??` and `:0` or `:?`.
 bool is_known(const std::string &answer) {
@@ -44,24 +25,19 @@ bool is_known(const std::string &answer) {
   return answer[colon + 1] != '0' && answer[colon + 1] != '?';
 }
 
-std::string symbol(const void *code, const Dl_info &info) {
+std::string symbol(const void *code, const ModuleOfRun &module) {
   char text[64];
-  if (info.dli_sname) {
-    snprintf(text, sizeof text, "+0x%tx", static_cast<const char *>(code) - static_cast<const char *>(info.dli_saddr));
-    return info.dli_sname + std::string(text);
-  }
-  snprintf(text, sizeof text, "+0x%zx", static_cast<size_t>(in_file(code, info)));
-  return base_name(info.dli_fname) + text;
+  auto found = module.file ? module.file->symbol_at(reinterpret_cast<uint64_t>(code) - module.base) : std::nullopt;
+  snprintf(text, sizeof text, "+0x%zx", static_cast<size_t>(found ? found->offset : in_file(code, module)));
+  return (found ? std::string(found->name) : base_name(module.path)) + text;
 }
 }  // namespace
 
-void Places::ask(const std::string &module, const std::vector<const void *> &codes) {
-  std::string command = "env -u LD_PRELOAD addr2line -s -e " + quoted(module);
+void Places::ask(const ModuleOfRun &module, const std::vector<const void *> &codes) {
+  std::string command = "addr2line -s -e " + quoted(module.path);
   for (const void *code : codes) {
-    Dl_info info;
-    dladdr(const_cast<void *>(code), &info);
     char text[32];
-    snprintf(text, sizeof text, " 0x%zx", static_cast<size_t>(in_file(code, info)));
+    snprintf(text, sizeof text, " 0x%zx", static_cast<size_t>(in_file(code, module)));
     command += text;
   }
   FILE *answers = popen((command + " 2>/dev/null").c_str(), "r");
@@ -75,21 +51,20 @@ void Places::ask(const std::string &module, const std::vector<const void *> &cod
 }
 
 void Places::look_up(const std::vector<const void *> &codes) {
-  std::map<std::string, std::vector<const void *>> by_module;
+  std::map<const ModuleOfRun *, std::vector<const void *>> by_module;
   for (const void *code : codes) {
-    Dl_info info;
-    if (!code || in_runtime(code) || known.count(code)) continue;
-    if (!dladdr(const_cast<void *>(code), &info) || !info.dli_fname) continue;
-    known[code] = symbol(code, info);
-    by_module[*info.dli_fname == '/' ? info.dli_fname : program()].push_back(code);
+    const ModuleOfRun *module = code && of_run ? of_run->of(code) : nullptr;
+    if (!module || module->is_runtime || known.count(code)) continue;
+    known[code] = symbol(code, *module);
+    by_module[module].push_back(code);
   }
   for (auto &[module, own] : by_module)
     for (size_t i = 0; i < own.size(); i += 200)
-      ask(module, {own.begin() + i, own.begin() + std::min(own.size(), i + 200)});
+      ask(*module, {own.begin() + i, own.begin() + std::min(own.size(), i + 200)});
 }
 
 const std::string &Places::at(const void *code) const {
-  static const std::string &unknown = *new std::string;  // never destroyed, since texts are written late
+  static const std::string unknown;
   auto found = known.find(code);
   return found == known.end() ? unknown : found->second;
 }

@@ -285,19 +285,19 @@ std::vector<const void *> codes_of(const Region &region) {
   }
   for (auto &[what, seen] : region.remarks) codes.insert(seen.code);
   for (auto &[name, use] : region.locks) codes.insert(use.code);
+  for (auto &[what, met] : region.divided) codes.insert(met.code);
   return {codes.begin(), codes.end()};
 }
 
-std::string over_the_length(const std::string &words) {
+Excess over_the_length(const std::string &words) {
+  constexpr size_t most_bytes = 1048576, most_with_comments = 4194304;
   size_t bytes = 0;
   bool comment = false;
   for (char c : words) {
     if (c == '#' || c == '\n') comment = c == '#';
     bytes += !comment && c != ' ' && c != '\n';
   }
-  if (bytes > 1048576)
-    return std::to_string(bytes) + " bytes outside comments, and spanprof takes 1048576; give tasks fewer depend items";
-  if (words.size() > 4194304)
-    return std::to_string(words.size()) + " bytes, and spanprof takes 4194304; set SPANPROF_LINES=0";
-  return "";
+  if (bytes > most_bytes) return {"bytes outside comments", of_the_commands.program, bytes, most_bytes};
+  if (words.size() > most_with_comments) return {"bytes", of_the_commands.program, words.size(), most_with_comments};
+  return {};
 }

@@ -5,6 +5,7 @@
 #include <string_view>
 #include <vector>
 
+#include "fold.hpp"
 #include "run.hpp"
 #include "source.hpp"
 
@@ -25,4 +26,4 @@ std::vector<const void *> codes_of(const Region &region);  // whose places stand
 int64_t work_in_units(const Region &region, int64_t unit);  // as the text has it, rounded line by line
 Text program_text(Region &region, const Style &style, const Places &places);  // numbers the segments too
 void tell_program(Region &region, const Style &style, const Places &places, const Taker &taker);  // piece by piece
-std::string over_the_length(const std::string &words);  // of a text for the ten commands; empty where it fits
+Excess over_the_length(const std::string &words);  // of a text for the ten commands

@@ -9,6 +9,7 @@ from path.found import find_path, programs
 from path.table import lines, write_csv
 from record.fault import Fault
 from record.measure import HOW, measure, spanprof_large
+from spanprof_version import Version
 
 DESCRIPTION = """Finds a critical path of a program text of version 1 and of any size, and prints how much of the
 span and of the work each place in the source is."""
@@ -21,6 +22,7 @@ def parse(words):
     parser.add_argument("text", metavar="FILE", help="the text, such as mine.large.tasks")
     parser.add_argument("-o", "--output", metavar="MASKED.tasks", help="keep the text with the costs off the path 0")
     parser.add_argument("--csv", action="store_true", help="print a row for each place: span,work,segments,place")
+    parser.add_argument("--version", action=Version)
     return parser.parse_args(words)
 
 
@@ -48,7 +50,7 @@ def title(path):
 
 
 def verdict(path):
-    return "proved: work and span of the text, and that both are %d for the masked text; the places are not" % (
+    return "proved of this text: its work and span, and that both are %d for the masked text; of the places nothing" % (
         path.masked["span"])
 
 

@@ -6,11 +6,19 @@ Several curves in one picture: curve.py PICTURE.png NAME=PROGRAM.tasks NAME=CURV
 A text is asked for its curve up to 32 threads (`--upto N`), and its remarks stand in the picture.
 """
 import argparse
+import os
 import sys
 
-from head import said
-from pictures import plot, save
-from program import ask, read, rows
+sys.path.append(os.path.join(os.path.dirname(os.path.abspath(__file__)), ".."))
+
+from spanprof_version import answer  # noqa: E402
+
+if __name__ == "__main__":
+    answer(__doc__, sys.argv[1:])  # also where matplotlib is missing
+
+from head import said  # noqa: E402
+from pictures import plot, save  # noqa: E402
+from program import ask, read, rows  # noqa: E402
 
 MOST_TICKS = 12
 
@@ -57,9 +65,9 @@ def ticks(most):
 def picture(curves):
     figure, axes = plot.subplots(figsize=(6.4, 4), dpi=110)
     most = max(draw(axes, name, table, "C%d" % i) for i, (name, table, _) in enumerate(curves))
-    axes.plot([1, most], [1, most], color="grey", linewidth=.8, linestyle=":", label="as many times as threads")
+    axes.plot([1, most], [1, most], color="grey", linewidth=.8, linestyle=":", label="as many as threads")
     axes.set_xlabel("threads")
-    axes.set_ylabel("speed-up over one thread")
+    axes.set_ylabel("work / end")
     axes.set_xlim(1, max(most, 2))
     axes.set_xticks(ticks(most))
     axes.set_ylim(bottom=0)

@@ -15,6 +15,7 @@ from head import said  # noqa: E402
 from report.answers import Answers  # noqa: E402
 from report.graph import CREATES, critical_pairs, task_edges  # noqa: E402
 from report.places import tasks  # noqa: E402
+from spanprof_version import answer  # noqa: E402
 
 
 def quoted(words):
@@ -88,6 +89,7 @@ def draw(words, picture):
 
 
 def main():
+    answer(__doc__, sys.argv[1:])
     names = [word for word in sys.argv[1:] if word != "--tasks"]
     if not 1 <= len(names) <= 2 or names[0].startswith("-"):
         sys.exit(__doc__)

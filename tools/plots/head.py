@@ -2,9 +2,10 @@
 import re
 from dataclasses import dataclass, field
 from itertools import takewhile
-from typing import Dict, List, Optional
+from typing import Dict, List, Optional, Tuple
 
 NANOSECONDS = {"ns": 1, "us": 1000, "ms": 1000000}
+NUMBERS = {"clock reading": "clock_reading", "most held lock": "most_held"}
 DIVISION = ("outside regions", "in other regions", "in parts without tasks", "in tasks")
 
 
@@ -19,6 +20,19 @@ class Head:
     unit: str = ""          # of the costs; empty where they are declared and not measured
     elapsed: Optional[int] = None
     division: Dict[str, int] = field(default_factory=dict)  # the whole program's time, by where it passed
+    covered: Optional[int] = None      # of the program's thread-time in code, what the text has
+    thread_time: Optional[int] = None  # of the program, in code
+    covers_at_most: bool = False       # recording ended before the program did
+    not_covered: Dict[str, int] = field(default_factory=dict)  # the rest, by where it passed
+    divided: List[str] = field(default_factory=list)  # what was divided among as many threads as the run had
+    beside: Optional[int] = None       # what the region's parts cost, but for the longest of each phase
+    one_thread: bool = False
+    clock_reading: Optional[int] = None  # in nanoseconds
+    clocks_differ: Dict[str, int] = field(default_factory=dict)  # affected, work, by, times
+    most_held: Optional[int] = None    # inside one lock, one thread at a time
+    runs: Optional[int] = None         # where the program was recorded several times
+    is_median: bool = False            # each cost is the median of those runs; else it is one of them
+    spread: Dict[str, Tuple[int, int, int]] = field(default_factory=dict)  # of work, span: least, median, most
     remarks: List[str] = field(default_factory=list)
     locks: List[str] = field(default_factory=list)
 
@@ -69,6 +83,63 @@ def read_recorded(head, words):
             head.date = part.strip()
 
 
+def read_coverage(head, value):
+    """`93.1 % of the program's thread-time (931 of 1000 us)`, maybe after `at most`."""
+    found = re.search(r"\((\d+) of (\d+) ", value)
+    if found:
+        head.covered, head.thread_time = int(found[1]), int(found[2])
+        head.covers_at_most = value.startswith("at most ")
+
+
+def read_divided(head, value):
+    head.divided.append(value)
+    found = re.match(r"code of the region, \d+ parts, (\d+) ", value)
+    if found:
+        head.beside = int(found[1])
+
+
+def read_differing(head, value):
+    """`in 4000 of 4200 us of the work, by 3000 us, 9 times`; a unit may be `x 250 ns`."""
+    found = re.match(r"in (\d+) of (\d+) .* of the work, by (\d+) .*, (\d+) times?$", value)
+    if found:
+        head.clocks_differ = dict(zip(("affected", "work", "by", "times"), map(int, found.groups())))
+
+
+def read_spread(head, what, value):
+    found = re.match(r"(\d+) least, (\d+) median, (\d+) most$", value)
+    if found:
+        head.spread[what] = tuple(map(int, found.groups()))
+
+
+def read_rest(head, value):
+    """`5000 outside regions, 1877 in other regions, 0 of this region`."""
+    for part in value.split(", "):
+        number, _, where = part.partition(" ")
+        if number.isdigit():
+            head.not_covered[where] = int(number)
+
+
+def read_of_the_program(head, name, value):
+    """The lines that tell what the text says of the program, and what not."""
+    first = re.match(r"\d+", value)
+    if name == "covers":
+        read_coverage(head, value)
+    elif name == "not covered":
+        read_rest(head, value)
+    elif name.startswith("divided among "):
+        read_divided(head, value)
+    elif name == "one thread":
+        head.one_thread = True
+    elif name == "clocks differ":
+        read_differing(head, value)
+    elif name in ("work of the runs", "span of the runs"):
+        read_spread(head, name.split()[0], value)
+    elif name == "runs" and first:
+        head.runs, head.is_median = int(first[0]), "each cost is the median" in value
+    elif name in NUMBERS and first:
+        setattr(head, NUMBERS[name], int(first[0]))
+
+
 def read_line(head, words):
     name, _, value = words.partition(": ")
     first = re.match(r"\d+", value)
@@ -85,6 +156,8 @@ def read_line(head, words):
         head.remarks.append(value)
     elif name.startswith("lock "):
         head.locks.append("%s: %s" % (name[len("lock "):], value))
+    else:
+        read_of_the_program(head, name, value)
 
 
 def read_head(text):

@@ -11,6 +11,9 @@ import signal
 import subprocess
 import sys
 from dataclasses import dataclass
+from itertools import islice
+
+from refusal import explained, of_event, of_whole
 
 signal.signal(signal.SIGPIPE, signal.SIG_DFL)  # so that `| head` ends it quietly
 
@@ -25,16 +28,48 @@ def spanprof():
     return shlex.split(os.environ.get("SPANPROF", "")) or [shutil.which("spanprof") or here]
 
 
+class Refused(SystemExit):
+    """spanprof's error line, and what it was asked; where nobody catches it, it ends the process with these words."""
+
+    def __init__(self, words, text, answer):
+        more = of_whole(list(words), text, answer, asked)
+        super().__init__("spanprof %s: %s" % (words[0], "%s: %s" % (answer, more) if more else answer))
+        self.words, self.text, self.answer = list(words), text, answer
+
+    def brief(self):
+        """On one line, with the event that is refused."""
+        event = of_event(self.text, self.answer)
+        return "%s; %s" % (self, event) if event else str(self)
+
+    def of(self, name):
+        """The same for people, with the name of the text's file."""
+        more = explained(name, self.words, self.text, self.answer, asked)
+        return "%s\n%s" % (more, self) if more else "%s: %s" % (name, self)
+
+
+def run(words, text):
+    """The program's run with these words on this input. That it may read nothing ends nobody."""
+    before = signal.signal(signal.SIGPIPE, signal.SIG_IGN)
+    try:
+        return subprocess.run(spanprof() + list(words), input=text, capture_output=True, text=True, check=False)
+    finally:
+        signal.signal(signal.SIGPIPE, before)
+
+
+def asked(words, text):
+    """What spanprof prints, whatever its exit status."""
+    return run(words, text).stdout
+
+
 def ask(words, text):
     """What spanprof prints for these words and this input."""
-    program = spanprof()
     try:
-        done = subprocess.run(program + list(words), input=text, capture_output=True, text=True)
+        done = run(words, text)
     except OSError as error:
         where = "SPANPROF" if os.environ.get("SPANPROF") else "spanprof is neither on the PATH nor built here"
-        sys.exit("%s: %s: %s; README.md tells how it is built" % (where, program[0], error.strerror))
+        sys.exit("%s: %s: %s; README.md tells how it is built" % (where, spanprof()[0], error.strerror))
     if done.returncode:
-        sys.exit("spanprof %s: %s" % (words[0], done.stdout.strip()))
+        raise Refused(words, text, done.stdout.strip())
     return done.stdout
 
 
@@ -105,11 +140,15 @@ class Cutter:
         self.go_on("creating a task" if kind == "task" else kind, place)
 
 
+def has_loops(text):
+    """Whether the text is of version 2; its canonical text is of version 1."""
+    words = [word for word, _ in islice(words_of(text), 2)]
+    return len(words) > 1 and words[1].lstrip("0") == "2"
+
+
 def segments(text):
     """The segments in the order of their numbers."""
-    words = list(words_of(text))
-    if len(words) > 1 and words[1][0].lstrip("0") == "2":  # loops; the canonical text has none
-        words = list(words_of(ask(["show"], text)))
+    words = list(words_of(ask(["show"], text) if has_loops(text) else text))
     cutter, i = Cutter(), 2     # the header is two words
     while i < len(words):
         word, comment = words[i]
@@ -142,5 +181,8 @@ def read(path):
             text = re.split(r"(?m)^---\r?$", file.read())[0]
     except OSError as error:
         sys.exit("%s: %s" % (path, error.strerror))
-    ask(["span"], text)  # ends here where it is no program
+    try:
+        ask(["span"], text)
+    except Refused as refused:
+        sys.exit(refused.of(path))
     return text

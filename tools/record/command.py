@@ -5,16 +5,19 @@ import subprocess
 import sys
 import webbrowser
 
+from record.account import lines_of
 from record.console import say, tell
 from record.fault import OWN_FAULT, Fault
 from record.large import answers, head_of, large_summary, unmeasured_summary
 from record.measure import spanprof_large
 from record.options import parse
+from record.ranks import are_ranks
 from record.run import end_as
 from record.session import TOOLS, Session
 from record.summary import other_region, summary
 from record.verdict import verdict
 from report.answers import Answers
+from whatif.lead import lead
 
 REPORTERS = [os.path.join(TOOLS, "spanprof-report"), os.path.join(TOOLS, "..", "..", "bin", "spanprof-report")]
 
@@ -32,7 +35,13 @@ def print_summary(session, found, said, shown=()):
     remarks = {remark for one in answered for remark in one.head.remarks}
     news = session.notes + said.news(session.out, [recording.text for recording in found] + list(shown), remarks)
     others = [other_region(one) for i, one in enumerate(answered) if i != heaviest]
-    show(summary(answered[heaviest], verdict(found[heaviest]), news, others))
+    if session.rank is not None:  # another process tells its own beside this one
+        show([other_region(one) for one in answered] + ["%s: %s" % (session.options.out, one) for one in news])
+    else:
+        of_what = "ranks" if are_ranks(found) else "regions"
+        times = found[heaviest].times
+        account, led = lines_of(answered[heaviest], times), lead(answered[heaviest], times)
+        show(summary(answered[heaviest], verdict(found[heaviest]), news, others, of_what, account, led))
     return found[heaviest]
 
 
@@ -47,6 +56,9 @@ def print_large(found, program, news):
 
 
 def write_page(options, recording):
+    """Of a recording that a page can show; there is none where all are beyond the limits of the ten commands."""
+    if not recording:
+        raise Fault("no page is written: the recording is beyond the limits of the ten commands")
     reporter = next((path for path in REPORTERS if os.path.exists(path)), REPORTERS[0])
     words = [sys.executable, reporter, recording.text, "-o", options.html]
     if recording.replay:
@@ -56,6 +68,14 @@ def write_page(options, recording):
         raise Fault("no page is written")
     if options.open and not webbrowser.open("file://" + os.path.abspath(options.html)):
         say("there is no browser to show %s" % options.html)
+
+
+def try_page(options, recording):
+    """The recording is written by now: that its page fails is told, and changes no exit status."""
+    try:
+        write_page(options, recording)
+    except Fault as fault:
+        say(str(fault))
 
 
 def print_summaries(session, found, said):
@@ -74,10 +94,8 @@ def report(session, found, said):
         recording = print_summaries(session, found, said)
     except SystemExit as refused:  # a word of spanprof's
         raise Fault(str(refused)) from refused
-    if session.options.html and not recording:
-        raise Fault("no page is written: the recording is beyond the limits of the ten commands")
     if session.options.html:
-        write_page(session.options, recording)
+        try_page(session.options, recording)
 
 
 def record_and_report(options):

@@ -1,4 +1,4 @@
-"""The files of a recording, and what the recorder said of it."""
+"""The files of a recording."""
 import glob
 import os
 import re
@@ -6,11 +6,8 @@ from dataclasses import dataclass
 
 from record.fault import Fault
 
-PREFIX = "spanprof recorder: "
-BEGUN = "recording to "
 USUAL_REGIONS = 10
-FOLD = re.compile(r"SPANPROF_FOLD_([A-Z]+)=")
-WRITTEN = re.compile(r"\.tasks( and .*\.replay)?: \d+ tasks, \d+ segments, work \d+ ")
+IN_A_LOG = re.compile(r"head|modules|thread\.[0-9]+(\.last)?")
 
 
 @dataclass
@@ -60,51 +57,20 @@ def recording(stem, number=1):
     return Recording(stem + ".tasks", *beside, number)
 
 
+def remove_log(folder):
+    """Takes away what the recorder wrote there, and the folder where nothing else is in it."""
+    for name in filter(IN_A_LOG.fullmatch, os.listdir(folder)):
+        os.remove(os.path.join(folder, name))
+    try:
+        os.rmdir(folder)
+    except OSError:
+        pass  # somebody else's file is in it
+
+
 def remove_old(out):
     """Takes away what an earlier run of this name left, as the recorder does where it is loaded."""
     for path in glob.glob(glob.escape(out) + ".*"):
-        if re.fullmatch(r"(\.[0-9]+)?(\.large)?(\.inout)?\.(tasks|replay|times)", path[len(out):]):
+        if re.fullmatch(r"(\.rank[0-9]+)?(\.[0-9]+)?(\.large)?(\.inout)?\.(tasks|replay|times)", path[len(out):]):
             os.remove(path)
-
-
-def is_text(line, texts):
-    """Whether a line says that one of these texts was written."""
-    return bool(WRITTEN.search(line)) and line.startswith(tuple(texts))
-
-
-def is_shown(line, out, texts, remarks):
-    """Whether a line of the recorder says what the summary shows: a text that was written, or a remark of its head."""
-    if WRITTEN.search(line):
-        return is_text(line, texts)
-    return line.startswith(BEGUN) or line.startswith(out) and line[len(out):].partition(": ")[2] in remarks
-
-
-def as_option(line):
-    """A fold as spanprof-record takes it."""
-    line = line.replace("SPANPROF_FOLD_EXACT=1", "--fold exact")
-    return FOLD.sub(lambda found: "--fold %s=" % found[1].lower(), line)
-
-
-@dataclass
-class Messages:
-    """What the recorder said; `loaded` is whether the runtime has loaded it at all."""
-    loaded: bool
-    lines: list
-
-    def without(self, texts):
-        """All but that these were written."""
-        return Messages(self.loaded, [line for line in self.lines if not is_text(line, texts)])
-
-    def news(self, out, texts=(), remarks=()):
-        """What the summary would not show, without the path of the files, and with options in place of variables."""
-        return [as_option(line).replace(os.path.dirname(out) + os.sep, "")
-                for line in self.lines if not is_shown(line, out, texts, remarks)]
-
-
-def messages(path):
-    try:
-        with open(path, encoding="utf-8", errors="replace") as file:
-            lines = [line.removeprefix(PREFIX) for line in file.read().splitlines()]
-    except OSError:
-        return Messages(False, [])
-    return Messages(True, lines)
+        elif re.fullmatch(r"(\.rank[0-9]+)?(\.[0-9]+(-[0-9]+)?)?\.log", path[len(out):]) and os.path.isdir(path):
+            remove_log(path)

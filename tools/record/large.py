@@ -10,8 +10,7 @@ from path.table import share
 from record.console import tell
 from record.fault import Fault
 from record.measure import HOW, measure
-from record.summary import MOST_PLACES, costs, elapsed_line, grouped, named, remark_lines, title
-from report.figures import rounded_up
+from record.summary import MOST_PLACES, first_lines, grouped, lock_lines, named, remark_lines, title
 
 
 @dataclass
@@ -53,21 +52,14 @@ def answers(program, path):
 
 
 def place_lines(answered):
-    return ["%.1f %% of the span, %.1f %% of the work: %s" % (
+    return ["%.1f %% of the span, %.1f %% of the work: %s (measured)" % (
         share(place.span, answered.span), share(place.work, answered.work), place.name) for place in answered.places]
 
 
 def large_summary(answered, news=()):
-    unit = answered.head.unit
-    return [title(answered)] \
-        + named("tasks", ["%s, in %s segments (recorded)" % (grouped(answered.tasks), grouped(answered.segments))]) \
-        + named("work", ["%s: the time of one thread (measured; the sum is proved for the recorded text)"
-                         % costs(answered.work, unit)]) \
-        + named("span", ["%s: no run ends sooner (proved for the recorded text, of measured costs)"
-                         % costs(answered.span, unit)]) \
-        + named("parallelism", ["%s: work / span; no number of threads gives more (proved for the recorded text)"
-                                % rounded_up(answered.work, answered.span)]) \
-        + named("elapsed", [elapsed_line(answered)]) \
+    tasks = "%s, in %s segments (recorded)" % (grouped(answered.tasks), grouped(answered.segments))
+    return first_lines(answered, tasks, takes_several=False) \
+        + named("locks", lock_lines(answered, answered.span)) \
         + named("span by place", place_lines(answered)) \
         + named("remarks", remark_lines(answered, list(filter(None, [answered.unplaced])) + list(news)))
 

@@ -5,11 +5,17 @@ import shutil
 import subprocess
 
 from record.fault import Fault
+from refusal import without_text
 from report.answers import named_numbers
 
 TOP = os.path.dirname(os.path.dirname(os.path.dirname(os.path.abspath(__file__))))
 PLACES = (os.path.join(TOP, "crates", "spanprof_large", "out", "spanprof_large"),
           os.path.join(TOP, "..", "bin", "spanprof_large"))  # where this file is in PREFIX/share/spanprof/record
+LIMITS = {
+    "BadHeader": "spanprof_large reads texts that begin with `omptasks 1`",
+    "TooLong": "a text has at most 9,223,372,036,854,775,806 bytes",
+    "TooDeep": "at most 1,048,576 blocks are open at a time",
+    "TooManyItems": "a task has at most 32 depend items, and a text 4,294,967,294"}
 HOW = "spanprof_large, which measures it, is not found; tools/prove_program.sh spanprof_large proves and builds it"
 
 
@@ -28,5 +34,7 @@ def measure(program, path):
     except OSError as wrong:
         raise Fault("spanprof_large: %s" % wrong) from wrong
     if done.returncode:
-        raise Fault("spanprof_large: %s" % (done.stdout.strip() or "it ended with status %d" % done.returncode))
+        answer = done.stdout.strip() or "it ended with status %d" % done.returncode
+        more = without_text(path, answer, LIMITS)
+        raise Fault("%s\nspanprof_large: %s" % (more, answer) if more else "spanprof_large: %s" % answer)
     return named_numbers(done.stdout)

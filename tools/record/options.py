@@ -4,14 +4,18 @@ import os
 import re
 import sys
 
-from record.fault import OWN_FAULT
+from record.fault import OWN_FAULT, Fault
+from record.ranks import is_launcher
+from record.target import launched
+from spanprof_version import Version
 
-DESCRIPTION = "Records a run of an OpenMP program, and says on standard error what it could gain from more threads."
-AFTER = """Everything after -- is the program and its words. The exit status is the program's; 125 where nothing was
-recorded, 126 where the program cannot be run, 127 where there is none. The recorder's own variables (SPANPROF_REGIONS,
-SPANPROF_RECORDS, SPANPROF_LINES) and those of OpenMP hold too."""
+DESCRIPTION = "Records a run of an OpenMP program, and says on standard error what its text gains from more threads."
+AFTER = """Everything after -- is the program and its words. The exit status is the program's, also where its page could
+not be written; 125 where nothing was recorded, 126 where the program cannot be run, 127 where there is none. The
+recorder's own variables (SPANPROF_REGIONS, SPANPROF_PARTS, SPANPROF_LINES) and those of OpenMP hold too."""
 MOST_RUNS = 99
 FOLDS = ("depth", "cost", "chunk")
+FOLD_WORDS = "exact|depth=D|cost=C|chunk=N"
 
 
 class Parser(argparse.ArgumentParser):
@@ -51,20 +55,30 @@ def parser():
     out = Parser(prog="spanprof-record", description=DESCRIPTION, epilog=AFTER, allow_abbrev=False,
                  usage="spanprof-record [options] [--] PROGRAM [WORD ..]")
     add = out.add_argument
-    add("--out", metavar="NAME", help="the first name of the files: NAME.tasks, NAME.replay; without it the program's")
+    add("--out", metavar="NAME", help="the first name of the files: NAME.tasks, NAME.replay; without it the program's; of several processes of "
+        "MPI, NAME.rank0.tasks and so on")
     add("--unit", type=unit, help="what a cost of 1 is: ns (without it), us, ms, or a number of nanoseconds")
     add("--clock", choices=("wall", "cpu"), help="wall time (without it), or processor time of each thread")
     add("--threads", type=count(1, 1024), metavar="P", help="OMP_NUM_THREADS of the run; spanprof judges 64 at most")
     add("--runs", type=count(1, MOST_RUNS), default=1, metavar="N",
         help="run it N times, and take the median of each segment's costs")
-    add("--fold", type=fold, action="append", default=[], metavar="exact|depth=D|cost=C|chunk=N",
+    add("--fold", type=fold, action="append", default=[], metavar=FOLD_WORDS,
         help="where a recording is too large, write fewer tasks with the same work and span; or tasks at depth D with "
         "all below them as one cost; tasks cheaper than C as work of their parent; N neighbours as one task")
     add("--runtime", metavar="FILE", help="LLVM's runtime, to run the program on whatever it is linked with")
     add("--html", metavar="PAGE", help="write the page of spanprof-report too")
+    add("--version", action=Version)
     add("--open", action="store_true", help="show that page in the browser; without --html it is NAME.html")
     add("command", nargs=argparse.REMAINDER, metavar="PROGRAM [WORD ..]", help="what to run")
     return out
+
+
+def named_after(command):
+    """Of a launcher's words the program that it launches."""
+    try:
+        return launched(command) if is_launcher(command[0]) else command[0]
+    except Fault:
+        return command[0]  # the session says what is wrong with it
 
 
 def parse(words):
@@ -75,7 +89,7 @@ def parse(words):
     if not chosen.command:
         reader.error("no program to run; such as: spanprof-record -- ./mine")
     if chosen.out is None:
-        chosen.out = os.path.basename(chosen.command[0])
+        chosen.out = os.path.basename(named_after(chosen.command))
     if not os.path.basename(chosen.out):
         reader.error("--out %s: the first name of files, and no folder" % chosen.out)
     if chosen.open and not chosen.html:

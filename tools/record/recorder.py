@@ -1,7 +1,7 @@
 """The recorder's library: found beside these tools, or built there."""
 from record.built import Product, find_or_build
 
-LIBRARY = Product("librecorder.so", "the recorder", "clang-16 libomp-16-dev make")
+LIBRARY = Product("librecorder.so", "the recorder", "clang-19 libomp-19-dev make")
 
 
 def recorder_library(folders, tell):

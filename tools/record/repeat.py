@@ -1,13 +1,18 @@
-"""Several recordings of one program: the median of each segment's costs, where all runs have one shape."""
+"""Several recordings of one program: the median of each segment's costs, where all runs have one shape, and how far
+work and span are apart in the runs."""
 import os
 import re
 import shutil
+import statistics
 import subprocess
 import sys
 
 import program
 from record.fault import Fault
 from record.files import recordings, stem_of
+
+BARE_PART = re.compile(r"task \{  # one of the region's threads\n *(work \d+ *(#.*)?\n *)?\}")
+FIRST_PARTS = "all-or-none"  # of the first run
 
 
 def names(out, runs):
@@ -27,14 +32,43 @@ def make_folder(out, runs):
     return names(out, runs)
 
 
-def work(text):
-    """The work of a recorded text."""
-    return int(program.ask(["span"], program.read(text)).split()[3])
+def work_and_span(text):
+    """Of a recorded text."""
+    answer = program.ask(["span"], program.read(text)).split()
+    return int(answer[3]), int(answer[5])
 
 
-def middle(texts):
+def middle(recorded, works):
     """The recording whose work is the median."""
-    return sorted(texts, key=lambda recording: work(recording.text))[len(texts) // 2]
+    return sorted(zip(works, range(len(recorded)), recorded))[len(recorded) // 2][2]
+
+
+def has_bare_part(path):
+    with open(path, encoding="utf-8", errors="replace") as text:
+        return bool(BARE_PART.search(text.read()))
+
+
+def parts_of_the_next(texts):
+    """What the recorder is to do with parts without tasks, so that the next run has the shape of this one."""
+    return "all" if any(has_bare_part(text) for text in texts) else "none"
+
+
+def spread_lines(works, spans, what):
+    """The lines of the head that tell how far the runs are apart."""
+    def line(what, numbers):
+        return "# %s of the runs: %d least, %d median, %d most\n" % (
+            what, min(numbers), statistics.median_low(numbers), max(numbers))
+    return "# runs: %d, %s\n" % (len(works), what) + line("work", works) + line("span", spans)
+
+
+def add_to_head(path, lines):
+    """Puts lines at the end of a text's head, before what is remarked."""
+    with open(path, encoding="utf-8", errors="replace", newline="") as file:
+        text = file.read()
+    before = re.search(r"(?m)^(# remark: |omptasks )", text)
+    at = before.start() if before else len(text)
+    with open(path, "w", encoding="utf-8", newline="") as file:
+        file.write(text[:at] + lines + text[at:])
 
 
 def take(recording, out):
@@ -56,13 +90,17 @@ def replay_of(text, events_of, path):
 
 def combine(tool, out, same_region):
     """Makes OUT.tasks and OUT.replay of the recordings of one region; answers what is to be remarked."""
-    middle_run = middle(same_region)
+    works, spans = zip(*[work_and_span(recording.text) for recording in same_region])
+    middle_run = middle(same_region, works)
     done = subprocess.run([sys.executable, tool, out + ".tasks"] + [recording.text for recording in same_region],
                           capture_output=True, text=True, errors="replace", check=False)
     if done.returncode:
         take(middle_run, out)
+        for path in filter(os.path.exists, (out + ".tasks", out + ".replay")):
+            add_to_head(path, spread_lines(works, spans, "and this is the one with the median work"))
         why = (done.stderr or done.stdout).strip().replace("\n", "; ").replace(os.path.dirname(out) + os.sep, "")
         return ["the runs have no median, and this is the one with the median work: " + why]
+    add_to_head(out + ".tasks", spread_lines(works, spans, "and each cost is the median of theirs"))
     if middle_run.replay:
         replay_of(out + ".tasks", middle_run.replay, out + ".replay")
     return []

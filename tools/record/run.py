@@ -9,9 +9,9 @@ from record.fault import NOT_EXECUTABLE, Fault
 PASSED_ON = (signal.SIGTERM, signal.SIGHUP, signal.SIGQUIT)
 
 
-def environment(base, options, library, preload, out, messages):
+def environment(base, options, library, preload, out):
     """The variables of a recorded run. What is not asked for stays as it is."""
-    new = dict(base, OMP_TOOL="enabled", SPANPROF_OUT=out, SPANPROF_MESSAGES=messages)
+    new = dict(base, OMP_TOOL="enabled", SPANPROF_OUT=out, SPANPROF_QUIET="1")
     others = base.get("OMP_TOOL_LIBRARIES")
     new["OMP_TOOL_LIBRARIES"] = library + (os.pathsep + others if others else "")
     if preload:

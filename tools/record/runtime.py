@@ -8,15 +8,15 @@ from record.linkage import GCC, LLVM, listed, symbols
 
 WHERE = ("/usr/lib/llvm-*/lib/libomp.so.5", "/usr/lib/*-linux-gnu/libomp.so.5", "/usr/lib64/libomp.so",
          "/usr/local/lib/libomp.so")
-TRIED_VERSION = 16  # of those that Debian has, the one that was tried most
-PACKAGE = "LLVM's OpenMP runtime is missing (package libomp-%d-dev)" % TRIED_VERSION
+PACKAGE = "LLVM's OpenMP runtime is missing (package libomp-19-dev; --runtime FILE names one that lies elsewhere)"
+
+TARGETS = {"GOMP_target_ext", "GOMP_target_update_ext", "GOMP_target_enter_exit_data"}
 
 
 def by_version(path):
-    """The version that was tried comes first, and then the newest."""
+    """The newest comes first."""
     version = re.search(r"llvm-(\d+)", path)
-    number = int(version[1]) if version else 0
-    return (number != TRIED_VERSION, -number, path)
+    return (-int(version[1]) if version else 0, path)
 
 
 def llvm_runtime():
@@ -35,6 +35,15 @@ def refuse(path, linkage):
     if not (linkage.libraries or linkage.inside or linkage.is_script):
         raise Fault("%s has no OpenMP in it: it is linked neither with %s nor with %s; was it compiled with -fopenmp? "
                     "(--runtime FILE runs it on that library all the same)" % (path, GCC, LLVM))
+
+
+def refuse_targets(lacking):
+    """gcc's runtime waits for no task of LLVM's: a `target` with `nowait` or `depend` would begin too early."""
+    found = sorted(TARGETS.intersection(lacking))
+    if found:
+        raise Fault("the program calls %s, which LLVM's runtime does not have, and gcc's beside it knows none of LLVM's "
+                    "tasks: with nowait or depend its results may be wrong; compile it with clang (--runtime %s runs it "
+                    "all the same)" % (found[0], llvm_runtime()))
 
 
 def to_preload(path, linkage, wanted=None):

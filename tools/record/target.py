@@ -1,8 +1,9 @@
-"""The program that is to be recorded: its file."""
+"""The program that is to be recorded, or what launches it: its file."""
 import os
 import shutil
 
 from record.fault import NO_PROGRAM, NOT_EXECUTABLE, Fault
+from record.linkage import linkage
 
 
 def find(word):
@@ -18,3 +19,11 @@ def find(word):
     if not os.access(path, os.X_OK):
         raise Fault("%s: not executable" % path, NOT_EXECUTABLE)
     return path
+
+
+def launched(words):
+    """The path of the program among a launcher's words: the first one that is linked with a runtime of OpenMP."""
+    paths = [path for path in map(shutil.which, words[1:]) if path]
+    if not paths:
+        raise Fault("%s: no program is among its words" % words[0], NO_PROGRAM)
+    return next((path for path in paths if linkage(path).libraries), paths[0])

@@ -10,6 +10,8 @@ def verdict(recording):
         document = file.read()
     try:
         program.ask(["replay"], document)
-    except SystemExit as refused:
-        return "its run is refused: %s" % refused
-    return "its run was legal (proved)"
+    except program.Refused as refused:
+        return "its run is refused: %s" % refused.brief()
+    except SystemExit as missing:
+        return "its run is refused: %s" % missing
+    return "its run was legal (proved of the recorded text and events)"

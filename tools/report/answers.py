@@ -5,9 +5,11 @@ from functools import cached_property
 
 import program
 from head import read_head
+from report.changed_text import with_costs, without_costs
 
 THREADS_WITHOUT_RECORDING = 4
 LONGEST_CURVE = 64
+OF_A_THREAD = "one of the region's threads"     # as the recorder names a task that stands for a thread's own code
 
 
 @dataclass
@@ -71,6 +73,11 @@ class Answers:
         """How many tasks there are beside the root."""
         return max(row.task for row in self.rows)
 
+    @cached_property
+    def parts(self):
+        """How many of the tasks stand for a thread's own code between two barriers."""
+        return len({segment.task for segment in self.code if segment.task_place == OF_A_THREAD})
+
     @property
     def threads(self):
         """Those asked for, or recorded; at most what `greedy` takes."""
@@ -96,6 +103,19 @@ class Answers:
         self.tell(shown)
         self.asked.append(shown)
         return program.predecessors(self.text, len(self.code))
+
+    @cached_property
+    def text_without_costs(self):
+        return without_costs(self.ask("show") if program.has_loops(self.text) else self.text)
+
+    def greedy_end(self, changes, threads):
+        """Where the greedy run on so many threads ends, where `changes` gives segments other costs."""
+        costs = [changes.get(s, row.cost) for s, row in enumerate(self.rows)]
+        shown = "spanprof greedy --threads %d < %s with other costs" % (threads, self.name)
+        self.tell(shown)
+        self.asked.append(shown)
+        table = program.ask(["greedy", "--threads", str(threads)], with_costs(self.text_without_costs, costs))
+        return max((int(row["end"]) for row in program.rows(table)), default=0)
 
     def what_if(self, changes):
         """Work, span and the span before, where `changes` gives segments other costs."""

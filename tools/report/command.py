@@ -9,6 +9,7 @@ from report.speedscope import speedscope_text
 from report.trace_events import trace_text
 from report.view import View
 from report.what_if import UnknownPlace, all_at_once, read_factors
+from spanprof_version import Version
 
 DESCRIPTION = "Writes one page (HTML that needs no other file and no network) on a program text of spanprof."
 ANSWER = ("work", "span", "was")
@@ -28,6 +29,7 @@ def arguments(words):
         help="what if the costs at PLACE were F times as much; may be given several times")
     add("--trace", metavar="FILE.json", help="the runs as a trace for ui.perfetto.dev")
     add("--speedscope", metavar="FILE.json", help="the work and the span by place, for speedscope.app")
+    add("--version", action=Version)
     chosen = parser.parse_args(words)
     if not (chosen.output or chosen.trace or chosen.speedscope or chosen.factor):
         parser.error("nothing to write: name a page (-o), a trace, a speedscope file, or a factor")

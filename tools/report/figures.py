@@ -11,8 +11,10 @@ MEANINGS = {
     MEASURED: "read from the recorder's clock, or a sum or quotient of such readings",
     DECLARED: "stated by the text, with no recording behind it, or a sum of such statements",
     RECORDED: "taken from the run: tasks and segments, what waits for what, the order of events",
-    PROVED: "follows from costs and shape, computed by a program that is proved correct",
+    PROVED: "follows from the costs and the shape that the text has, computed by a program that is proved correct; of "
+            "the program that was recorded it says as much as the text is that program",
 }
+LABELS = {PROVED: "proved of the text"}
 
 
 def grouped(value, digits=0):
@@ -34,6 +36,11 @@ def rounded_up(above, below):
     return "%d.%02d" % divmod(-(-100 * above // below), 100) if below else "1.00"
 
 
+def label(kind):
+    """The word for a kind of number; what is proved is proved of the text."""
+    return LABELS.get(kind, kind)
+
+
 class Figures:
     """The numbers of one program of the page; `prefix` stands before the sources of the second."""
 
@@ -42,7 +49,7 @@ class Figures:
 
     def data(self, words, value, source, kind, rounded=None):
         exact = value if isinstance(value, int) else "%.6g" % value
-        return tag("data", words, value=exact, title="%s (%s)" % (kind, self.prefix + source),
+        return tag("data", words, value=exact, title="%s (%s)" % (label(kind), self.prefix + source),
                    data_from=self.prefix + source, data_rounded=rounded, class_=kind)
 
     def number(self, value, source, kind, digits=0, unit=""):
@@ -52,7 +59,7 @@ class Figures:
     def share(self, part, whole, source, kind):
         """A part of a whole in per cent; the source is that of the quotient."""
         value = percent(part, whole)
-        return self.data("%.1f %%" % value, value, "percent " + source, kind)
+        return self.data(grouped(value, 1) + " %", value, "percent " + source, kind)
 
     def times(self, above, below, source, kind):
         """A quotient such as a speed-up; 1 where nothing costs anything."""
@@ -74,7 +81,7 @@ class Figures:
 
 def badge(kind):
     """The word itself, where a column or a tile holds numbers of one kind."""
-    return tag("span", kind, class_="badge " + kind, title=MEANINGS[kind])
+    return tag("span", label(kind), class_="badge " + kind, title=MEANINGS[kind])
 
 
 def badges(*kinds):

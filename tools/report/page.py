@@ -32,8 +32,8 @@ def asked_part(views):
     return section("sources", "Where the numbers come from",
                    tag("p", "Every number is what one of these commands printed, or a sum, difference or quotient of "
                             "such numbers, or it stands in the head of the text or in the table of times; its tooltip "
-                            "says of which. The commands are proved; this page, its pictures and the recorder are "
-                            "plain programs."),
+                            "says of which. What a command answers is proved of the text that it reads; this "
+                            "page, its pictures and the recorder are plain programs."),
                    tag("ul", *[tag("li", tag("code", line)) for line in shown]))
 
 
@@ -51,7 +51,7 @@ def parts(views, factors):
     view, trials = views[0], Trials(views[0])
     compared = [("compared", "Side by side", compare_part(views))] if len(views) > 1 else []
     of = " of " + view.name if len(views) > 1 else ""
-    return [("summary", "Summary", summary_part(view, trials.halved, of)), *compared,
+    return [("summary", "Summary", summary_part(view, trials, of)), *compared,
             ("speed-up", "Speed-up", curve_part(views)), *timelines(views),
             ("path", "Critical path", path_part(view, of)),
             ("what-if", "What if", what_if_part(view, trials, factors, of)), ("tasks", "Tasks", tasks_part(view, of)),

@@ -1,5 +1,6 @@
 """The speed-up on more and more threads, between `least` and `bound`, with the point that the run reached."""
-from report.figures import PROVED, badges, grouped
+from report.claims import gain_may_be_less, gain_may_be_more, least_end, why_not_of_more_threads
+from report.figures import MEASURED, PROVED, badges, grouped
 from report.markup import details, join, note, section, tag
 from report.tables import table
 
@@ -29,6 +30,12 @@ def speed_ups(answers, column):
     return [(threads, answers.work / row[column] if row[column] else 1) for threads, row in answers.curve.items()]
 
 
+def most_speed_ups(answers):
+    """What no run of the recorded code passes: by the text, and by the lock that was held the longest."""
+    ends = [(threads, least_end(answers, threads)) for threads in answers.curve]
+    return [(threads, answers.work / end if end else 1) for threads, end in ends]
+
+
 def step_of(most):
     """A distance of ticks that leaves ten of them or fewer."""
     return next(step for step in (1, 2, 4, 5, 8, 10, 16, 20, 32, 50, 64, 100, 128, 256) if most / step <= 10)
@@ -48,7 +55,7 @@ def grid(axes):
         pieces.append(tag("text", speed_up, class_="axis", x=LEFT - 7, y=y + 4, text_anchor="end"))
     middle = (TOP + axes.y(0)) / 2
     pieces.append(tag("text", "threads", x=(LEFT + WIDTH - RIGHT) / 2, y=HEIGHT - 6, text_anchor="middle"))
-    pieces.append(tag("text", "times as fast as one thread", x=16, y=middle, text_anchor="middle",
+    pieces.append(tag("text", "work / end", x=16, y=middle, text_anchor="middle",
                       transform="rotate(-90 16 %g)" % middle))
     return join(pieces)
 
@@ -66,14 +73,32 @@ def told(view, threads):
 
 
 def curve_lines(axes, view, colour):
-    fastest, slowest = speed_ups(view.answers, "least"), speed_ups(view.answers, "bound")
+    fastest, slowest = most_speed_ups(view.answers), speed_ups(view.answers, "bound")
     greedy = speed_ups(view.answers, "end")
-    pieces = [tag("polygon", points=axes.points(fastest + slowest[::-1]), class_="band " + colour),
+    low = [(threads, min(slow, fast)) for (threads, slow), (_, fast) in zip(slowest, fastest)]
+    pieces = [tag("polygon", points=axes.points(fastest + low[::-1]), class_="band " + colour), lock_line(axes, view),
               tag("polyline", points=axes.points(greedy), class_="curve " + colour)]
     for threads, speed_up in greedy:
         pieces.append(tag("circle", told(view, threads), cx=axes.x(threads), cy=axes.y(speed_up), r=3,
                           class_="dot " + colour))
     return join(pieces)
+
+
+def lock_limit(answers):
+    """Work over the time inside the most held lock, where that is below what the text allows; else None."""
+    inside = answers.head.most_held
+    binds = inside and inside > answers.curve[max(answers.curve)]["least"]
+    return answers.work / inside if binds else None
+
+
+def lock_line(axes, view):
+    limit = lock_limit(view.answers)
+    if not limit:
+        return ""
+    words = "%.2f: work / time inside the most held lock" % limit
+    title = view.figures.told("title", words, ["span work / head most held lock"])
+    return tag("line", title, x1=axes.x(1), x2=axes.x(axes.most_threads), y1=axes.y(limit), y2=axes.y(limit),
+               class_="limit")
 
 
 def reached_mark(axes, view, colour):
@@ -82,7 +107,7 @@ def reached_mark(axes, view, colour):
     if not reached or reached.threads > axes.most_threads:
         return ""
     x, y = axes.x(reached.threads), axes.y(reached.speed_up)
-    words = "%d threads: %.2f times, %s" % (reached.threads, reached.speed_up, reached.words)
+    words = "%d threads: %.2f, %s" % (reached.threads, reached.speed_up, reached.words)
     title = view.figures.told("title", words, ["threads", "span work / " + reached.source])
     hollow = "" if reached.is_elapsed else " hollow"
     return tag("path", title, d="M%g %gl7 7l-7 7l-7 -7z" % (x, y - 7), class_="reached " + colour + hollow)
@@ -111,7 +136,9 @@ def keys(view, colour, name):
     """What line, band and diamond of a program mean."""
     items = [tag("span", tag("i", class_="key line " + colour), name, "the greedy run"),
              tag("span", tag("i", class_="key area " + colour), name,
-                 "from what every greedy run reaches to what no run passes")]
+                 "from what every greedy run of the text reaches to what none passes")]
+    if lock_limit(view.answers):
+        items.append(tag("span", tag("i", class_="key limit"), name, "work / time inside the most held lock"))
     if view.reached:
         hollow = "" if view.reached.is_elapsed else " hollow"
         items.append(tag("span", tag("i", class_="key diamond " + colour + hollow), name, view.reached.words))
@@ -122,7 +149,7 @@ def legend(views):
     items = []
     for number_of, view in enumerate(views):
         items += keys(view, "s%d" % number_of, view.name + ": " if len(views) > 1 else "")
-    items.append(tag("span", tag("i", class_="key dotted"), "as many times as threads"))
+    items.append(tag("span", tag("i", class_="key dotted"), "as many as threads"))
     return tag("p", *items, class_="legend given")
 
 
@@ -148,9 +175,27 @@ def numbers(view):
     return table(heads, [cells(view, threads) for threads in shown_threads(view.answers)], numeric=range(7))
 
 
+def limits(view):
+    """What keeps the curve from being the program's."""
+    head, reasons = view.answers.head, []
+    if why_not_of_more_threads(head):
+        reasons.append("the text is of one run: " + why_not_of_more_threads(head))
+    if gain_may_be_more(head):
+        reasons.append("by the remarks the program may gain more")
+    if gain_may_be_less(head):
+        reasons.append("by locks or remarks a run of the program may be below the band")
+    if not reasons:
+        return ""
+    words = "; ".join(reasons)
+    return tag("p", "Of ", tag("span", view.name, class_="place"), " as a program this says less: ", words, ".",
+               class_="limits")
+
+
 def curve_part(views):
     tables = [details("The numbers" + (" of " + view.name if len(views) > 1 else ""), numbers(view)) for view in views]
     return section("speed-up", "Speed-up", tag("figure", picture(views), legend(views)),
-                   note("The curve and its bounds: ", badges(PROVED), " for the costs and waits of the text. A run "
-                        "that leaves no thread idle while a segment is ready lies in the band, whatever its order."),
-                   *tables)
+                   note("How many times as fast as its work in a row the text ends: the curve, and its bounds ",
+                        badges(PROVED), ". A run of the text that leaves no thread idle while a segment is ready lies "
+                        "in the band, whatever its order; tied tasks can force a thread to idle. The diamond is how "
+                        "many threads were busy in this code on average ", badges(MEASURED), "."),
+                   *[limits(view) for view in views], *tables)

@@ -80,7 +80,7 @@ def first_words(view):
                show.number(len(answers.path_segments), "path segments", PROVED), " of ",
                show.number(answers.span_numbers["segments"], "span segments", view.shape_kind), " segments, ",
                show.number(answers.span, "span span", PROVED, unit=view.unit),
-               ". To make the program faster on many threads, shorten this chain.")
+               ". With threads to spare, only a shorter chain lets the text end sooner.")
 
 
 def path_part(view, of=""):

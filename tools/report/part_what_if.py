@@ -1,10 +1,23 @@
 """What other costs would do: each place's halved and made nothing, and lines to run for any other factors."""
+from report.claims import speaks_of
 from report.figures import PROVED, badges
 from report.markup import note, section, tag
 from report.tables import place_cell, table
 from report.what_if import FACTORS, all_at_once
 
-MOST_PLACES = 30
+
+def is_on_threads(view):
+    """Whether the greedy run on the page's threads is told too."""
+    return view.answers.threads > 1 and speaks_of(view.answers.head, view.answers.threads)
+
+
+def end_cells(view, trials, place):
+    """Where the greedy run ends at half the costs."""
+    threads, show, after = view.answers.threads, view.figures, trials.halved_end(place)
+    before, source = view.answers.curve[threads]["end"], "whatif %d 0.5 end %d" % (place.number, threads)
+    ended = "curve %d end" % threads
+    return [show.number(after, source, PROVED),
+            show.share(before - after, before, "%s - %s / %s" % (ended, source, ended), PROVED)]
 
 
 def answer_cells(view, trials, place, factor):
@@ -23,6 +36,7 @@ def row(view, trials, place):
     path = "place %d path / span span" % place.number
     cells = [place_cell(place.name, view.sources.snippet(place.name)),
              view.figures.share(place.critical_cost, view.answers.span, path, view.cost_kind)]
+    cells += end_cells(view, trials, place) if is_on_threads(view) else []
     for factor in FACTORS:
         cells += answer_cells(view, trials, place, factor)
     return cells + [factor_box(place)]
@@ -56,14 +70,15 @@ def lines_to_run(view):
 
 def what_if_part(view, trials, factors, of=""):
     """`of` names the program where the page has two."""
-    with_cost = [place for place in view.places if place.cost]
-    heads = ["all segments at a place", "of the span", "span at half the cost", "less", "span at no cost", "less",
-             "factor"]
-    rows = [row(view, trials, place) for place in with_cost[:MOST_PLACES]]
-    more = tag("span", len(with_cost) - len(rows), class_="given")
+    with_cost = sum(place.cost > 0 for place in view.places)
+    end = tag("span", "%d threads: greedy run at half the cost" % view.answers.threads, class_="given")
+    heads = ["all segments at a place", "of the span", *([end, "less"] if is_on_threads(view) else []),
+             "span at half the cost", "less", "span at no cost", "less", "factor"]
+    rows = [row(view, trials, place) for place in trials.places]
+    more = tag("span", with_cost - len(rows), class_="given")
     return section("what-if", "What if" + of, note(
-        "The span if every segment at a place cost half as much, or nothing: an answer of ",
-        tag("code", "spanprof whatif"), " each, exact for the program as the text has it ", badges(PROVED),
+        "The span of the text, and where its greedy run ends, if every segment at a place cost half as much, or "
+        "nothing: answers of ", tag("code", "spanprof whatif"), " and ", tag("code", "greedy"), " ", badges(PROVED),
         ". Odd costs are rounded to the nearest whole number, halves to even ones."),
-        asked_for(view, factors), table(heads, rows, numeric=range(1, 7), is_sortable=True),
-        note(more, " more places are left out.") if len(with_cost) > len(rows) else "", lines_to_run(view))
+        asked_for(view, factors), table(heads, rows, numeric=range(1, len(heads)), is_sortable=True),
+        note(more, " more places are left out.") if with_cost > len(rows) else "", lines_to_run(view))

@@ -1,7 +1,8 @@
 """The run as it was: which thread ran what, and when.
 
-The recorder's table of times tells it by the clock. Without one the replay document tells the order alone: then each
-segment is placed as early as its thread, in the recorded order, and what it waits for let it start.
+The recorder's table of times tells it by the clock. Without one, and where tasks are folded, the replay document tells
+the order alone: then each segment is placed as early as its thread, in the recorded order, and what it waits for let it
+start.
 """
 import os
 import re
@@ -9,6 +10,7 @@ from dataclasses import dataclass
 from typing import List, Optional
 
 import program
+from report.claims import is_folded
 
 
 @dataclass
@@ -55,8 +57,10 @@ def read_replay(path, answers):
         if program.ask(["show"], text) != answers.ask("show"):
             raise NoRun("%s is not a run of %s: their texts differ" % (name, answers.name))
         program.ask(["replay"], document)
-    except SystemExit as refused:
-        raise NoRun("spanprof refuses %s: %s" % (name, refused)) from refused
+    except program.Refused as refused:
+        raise NoRun("spanprof refuses %s: %s" % (name, refused.brief())) from refused
+    except SystemExit as missing:
+        raise NoRun("spanprof refuses %s: %s" % (name, missing)) from missing
     answers.asked.append("spanprof replay < %s" % name)
     return events(rest[0])
 
@@ -95,7 +99,7 @@ def recorded_run(path, answers):
     """The run of a replay document, which spanprof has to accept; with its times where they stand beside it."""
     log = read_replay(path, answers)
     times = os.path.splitext(path)[0] + ".times"
-    is_timed = os.path.exists(times)
+    is_timed = os.path.exists(times) and not is_folded(answers.head)
     run = read_times(times, answers) if is_timed else place_in_time(log, answers.rows, answers.predecessors)
     run.threads = answers.head.threads or 1
     started = {s: worker for kind, worker, s in log if kind == "start"}

@@ -9,6 +9,7 @@ from report.figures import DECLARED, MEASURED, RECORDED, Figures, unit_name
 from report.places import places, task_places
 from report.recorded_run import NoRun, RecordedRun, recorded_run
 from report.source import Sources
+from whatif.lead import lead
 
 COLOURS = 10
 
@@ -24,7 +25,8 @@ class Reached:
 
     @property
     def words(self):
-        return "reached, by the clock" if self.is_elapsed else "the order of the replay with the costs of the text"
+        return "work / elapsed of the recorded run" if self.is_elapsed else \
+            "the order of the replay with the costs of the text"
 
 
 class View:
@@ -69,6 +71,12 @@ class View:
         """Of tasks, segments and what waits for what."""
         head = self.answers.head
         return RECORDED if head.program or head.threads or head.unit else DECLARED
+
+    @cached_property
+    def lead(self):
+        """None where the text tells no time."""
+        self.answers.tell("single changes of %s" % self.name)
+        return lead(self.answers)
 
     @cached_property
     def reached(self):

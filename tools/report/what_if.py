@@ -1,5 +1,6 @@
 """Other costs for the segments of a place, and what spanprof's `whatif` makes of them."""
 FACTORS = (0.5, 0.0)
+MOST_PLACES = 30
 
 
 def changed(view, place, factor):
@@ -13,7 +14,7 @@ class Trials:
 
     def __init__(self, view):
         self.view = view
-        self.answers = {}
+        self.answers, self.ends = {}, {}
 
     def at(self, place, factor):
         key = place.number, factor
@@ -23,6 +24,25 @@ class Trials:
 
     def halved(self, place):
         return self.at(place, FACTORS[0])
+
+    def halved_end(self, place):
+        """Where the greedy run on the page's threads ends, where the place costs half as much."""
+        if place.number not in self.ends:
+            costs = changed(self.view, place, FACTORS[0])
+            self.ends[place.number] = self.view.answers.greedy_end(costs, self.view.answers.threads)
+        return self.ends[place.number]
+
+    @property
+    def places(self):
+        """Those that are tried: with costs, and the first of them by their part of the span, then of the work."""
+        return [place for place in self.view.places if place.cost][:MOST_PLACES]
+
+    @property
+    def soonest(self):
+        """The place whose halved costs let the greedy run end soonest; None where it would end no sooner."""
+        answers = self.view.answers
+        best = min(self.places, key=self.halved_end, default=None)
+        return best if best and self.halved_end(best) < answers.curve[answers.threads]["end"] else None
 
 
 class UnknownPlace(Exception):

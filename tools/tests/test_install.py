@@ -12,16 +12,21 @@ class Plan(unittest.TestCase):
     def test_what_goes_where(self):
         places = [path for _, path in install.plan()]
         for path in ("bin/spanprof", "bin/spanprof-record", "lib/spanprof/librecorder.so", "bin/spanprof-path",
-                     "lib/spanprof/spanprof_path", "share/spanprof/path/found.py", "share/man/man1/spanprof-path.1",
+                     "bin/spanprof-convert", "lib/spanprof/convert_log",
+                     "lib/spanprof/spanprof_path", "share/spanprof/path/found.py", "share/spanprof/whatif/command.py",
+                     "bin/spanprof-whatif", "share/man/man1/spanprof-path.1",
                      "share/man/man1/spanprof.1", "share/bash-completion/completions/spanprof-report",
                      "share/zsh/site-functions/_spanprof", "share/spanprof/record/command.py",
                      "share/spanprof/report/template/page.html", "share/spanprof/plots/program.py",
-                     "share/spanprof/conformance/tester/judge.py", "share/spanprof/conformance/harness/log.c"):
+                     "share/spanprof/conformance/tester/judge.py", "share/spanprof/conformance/harness/log.c",
+                     "share/spanprof/spanprof_version.py", "share/spanprof/VERSION"):
             self.assertIn(path, places)
         self.assertEqual(len(places), len(set(places)))
 
     def test_the_program_for_large_texts_where_it_is_built(self):
         self.assertNotIn("bin/spanprof_large", [path for _, path in install.plan(large="no such program")])
+        self.assertNotIn("bin/spanprof_account", [path for _, path in install.plan(account="no such program")])
+        self.assertIn("bin/spanprof_account", [path for _, path in install.plan(account=__file__)])
         places = dict((path, source) for source, path in install.plan(large=__file__))
         self.assertEqual(places["bin/spanprof_large"], __file__)
         self.assertIn("share/man/man1/spanprof_large.1", places)

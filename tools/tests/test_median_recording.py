@@ -54,6 +54,27 @@ class Medians(unittest.TestCase):
         self.assertEqual(text.count(remark), 1)
         self.assertIn("# remark: each cost is the median of 3 recordings", text)
 
+    def test_a_remark_with_other_numbers_is_the_same(self):
+        text = self.text(*[recording("a", 1, 5, 4, "# remark: folded task, %d times: span too high\n" % i)
+                           for i in (3, 4)])
+        self.assertEqual([line for line in text.split("\n") if "folded task" in line],
+                         ["# remark: folded task, 3 times: span too high"])
+
+    def test_lines_of_several_numbers(self):
+        lock = "# lock critical at sort.c:9: %d times, %d inside, %d waiting\n"
+        other = "# lock critical at sort.c:20: 1 time, 60 inside, 0 waiting\n"
+        text = self.text(*[recording("a", 1, 5, 4, lock % numbers + other + lock % (2, 50, 0))
+                           for numbers in ((3, 70, 5), (3, 90, 1), (3, 80, 3))])
+        self.assertIn(lock % (3, 80, 3) + other + lock % (2, 50, 0), text)
+
+    def test_what_is_covered_is_told_of_one_run(self):
+        lines = ("# covers: %s %% of the program's thread-time (%d of %d us)\n# not covered: %d outside regions, "
+                 "0 in other regions, 0 of this region\n")
+        told = [("50.0", 100, 200, 100), ("90.0", 90, 100, 10), ("75.0", 300, 400, 100)]
+        text = self.text(*[recording("a", 1, 5, 4, lines % one) for one in told])
+        self.assertIn(lines % told[2], text)
+        self.assertNotIn(lines % told[0], text)
+
     def test_the_median_is_a_recording_again(self):
         text = self.text(recording("a", 1, 5, 4), recording("b", 1, 9, 4))
         self.assertEqual(combine([read("c", text), recording("a", 1, 5, 4)])[1], "")

@@ -1,6 +1,7 @@
 import unittest
 
-from case import Left, first_faults, is_of_gcc, last_faults, second_setting, unfolded_span, wants
+from case import (Left, count_tasks, first_faults, is_of_gcc, last_faults, numbers_of_head, second_setting,
+                  unfolded_span, wants)
 
 SOURCE = """\
 // A program.
@@ -50,8 +51,20 @@ class Wanted(unittest.TestCase):
 
     def test_the_second_run(self):
         self.assertEqual(second_setting("A=5", ""), ("A", "5"))
-        self.assertEqual(second_setting("advised FOLD", "or record with FOLD=12 (3 tasks)"), ("FOLD", "12"))
-        self.assertIsNone(second_setting("advised FOLD", "nothing"))
+        self.assertEqual(second_setting("advised SPANPROF_FOLD_CHUNK", "or record with --fold chunk=12 (3 tasks)"),
+                         ("SPANPROF_FOLD_CHUNK", "12"))
+        self.assertIsNone(second_setting("advised SPANPROF_FOLD_CHUNK", "nothing"))
+
+    def test_parts_are_no_tasks(self):
+        self.assertEqual(count_tasks("task {  # one of the region's threads\n  task if(0) {\n  }\n}\ntaskwait\n"), 1)
+
+    def test_numbers_of_the_head(self):
+        text = ("# covers: at most 93.1 % of the program's thread-time (931 of 1000 us)\n"
+                "# clocks differ: in 424 of 425 us of the work, by 384 us, 85 times\n"
+                "# most held lock: 64 us inside, one thread at a time\nomptasks 1\n")
+        self.assertEqual(numbers_of_head(text), {"covers": 93.1, "most held lock": 64, "affected": 424,
+                                                 "off the processor": 384})
+        self.assertEqual(numbers_of_head("omptasks 1\n"), {})
 
     def test_the_span_without_folds(self):
         text = "# in tasks: 9\n# span without folds: 7, as the recorder adds it up\nomptasks 1\n"

@@ -13,7 +13,9 @@ use Rattle.task_segments.proofs.SameSchedules.{same_joined}
 use Rattle.task_segments.proofs.Work.{little_work}
 use Rattle.task_segments.specs.Nesting.{IsGroupedTable, IsNestedTable}
 use Rattle.task_segments.specs.Precedence.{IsSegment, MustPrecede}
-use Rattle.task_segments.specs.ProgramTable.{IsProgramTable}
+use Rattle.task_program.specs.Marks.{Mark}
+use Rattle.task_segments.proofs.Reading.{reading}
+use Rattle.task_segments.specs.MarksTable.{IsMarksTable, IsReading}
 use Rattle.task_segments.specs.Table.{Table, costs_of, segment, table_of}
 use Rattle.depend_table.proofs.Chains.{edge_reaches, kept_within}
 use Rattle.depend_table.specs.KeptEdges.{IsKeptEdge}
@@ -33,12 +35,12 @@ pub record IsWhole (table : Table) : Type 0 where
   pub grouped : IsGroupedTable table
   pub sound : IsSoundTable table
 
-pub whole_table : (program : ProgramMarks) → IsProgram program → IsWhole (table_of program.marks)
-whole_table program is =
-    let table : Table = table_of program.marks in
-    let of_program : IsProgramTable table = record {
-      program = program;
-      is_program = is;
+pub whole_marks : (marks : List Mark) → IsReading marks → IsWhole (table_of marks)
+whole_marks marks is_reading =
+    let table : Table = table_of marks in
+    let of_program : IsMarksTable table = record {
+      marks = marks;
+      reading = is_reading;
       is = refl;
     } in
     let nested : IsNestedTable table = nested_program table of_program in
@@ -69,6 +71,9 @@ whole_table program is =
         in_place = read_in_place table nested grouped;
       };
     }
+
+pub whole_table : (program : ProgramMarks) → IsProgram program → IsWhole (table_of program.marks)
+whole_table program is = whole_marks program.marks (reading program is)
 
 -- ---- the graph
 

@@ -12,7 +12,7 @@ use Rattle.std.proofs.lemmas.Bool.{cases_lt, both_ways}
 use Rattle.std.proofs.lemmas.Option.{none-some}
 use Rattle.std.proofs.lemmas.List.{length-map, length-replicate, get_or_past, get_or_default}
 use Rattle.std.proofs.lemmas.List.Folds.{sum_by-replicate}
-use Rattle.program_text.specs.declared.limits.TheConstants.{MOST_SEGMENTS}
+use Rattle.task_segments.specs.declared.limits.TheConstants.{MOST_ROWS}
 use Rattle.task_segments.specs.Table.{Table, costs_of}
 use Rattle.task_segments.specs.declared.table.Segment.{Segment}
 use Rattle.task_segments.specs.Precedence.{Continues, Creation}
@@ -197,9 +197,9 @@ graph_of_lists table costs lists are_costs are_lists = record {
 -- how many pairs of a predecessor and a segment a graph has
 pub few_edges : (graph : RecordedGraph)
     → IsGraph graph
-    → sum_by (λ (list : List ℕ). length list) graph.predecessors ≤ MOST_SEGMENTS * MOST_SEGMENTS
+    → sum_by (λ (list : List ℕ). length list) graph.predecessors ≤ MOST_ROWS * MOST_ROWS
 few_edges graph is_graph =
-    let each : All (λ (list : List ℕ). length list ≤ MOST_SEGMENTS)
+    let each : All (λ (list : List ℕ). length list ≤ MOST_ROWS)
     graph.predecessors = λ k d within.
     let same : get_or graph.predecessors k d ≡ predecessors_of graph k =
     get_or_default graph.predecessors k d [] within in
@@ -208,8 +208,8 @@ few_edges graph is_graph =
     let all = is_graph.each in
     let limit = is_graph.few in
     omega (arith, few, all, limit, within, ap (λ (l : List ℕ). length l) same) in
-    let total = sum_by-le (λ (list : List ℕ). length list) MOST_SEGMENTS graph.predecessors each in
-    let few : length graph.predecessors ≤ MOST_SEGMENTS =
+    let total = sum_by-le (λ (list : List ℕ). length list) MOST_ROWS graph.predecessors each in
+    let few : length graph.predecessors ≤ MOST_ROWS =
     let all = is_graph.each in let limit = is_graph.few in omega arith in
     omega arith
 

@@ -23,19 +23,21 @@ use open_segments::counters::Counters;
 use open_segments::entries::{push_if, value_entry};
 use open_segments::laws::serves_runs;
 use open_segments::opener::opener;
+use program_text::limits::MOST_SEGMENTS;
 use std::alloc::Global;
 use std::marker::{Model, PhantomData};
 use task_program::AllocFault;
-use task_segments::table::SegTable;
+use task_segments::limits::MOST_TASKS_WITH_ROOT;
+use task_segments::table::BoundedTable;
 
 /// A run of a program's segments by workers, with kernel K: which segments have started and
 /// finished, what each computed, and the record of it. Contracts see the program's table and the
 /// history, the accepted events in order. An event is accepted exactly where it may follow those
 /// before it.
 #[derive(Drop)]
-pub struct Core<K: Kernel> {
+pub struct BoundedCore<K: Kernel, const SEGMENTS: u32, const TASKS: u32> {
     alloc: Global,
-    table: SegTable,
+    table: BoundedTable<SEGMENTS, TASKS>,
     history: Vec<Event>,
     started: Vec<bool>,
     running: Vec<Option<u32>>,
@@ -45,7 +47,10 @@ pub struct Core<K: Kernel> {
     by: PhantomData<K>,
 }
 
-impl<K: Kernel> Model for Core<K> {
+/// A run of a program within the limits.
+pub type Core<K> = BoundedCore<K, MOST_SEGMENTS, MOST_TASKS_WITH_ROOT>;
+
+impl<K: Kernel, const SEGMENTS: u32, const TASKS: u32> Model for BoundedCore<K, SEGMENTS, TASKS> {
     ghost use Rattle.std.specs.Prelude.{vec_capacity};
     ghost use Rattle.dispatch_core.specs.Run.{Run};
     ghost use Rattle.dispatch_core.specs.Sound.{IsSound};
@@ -58,17 +63,20 @@ impl<K: Kernel> Model for Core<K> {
         a.started.items a.running.items a.values.items a.counters a.costs.items };
 }
 
-impl<K: Kernel> Core<K> {
+impl<K: Kernel, const SEGMENTS: u32, const TASKS: u32> BoundedCore<K, SEGMENTS, TASKS> {
     /// A core at the start of a run, with room for the whole history, which is two events for each
     /// segment. It is refused only when memory runs out, and then the table comes back.
-    pub fn new(alloc: Global, table: SegTable) -> Result<Core<K>, NewFault>
-        ensures ok { IfOk result (λ core. core ≡ record { table = table; history = [] }) }
-        ensures err { IfErr result (λ fault. fault.table ≡ table) }
+    pub fn new(
+        alloc: Global,
+        table: BoundedTable<SEGMENTS, TASKS>,
+    ) -> Result<BoundedCore<K, SEGMENTS, TASKS>, BoundedNewFault<SEGMENTS, TASKS>>
+        ensures ok { IfOk result (λ core. core ≡ record { table = table.entry; history = [] }) }
+        ensures err { IfErr result (λ fault. fault.table ≡ table.entry) }
     {
         match make_places(alloc, &table) {
             Ok(places) => {
                 serves_runs(&table);
-                Ok(Core {
+                Ok(BoundedCore {
                     alloc,
                     table,
                     history: places.history,
@@ -80,12 +88,12 @@ impl<K: Kernel> Core<K> {
                     by: PhantomData,
                 })
             }
-            Err(_) => Err(NewFault { table }),
+            Err(_) => Err(BoundedNewFault { table }),
         }
     }
 
     /// The program's segments and tasks.
-    pub fn table(&self) -> &SegTable
+    pub fn table(&self) -> &BoundedTable<SEGMENTS, TASKS>
         ensures { result.now ≡ self.now.table }
     {
         &self.table
@@ -146,7 +154,7 @@ impl<K: Kernel> Core<K> {
 
     /// The history, and the program's graph: its costs and kept edges. There is one exactly where
     /// every segment is finished. If not, the core comes back.
-    pub fn into_record(self) -> Result<(Vec<Event>, Graph), Unfinished<K>>
+    pub fn into_record(self) -> Result<(Vec<Event>, Graph), BoundedUnfinished<K, SEGMENTS, TASKS>>
         ensures history { IfOk result (λ made. made.0.items ≡ self.history) }
         ensures graph { IfOk result (λ made. IsGraphOf self.table made.1) }
         ensures finished { OnOk result (IsFinished self.table self.history) }
@@ -154,14 +162,14 @@ impl<K: Kernel> Core<K> {
         ensures back { IfErr result (λ unfinished. unfinished.core ≡ self) }
     {
         if !self.is_finished() {
-            return Err(Unfinished { core: self });
+            return Err(BoundedUnfinished { core: self });
         }
         let graph = make_graph(self.costs, self.counters.into_preds());
         Ok((self.history, graph))
     }
 
     /// The program's graph, exactly where every segment is finished. If not, the core comes back.
-    pub fn into_graph(self) -> Result<Graph, Unfinished<K>>
+    pub fn into_graph(self) -> Result<Graph, BoundedUnfinished<K, SEGMENTS, TASKS>>
         ensures ok { IfOk result (IsGraphOf self.table) }
         ensures finished { OnOk result (IsFinished self.table self.history) }
         ensures err { OnErr result (¬ IsFinished self.table self.history) }
@@ -174,7 +182,7 @@ impl<K: Kernel> Core<K> {
     }
 
     /// The program's table, given back.
-    pub(crate) fn into_table(self) -> SegTable
+    pub(crate) fn into_table(self) -> BoundedTable<SEGMENTS, TASKS>
         ensures { result ≡ self.table }
     {
         self.table
@@ -442,12 +450,18 @@ impl<K: Kernel> Core<K> {
 
 /// Out of memory for a core: the table comes back.
 #[derive(Drop)]
-pub struct NewFault {
-    pub table: SegTable,
+pub struct BoundedNewFault<const SEGMENTS: u32, const TASKS: u32> {
+    pub table: BoundedTable<SEGMENTS, TASKS>,
 }
+
+/// The same for a program within the limits.
+pub type NewFault = BoundedNewFault<MOST_SEGMENTS, MOST_TASKS_WITH_ROOT>;
 
 /// A run that is not finished: the core comes back.
 #[derive(Drop)]
-pub struct Unfinished<K: Kernel> {
-    pub core: Core<K>,
+pub struct BoundedUnfinished<K: Kernel, const SEGMENTS: u32, const TASKS: u32> {
+    pub core: BoundedCore<K, SEGMENTS, TASKS>,
 }
+
+/// The same for a program within the limits.
+pub type Unfinished<K> = BoundedUnfinished<K, MOST_SEGMENTS, MOST_TASKS_WITH_ROOT>;

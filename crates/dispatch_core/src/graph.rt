@@ -11,7 +11,7 @@ use open_segments::predecessors::all_predecessors;
 use std::alloc::Global;
 use std::marker::Model;
 use task_program::AllocFault;
-use task_segments::table::SegTable;
+use task_segments::table::BoundedTable;
 
 /// A recorded graph: for each segment, by its number from 0, its cost and the numbers of its
 /// predecessors. Contracts see these two lists.
@@ -34,7 +34,10 @@ impl Model for Graph {
 
 /// The graph of a program's segments, with their kept predecessors. It fails only if memory runs
 /// out.
-pub fn graph_of(alloc: Global, table: &SegTable) -> Result<Graph, AllocFault>
+pub fn graph_of<const SEGMENTS: u32, const TASKS: u32>(
+    alloc: Global,
+    table: &BoundedTable<SEGMENTS, TASKS>,
+) -> Result<Graph, AllocFault>
     ensures { IfOk result (IsGraphOf table.now) }
 {
     serves_runs(table);

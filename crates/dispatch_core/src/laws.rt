@@ -14,14 +14,14 @@ ghost use Rattle.dispatch_core.specs.Replays.{IsFirstRefused};
 ghost use Rattle.dispatch_core.specs.Values.{IsValue, IsInput};
 ghost use Rattle.dispatch_core.specs.declared.replay.ReplayRefusal.{ReplayRefusal};
 
-use crate::dispatch::Core;
+use crate::dispatch::BoundedCore;
 use crate::graph::Graph;
 use crate::kernel::Kernel;
 use open_segments::laws::serves_runs;
-use task_segments::table::SegTable;
+use task_segments::table::BoundedTable;
 
 /// Where a run is not finished and nothing runs, some segment is ready.
-pub fn never_stuck(table: &SegTable)
+pub fn never_stuck<const SEGMENTS: u32, const TASKS: u32>(table: &BoundedTable<SEGMENTS, TASKS>)
     ensures { (history : List Event) → ¬ IsFinished table.now history
         → ((worker s : ℕ) → ¬ Runs history worker s) → (s : ℕ) × IsReady table.now history s }
 {
@@ -57,7 +57,7 @@ pub fn some_value()
 
 /// What runs in a legal history runs on one of [`MOST_WORKERS`](crate::event::MOST_WORKERS)
 /// workers, is a segment, is open, and all that must precede it is finished.
-pub fn what_runs(table: &SegTable)
+pub fn what_runs<const SEGMENTS: u32, const TASKS: u32>(table: &BoundedTable<SEGMENTS, TASKS>)
     ensures { (history : List Event) (worker s : ℕ) → IsLegalRun table.now history
         → Runs history worker s → MayRun table.now history worker s }
 {
@@ -73,7 +73,9 @@ pub fn is_graph(graph: &Graph)
 }
 
 /// The history of a core is legal.
-pub fn legal_history<K: Kernel>(core: &Core<K>)
+pub fn legal_history<K: Kernel, const SEGMENTS: u32, const TASKS: u32>(
+    core: &BoundedCore<K, SEGMENTS, TASKS>,
+)
     ensures { IsLegalRun core.now.table core.now.history }
 {
     core.history();
@@ -91,7 +93,7 @@ pub fn each_once()
 
 /// The edges of a program's graph are the kept edges, and it has the legal schedules, the span, the
 /// least end, the least starts and the slacks of the whole relation.
-pub fn same_schedules(table: &SegTable)
+pub fn same_schedules<const SEGMENTS: u32, const TASKS: u32>(table: &BoundedTable<SEGMENTS, TASKS>)
     ensures edges { (graph : RecordedGraph) (s t : ℕ) → IsGraphOf table.now graph
         → Precedes graph s t ↔ IsKeptEdge table.now s t }
     ensures legal { (graph : RecordedGraph) (starts : List ℕ) → IsGraphOf table.now graph

@@ -12,7 +12,7 @@ use open_segments::counters::Counters;
 use open_segments::entries::{copies_of, value_entry};
 use std::alloc::Global;
 use task_program::AllocFault;
-use task_segments::table::SegTable;
+use task_segments::table::BoundedTable;
 
 /// What stands at a place, if anything.
 pub fn worker_entry(list: &[Option<u32>], at: u32) -> Option<u32>
@@ -52,7 +52,10 @@ pub struct Places {
 }
 
 /// The places at the start of a run.
-pub fn make_places(alloc: Global, table: &SegTable) -> Result<Places, AllocFault>
+pub fn make_places<const SEGMENTS: u32, const TASKS: u32>(
+    alloc: Global,
+    table: &BoundedTable<SEGMENTS, TASKS>,
+) -> Result<Places, AllocFault>
     ensures { IfOk result (AreFirst table.now) }
 {
     let segments = table.len();
@@ -67,7 +70,10 @@ pub fn make_places(alloc: Global, table: &SegTable) -> Result<Places, AllocFault
 }
 
 /// The costs of a program's segments.
-pub fn costs(alloc: Global, table: &SegTable) -> Result<Vec<u64>, AllocFault>
+pub fn costs<const SEGMENTS: u32, const TASKS: u32>(
+    alloc: Global,
+    table: &BoundedTable<SEGMENTS, TASKS>,
+) -> Result<Vec<u64>, AllocFault>
     ensures { IfOk result (λ list. list.items ≡ costs_of table.now) }
 {
     let mut list = Vec::with_capacity(alloc, table.len() as usize)?;

@@ -7,14 +7,14 @@ ghost use Rattle.dispatch_core.specs.Refusals.{IsCost};
 ghost use Rattle.dispatch_core.specs.Graph.{IsGraphOf};
 ghost use Rattle.dispatch_core.specs.Replays.{RefusesStep, RefusesReplay, fault_at};
 
-use crate::dispatch::{Core, NewFault};
+use crate::dispatch::{BoundedCore, BoundedNewFault};
 use crate::event::{Event, FinishKind, StartRefusal};
 use crate::graph::{Graph, graph_of};
 use crate::kernel::{Kernel, MixKernel, SegResult};
 use crate::laws::legal_history;
 use std::alloc::{AllocError, Global};
 use task_program::AllocFault;
-use task_segments::table::SegTable;
+use task_segments::table::BoundedTable;
 
 /// Why an event is refused.
 #[derive(Clone, Copy, Debug, PartialEq, Eq)]
@@ -45,20 +45,23 @@ enum StepFault {
 }
 
 /// The program's graph. It fails only if memory runs out, and then the table comes back.
-pub fn in_order(alloc: Global, table: SegTable) -> Result<Graph, NewFault>
-    ensures ok { IfOk result (IsGraphOf table) }
-    ensures err { IfErr result (λ fault. fault.table ≡ table) }
+pub fn in_order<const SEGMENTS: u32, const TASKS: u32>(
+    alloc: Global,
+    table: BoundedTable<SEGMENTS, TASKS>,
+) -> Result<Graph, BoundedNewFault<SEGMENTS, TASKS>>
+    ensures ok { IfOk result (IsGraphOf table.entry) }
+    ensures err { IfErr result (λ fault. fault.table ≡ table.entry) }
 {
     match graph_of(alloc, &table) {
         Ok(graph) => Ok(graph),
-        Err(_) => Err(NewFault { table }),
+        Err(_) => Err(BoundedNewFault { table }),
     }
 }
 
 /// Finishes a running segment with the value of a kernel that cannot fault on it. It fails only if
 /// memory runs out, and then nothing is changed.
-fn finish_computed<K: Kernel>(
-    core: &mut Core<K>,
+fn finish_computed<K: Kernel, const SEGMENTS: u32, const TASKS: u32>(
+    core: &mut BoundedCore<K, SEGMENTS, TASKS>,
     kernel: &K,
     worker: u32,
     segment: u32,
@@ -106,17 +109,17 @@ fn computed<K: Kernel>(kernel: &K, segment: u32, cost: u64, input: u64) -> SegRe
 /// The core after a list of events, run with the mixing kernel, or the first of them that may not
 /// follow those before it. Where it is refused, for that or when memory runs out, the table comes
 /// back.
-pub fn replay(
+pub fn replay<const SEGMENTS: u32, const TASKS: u32>(
     alloc: Global,
-    table: SegTable,
+    table: BoundedTable<SEGMENTS, TASKS>,
     events: &[Event],
-) -> Result<Core<MixKernel>, (ReplayFault, SegTable)>
-    ensures ok { IfOk result (λ core. core ≡ record { table = table; history = events.now }) }
-    ensures legal { OnOk result (IsLegalRun table events.now) }
-    ensures refused { IfErr result (λ fault. RefusesReplay table events.now fault.0) }
-    ensures back { IfErr result (λ fault. fault.1 ≡ table) }
+) -> Result<BoundedCore<MixKernel, SEGMENTS, TASKS>, (ReplayFault, BoundedTable<SEGMENTS, TASKS>)>
+    ensures ok { IfOk result (λ core. core ≡ record { table = table.entry; history = events.now }) }
+    ensures legal { OnOk result (IsLegalRun table.entry events.now) }
+    ensures refused { IfErr result (λ fault. RefusesReplay table.entry events.now fault.0) }
+    ensures back { IfErr result (λ fault. fault.1 ≡ table.entry) }
 {
-    let mut core = match Core::<MixKernel>::new(alloc, table) {
+    let mut core = match BoundedCore::<MixKernel, SEGMENTS, TASKS>::new(alloc, table) {
         Ok(core) => core,
         Err(fault) => return Err((ReplayFault::OutOfMemory, fault.table)),
     };
@@ -141,7 +144,10 @@ fn replay_fault(index: usize, fault: StepFault) -> ReplayFault
 }
 
 /// Makes one event.
-fn make_event(core: &mut Core<MixKernel>, event: Event) -> Result<(), StepFault>
+fn make_event<const SEGMENTS: u32, const TASKS: u32>(
+    core: &mut BoundedCore<MixKernel, SEGMENTS, TASKS>,
+    event: Event,
+) -> Result<(), StepFault>
     ensures next { OnOk result (core.new
         ≡ record { table = core.old.table; history = core.old.history ++ event ∷ [] }) }
     ensures refused { IfErr result (RefusesStep core.old.table core.old.history event) }
@@ -156,7 +162,11 @@ fn make_event(core: &mut Core<MixKernel>, event: Event) -> Result<(), StepFault>
     }
 }
 
-fn make_finish(core: &mut Core<MixKernel>, worker: u32, segment: u32) -> Result<(), StepFault>
+fn make_finish<const SEGMENTS: u32, const TASKS: u32>(
+    core: &mut BoundedCore<MixKernel, SEGMENTS, TASKS>,
+    worker: u32,
+    segment: u32,
+) -> Result<(), StepFault>
     ensures next { OnOk result (core.new
         ≡ record {
           table = core.old.table;

@@ -19,10 +19,10 @@ none_equal x (y ∷ ys) h =
     let parts = or_parts (eqb x y) (list_any (eqb x) ys) h in (parts.0, none_equal x ys parts.1)
 
 -- a segment runs at a moment, on this thread
-record RunsOn (costs starts : List ℕ) (T : ℕ → Option ℕ) (m s k : ℕ) : Type 0 where
-  inside : s < length costs
-  runs : runs_at m (at costs s) (at starts s) ≡ true
-  on : T s ≡ Some k
+pub record RunsOn (costs starts : List ℕ) (T : ℕ → Option ℕ) (m s k : ℕ) : Type 0 where
+  pub inside : s < length costs
+  pub runs : runs_at m (at costs s) (at starts s) ≡ true
+  pub on : T s ≡ Some k
 
 one_later : (cost start : ℕ) (costs starts : List ℕ) (T : ℕ → Option ℕ) (m s k : ℕ)
     → RunsOn costs starts (λ r. T (suc r)) m s k
@@ -31,11 +31,11 @@ one_later cost start costs starts T m s k found =
     record { inside = omega (arith, found.inside); runs = found.runs; on = found.on }
 
 -- the threads of those that run at a moment: different ones, and as many as run
-record RunningThreads (costs starts : List ℕ) (T : ℕ → Option ℕ) (m : ℕ) : Type 0 where
-  threads : List ℕ
-  each : length threads ≡ running_count costs starts m
-  distinct : IsDistinct eqb threads
-  of_one : (k : ℕ) → list_any (eqb k) threads ≡ true → (s : ℕ) × RunsOn costs starts T m s k
+pub record RunningThreads (costs starts : List ℕ) (T : ℕ → Option ℕ) (m : ℕ) : Type 0 where
+  pub threads : List ℕ
+  pub each : length threads ≡ running_count costs starts m
+  pub distinct : IsDistinct eqb threads
+  pub of_one : (k : ℕ) → list_any (eqb k) threads ≡ true → (s : ℕ) × RunsOn costs starts T m s k
 
 none_run : (k : ℕ) → (list_any (eqb k) [] ≡ true → ⊥)
 none_run k h = absurd (cc)
@@ -72,7 +72,7 @@ with_first {costs} {starts} {T} {m} cost start k first apart rest =
       ];
     }
 
-running_threads : (costs starts : List ℕ) (T : ℕ → Option ℕ) (m : ℕ)
+pub running_threads : (costs starts : List ℕ) (T : ℕ → Option ℕ) (m : ℕ)
     → ((s : ℕ) → s < length costs → runs_at m (at costs s) (at starts s) ≡ true
     → (k : ℕ) × (T s ≡ Some k))
     → ((s t k : ℕ) → t < s → RunsOn costs starts T m s k → RunsOn costs starts T m t k → ⊥)
@@ -104,12 +104,12 @@ running_threads (cost ∷ costs) (start ∷ starts) T m each apart =
       }
     ]
 
-runs_from_to : (m cost start : ℕ) → runs_at m cost start ≡ true
+pub runs_from_to : (m cost start : ℕ) → runs_at m cost start ≡ true
     → (start ≤ m) × (m < start + cost)
 runs_from_to m cost start h =
     let parts = and_parts _ _ h in (leb-true start m parts.0, ltb-true m (start + cost) parts.1)
 
-same_thread : {j k : ℕ} → Some j ≡ Some k → j ≡ k
+pub same_thread : {j k : ℕ} → Some j ≡ Some k → j ≡ k
 same_thread {j} {k} h = cc
 
 -- two segments that run at one moment have different threads

@@ -17,7 +17,7 @@ use Rattle.large_command.proofs.Lines.{ends_in_line, line_begins, line_goes_on}
 
 -- ---- the bytes that come next
 
-fits_none : FitsText []
+pub fits_none : FitsText []
 fits_none = record {
   short = omega arith;
   lines = λ front line later all none. omega (arith, part_within [] front line later all);

@@ -22,6 +22,7 @@ use large_text::TextMeter;
 use spanprof_command::{MOST_RETRIES, Report, Status, send};
 use std::alloc::{AllocError, Global};
 use std::io::{Read, Write};
+use task_program::name_key::NameKey;
 
 /// Reads a text of version 1 of any size to its end, and writes how many tasks and segments it has,
 /// its work and its span, each on a line of its own. With the words `--upto P` it writes a table of
@@ -33,8 +34,12 @@ use std::io::{Read, Write};
 /// [`MOST_RETRIES`] times. Out of memory and a reader that fails have lines of their own. Where the
 /// writer fails, takes no byte or is interrupted too often, what went out is a prefix of the text,
 /// and the status is `Fault`.
+///
+/// The names are hashed under this key. No answer depends on it, but whoever knows it can make up a
+/// text that takes time quadratic in its names.
 pub fn command<R: Read, W: Write>(
     alloc: Global,
+    key: NameKey,
     words: &[String],
     reader: &mut Counted<R>,
     writer: &mut Counted<W>,
@@ -60,7 +65,7 @@ pub fn command<R: Read, W: Write>(
     ensures flushes { flushes_of writer.new ≤ flushes_of writer.old + 1 }
 {
     let mut retries = MOST_RETRIES;
-    match prepare(alloc, words, reader, &mut retries) {
+    match prepare(alloc, key, words, reader, &mut retries) {
         Ok(report) => send(writer, report.text(), report.status(), &mut retries),
         Err(NoReport::OutOfMemory) => {
             let line = b"error: out of memory\n";
@@ -91,6 +96,7 @@ impl From<AllocError> for NoReport {
 /// Makes the report of the words and the text.
 fn prepare<R: Read>(
     alloc: Global,
+    key: NameKey,
     words: &[String],
     reader: &mut Counted<R>,
     retries: &mut u32,
@@ -110,7 +116,7 @@ fn prepare<R: Read>(
         → faults_of reader.new + retries.new ≡ faults_of reader.old + retries.old + 1 }
 {
     match read_large_words(alloc, words) {
-        Ok(asked) if is_in_range(asked) => answer_text(alloc, asked, reader, retries),
+        Ok(asked) if is_in_range(asked) => answer_text(alloc, key, asked, reader, retries),
         Ok(_) => Ok(Report::of_line(alloc, b"error: ThreadCount\n", Status::Refused)?),
         Err(WordsFault::WrongWords) => {
             Ok(Report::of_line(alloc, b"error: wrong words\n", Status::Usage)?)
@@ -130,6 +136,7 @@ fn is_in_range(asked: LargeRequest) -> bool
 
 fn answer_text<R: Read>(
     alloc: Global,
+    key: NameKey,
     asked: LargeRequest,
     reader: &mut Counted<R>,
     retries: &mut u32,
@@ -146,7 +153,7 @@ fn answer_text<R: Read>(
     ensures failed { result ≡ Err NoReport.ReadFault
         → faults_of reader.new + retries.new ≡ faults_of reader.old + retries.old + 1 }
 {
-    let mut text = TextMeter::new(alloc);
+    let mut text = TextMeter::new(alloc, key);
     match take_input(reader, &mut text, retries) {
         Ok(()) => Ok(answer(alloc, asked, text)?),
         Err(InputFault::TooLong) => {

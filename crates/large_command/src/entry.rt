@@ -20,16 +20,33 @@ use counted_io::Counted;
 use spanprof_command::{given_words, without_words};
 use std::alloc::{AllocGlobal, Global};
 use std::env::Env;
+use std::hash::{BuildHasher, Hasher, RandomState};
 use std::io;
 use std::io::{Input, Print, Read, Write};
 use std::process::ExitCode;
+use std::random::RandomSource;
+use task_program::name_key::NameKey;
 
 /// The whole program: hands the words, standard input and standard output of the process to
 /// `start`, and answers what it answers.
-pub fn run_program<H: AllocGlobal + Env + Input + Print>(rt: &H) -> ExitCode {
+pub fn run_program<H: AllocGlobal + Env + Input + Print + RandomSource>(rt: &H) -> ExitCode {
     let mut reader = Counted::new(rt.reader());
     let mut writer = Counted::new(io::writer(rt));
-    start(rt.alloc(), given_words(rt), &mut reader, &mut writer)
+    start(
+        rt.alloc(),
+        key_of_names(rt),
+        given_words(rt),
+        &mut reader,
+        &mut writer,
+    )
+}
+
+// A random key, or the fixed one where the system has no random bytes.
+fn key_of_names(rt: &impl RandomSource) -> NameKey {
+    match RandomState::new(rt) {
+        Ok(state) => NameKey::of_number(state.build_hasher().finish()),
+        Err(_) => NameKey::fixed(),
+    }
 }
 
 /// Does what `command` does with the words that the system handed over, and answers the exit
@@ -38,6 +55,7 @@ pub fn run_program<H: AllocGlobal + Env + Input + Print>(rt: &H) -> ExitCode {
 /// read: words that are not text are wrong words.
 pub fn start<R: Read, W: Write>(
     alloc: Global,
+    key: NameKey,
     words: io::Result<Vec<String>>,
     reader: &mut Counted<R>,
     writer: &mut Counted<W>,
@@ -69,7 +87,7 @@ pub fn start<R: Read, W: Write>(
     ensures flushes { flushes_of writer.new ≤ flushes_of writer.old + 1 }
 {
     let status = match words {
-        Ok(words) => command(alloc, words.as_slice(), reader, writer),
+        Ok(words) => command(alloc, key, words.as_slice(), reader, writer),
         Err(error) => without_words(error.kind(), writer),
     };
     ExitCode::from(status.exit_status())

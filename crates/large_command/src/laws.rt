@@ -2,6 +2,7 @@
 ghost use Rattle.std.specs.Prelude.{ℕ, ◌⊎◌, ◌<◌, ◌≤◌, ◌++◌, List};
 ghost use Rattle.greedy_sim.specs.Greedy.{IsGreedy, IsLegalOn};
 ghost use Rattle.large_command.specs.Lengths.{IsTooLong};
+ghost use Rattle.large_command.specs.OneReport.{HasOneReport, HasOneTree, HasReport};
 ghost use Rattle.large_text.specs.Streamed.{FitsText};
 ghost use Rattle.online_span.specs.Spans.{IsSpanOf};
 ghost use Rattle.spanprof_command.specs.GreedyRuns.{bound_of, least_of};
@@ -40,4 +41,20 @@ pub fn fits_or_too_long()
     ensures one { (text : List ℕ) → FitsText text ⊎ IsTooLong text }
     ensures not_both { (text : List ℕ) → FitsText text → IsTooLong text → ⊥ }
     ensures stays { (text later : List ℕ) → IsTooLong text → IsTooLong (text ++ later) }
+{}
+
+/// No text has two trees of marks.
+pub fn one_tree()
+    ensures { (texts : List (List ℕ)) → HasOneTree texts }
+{}
+
+/// For given words and a given input there is only one text that the program writes, and one
+/// status, wherever it stops reading a text that is too long.
+pub fn one_report()
+    ensures { (words : List (List ℕ)) (input : List ℕ) → HasOneReport words input }
+{}
+
+/// All words and every input have a report.
+pub fn some_report()
+    ensures { (words : List (List ℕ)) (input : List ℕ) → HasReport words input }
 {}

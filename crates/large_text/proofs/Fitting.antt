@@ -1,5 +1,5 @@
 -- A meter can take each mark that the reader hands on.
-use Rattle.std.proofs.Common.{◌≡◌, ◌<◌, ◌≤◌, ◌^◌, false, List, [], ◌∷◌, ◌++◌, length}
+use Rattle.std.proofs.Common.{◌≡◌, ◌+◌, ◌<◌, ◌≤◌, ◌^◌, false, List, [], ◌∷◌, ◌++◌, length}
 use Rattle.std.proofs.Common.{append_assoc, length-append, refl, sym, ap, subst, ◌∙◌, arith}
 use Rattle.std.proofs.lemmas.List.{append-nil}
 use Rattle.std.proofs.lemmas.List.Sums.{count_by-le-length, sum_by-cons}
@@ -16,8 +16,9 @@ use Rattle.task_segments.specs.Moments.{IsProper}
 use Rattle.task_segments.proofs.Grouping.{IsGrouped, Closes}
 use Rattle.task_segments.proofs.LastMoment.{last_of_nested, moment_after-append, count_read}
 use Rattle.task_segments.proofs.Walks.{grows}
-use Rattle.online_span.specs.declared.meter.Meter.{Meter}
-use Rattle.online_span.specs.Measuring.{Measures, Fits, CanTake, groups_ended}
+use Rattle.large_text.specs.declared.tally.Tally.{Tally}
+use Rattle.online_span.specs.Measuring.{Fits, groups_ended}
+use Rattle.large_text.specs.Tallied.{Tallies, FitsWork, CanTally}
 use Rattle.large_text.specs.declared.reader.MarkReader.{MarkReader}
 use Rattle.large_text.specs.LargeReading.{IsReadSoFar, state_of}
 use Rattle.large_text.proofs.Sound.{AreOpen}
@@ -62,7 +63,7 @@ fits_next : (marks later : List Mark) (m : Mark)
     → IsNested ((marks ++ m ∷ []) ++ later)
     → work_of (marks ++ m ∷ []) ≤ MOST_WORK
     → length marks < 2 ^ 63
-    → Fits m (last_moment marks)
+    → FitsWork m (last_moment marks)
 fits_next marks later m nested work few =
     let start : List Mark = Begins false [] ∷ [] in
     let e = last_moment marks in
@@ -72,30 +73,35 @@ fits_next marks later m nested work few =
     ∙ ap (λ (x : List Mark). moment_after x later) (moment_after-append marks (m ∷ []) start) in
     let proper = proper_before (m ∷ e) later (subst IsProper same last.proper) in
     let grouped = grouped_before (m ∷ e) later (subst IsGrouped same last.grouped) in
+    let all_work : work_of e + work_done m ≤ MOST_WORK =
+    omega (
+      arith,
+      grows work_done start (marks ++ m ∷ []) marks (m ∷ []) [] refl,
+      sum_by-cons work_done m [],
+      work,
+    ) in
     record {
-      some_open = proper.0;
-      grouped = group_open m e grouped.1;
-      segments = omega (arith, count_read opens start marks, count_by-le-length opens marks, few);
-      tasks = omega (
-        arith,
-        count_read begins_task start marks,
-        count_by-le-length begins_task marks,
-        few,
-      );
-      work = omega (
-        arith,
-        grows work_done start (marks ++ m ∷ []) marks (m ∷ []) [] refl,
-        sum_by-cons work_done m [],
-        work,
-      );
+      fits = record {
+        some_open = proper.0;
+        grouped = group_open m e grouped.1;
+        segments = omega (arith, count_read opens start marks, count_by-le-length opens marks, few);
+        tasks = omega (
+          arith,
+          count_read begins_task start marks,
+          count_by-le-length begins_task marks,
+          few,
+        );
+        work = omega (arith, all_work);
+      };
+      work = all_work;
     }
 
 -- the mark that was handed on last can be taken
 pub can_take : (before : List Token) (marks : List Mark) (mark : Mark) (reader : MarkReader)
-    (meter : Meter)
+    (meter : Tally)
     → IsReadSoFar before (marks ++ mark ∷ []) reader
-    → Measures meter (last_moment marks)
-    → CanTake meter mark
+    → Tallies meter (last_moment marks)
+    → CanTally meter mark
 can_take before marks mark reader meter r measures =
     let more = marks ++ mark ∷ [] in
     let s = sound before more reader r in
@@ -104,7 +110,7 @@ can_take before marks mark reader meter r measures =
     omega (arith, s.few, s.within.bytes, length-append marks (mark ∷ [])) in
     record {
       moment = last_moment marks;
-      measures = measures;
+      tallies = measures;
       fits = fits_next marks (closing blocks) mark (closed blocks more s.behind.open_are)
           (omega (arith, s.work_is, s.within.work)) few;
     }

@@ -13,3 +13,4 @@ pub mod Whole
 pub mod Moved
 pub mod Cutting
 pub mod Streaming
+pub mod Tallying

@@ -10,21 +10,21 @@ use Rattle.program_text.specs.ScannerSeen.{tokens_left, end_line}
 use Rattle.program_text.specs.Tokens.{Token, texts, tokens_from, line_at_end}
 use Rattle.task_segments.specs.Moments.{last_moment}
 use Rattle.task_segments.proofs.LastMoment.{moment_after-append}
-use Rattle.online_span.specs.declared.meter.Meter.{Meter}
-use Rattle.online_span.specs.Measuring.{Measures}
+use Rattle.large_text.specs.declared.tally.Tally.{Tally}
+use Rattle.large_text.specs.Tallied.{Tallies}
 use Rattle.large_text.specs.declared.marks.TextMark.{TextMark}
 use Rattle.large_text.specs.declared.reader.MarkReader.{MarkReader}
 use Rattle.large_text.specs.LargeReading.{IsReadSoFar, mark_seen}
 use Rattle.large_text.specs.LargeTrees.{HasLargeTree, IsLargeRightWhole, IsLargeFirstFault}
-use Rattle.large_text.specs.Measured.{MeasuresText, MeasuresSoFar, CanMeasure}
+use Rattle.large_text.specs.Measured.{TalliesText, MeasuresSoFar, CanMeasure}
 use Rattle.large_text.proofs.Moved.{further, tokens_further}
 
 -- a token with which a mark is whole
 pub mark_taken : (before : List Token) (token : Token) (mark : TextMark) (old new : MarkReader)
-    (meter more : Meter)
+    (meter more : Tally)
     → ((tokens : List Token) (marks : List Mark) → IsReadSoFar tokens marks old
     → IsReadSoFar (tokens ++ token ∷ []) (marks ++ mark_seen mark ∷ []) new)
-    → ((moment : List Mark) → Measures meter moment → Measures more (mark_seen mark ∷ moment))
+    → ((moment : List Mark) → Tallies meter moment → Tallies more (mark_seen mark ∷ moment))
     → MeasuresSoFar before old meter
     → MeasuresSoFar (before ++ token ∷ []) new more
 mark_taken before token mark old new meter more reads takes m =
@@ -32,7 +32,7 @@ mark_taken before token mark old new meter more reads takes m =
     record {
       marks = m.marks ++ mark_seen mark ∷ [];
       so_far = reads before m.marks m.so_far;
-      measures = subst (Measures more)
+      measures = subst (Tallies more)
           (sym (moment_after-append m.marks (mark_seen mark ∷ []) start))
           (takes (last_moment m.marks) m.measures);
     }
@@ -64,7 +64,7 @@ none_further lines scanner none =
 
 -- the tokens before the scanner have been taken, and those of the text that are left are its own
 pub record GoesThrough (text : List ℕ) (lines : ℕ) (scanner : Scanner) (first reader : MarkReader)
-    (start meter : Meter) : Type 0 where
+    (start meter : Tally) : Type 0 where
   pub gone : List Token
   pub all : tokens_from false (lines + 1) text ≡ gone ++ left_behind lines scanner
   pub line_is : lines + end_line scanner ≡ line_at_end (lines + 1) text
@@ -72,7 +72,7 @@ pub record GoesThrough (text : List ℕ) (lines : ℕ) (scanner : Scanner) (firs
       → MeasuresSoFar (before ++ gone) reader meter
 
 pub goes_first : (text : List ℕ) (lines : ℕ) (scanner : Scanner) (reader : MarkReader)
-    (meter : Meter)
+    (meter : Tally)
     → scanner.rest.now ≡ text
     → scanner.line ≡ 1
     → GoesThrough text lines scanner reader reader meter meter
@@ -85,7 +85,7 @@ goes_first text lines scanner reader meter rest line_is = record {
 }
 
 pub goes_on : (text : List ℕ) (lines : ℕ) (scanner next : Scanner) (token : Token)
-    (first old new : MarkReader) (start meter more : Meter)
+    (first old new : MarkReader) (start meter more : Tally)
     → GoesThrough text lines scanner first old start meter
     → tokens_left scanner ≡ token ∷ tokens_left next
     → end_line next ≡ end_line scanner
@@ -106,7 +106,7 @@ goes_on text lines scanner next token first old new start meter more at split li
     }
 
 pub goes_still : (text : List ℕ) (lines : ℕ) (scanner : Scanner) (first reader : MarkReader)
-    (start meter : Meter)
+    (start meter : Tally)
     → GoesThrough text lines scanner first reader start meter
     → CanMeasure first start
     → CanMeasure reader meter
@@ -116,7 +116,7 @@ goes_still text lines scanner first reader start meter at can = record {
 }
 
 pub goes_whole : (text : List ℕ) (lines : ℕ) (scanner : Scanner) (first reader : MarkReader)
-    (start meter : Meter)
+    (start meter : Tally)
     → GoesThrough text lines scanner first reader start meter
     → tokens_left scanner ≡ []
     → (before : List Token) → MeasuresSoFar before first start
@@ -131,7 +131,7 @@ goes_whole text lines scanner first reader start meter at none = λ before m.
 
 -- the first fault is at this token
 pub stops_at : (text : List ℕ) (lines : ℕ) (scanner next : Scanner) (token : Token)
-    (first reader : MarkReader) (start meter : Meter) (fault : ReadFault)
+    (first reader : MarkReader) (start meter : Tally) (fault : ReadFault)
     → GoesThrough text lines scanner first reader start meter
     → tokens_left scanner ≡ token ∷ tokens_left next
     → ((before later : List Token) (end_line : ℕ) → MeasuresSoFar before reader meter
@@ -153,7 +153,7 @@ stops_at text lines scanner next token first reader start meter fault at split r
 
 -- the text ends where it may not
 pub stops_early : (before all : List Token) (end_line line : ℕ) (reader : MarkReader)
-    (meter : Meter) (fault : ReadFault)
+    (meter : Tally) (fault : ReadFault)
     → MeasuresSoFar before reader meter
     → before ≡ all
     → line ≡ end_line
@@ -165,15 +165,15 @@ stops_early before all end_line line reader meter fault m all_is line_is refused
     (subst (λ (n : ℕ). IsLargeFirstFault before n fault) line_is (refused before m.marks m.so_far))
 
 -- the text is whole
-pub is_measured : (before all : List Token) (reader : MarkReader) (meter : Meter)
+pub is_measured : (before all : List Token) (reader : MarkReader) (meter : Tally)
     → MeasuresSoFar before reader meter
     → before ≡ all
     → ((before : List Token) (marks : List Mark) → IsReadSoFar before marks reader
     → HasLargeTree (texts before) marks × IsLargeRightWhole before)
-    → MeasuresText all meter
+    → TalliesText all meter
 is_measured before all reader meter m all_is whole =
     let is = whole before m.marks m.so_far in
-    subst (λ (ts : List Token). MeasuresText ts meter) all_is (record {
+    subst (λ (ts : List Token). TalliesText ts meter) all_is (record {
       marks = m.marks;
       tree = is.0;
       right = is.1;

@@ -11,12 +11,12 @@ use Rattle.program_text.specs.Marks.{Mark}
 use Rattle.program_text.specs.Marks.Mark.{Begins}
 use Rattle.program_text.specs.Tokens.{Token, texts, is_line_feed, tokens_from, tokens_of}
 use Rattle.program_text.specs.Tokens.{line_at_end}
-use Rattle.online_span.specs.declared.meter.Meter.{Meter}
-use Rattle.online_span.specs.Measuring.{Measures}
+use Rattle.large_text.specs.declared.tally.Tally.{Tally}
+use Rattle.large_text.specs.Tallied.{Tallies}
 use Rattle.large_text.specs.declared.reader.MarkReader.{MarkReader}
 use Rattle.large_text.specs.LargeReading.{IsReadSoFar}
 use Rattle.large_text.specs.LargeTrees.{HasLargeTree, IsLargeRightWhole, IsLargeFirstFault}
-use Rattle.large_text.specs.Measured.{MeasuresSoFar, MeasuresText}
+use Rattle.large_text.specs.Measured.{MeasuresSoFar, TalliesText}
 use Rattle.large_text.specs.Streamed.{EndsLine, CutsTokens, HasTakenLines, HasFault}
 use Rattle.large_text.specs.Streamed.{HasTakenBy, HasTaken, TakesBytes, FitsText, HasNoLineFeed}
 use Rattle.large_text.specs.Streamed.{CanTakeBytes}
@@ -79,9 +79,9 @@ line_ends bytes end some within feed =
 
 -- ---- from piece to piece
 
-pub taken_first : (reader : MarkReader) (meter : Meter)
+pub taken_first : (reader : MarkReader) (meter : Tally)
     → IsReadSoFar [] [] reader
-    → Measures meter (Begins false [] ∷ [])
+    → Tallies meter (Begins false [] ∷ [])
     → HasTakenLines [] [] 1 reader meter
 unfolding tokens_from
 taken_first reader meter so_far measures = record {
@@ -93,7 +93,7 @@ taken_first reader meter so_far measures = record {
 }
 
 -- a line that is not whole is kept
-pub keeps_more : (bytes tail more : List ℕ) (line : ℕ) (reader : MarkReader) (meter : Meter)
+pub keeps_more : (bytes tail more : List ℕ) (line : ℕ) (reader : MarkReader) (meter : Tally)
     → HasTakenLines bytes tail line reader meter
     → HasTakenLines (bytes ++ more) (tail ++ more) line reader meter
 keeps_more bytes tail more line reader meter h = record {
@@ -113,7 +113,7 @@ stays_fault bytes more fault h = λ later end_line.
     (sym (append_assoc bytes more later)) (h (more ++ later) end_line)
 
 pub kept : (found : Option ReadFault) (bytes tail more after : List ℕ) (line : ℕ)
-    (reader : MarkReader) (meter : Meter)
+    (reader : MarkReader) (meter : Tally)
     → after ≡ tail ++ more
     → HasTakenBy found bytes tail line reader meter
     → HasTakenBy found (bytes ++ more) after line reader meter
@@ -209,7 +209,7 @@ ends_line tail piece (front, is) =
 
 -- the tokens of whole lines are taken
 pub lines_taken : (bytes tail piece : List ℕ) (line end : ℕ) (reader next : MarkReader)
-    (meter more : Meter)
+    (meter more : Tally)
     → HasTakenLines bytes tail line reader meter
     → EndsLine piece
     → end ≡ line_at_end line (tail ++ piece)
@@ -232,7 +232,7 @@ lines_taken bytes tail piece line end reader next meter more h ends end_is reads
     }
 
 -- or one of them is wrong
-pub fault_met : (bytes tail piece : List ℕ) (line : ℕ) (reader : MarkReader) (meter : Meter)
+pub fault_met : (bytes tail piece : List ℕ) (line : ℕ) (reader : MarkReader) (meter : Tally)
     (fault : ReadFault)
     → HasTakenLines bytes tail line reader meter
     → EndsLine piece
@@ -257,7 +257,7 @@ fault_met bytes tail piece line reader meter fault h ends refused = λ later end
 -- the same of the text that was gone through, behind which nothing is kept
 pub lines_done : (found : Option ReadFault) (bytes tail piece text after : List ℕ)
     (line end lines : ℕ)
-    (reader next : MarkReader) (meter more : Meter)
+    (reader next : MarkReader) (meter more : Tally)
     → found ≡ None
     → text ≡ tail ++ piece
     → after ≡ []
@@ -280,7 +280,7 @@ lines_done (Some fault) bytes tail piece text after line end lines reader next m
     empty h ends end_is lines_is reads = absurd cc
 
 pub fault_done : (found : Option ReadFault) (bytes tail piece text : List ℕ) (line : ℕ)
-    (reader : MarkReader) (meter : Meter) (fault : ReadFault)
+    (reader : MarkReader) (meter : Tally) (fault : ReadFault)
     → found ≡ None
     → text ≡ tail ++ piece
     → HasTakenBy found bytes tail line reader meter
@@ -298,7 +298,7 @@ fault_done (Some other) bytes tail piece text line reader meter fault none is h 
 
 -- ---- the end of the text
 
-tokens_whole : (bytes tail : List ℕ) (line : ℕ) (reader : MarkReader) (meter : Meter)
+tokens_whole : (bytes tail : List ℕ) (line : ℕ) (reader : MarkReader) (meter : Tally)
     (h : HasTakenLines bytes tail line reader meter)
     → tokens_of h.lines ++ tokens_from false line tail ≡ tokens_of bytes
 tokens_whole bytes tail line reader meter h =
@@ -306,7 +306,7 @@ tokens_whole bytes tail line reader meter h =
     ∙ sym (h.cuts tail)
     ∙ ap (λ (a : List ℕ). tokens_of a) (sym h.all)
 
-pub all_taken : (bytes tail : List ℕ) (line : ℕ) (reader next : MarkReader) (meter more : Meter)
+pub all_taken : (bytes tail : List ℕ) (line : ℕ) (reader next : MarkReader) (meter more : Tally)
     → HasTakenLines bytes tail line reader meter
     → ((before : List Token) → MeasuresSoFar before reader meter
     → MeasuresSoFar (before ++ tokens_from false line tail) next more)
@@ -315,7 +315,7 @@ all_taken bytes tail line reader next meter more h reads =
     subst (λ (ts : List Token). MeasuresSoFar ts next more)
     (tokens_whole bytes tail line reader meter h) (reads (tokens_of h.lines) h.so_far)
 
-pub last_line : (bytes tail : List ℕ) (line end : ℕ) (reader : MarkReader) (meter : Meter)
+pub last_line : (bytes tail : List ℕ) (line end : ℕ) (reader : MarkReader) (meter : Tally)
     → HasTakenLines bytes tail line reader meter
     → end ≡ line_at_end line tail
     → end ≡ line_at_end 1 bytes
@@ -325,7 +325,7 @@ last_line bytes tail line end reader meter h end_is =
     ∙ line_adds 1 h.lines tail
     ∙ ap (λ (a : List ℕ). line_at_end 1 a) (sym h.all)
 
-pub last_fault : (bytes tail : List ℕ) (line : ℕ) (reader : MarkReader) (meter : Meter)
+pub last_fault : (bytes tail : List ℕ) (line : ℕ) (reader : MarkReader) (meter : Tally)
     (fault : ReadFault)
     → HasTakenLines bytes tail line reader meter
     → ((before later : List Token) (end_line : ℕ) → MeasuresSoFar before reader meter
@@ -340,7 +340,7 @@ last_fault bytes tail line reader meter fault h refused = λ end_line.
 
 -- the same of what a meter of a text has taken
 pub told : (found : Option ReadFault) (bytes tail : List ℕ) (line : ℕ) (reader : MarkReader)
-    (meter : Meter) (fault : ReadFault)
+    (meter : Tally) (fault : ReadFault)
     → found ≡ Some fault
     → HasTakenBy found bytes tail line reader meter
     → (end_line : ℕ) → IsLargeFirstFault (tokens_of bytes) end_line fault
@@ -351,7 +351,7 @@ told found bytes tail line reader meter fault is h = λ end_line.
     (has [] end_line)
 
 are_lines : (found : Option ReadFault) (bytes tail text : List ℕ) (line : ℕ) (reader : MarkReader)
-    (meter : Meter)
+    (meter : Tally)
     → found ≡ None
     → text ≡ tail
     → HasTakenBy found bytes tail line reader meter
@@ -361,7 +361,7 @@ are_lines found bytes tail text line reader meter none is h =
     (subst (λ (f : Option ReadFault). HasTakenBy f bytes tail line reader meter) none h)
 
 pub fault_last : (found : Option ReadFault) (bytes tail text : List ℕ) (line : ℕ)
-    (reader : MarkReader) (meter : Meter) (fault : ReadFault)
+    (reader : MarkReader) (meter : Tally) (fault : ReadFault)
     → found ≡ None
     → text ≡ tail
     → HasTakenBy found bytes tail line reader meter
@@ -373,7 +373,7 @@ fault_last found bytes tail text line reader meter fault none is h refused =
     (are_lines found bytes tail text line reader meter none is h) refused
 
 pub ends_early : (found : Option ReadFault) (bytes tail text : List ℕ) (line end : ℕ)
-    (reader next : MarkReader) (meter more : Meter) (fault : ReadFault)
+    (reader next : MarkReader) (meter more : Tally) (fault : ReadFault)
     → found ≡ None
     → text ≡ tail
     → HasTakenBy found bytes tail line reader meter
@@ -391,7 +391,7 @@ ends_early found bytes tail text line end reader next meter more fault none is h
     (last_line bytes text line end reader meter lines end_is) refused
 
 pub ends_whole : (found : Option ReadFault) (bytes tail text : List ℕ) (line : ℕ)
-    (reader next : MarkReader) (meter more : Meter)
+    (reader next : MarkReader) (meter more : Tally)
     → found ≡ None
     → text ≡ tail
     → HasTakenBy found bytes tail line reader meter
@@ -399,7 +399,7 @@ pub ends_whole : (found : Option ReadFault) (bytes tail text : List ℕ) (line :
     → MeasuresSoFar (before ++ tokens_from false line text) next more)
     → ((before : List Token) (marks : List Mark) → IsReadSoFar before marks next
     → HasLargeTree (texts before) marks × IsLargeRightWhole before)
-    → MeasuresText (tokens_of bytes) more
+    → TalliesText (tokens_of bytes) more
 ends_whole found bytes tail text line reader next meter more none is h reads whole =
     is_measured (tokens_of bytes) (tokens_of bytes) next more
     (all_taken bytes text line reader next meter more

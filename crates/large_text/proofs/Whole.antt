@@ -1,6 +1,6 @@
 -- A text in which nothing is wrong has a tree.
 use Rattle.std.proofs.Common.{◌≡◌, ℕ, List, [], ◌∷◌, Option, Some, None, Result, Ok}
-use Rattle.std.proofs.Common.{Err, refl, sym, ap, subst, ◌+◌, ◌++◌}
+use Rattle.std.proofs.Common.{Err, refl, sym, ap, subst, ◌+◌, ◌++◌, ◌∙◌, ◌⊎◌, inl, inr, arith, length}
 use Rattle.program_text.specs.declared.fault.ReadFault.{ReadFault}
 use Rattle.program_text.specs.Limits.{work_of}
 use Rattle.program_text.specs.Marks.{Mark}
@@ -8,10 +8,12 @@ use Rattle.program_text.specs.Tokens.{Token, texts}
 use Rattle.task_program.specs.FirstFault.{IsRight}
 use Rattle.task_program.specs.Faults.{State, start, end_at}
 use Rattle.task_program.specs.FirstPlainFault.{IsSentence}
-use Rattle.task_program.proofs.Machines.{Machine, WrongSo, EndsSo, ends_whole}
+use Rattle.task_program.proofs.FirstFaults.{HasHeader}
+use Rattle.task_program.proofs.Machines.{Machine, WrongSo, EndsSo, ends_whole, refused, whole_read}
 use Rattle.large_text.specs.LargeFaults.{items_coming}
 use Rattle.large_text.specs.LargeReading.{large_step}
 use Rattle.large_text.specs.LargeTrees.{HasLargeTree, large_rules, IsLargeRightWhole}
+use Rattle.large_text.specs.LargeTrees.{IsLargeFirstFault}
 use Rattle.large_text.proofs.Sound.{IsBehind}
 use Rattle.large_text.proofs.Steps.{passed}
 use Rattle.large_text.proofs.Items.{AreCounted}
@@ -183,3 +185,33 @@ pub has_tree : (tokens : List Token)
 has_tree tokens w =
     let ends = ends_whole large_rules reading tokens 0 w in
     (ends.0.state.tree.marks, tree_at tokens 0 ends.0 ends.2 ends.1 ends.3)
+
+-- ---- the first fault
+
+-- a sentence has the whole header
+has_header : HasHeader large_rules
+has_header words s = omega (arith, ap (λ (ts : List (List ℕ)). length ts) s.spelled)
+
+abbrev read_all : List Token → ℕ → Result State ReadFault
+read_all tokens line = read tokens line (record { state = start; all_items = 0 })
+
+-- a text is without a fault or has a first one
+pub right_or_fault : (tokens : List Token) (line : ℕ)
+    → IsLargeRightWhole tokens ⊎ ((fault : ReadFault) × IsLargeFirstFault tokens line fault)
+right_or_fault tokens line = by (read_all tokens line) refl
+  where
+    by : (result : Result State ReadFault) → read_all tokens line ≡ result
+        → IsLargeRightWhole tokens ⊎ ((fault : ReadFault) × IsLargeFirstFault tokens line fault)
+    by (Ok state) h = inl (whole_read large_rules reading tokens line state h)
+    by (Err fault) h = inr (fault, (refused large_rules reading has_header tokens line fault).0 h)
+
+-- and has no other
+pub one_fault : (tokens : List Token) (line : ℕ) (one other : ReadFault)
+    → IsLargeFirstFault tokens line one
+    → IsLargeFirstFault tokens line other
+    → one ≡ other
+one_fault tokens line one other h k =
+    let first = (refused large_rules reading has_header tokens line one).1 h in
+    let second = (refused large_rules reading has_header tokens line other).1 k in
+    let both : Err one ≡ Err other = sym first ∙ second in
+    cc

@@ -3,3 +3,4 @@ pub mod LargeFaults
 pub mod LargeReading
 pub mod Measured
 pub mod Streamed
+pub mod Tallied

@@ -1,15 +1,26 @@
 -- What a meter has taken of a text of any size.
-use Rattle.std.specs.Prelude.{List}
+use Rattle.std.specs.Prelude.{◌≡◌, List}
 use Rattle.program_text.specs.Marks.{Mark}
 use Rattle.program_text.specs.Tokens.{Token, texts}
+use Rattle.task_segments.specs.MarksTable.{IsReading}
 use Rattle.task_segments.specs.Moments.{last_moment}
+use Rattle.task_segments.specs.Table.{Table, table_of}
+use Rattle.large_text.specs.declared.tally.Tally.{Tally}
 use Rattle.online_span.specs.declared.meter.Meter.{Meter}
 use Rattle.online_span.specs.Measuring.{Measures}
+use Rattle.large_text.specs.Tallied.{Tallies}
 use Rattle.large_text.specs.declared.reader.MarkReader.{MarkReader}
 use Rattle.large_text.specs.LargeReading.{IsReadSoFar}
 use Rattle.large_text.specs.LargeTrees.{HasLargeTree, IsLargeRightWhole}
 
--- these tokens are a text without a fault, and the meter has taken all of its marks
+-- these tokens are a text without a fault, and all of its marks have been taken
+pub record TalliesText (tokens : List Token) (meter : Tally) : Type 0 where
+  pub marks : List Mark
+  pub tree : HasLargeTree (texts tokens) marks
+  pub right : IsLargeRightWhole tokens
+  pub measures : Tallies meter (last_moment marks)
+
+-- the same of a meter alone
 pub record MeasuresText (tokens : List Token) (meter : Meter) : Type 0 where
   pub marks : List Mark
   pub tree : HasLargeTree (texts tokens) marks
@@ -17,12 +28,23 @@ pub record MeasuresText (tokens : List Token) (meter : Meter) : Type 0 where
   pub measures : Measures meter (last_moment marks)
 
 -- the reader has taken these tokens, and the meter the marks that the reader has handed on
-pub record MeasuresSoFar (tokens : List Token) (reader : MarkReader) (meter : Meter) : Type 0 where
+pub record MeasuresSoFar (tokens : List Token) (reader : MarkReader) (meter : Tally) : Type 0 where
   pub marks : List Mark
   pub so_far : IsReadSoFar tokens marks reader
-  pub measures : Measures meter (last_moment marks)
+  pub measures : Tallies meter (last_moment marks)
 
 -- some tokens were taken so, and more can be
-pub record CanMeasure (reader : MarkReader) (meter : Meter) : Type 0 where
+pub record CanMeasure (reader : MarkReader) (meter : Tally) : Type 0 where
   pub tokens : List Token
   pub so_far : MeasuresSoFar tokens reader meter
+
+-- the numbers of its marks fit a table
+abbrev pub FitsTable : List Token → Type 0
+FitsTable tokens = (marks : List Mark) → HasLargeTree (texts tokens) marks → IsReading marks
+
+-- these tokens are a text without a fault, and this is the table of its marks
+pub record IsTableOfText (tokens : List Token) (table : Table) : Type 0 where
+  pub marks : List Mark
+  pub tree : HasLargeTree (texts tokens) marks
+  pub right : IsLargeRightWhole tokens
+  pub is : table ≡ table_of marks

@@ -1,14 +1,15 @@
 -- What a meter of a text has taken of its bytes.
 use Rattle.std.specs.Prelude.{◌≡◌, ℕ, ◌+◌, ◌≤◌, false, List, [], ◌∷◌, ◌++◌, length, count_by}
-use Rattle.std.specs.Prelude.{Option, Some, None}
+use Rattle.std.specs.Prelude.{IsTrue, Option, Some, None}
 use Rattle.program_text.specs.declared.fault.ReadFault.{ReadFault}
 use Rattle.program_text.specs.Tokens.{is_line_feed, tokens_from, tokens_of, line_at_end}
-use Rattle.online_span.specs.declared.meter.Meter.{Meter}
+use Rattle.large_text.specs.declared.tally.Tally.{Tally}
 use Rattle.large_text.specs.declared.reader.MarkReader.{MarkReader}
 use Rattle.large_text.specs.declared.stream.TextMeter.{TextMeter}
 use Rattle.large_text.specs.declared.limits.TheConstants.{LARGEST_TEXT, LARGEST_LINE}
 use Rattle.large_text.specs.LargeTrees.{IsLargeFirstFault}
 use Rattle.large_text.specs.Measured.{MeasuresSoFar}
+use Rattle.large_text.specs.Tallied.{keeps_rows}
 
 -- they end with an LF
 abbrev pub EndsLine : List ℕ → Type 0
@@ -21,7 +22,7 @@ CutsTokens bytes =
     → tokens_of (bytes ++ later) ≡ tokens_of bytes ++ tokens_from false (line_at_end 1 bytes) later
 
 -- the tokens of some lines have been taken, and what follows them is kept: it begins on this line
-pub record HasTakenLines (bytes tail : List ℕ) (line : ℕ) (reader : MarkReader) (meter : Meter)
+pub record HasTakenLines (bytes tail : List ℕ) (line : ℕ) (reader : MarkReader) (meter : Tally)
     : Type 0 where
   pub lines : List ℕ
   pub all : bytes ≡ lines ++ tail
@@ -34,7 +35,7 @@ abbrev pub HasFault : List ℕ → ReadFault → Type 0
 HasFault bytes fault =
     (later : List ℕ) (end_line : ℕ) → IsLargeFirstFault (tokens_of (bytes ++ later)) end_line fault
 
-abbrev pub HasTakenBy : Option ReadFault → (bytes tail : List ℕ) (line : ℕ) → MarkReader → Meter
+abbrev pub HasTakenBy : Option ReadFault → (bytes tail : List ℕ) (line : ℕ) → MarkReader → Tally
     → Type 0
 HasTakenBy None bytes tail line reader meter = HasTakenLines bytes tail line reader meter
 HasTakenBy (Some fault) bytes tail line reader meter = HasFault bytes fault
@@ -55,6 +56,10 @@ pub record HasTaken (bytes : List ℕ) (text_meter : TextMeter) : Type 0 where
   pub last : HasNoLineFeed text_meter.tail.items
   pub taken : HasTakenBy text_meter.fault bytes text_meter.tail.items (text_meter.lines + 1)
       text_meter.reader text_meter.meter
+
+-- it keeps the rows of the table beside
+abbrev pub KeepsRows : TextMeter → Type 0
+KeepsRows text_meter = IsTrue (keeps_rows text_meter.meter)
 
 -- some bytes were taken, and these behind them are not too many
 pub record CanTakeBytes (more : List ℕ) (text_meter : TextMeter) : Type 0 where

@@ -11,6 +11,7 @@ mod measure;
 mod place_tests;
 pub mod reader;
 mod stream;
+pub mod tally;
 mod words;
 
 pub use measure::measure_text;

@@ -5,19 +5,20 @@ ghost use Rattle.program_text.specs.declared.fault.ReadKind.TheVariants.{OutOfMe
 ghost use Rattle.program_text.specs.Marks.{Mark};
 ghost use Rattle.program_text.specs.Tokens as tokens;
 ghost use Rattle.program_text.specs.Tokens.{tokens_of, tokens_from, line_at_end};
-ghost use Rattle.online_span.specs.Measuring.{Measures, CanTake};
 ghost use Rattle.large_text.specs.declared.limits.TheConstants.{LARGEST_TEXT};
 ghost use Rattle.large_text.specs.LargeReading.{mark_seen, token_on};
 ghost use Rattle.large_text.specs.LargeTrees.{IsLargeFirstFault};
 ghost use Rattle.large_text.specs.Measured.{MeasuresText, MeasuresSoFar, CanMeasure};
+ghost use Rattle.large_text.specs.Tallied.{keeps_rows};
 
 use crate::fault::LargeFault;
 use crate::marks::TextMark;
 use crate::reader::MarkReader;
+use crate::tally::{Tally, take_mark};
 use online_span::Meter;
-use program_text::AllocFault;
 use program_text::scanner::{Scanner, Token};
 use std::alloc::Global;
+use task_program::name_key::NameKey;
 
 /// The meter that has taken all marks of a text of version 1, which is gone through once. The fault
 /// is the text's first, or out of memory, on line 0.
@@ -28,18 +29,18 @@ pub fn measure_text(alloc: Global, text: &[u8]) -> Result<Meter, LargeFault>
         → IsLargeFirstFault (tokens_of text.now) (line_at_end 1 text.now) fault) }
     ensures memory { IfErr result (λ fault. fault.kind ≡ OutOfMemory → fault.line ≡ 0) }
 {
-    let mut reader = MarkReader::new(alloc);
-    let mut meter = Meter::new(alloc);
+    let mut reader = MarkReader::new(alloc, NameKey::of_text(text));
+    let mut meter = Tally::new(alloc);
     let line = take_tokens(&mut reader, &mut meter, text, 0)?;
     reader.finish(line)?;
-    Ok(meter)
+    Ok(meter.into_meter())
 }
 
 // Takes the tokens of these bytes, which begin behind so many lines, outside a comment. The result is
 // the line on which they end.
 pub(crate) fn take_tokens(
     reader: &mut MarkReader,
-    meter: &mut Meter,
+    meter: &mut Tally,
     text: &[u8],
     lines: u64,
 ) -> Result<u64, LargeFault>
@@ -56,6 +57,7 @@ pub(crate) fn take_tokens(
         → IsLargeFirstFault (before ++ (tokens_from false (lines + 1) text.now ++ later)) end_line
         fault) }
     ensures memory { IfErr result (λ fault. fault.kind ≡ OutOfMemory → fault.line ≡ 0) }
+    ensures rows { keeps_rows meter.new ≡ keeps_rows meter.old }
 {
     let mut scanner = Scanner::new(text);
     'tokens: while let Some(token) = scanner.next_token() {
@@ -67,7 +69,7 @@ pub(crate) fn take_tokens(
 // Takes the next token, which begins on this line, and the mark that is whole with it, if one is.
 fn take_token(
     reader: &mut MarkReader,
-    meter: &mut Meter,
+    meter: &mut Tally,
     token: Token<'_>,
     line: u64,
 ) -> Result<(), LargeFault>
@@ -80,35 +82,10 @@ fn take_token(
         → MeasuresSoFar before reader.old meter.old
         → IsLargeFirstFault (before ++ token_on token.entry line ∷ later) end_line fault) }
     ensures memory { IfErr result (λ fault. fault.kind ≡ OutOfMemory → fault.line ≡ 0) }
+    ensures rows { keeps_rows meter.new ≡ keeps_rows meter.old }
 {
     match reader.take(token, line)? {
-        Some(mark) => Ok(take_mark(meter, &mark)?),
+        Some(mark) => Ok(take_mark(meter, mark)?),
         None => Ok(()),
-    }
-}
-
-fn take_mark(meter: &mut Meter, mark: &TextMark) -> Result<(), AllocFault>
-    requires { CanTake meter.old (mark_seen mark.now) }
-    ensures { OnOk result ((moment : List Mark) → Measures meter.old moment
-        → Measures meter.new (mark_seen mark.now ∷ moment)) }
-{
-    match mark {
-        TextMark::TaskBegins { undeferred, items } => {
-            meter.begin_task(*undeferred, items.as_slice())
-        }
-        TextMark::TaskEnds => meter.end_task(),
-        TextMark::Work(cost) => {
-            meter.work(*cost);
-            Ok(())
-        }
-        TextMark::Wait => {
-            meter.wait();
-            Ok(())
-        }
-        TextMark::GroupOpens => meter.begin_group(),
-        TextMark::GroupCloses => {
-            meter.end_group();
-            Ok(())
-        }
     }
 }

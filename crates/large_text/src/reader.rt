@@ -33,6 +33,7 @@ use program_text::statement::{DependKind, Item, Items};
 use program_text::words::{text_of, value_within};
 use std::alloc::Global;
 use std::mem::replace;
+use task_program::name_key::NameKey;
 use task_program::names::Names;
 use task_program::place::Place;
 
@@ -63,15 +64,15 @@ pub struct MarkReader {
 }
 
 impl MarkReader {
-    /// The reader where a text begins.
-    pub fn new(alloc: Global) -> MarkReader
+    /// The reader where a text begins, whose names are hashed under this key.
+    pub fn new(alloc: Global, key: NameKey) -> MarkReader
         ensures { IsReadSoFar [] [] result }
     {
-        MarkReader::fresh(alloc)
+        MarkReader::fresh(alloc, key)
     }
 
     // What `new` makes. It stands apart for the prover's sake: the proof of `new` cites its clauses.
-    fn fresh(alloc: Global) -> MarkReader
+    fn fresh(alloc: Global, key: NameKey) -> MarkReader
         ensures state { state_of result [] ≡ start }
         ensures work { result.work ≡ 0 }
         ensures all_items { result.all_items ≡ 0 }
@@ -80,7 +81,7 @@ impl MarkReader {
             alloc,
             place: Place::Header,
             bytes: 0,
-            names: Names::new(alloc),
+            names: Names::new(alloc, key),
             all_items: 0,
             has_if: false,
             undeferred: false,

@@ -1,28 +1,34 @@
 //! Work and span of a text that comes in pieces.
-ghost use Rattle.std.specs.Prelude.{◌≡◌, ◌≢◌, ◌+◌, ◌<◌, ◌≤◌, ◌^◌, [], ◌++◌, List, ℕ, IfOk, IfErr};
-ghost use Rattle.std.specs.Prelude.{OnOk, None, length, take, drop};
+ghost use Rattle.std.specs.Prelude.{◌≡◌, ◌≢◌, ◌+◌, ◌<◌, ◌≤◌, ◌^◌, [], ◌∷◌, false, ◌++◌, List, ℕ, IfOk, IfErr};
+ghost use Rattle.std.specs.Prelude.{IsTrue, OnOk, None, length, take, drop};
 ghost use Rattle.program_text.specs.declared.fault.ReadKind.TheVariants.{OutOfMemory};
 ghost use Rattle.program_text.specs.Tokens.{tokens_of, line_at_end};
 ghost use Rattle.large_text.specs.declared.limits.TheConstants.{LARGEST_PIECE};
 ghost use Rattle.large_text.specs.LargeTrees.{IsLargeFirstFault};
-ghost use Rattle.large_text.specs.Measured.{MeasuresText};
+ghost use Rattle.large_text.specs.Measured.{FitsTable, IsTableOfText, MeasuresText, TalliesText};
+ghost use Rattle.std.specs.Option.{IfSome, is_some};
+ghost use Rattle.large_text.specs.Tallied.{Tallies, keeps_rows};
+ghost use Rattle.program_text.specs.Marks.Mark.{Begins};
 ghost use Rattle.large_text.specs.Streamed.{CanTakeBytes, EndsLine, HasTaken};
-ghost use Rattle.large_text.specs.Streamed.{HasNoLineFeed, TakesBytes};
+ghost use Rattle.large_text.specs.Streamed.{HasNoLineFeed, KeepsRows, TakesBytes};
 
 use crate::fault::LargeFault;
 use crate::measure::take_tokens;
 use crate::reader::MarkReader;
+use crate::tally::Tally;
 use online_span::Meter;
 use program_text::AllocFault;
 use program_text::fault::ReadKind;
 use std::alloc::{AllocError, Global};
+use task_program::name_key::NameKey;
+use task_segments::table::LargeTable;
 
 /// Takes the bytes of a text piece by piece, however it is cut, and measures what it says. Beside the
 /// names and what the nesting takes, only the last line is kept, as far as it has come.
 #[derive(Drop)]
 pub struct TextMeter {
     reader: MarkReader,
-    meter: Meter,
+    meter: Tally,
     /// What came behind the last LF.
     tail: Vec<u8>,
     /// How many lines came before it.
@@ -32,13 +38,30 @@ pub struct TextMeter {
 }
 
 impl TextMeter {
-    /// The meter of a text of which nothing has come.
-    pub fn new(alloc: Global) -> TextMeter
+    /// The meter of a text of which nothing has come. Its names are hashed under this key: who knows
+    /// it can make up a text that takes time quadratic in its names.
+    pub fn new(alloc: Global, key: NameKey) -> TextMeter
         ensures { HasTaken [] result }
     {
+        TextMeter::with_tally(alloc, key, Tally::new(alloc))
+    }
+
+    /// The same, where the rows of its table are kept.
+    pub fn with_rows(alloc: Global, key: NameKey) -> Result<TextMeter, AllocFault>
+        ensures taken { IfOk result (λ made. HasTaken [] made) }
+        ensures rows { IfOk result KeepsRows }
+    {
+        Ok(TextMeter::with_tally(alloc, key, Tally::with_rows(alloc)?))
+    }
+
+    fn with_tally(alloc: Global, key: NameKey, meter: Tally) -> TextMeter
+        requires { Tallies meter (Begins false [] ∷ []) }
+        ensures taken { HasTaken [] result }
+        ensures rows { keeps_rows result.meter ≡ keeps_rows meter }
+    {
         TextMeter {
-            reader: MarkReader::new(alloc),
-            meter: Meter::new(alloc),
+            reader: MarkReader::new(alloc, key),
+            meter,
             tail: Vec::new(alloc),
             lines: 0,
             fault: None,
@@ -50,7 +73,8 @@ impl TextMeter {
     pub fn take(&mut self, bytes: &[u8]) -> Result<(), AllocFault>
         requires room { CanTakeBytes bytes.now self.old }
         requires piece { length bytes.now ≤ LARGEST_PIECE }
-        ensures { OnOk result (TakesBytes bytes.now self.old self.new) }
+        ensures takes { OnOk result (TakesBytes bytes.now self.old self.new) }
+        ensures rows { KeepsRows self.old → KeepsRows self.new }
     {
         if self.fault.is_some() {
             return Ok(());
@@ -67,7 +91,8 @@ impl TextMeter {
     // Keeps bytes of a line that may go on.
     fn keep(&mut self, bytes: &[u8]) -> Result<(), AllocFault>
         requires { HasNoLineFeed bytes.now }
-        ensures { OnOk result (TakesBytes bytes.now self.old self.new) }
+        ensures takes { OnOk result (TakesBytes bytes.now self.old self.new) }
+        ensures rows { self.new.meter ≡ self.old.meter }
     {
         self.tail.extend_from_slice(bytes)
     }
@@ -78,7 +103,8 @@ impl TextMeter {
         requires piece { length lines.now ≤ LARGEST_PIECE }
         requires no_fault { self.old.fault ≡ None }
         requires ends { EndsLine lines.now }
-        ensures { OnOk result (TakesBytes lines.now self.old self.new) }
+        ensures takes { OnOk result (TakesBytes lines.now self.old self.new) }
+        ensures rows { keeps_rows self.new.meter ≡ keeps_rows self.old.meter }
     {
         self.tail.extend_from_slice(lines)?;
         let taken = take_tokens(
@@ -105,7 +131,7 @@ impl TextMeter {
 
     /// The text ends here. The meter has taken all of its marks; or the fault is its first, or out of
     /// memory, on line 0.
-    pub fn finish(mut self) -> Result<Meter, LargeFault>
+    pub fn finish(self) -> Result<Meter, LargeFault>
         requires { CanTakeBytes [] self }
         ensures measured { IfOk result (λ meter. (text : List ℕ) → HasTaken text self
             → MeasuresText (tokens_of text) meter) }
@@ -114,15 +140,46 @@ impl TextMeter {
             → IsLargeFirstFault (tokens_of text) (line_at_end 1 text) fault) }
         ensures memory { IfErr result (λ fault. fault.kind ≡ OutOfMemory → fault.line ≡ 0) }
     {
+        Ok(self.whole()?.into_meter())
+    }
+
+    /// The same, with the table of the text, where its rows were kept and its numbers fit a table.
+    pub fn finish_table(self) -> Result<Option<LargeTable>, LargeFault>
+        requires { CanTakeBytes [] self }
+        ensures table { IfOk result (λ table. (text : List ℕ) → HasTaken text self
+            → IfSome table (IsTableOfText (tokens_of text))) }
+        ensures some { IfOk result (λ table. KeepsRows self → (text : List ℕ)
+            → HasTaken text self → FitsTable (tokens_of text) → IsTrue (is_some table)) }
+        ensures refused { IfErr result (λ fault. fault.kind ≢ OutOfMemory
+            → (text : List ℕ) → HasTaken text self
+            → IsLargeFirstFault (tokens_of text) (line_at_end 1 text) fault) }
+        ensures memory { IfErr result (λ fault. fault.kind ≡ OutOfMemory → fault.line ≡ 0) }
+    {
+        Ok(self.whole()?.into_table())
+    }
+
+    // The tally of the whole text.
+    fn whole(mut self) -> Result<Tally, LargeFault>
+        requires { CanTakeBytes [] self }
+        ensures measured { IfOk result (λ tally. (text : List ℕ) → HasTaken text self
+            → TalliesText (tokens_of text) tally) }
+        ensures rows { IfOk result (λ tally. keeps_rows tally ≡ keeps_rows self.meter) }
+        ensures refused { IfErr result (λ fault. fault.kind ≢ OutOfMemory
+            → (text : List ℕ) → HasTaken text self
+            → IsLargeFirstFault (tokens_of text) (line_at_end 1 text) fault) }
+        ensures memory { IfErr result (λ fault. fault.kind ≡ OutOfMemory → fault.line ≡ 0) }
+    {
         self.end()?;
-        Ok(self.meter)
+        let TextMeter { meter, .. } = self;
+        Ok(meter)
     }
 
     // What `finish` does before it hands on the meter.
     fn end(&mut self) -> Result<(), LargeFault>
         requires { CanTakeBytes [] self.old }
         ensures measured { OnOk result ((text : List ℕ) → HasTaken text self.old
-            → MeasuresText (tokens_of text) self.new.meter) }
+            → TalliesText (tokens_of text) self.new.meter) }
+        ensures rows { keeps_rows self.new.meter ≡ keeps_rows self.old.meter }
         ensures refused { IfErr result (λ fault. fault.kind ≢ OutOfMemory
             → (text : List ℕ) → HasTaken text self.old
             → IsLargeFirstFault (tokens_of text) (line_at_end 1 text) fault) }

@@ -12,6 +12,7 @@ pub mod Began
 pub mod InGroups
 pub mod Whole
 pub mod Program
+pub mod LeastEnds
 pub mod Taking
 pub mod Unpriced
 pub mod Sums

@@ -21,7 +21,7 @@ must_ascend e last = record {
   up = λ s t r. (ascends e last.proper).up s t (preceding_is_awaited e last s t r);
 }
 
-must_be_earliest : (e : List Mark) → IsLast e
+pub must_be_earliest : (e : List Mark) → IsLast e
     → IsEarliest (costs_at e) (MustPrecede (table_at e)) (starts_at e)
 must_be_earliest e last =
     let first = earliest e last.proper in

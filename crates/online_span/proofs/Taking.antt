@@ -10,7 +10,7 @@ use Rattle.task_segments.specs.Moments.{begins_task, opens}
 use Rattle.task_segments.specs.Moments.{open_tasks, open_groups, moment_after}
 use Rattle.task_segments.proofs.LastMoment.{moment_after-append}
 use Rattle.task_segments.proofs.Walks.{grows}
-use Rattle.task_segments.proofs.Reading.{IsReading}
+use Rattle.task_segments.specs.MarksTable.{IsReading}
 use Rattle.online_span.specs.declared.meter.Meter.{Meter}
 use Rattle.online_span.specs.Measuring.{Measures, CanTake}
 use Rattle.online_span.specs.Taking.{HasRoom, HasTaken, task_marks, group_marks}

@@ -4,13 +4,15 @@ ghost use Rattle.program_text.specs.declared.statement.Item.{Item};
 ghost use Rattle.task_program.specs.Limits.{work_of};
 ghost use Rattle.task_program.specs.Marks.{Mark};
 ghost use Rattle.task_program.specs.Nested.{IsNested};
-ghost use Rattle.task_segments.specs.Precedence.{MustPrecede};
+ghost use Rattle.task_segments.specs.Moments.{last_moment};
+ghost use Rattle.task_segments.specs.Precedence.{IsSegment, MustPrecede};
 ghost use Rattle.task_segments.specs.Schedule.{IsSpan};
-ghost use Rattle.task_segments.specs.Table.{costs_of, table_of};
+ghost use Rattle.task_segments.specs.Table.{costs_of, table_of, task};
 ghost use Rattle.online_span.specs.Folded.{StandsApart, with_group, with_task};
 ghost use Rattle.online_span.specs.Folded.{own_end, end_of_wait, HasPlainChildren, waits_itself};
 ghost use Rattle.online_span.specs.Folded.{awaited_fold, unawaited_fold, row_fold};
-ghost use Rattle.online_span.specs.Awaiting.{any_items};
+ghost use Rattle.online_span.specs.Awaiting.{any_items, end_of};
+ghost use Rattle.online_span.specs.LeastEnds.{EndsAfterChildren, IsLeastEndOf};
 ghost use Rattle.online_span.specs.Masked.{IsMasked, ShowsPath};
 ghost use Rattle.online_span.specs.Spans.{IsSpanOf};
 
@@ -24,6 +26,19 @@ pub fn one_span()
 /// Each list of nested marks has a span.
 pub fn some_span()
     ensures { (body : List Mark) → IsNested body → (span : ℕ) × IsSpanOf body span }
+{}
+
+/// What the pass over the marks finds as an end is what legal schedules say. Each segment ends there
+/// where it starts as early as in any legal schedule; the end of a body's own code is that of the
+/// root's last segment, and a wait after it ends with the last of that one and the children it is
+/// for.
+pub fn ends_are_least()
+    ensures segments { (body : List Mark) (s : ℕ) → IsNested body → IsSegment (table_of body) s
+        → IsLeastEndOf (table_of body) s (end_of (last_moment body) s) }
+    ensures own { (body : List Mark) → IsNested body
+        → IsLeastEndOf (table_of body) (task (table_of body) 0).last (own_end body) }
+    ensures waits { (test : List Item → Bool) (body : List Mark) → IsNested body
+        → EndsAfterChildren (table_of body) test (end_of_wait test body) }
 {}
 
 /// A critical path of a program of any size can be shown by the same program with some costs

@@ -15,3 +15,4 @@ pub mod SiblingSteps
 pub mod AtFirst
 pub mod Stages
 pub mod KeptLists
+pub mod Members

@@ -7,3 +7,4 @@ pub mod Facts
 pub mod UpToDate
 pub mod Openings
 pub mod KeptLists
+pub mod Members

@@ -3,7 +3,7 @@ use Rattle.std.specs.Prelude.{ℕ, ◌+◌, ◌<◌, ◌≤◌, ◌≡◌, ◌�
 use Rattle.std.specs.Prelude.{None, Vec, length, slice_get, slice_set, Contains, AllPairs, vec_len}
 use Rattle.std.specs.Prelude.{vec_capacity}
 use Rattle.std.specs.declared.alloc.Global.{Global}
-use Rattle.program_text.specs.declared.limits.TheConstants.{MOST_SEGMENTS}
+use Rattle.task_segments.specs.declared.limits.TheConstants.{MOST_ROWS}
 use Rattle.task_segments.specs.Table.{Table}
 use Rattle.task_segments.specs.Precedence.{Continues, Creation}
 use Rattle.depend_table.specs.KeptEdges.{IsKeptEdge}
@@ -57,7 +57,7 @@ pub record CanOpen (values : List (Option ℕ)) (counters : Counters) (ready : V
     : Type 0 where
   pub known : opening.segment < length counters.preds.items
   pub counted : opening.segment < length counters.counts.items
-  pub few : length opening.preds.items ≤ MOST_SEGMENTS
+  pub few : length opening.preds.items ≤ MOST_ROWS
   pub once : AllPairs (λ x y. x ≢ y) opening.preds.items
   pub room : (p : ℕ)
       → Contains opening.preds.items p

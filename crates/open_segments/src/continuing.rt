@@ -26,12 +26,12 @@ use crate::opener::opener;
 use std::alloc::Global;
 use task_program::AllocFault;
 use task_segments::laws::{groups_hold_later_children, groups_nest, nests, reads_in_place};
-use task_segments::table::{Closing, SegTable};
+use task_segments::table::{BoundedTable, Closing};
 
 /// The kept predecessors of the segment that goes on after `before` in its task, ascending.
-pub fn next_predecessors(
+pub fn next_predecessors<const SEGMENTS: u32, const TASKS: u32>(
     alloc: Global,
-    table: &SegTable,
+    table: &BoundedTable<SEGMENTS, TASKS>,
     before: u32,
     next: u32,
 ) -> Result<Vec<u32>, AllocFault>
@@ -49,9 +49,9 @@ pub fn next_predecessors(
 
 /// After a segment that creates a task: that segment, and the task's last one if the task is
 /// undeferred.
-fn after_task(
+fn after_task<const SEGMENTS: u32, const TASKS: u32>(
     alloc: Global,
-    table: &SegTable,
+    table: &BoundedTable<SEGMENTS, TASKS>,
     before: u32,
     next: u32,
     child: u32,
@@ -73,9 +73,9 @@ fn after_task(
 
 /// After a wait: the last segments of the children since the task's previous wait, and then the one
 /// that waits. Of the segments between only the task's own are looked at.
-fn after_wait(
+fn after_wait<const SEGMENTS: u32, const TASKS: u32>(
     alloc: Global,
-    table: &SegTable,
+    table: &BoundedTable<SEGMENTS, TASKS>,
     before: u32,
     next: u32,
 ) -> Result<Vec<u32>, AllocFault>
@@ -98,7 +98,11 @@ fn after_wait(
 
 /// The first segment of the task after its previous wait. The children that end from there on are
 /// those that the wait after `before` waits for.
-fn wait_begin(table: &SegTable, before: u32, next: u32) -> u32
+fn wait_begin<const SEGMENTS: u32, const TASKS: u32>(
+    table: &BoundedTable<SEGMENTS, TASKS>,
+    before: u32,
+    next: u32,
+) -> u32
     requires follows { Continues table.now before next }
     requires waits { (segment table.now before).closing ≡ closings.Waits }
     ensures of_task { IsOf table.now (segment table.now before).task result }
@@ -119,7 +123,10 @@ fn wait_begin(table: &SegTable, before: u32, next: u32) -> u32
 }
 
 /// The segment before one in its task, if there is one.
-fn previous_segment(table: &SegTable, segment: u32) -> Option<u32>
+fn previous_segment<const SEGMENTS: u32, const TASKS: u32>(
+    table: &BoundedTable<SEGMENTS, TASKS>,
+    segment: u32,
+) -> Option<u32>
     requires { IsSegment table.now segment }
     ensures { (s : ℕ) → (result ≡ Some s) ↔ Continues table.now s segment }
 {
@@ -132,9 +139,9 @@ fn previous_segment(table: &SegTable, segment: u32) -> Option<u32>
 
 /// After the end of a group: the last segments of the tasks whose innermost group it is, and then
 /// the one that ends it.
-fn after_group(
+fn after_group<const SEGMENTS: u32, const TASKS: u32>(
     alloc: Global,
-    table: &SegTable,
+    table: &BoundedTable<SEGMENTS, TASKS>,
     before: u32,
     next: u32,
 ) -> Result<Vec<u32>, AllocFault>
@@ -154,7 +161,11 @@ fn after_group(
 
 /// The first segment of the first task inside the group that `before` ends; `before`, where there
 /// is none.
-fn group_begin(table: &SegTable, before: u32, next: u32) -> u32
+fn group_begin<const SEGMENTS: u32, const TASKS: u32>(
+    table: &BoundedTable<SEGMENTS, TASKS>,
+    before: u32,
+    next: u32,
+) -> u32
     requires follows { Continues table.now before next }
     requires ends { (segment table.now before).closing ≡ closings.EndsGroup }
     ensures up_to { result ≤ before }
@@ -174,7 +185,10 @@ fn group_begin(table: &SegTable, before: u32, next: u32) -> u32
 }
 
 /// The latest of the tasks whose first segment is this one or an earlier one.
-fn latest_task(table: &SegTable, segment: u32) -> u32
+fn latest_task<const SEGMENTS: u32, const TASKS: u32>(
+    table: &BoundedTable<SEGMENTS, TASKS>,
+    segment: u32,
+) -> u32
     ensures known { IsTask table.now result }
     ensures begun { (task table.now result).first ≤ segment }
     ensures latest { (u : ℕ) → IsTask table.now u → (task table.now u).first ≤ segment
@@ -196,7 +210,11 @@ fn latest_task(table: &SegTable, segment: u32) -> u32
 
 /// Whether a segment is the last one of a task whose innermost group is the one that ends before
 /// `group`.
-fn ends_inside(table: &SegTable, segment: u32, group: u32) -> bool
+fn ends_inside<const SEGMENTS: u32, const TASKS: u32>(
+    table: &BoundedTable<SEGMENTS, TASKS>,
+    segment: u32,
+    group: u32,
+) -> bool
     requires { IsSegment table.now segment }
     ensures { IsTrue result ↔ KeptGroupEnd table.now segment group }
 {

@@ -4,7 +4,7 @@ ghost use Rattle.std.specs.Prelude.{ℕ, Option, Some, None, ◌≡◌, ◌<◌,
 ghost use Rattle.std.specs.Prelude.{List, length, replicate, slice_get, slice_set, vec_len};
 ghost use Rattle.std.specs.Prelude.{vec_capacity, Contains, AllPairs, ◌≢◌, IsTrue, IfOk, OnOk};
 ghost use Rattle.std.specs.Prelude.{OnErr, ◌==◌, if◌then◌else◌};
-ghost use Rattle.program_text.specs.declared.limits.TheConstants.{MOST_SEGMENTS};
+ghost use Rattle.task_segments.specs.declared.limits.TheConstants.{MOST_ROWS};
 ghost use Rattle.task_segments.specs.Precedence.{IsSegment};
 ghost use Rattle.task_segments.specs.Table.{Table, segment};
 ghost use Rattle.task_segments.specs.InPlace.{IsOf};
@@ -22,7 +22,7 @@ use crate::opening::{Opening, first_opening, next_opening, no_siblings};
 use depend_table::table::SiblingTable;
 use std::alloc::Global;
 use task_program::AllocFault;
-use task_segments::table::SegTable;
+use task_segments::table::BoundedTable;
 
 /// What is recorded of the segments that are open.
 #[derive(Drop)]
@@ -48,7 +48,10 @@ struct Allocations {
 
 impl Counters {
     /// Those of a program of which nothing is finished.
-    pub fn new(alloc: Global, table: &SegTable) -> Result<Counters, AllocFault>
+    pub fn new<const SEGMENTS: u32, const TASKS: u32>(
+        alloc: Global,
+        table: &BoundedTable<SEGMENTS, TASKS>,
+    ) -> Result<Counters, AllocFault>
         ensures { IfOk result (IsUpToDate table.now (replicate (length table.now.segments) None)) }
     {
         serves_runs(table);
@@ -88,10 +91,10 @@ impl Counters {
     /// that it creates. Answers those that it is kept before and that have no unfinished kept
     /// predecessor then, ascending. It is refused only when memory runs out, and then what is
     /// recorded stays.
-    pub fn finish(
+    pub fn finish<const SEGMENTS: u32, const TASKS: u32>(
         &mut self,
         alloc: Global,
-        table: &SegTable,
+        table: &BoundedTable<SEGMENTS, TASKS>,
         values: &mut Vec<Option<u64>>,
         finished: u32,
         value: u64,
@@ -120,10 +123,10 @@ impl Counters {
     }
 
     /// Makes all allocations of a finish.
-    fn allocate(
+    fn allocate<const SEGMENTS: u32, const TASKS: u32>(
         &mut self,
         alloc: Global,
-        table: &SegTable,
+        table: &BoundedTable<SEGMENTS, TASKS>,
         values: &[Option<u64>],
         finished: u32,
     ) -> Result<Allocations, AllocFault>
@@ -238,7 +241,7 @@ fn lower(counts: &mut Vec<u32>, segments: &[u32])
 
 /// How many of these segments have no value yet.
 fn count_unfinished(values: &[Option<u64>], segments: &[u32]) -> u32
-    requires { length segments.now ≤ MOST_SEGMENTS }
+    requires { length segments.now ≤ MOST_ROWS }
     ensures { result ≡ unfinished_count values.now segments.now }
 {
     let mut count = 0u32;

@@ -11,3 +11,4 @@ pub mod opener;
 mod opening;
 pub mod predecessors;
 mod record;
+mod waiting_groups;

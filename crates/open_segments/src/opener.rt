@@ -3,11 +3,14 @@ ghost use Rattle.std.specs.Prelude.{ℕ, Some, None, ◌≡◌, ◌↔◌, ◌�
 ghost use Rattle.task_segments.specs.Precedence.{Continues, Creation, IsSegment};
 
 use task_segments::laws::{opens_after_another, reads_in_place};
-use task_segments::table::{Closing, SegTable};
+use task_segments::table::{BoundedTable, Closing};
 
 /// The segment by whose finish a segment opens: the one before it in its task, or the one that
 /// creates its task. The first segment of the program has none.
-pub fn opener(table: &SegTable, segment: u32) -> Option<u32>
+pub fn opener<const SEGMENTS: u32, const TASKS: u32>(
+    table: &BoundedTable<SEGMENTS, TASKS>,
+    segment: u32,
+) -> Option<u32>
     requires { IsSegment table.now segment }
     ensures some { (s : ℕ)
         → (result ≡ Some s) ↔ (Continues table.now s segment ⊎ Creation table.now s segment) }

@@ -20,7 +20,7 @@ use depend_table::table::SiblingTable;
 use std::alloc::Global;
 use task_program::AllocFault;
 use task_segments::laws::{goes_up, reads_in_place};
-use task_segments::table::{Closing, SegTable};
+use task_segments::table::{BoundedTable, Closing};
 
 /// A segment that opens, with its kept predecessors, ascending.
 #[derive(Drop)]
@@ -42,9 +42,9 @@ pub fn no_siblings(alloc: Global, count: u32) -> Result<Vec<SiblingTable>, Alloc
 
 /// What the finish of a segment opens in its task, with room in the successors of what it is kept
 /// after.
-pub fn next_opening(
+pub fn next_opening<const SEGMENTS: u32, const TASKS: u32>(
     alloc: Global,
-    table: &SegTable,
+    table: &BoundedTable<SEGMENTS, TASKS>,
     successors: &mut Vec<Vec<u32>>,
     values: &[Option<u64>],
     finished: u32,
@@ -71,8 +71,8 @@ pub fn next_opening(
 
 /// What the finish of a segment opens by creating a task, with room in the successors of what it is
 /// kept after. The task is entered among its siblings last of all, since that cannot be undone.
-pub fn first_opening(
-    table: &SegTable,
+pub fn first_opening<const SEGMENTS: u32, const TASKS: u32>(
+    table: &BoundedTable<SEGMENTS, TASKS>,
     siblings: &mut Vec<SiblingTable>,
     successors: &mut Vec<Vec<u32>>,
     values: &[Option<u64>],
@@ -108,8 +108,8 @@ pub fn first_opening(
 }
 
 /// The kept siblings of a child, with room for one more.
-pub fn kept_siblings(
-    table: &SegTable,
+pub fn kept_siblings<const SEGMENTS: u32, const TASKS: u32>(
+    table: &BoundedTable<SEGMENTS, TASKS>,
     siblings: &[SiblingTable],
     child: u32,
 ) -> Result<Vec<u32>, AllocFault>
@@ -132,8 +132,8 @@ pub fn kept_siblings(
 }
 
 /// Adds a child to its parent's children.
-pub fn add_sibling(
-    table: &SegTable,
+pub fn add_sibling<const SEGMENTS: u32, const TASKS: u32>(
+    table: &BoundedTable<SEGMENTS, TASKS>,
     siblings: &mut Vec<SiblingTable>,
     child: u32,
 ) -> Result<(), AllocFault>

@@ -8,11 +8,15 @@ ghost use Rattle.depend_table.specs.Lists.{Lists};
 ghost use Rattle.open_segments.specs.WaysToOpen.{AreKeptSiblings, last_segment};
 
 use task_segments::laws::reads_in_place;
-use task_segments::table::SegTable;
+use task_segments::table::BoundedTable;
 
 /// The kept predecessors of a child's first segment: the last segments of its kept siblings, and
 /// then its creator.
-pub fn first_predecessors(table: &SegTable, child: u32, kept: Vec<u32>) -> Vec<u32>
+pub fn first_predecessors<const SEGMENTS: u32, const TASKS: u32>(
+    table: &BoundedTable<SEGMENTS, TASKS>,
+    child: u32,
+    kept: Vec<u32>,
+) -> Vec<u32>
     requires kept { AreKeptSiblings table.now child kept.items }
     requires room { vec_len kept < vec_capacity kept }
     ensures { Lists (λ p. IsKeptEdge table.now p (task table.now child).first) result.items }
@@ -28,7 +32,10 @@ pub fn first_predecessors(table: &SegTable, child: u32, kept: Vec<u32>) -> Vec<u
 }
 
 /// Puts for each task its last segment.
-fn to_last_segments(table: &SegTable, tasks: &mut Vec<u32>)
+fn to_last_segments<const SEGMENTS: u32, const TASKS: u32>(
+    table: &BoundedTable<SEGMENTS, TASKS>,
+    tasks: &mut Vec<u32>,
+)
     requires { (u : ℕ) → Contains tasks.old.items u → IsTask table.now u }
     ensures items { tasks.new.items ≡ map (last_segment table.now) tasks.old.items }
     ensures capacity { vec_capacity tasks.old ≤ vec_capacity tasks.new }

@@ -4,6 +4,7 @@
 
 pub mod document;
 pub mod fault;
+pub mod laws;
 pub mod limits;
 pub mod plain_words;
 pub mod scanner;

@@ -46,6 +46,7 @@ enum Calls {
     LargeProgram,
     LargeText,
     Pieces,
+    LargeTable,
     Of(Command),
 }
 
@@ -75,6 +76,7 @@ fn make<H: AllocGlobal + Threads + Wait + Abort + Sync>(
         Calls::LargeProgram => large::program(rt, supply),
         Calls::LargeText => large::text(rt, supply),
         Calls::Pieces => large::pieces(rt, supply),
+        Calls::LargeTable => large::table(rt, supply),
         Calls::Of(command) => commands::report(rt, supply, command),
     }
 }

@@ -1,7 +1,8 @@
 -- The first broken pair of each column, and of all.
 use Rattle.std.proofs.Common.{◌≡◌, ◌<◌, ◌≤◌, ◌+◌, ◌/◌, ◌%◌, ℕ, List, length, Option, Some, None}
 use Rattle.std.proofs.Common.{MatchOption, arith, inl, inr, subst, sym, get_or, zero, suc, [], ◌∷◌}
-use Rattle.std.proofs.Common.{refl, ap, ◌∙◌}
+use Rattle.std.proofs.Common.{refl, ap, ◌∙◌, map, Contains, Result, Ok, Err, IfOk, MatchResult, Vec}
+use Rattle.std.proofs.Common.{Global}
 use Rattle.std.proofs.Math.Nat.{mod-add-div', mod-lt}
 use Rattle.std.proofs.lemmas.Bool.{cases_lt, cases_eq}
 use Rattle.std.proofs.lemmas.Option.{slice_get-get_or}
@@ -164,3 +165,30 @@ are_columns Q table starts ps xs items each range zipped same =
           let T : ℕ → Type 0 = λ u. IsColumn table starts u answer in
           subst T same_column (all.1 c answer is);
     })
+
+-- where no column wants memory, what each answers
+all_ok : (E : Type 0) (Q : ℕ → Result (Option (ℕ × ℕ)) E → Type 0) (ps : List ℕ)
+    (ys : List (Option (ℕ × ℕ)))
+    → AllZip Q ps (map (λ y. Ok y) ys)
+    → AllZip (λ c answer. Q c (Ok answer)) ps ys
+all_ok E Q [] [] h = tt
+all_ok E Q [] (y ∷ ys) h = absurd h
+all_ok E Q (p ∷ ps) [] h = absurd h
+all_ok E Q (p ∷ ps) (y ∷ ys) h = (h.0, all_ok E Q ps ys h.1)
+
+pub columns_from : (E : Type 0) (Q : ℕ → Result (Option (ℕ × ℕ)) E → Type 0) (table : Table)
+    (starts ps : List ℕ)
+    (xs : List (Result (Option (ℕ × ℕ)) E))
+    (r : Result (Vec (Option (ℕ × ℕ)) Global) E)
+    → ((c : ℕ) (answer : Option (ℕ × ℕ)) → Q c (Ok answer) → IsColumn table starts c answer)
+    → ps ≡ range_with_len 0 64
+    → AllZip Q ps xs
+    → MatchResult r
+    (λ c. (ys : List (Option (ℕ × ℕ))) × (xs ≡ map (λ y. Ok y) ys) × (c.items ≡ ys))
+    (λ e. Contains xs (Err e))
+    → IfOk r (λ columns. AreColumns table starts columns.items)
+columns_from E Q table starts ps xs (Ok v) each range zipped found =
+    let S : List (Result (Option (ℕ × ℕ)) E) → Type 0 = λ rs. AllZip Q ps rs in
+    are_columns (λ c answer. Q c (Ok answer)) table starts ps found.0 v.items each range
+    (all_ok E Q ps found.0 (subst S found.1 zipped)) found.2
+columns_from E Q table starts ps xs (Err e) each range zipped found = tt

@@ -1,18 +1,42 @@
 -- Items that conflict with marked items stand at their marks.
-use Rattle.std.proofs.Common.{ℕ, suc, ◌≡◌, ◌%◌, Bool, true, false, ◌==◌, List, [], ◌∷◌, refl, sym}
-use Rattle.std.proofs.Common.{◌∙◌, ap, inl, inr, arith}
+use Rattle.std.proofs.Common.{ℕ, suc, ◌≡◌, ◌+◌, Bool, true, false, ◌==◌, List, [], ◌∷◌, get_or, refl}
+use Rattle.std.proofs.Common.{◌∙◌, ap, subst, inl, inr, arith}
 use Rattle.std.specs.List.{list_any}
 use Rattle.std.proofs.lemmas.Bool.{and_parts, or_cases, or_left, or_right, eqb-true, eq-eqb}
+use Rattle.std.proofs.lemmas.Bool.{cases_lt}
+use Rattle.std.proofs.lemmas.List.{get_or_default}
 use Rattle.program_text.specs.Conflict.{conflicts_with, items_conflict, kinds_conflict}
 use Rattle.program_text.specs.declared.statement.DependKind.{DependKind}
 use Rattle.program_text.specs.declared.statement.DependKind.TheVariants.{DependIn, DependInOutSet}
 use Rattle.program_text.specs.declared.statement.DependKind.TheVariants.{DependOut, DependInOut}
 use Rattle.program_text.specs.declared.statement.Item.{Item}
-use Rattle.task_segments.specs.Schedule.{at}
-use Rattle.span_cert.specs.declared.name_marks.TheConstants.{PLACES}
-use Rattle.span_cert.specs.NameMarks.{AreMarked, IsMarked, is_in, is_set, meets, meets_kind}
-use Rattle.span_cert.specs.NameMarks.{place_of}
+use Rattle.span_cert.specs.NameMarks.{AreMarked, AreMarkedUpTo, IsMarked, has_mark, is_in}
+use Rattle.span_cert.specs.NameMarks.{is_set, meets, meets_kind}
 use Rattle.span_cert.specs.declared.name_marks.NameMarks.{NameMarks}
+
+-- one more item is marked, and marks that stood stay
+pub marked_more : (before after : NameMarks) (t : ℕ) (items : List Item) (n : ℕ) (none : Item)
+    → ((name : ℕ) → has_mark before.not_read.items name t ≡ true
+    → has_mark after.not_read.items name t ≡ true)
+    → ((name : ℕ) → has_mark before.not_set.items name t ≡ true
+    → has_mark after.not_set.items name t ≡ true)
+    → IsMarked after t (get_or items n none)
+    → AreMarkedUpTo before t items n
+    → AreMarkedUpTo after t items (n + 1)
+marked_more before after t items n none read set here are k other below inside =
+    elim (cases_lt k n) [
+      | inl earlier ↦
+          let old = are k other earlier inside in
+          record {
+            not_read = λ no. read _ (old.not_read no);
+            not_set = λ no. set _ (old.not_set no);
+          }
+      | inr last ↦
+          let same : n ≡ k = omega arith in
+          let P : ℕ → Type 0 = λ place. IsMarked after t (get_or items place none) in
+          let Q : Item → Type 0 = λ item. IsMarked after t item in
+          subst Q (get_or_default items k none other inside) (subst P same here)
+    ]
 
 -- two types that conflict, of which the second has left its marks
 kinds_meet : (one other : DependKind) (not_read not_set : Bool)
@@ -36,11 +60,10 @@ pair_meets : (marks : NameMarks) (t : ℕ) (one other : Item)
 pair_meets marks t one other marked conflict =
     let both = and_parts (one.name == other.name) (kinds_conflict one.kind other.kind) conflict in
     let same : one.name ≡ other.name = eqb-true one.name other.name both.0 in
-    let place : place_of other ≡ place_of one = ap (λ n. n % PLACES) (sym same) in
-    kinds_meet one.kind other.kind (at marks.not_read (place_of one) == t)
-    (at marks.not_set (place_of one) == t) both.1
-    (λ no. eq-eqb _ _ (ap (λ n. at marks.not_read n) (sym place) ∙ marked.not_read no))
-    (λ no. eq-eqb _ _ (ap (λ n. at marks.not_set n) (sym place) ∙ marked.not_set no))
+    kinds_meet one.kind other.kind (has_mark marks.not_read.items one.name t)
+    (has_mark marks.not_set.items one.name t) both.1
+    (λ no. ap (λ n. has_mark marks.not_read.items n t) same ∙ marked.not_read no)
+    (λ no. ap (λ n. has_mark marks.not_set.items n t) same ∙ marked.not_set no)
 
 one_meets : (marks : NameMarks) (t : ℕ) (one : Item) (others : List Item)
     → AreMarked marks t others

@@ -1,7 +1,7 @@
 -- Carried out: marks at names, and where a segment opens: what tells quickly that a segment need
 -- not wait.
-use Rattle.std.specs.Prelude.{ℕ, ◌+◌, ◌%◌, ◌<◌, ◌≡◌, ◌⊎◌, ◌==◌, ◌||◌, Bool, true, false, List}
-use Rattle.std.specs.Prelude.{length, slice_index_or}
+use Rattle.std.specs.Prelude.{ℕ, ◌+◌, ◌<◌, ◌≡◌, ◌⊎◌, ◌==◌, ◌&&◌, ◌||◌, Bool, true, false, List}
+use Rattle.std.specs.Prelude.{length, nat_lt, slice_index_or}
 use Rattle.program_text.specs.declared.statement.DependKind.{DependKind}
 use Rattle.program_text.specs.declared.statement.DependKind.TheVariants.{DependIn, DependInOutSet}
 use Rattle.program_text.specs.declared.statement.Item.{Item}
@@ -10,7 +10,6 @@ use Rattle.task_segments.specs.Table.{Table, segment, task}
 use Rattle.task_segments.specs.declared.table.Closing.{Closing}
 use Rattle.task_segments.specs.declared.table.Closing.TheVariants.{Waits, EndsGroup}
 use Rattle.span_cert.specs.declared.name_marks.NameMarks.{NameMarks}
-use Rattle.span_cert.specs.declared.name_marks.TheConstants.{PLACES}
 use Rattle.span_cert.specs.declared.opening.OpensAt.{OpensAt}
 use Rattle.span_cert.specs.declared.opening.OpensAt.TheVariants.{First, AfterChild, AfterCut}
 
@@ -24,14 +23,14 @@ abbrev pub is_set : DependKind → Bool
 is_set DependInOutSet = true
 is_set other = false
 
--- where the marks of a name stand
-abbrev pub place_of : Item → ℕ
-place_of item = item.name % PLACES
+-- the segment's mark stands at a name
+abbrev pub has_mark : List ℕ → ℕ → ℕ → Bool
+has_mark marks name t = nat_lt name (length marks) && (at marks name == t)
 
 -- the segment has marked the item
 pub record IsMarked (marks : NameMarks) (t : ℕ) (item : Item) : Type 0 where
-  pub not_read : is_in item.kind ≡ false → at marks.not_read (place_of item) ≡ t
-  pub not_set : is_set item.kind ≡ false → at marks.not_set (place_of item) ≡ t
+  pub not_read : is_in item.kind ≡ false → has_mark marks.not_read.items item.name t ≡ true
+  pub not_set : is_set item.kind ≡ false → has_mark marks.not_set.items item.name t ≡ true
 
 -- the segment has marked the first n items
 abbrev pub AreMarkedUpTo : NameMarks → ℕ → List Item → ℕ → Type 0
@@ -44,7 +43,7 @@ AreMarkedUpTo marks t items n =
 abbrev pub AreMarked : NameMarks → ℕ → List Item → Type 0
 AreMarked marks t items = AreMarkedUpTo marks t items (length items)
 
--- of the two marks at a place, one that an item of this type conflicts with
+-- of the two marks at a name, one that an item of this type conflicts with
 abbrev pub meets_kind : DependKind → Bool → Bool → Bool
 meets_kind DependIn not_read not_set = not_read
 meets_kind DependInOutSet not_read not_set = not_set
@@ -53,8 +52,8 @@ meets_kind other not_read not_set = not_read || not_set
 -- the item stands where the segment has put such a mark
 abbrev pub meets : NameMarks → ℕ → Item → Bool
 meets marks t item =
-    meets_kind item.kind (at marks.not_read (place_of item) == t)
-    (at marks.not_set (place_of item) == t)
+    meets_kind item.kind (has_mark marks.not_read.items item.name t)
+    (has_mark marks.not_set.items item.name t)
 
 -- ---- openings
 

@@ -6,13 +6,13 @@ ghost use Rattle.span_cert.specs.BrokenPairs.{AreEnds};
 use crate::claim::Start;
 use std::alloc::Global;
 use task_program::AllocFault;
-use task_segments::table::SegTable;
+use task_segments::table::BoundedTable;
 
 /// The end of each segment by its start, or the greatest number where it lies above. The error is
 /// out of memory.
-pub(crate) fn ends_of(
+pub(crate) fn ends_of<const SEGMENTS: u32, const TASKS: u32>(
     alloc: Global,
-    table: &SegTable,
+    table: &BoundedTable<SEGMENTS, TASKS>,
     starts: &[Start],
 ) -> Result<Vec<u64>, AllocFault>
     requires each { length starts.now ≡ length table.now.segments }

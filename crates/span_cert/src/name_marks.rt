@@ -1,46 +1,40 @@
-//! Marks at the names of one task's items: of most tasks a glance at them tells that they do not
-//! conflict with it.
-ghost use Rattle.std.specs.Prelude.{◌≡◌};
+//! Marks at the names of one task's items: they tell which of most tasks do not conflict with it.
+ghost use Rattle.std.specs.Prelude.{◌≡◌, ℕ, OnOk, true, false};
 ghost use Rattle.std.specs.List.{list_any};
-ghost use Rattle.span_cert.specs.NameMarks.{AreMarked, is_in, is_set, meets};
+ghost use Rattle.span_cert.specs.NameMarks.{AreMarked, has_mark, is_in, is_set, meets};
 
+use std::alloc::Global;
+use task_program::AllocFault;
 use task_program::statement::{DependKind, Item};
 
-/// A name's marks stand at the remainder of its number by so many.
-pub const PLACES: usize = 4_096;
-
-/// For each remainder the segment that has marked it last. So a new segment needs no other marks to
-/// be taken away.
+/// For each name the segment that has marked it last. So a new segment needs no other marks to be
+/// taken away. A list ends with the last name that was marked.
 #[derive(Drop)]
 pub struct NameMarks {
     /// By an item that is not `in`.
-    pub not_read: [u32; PLACES],
+    pub not_read: Vec<u32>,
     /// By an item that is not `inoutset`.
-    pub not_set: [u32; PLACES],
+    pub not_set: Vec<u32>,
 }
 
 impl NameMarks {
-    /// Marks of the first segment.
-    pub(crate) fn new() -> NameMarks {
+    /// No marks.
+    pub(crate) fn new(alloc: Global) -> NameMarks {
         NameMarks {
-            not_read: [0; PLACES],
-            not_set: [0; PLACES],
+            not_read: Vec::new(alloc),
+            not_set: Vec::new(alloc),
         }
     }
 
     /// Marks the items of a segment's task.
-    pub(crate) fn put(&mut self, t: u32, items: &[Item])
-        ensures { AreMarked self.new t items.now }
+    pub(crate) fn put(&mut self, t: u32, items: &[Item]) -> Result<(), AllocFault>
+        ensures { OnOk result (AreMarked self.new t items.now) }
     {
         for item in items {
-            let place = item.name as usize % PLACES;
-            if !is_in(item.kind) {
-                self.not_read[place] = t;
-            }
-            if !is_set(item.kind) {
-                self.not_set[place] = t;
-            }
+            mark_unless(is_in(item.kind), &mut self.not_read, item.name, t)?;
+            mark_unless(is_set(item.kind), &mut self.not_set, item.name, t)?;
         }
+        Ok(())
     }
 
     /// Whether some item stands where the segment has put a mark that a conflict would leave.
@@ -53,15 +47,37 @@ impl NameMarks {
     fn meets(&self, t: u32, item: Item) -> bool
         ensures { result ≡ meets self.now t item }
     {
-        let place = item.name as usize % PLACES;
-        let not_read = self.not_read[place] == t;
-        let not_set = self.not_set[place] == t;
         match item.kind {
-            DependKind::DependIn => not_read,
-            DependKind::DependInOutSet => not_set,
-            _ => not_read || not_set,
+            DependKind::DependIn => has_mark(&self.not_read, item.name, t),
+            DependKind::DependInOutSet => has_mark(&self.not_set, item.name, t),
+            _ => has_mark(&self.not_read, item.name, t) || has_mark(&self.not_set, item.name, t),
         }
     }
+}
+
+/// Puts a segment's mark at a name, unless it is passed over.
+fn mark_unless(passed_over: bool, marks: &mut Vec<u32>, name: u32, t: u32) -> Result<(), AllocFault>
+    ensures marked { OnOk result
+        (passed_over ≡ false → has_mark marks.new.items name t ≡ true) }
+    ensures kept { OnOk result ((other : ℕ) → has_mark marks.old.items other t ≡ true
+        → has_mark marks.new.items other t ≡ true) }
+{
+    if passed_over {
+        return Ok(());
+    }
+    let place = name as usize;
+    let count = marks.len().max(place + 1);
+    marks.resize(count, 0)?;
+    marks[place] = t;
+    Ok(())
+}
+
+/// Whether the segment's mark stands at a name.
+fn has_mark(marks: &[u32], name: u32, t: u32) -> bool
+    ensures { result ≡ has_mark marks.now name t }
+{
+    let place = name as usize;
+    place < marks.len() && marks[place] == t
 }
 
 fn is_in(kind: DependKind) -> bool

@@ -1,12 +1,13 @@
 //! What a segment can have to wait for, as far as it tells by itself.
-ghost use Rattle.std.specs.Prelude.{◌≡◌, ◌<◌, ◌↔◌, ◌⊎◌, IsTrue};
+ghost use Rattle.std.specs.Prelude.{◌≡◌, ◌<◌, ◌↔◌, ◌⊎◌, IfOk, IsTrue};
 ghost use Rattle.task_segments.specs.Nesting.{IsNestedTable};
 ghost use Rattle.task_segments.specs.Precedence.{IsSegment, MustPrecede};
 ghost use Rattle.span_cert.specs.NameMarks.{AreMarkedFor, IsCut, IsOpening};
 
 use crate::name_marks::NameMarks;
+use task_program::AllocFault;
 use task_segments::laws::nests;
-use task_segments::table::{Closing, SegTable};
+use task_segments::table::{BoundedTable, Closing};
 
 /// Where a segment opens.
 #[derive(Clone, Copy, Debug, PartialEq, Eq)]
@@ -21,21 +22,25 @@ pub enum OpensAt {
 }
 
 /// Where a segment opens; where that is with its task, the task's items are marked.
-pub(crate) fn opening_of(table: &SegTable, marks: &mut NameMarks, t: u32) -> OpensAt
+pub(crate) fn opening_of<const SEGMENTS: u32, const TASKS: u32>(
+    table: &BoundedTable<SEGMENTS, TASKS>,
+    marks: &mut NameMarks,
+    t: u32,
+) -> Result<OpensAt, AllocFault>
     requires { IsSegment table.now t }
-    ensures opening { IsOpening table.now t result }
-    ensures marks { AreMarkedFor table.now marks.new t result }
+    ensures opening { IfOk result (IsOpening table.now t) }
+    ensures marks { IfOk result (AreMarkedFor table.now marks.new t) }
 {
     nests(table);
     let task = table.task_of(t);
     if table.first(task) == t {
-        marks.put(t, table.items(task));
-        return OpensAt::First;
+        marks.put(t, table.items(task))?;
+        return Ok(OpensAt::First);
     }
     if t > 0 && is_cut(table.closing(t - 1)) {
-        OpensAt::AfterCut
+        Ok(OpensAt::AfterCut)
     } else {
-        OpensAt::AfterChild
+        Ok(OpensAt::AfterChild)
     }
 }
 
@@ -47,8 +52,8 @@ fn is_cut(closing: Closing) -> bool
 }
 
 /// Whether t may have to wait for s. Of a pair for which it is false, t does not.
-pub(crate) fn may_wait(
-    table: &SegTable,
+pub(crate) fn may_wait<const SEGMENTS: u32, const TASKS: u32>(
+    table: &BoundedTable<SEGMENTS, TASKS>,
     marks: &NameMarks,
     opening: OpensAt,
     s: u32,

@@ -13,7 +13,7 @@ use Rattle.task_segments.specs.Nesting.{IsNestedTable}
 use Rattle.task_segments.specs.Precedence.{IsSegment, IsTask, Continues, Encloses, IsEarlierChild}
 use Rattle.task_segments.specs.Precedence.{Descends, GroupEnd, MustPrecede}
 use Rattle.task_segments.specs.Precedence.Descends.{Itself}
-use Rattle.task_segments.specs.ProgramTable.{IsProgramTable}
+use Rattle.task_segments.specs.MarksTable.{IsMarksTable}
 use Rattle.task_segments.specs.Table.{Table, Task, segment, task, no_segment, no_task}
 use Rattle.task_segments.proofs.Children.{IsNumbered, numbered_program}
 use Rattle.task_segments.proofs.InPlace.{closing_creates, first_follows, follows_one, last_followed}
@@ -205,7 +205,7 @@ same_children a b h i one other x same t is_t =
     ]
 
 -- all rows are the same, so the tables are
-pub alike_is_equal : (a b : Table) → IsProgramTable a → IsProgramTable b → AnswerAlike a b → a ≡ b
+pub alike_is_equal : (a b : Table) → IsMarksTable a → IsMarksTable b → AnswerAlike a b → a ≡ b
 alike_is_equal a b p q x =
     let one = numbered_program a p in
     let other = numbered_program b q in

@@ -15,8 +15,7 @@ use Rattle.task_segments.specs.Moments.{closing_of, before_group, innermost_chil
 use Rattle.task_segments.specs.Moments.{last_moment, IsProper}
 use Rattle.task_segments.specs.Table.{Table, segment, task, table_at}
 use Rattle.task_segments.specs.Precedence.{IsSegment, IsTask, Continues, IsEarlierChild}
-use Rattle.task_segments.specs.ProgramTable.{IsProgramTable}
-use Rattle.task_program.proofs.Nested.{is_nested}
+use Rattle.task_segments.specs.MarksTable.{IsMarksTable}
 use Rattle.task_segments.proofs.Steps.{count-cons, task_has_begun, running_below, tasks_begins}
 use Rattle.task_segments.proofs.Steps.{beginning_of-old, beginning_of-new}
 use Rattle.task_segments.proofs.Places.{after_end}
@@ -367,7 +366,7 @@ is_numbered : (e : List Mark) → IsLast e → IsNumbered (table_at e)
 is_numbered e h = grind (arith, siblings_at, tasks-at, siblings_ascend, children_at, segments-at)
 
 -- the table of a program numbers them so
-pub numbered_program : (table : Table) → IsProgramTable table → IsNumbered table
+pub numbered_program : (table : Table) → IsMarksTable table → IsNumbered table
 numbered_program table h =
-    let last = last_of_nested h.program.marks (is_nested h.program h.is_program) in
-    subst (λ (t : Table). IsNumbered t) (sym h.is) (is_numbered (last_moment h.program.marks) last)
+    let last = last_of_nested h.marks h.reading.nested in
+    subst (λ (t : Table). IsNumbered t) (sym h.is) (is_numbered (last_moment h.marks) last)

@@ -2,24 +2,19 @@
 use Rattle.std.proofs.Common.{◌≡◌, ℕ, ◌+◌, ◌≤◌, cond, refl, List, [], ◌∷◌, ◌++◌, arith}
 use Rattle.std.specs.List.{sum_by, count_by}
 use Rattle.std.proofs.lemmas.List.Sums.{sum_by-cons, sum_by-append}
-use Rattle.task_program.specs.Limits.{tasks_begun, segments_opened, tasks_of, segments_of, work_of}
-use Rattle.program_text.specs.declared.limits.TheConstants.{MOST_TASKS, MOST_SEGMENTS, MOST_WORK}
+use Rattle.task_program.specs.Limits.{tasks_begun, segments_opened, tasks_of, segments_of}
+use Rattle.program_text.specs.declared.limits.TheConstants.{MOST_SEGMENTS}
 use Rattle.task_program.specs.Marks.{Mark}
 use Rattle.task_program.specs.Marks.Mark.{Begins, Ends, Works, Waits, GroupBegins, GroupEnds}
 use Rattle.task_program.specs.Nested.{IsNested}
+use Rattle.task_segments.specs.declared.limits.TheConstants.{MOST_TASKS_WITH_ROOT}
 use Rattle.task_program.specs.Nested.IsNested.{Nothing, Work, Wait, Task, Group}
 use Rattle.task_program.specs.ProgramMarks.{ProgramMarks}
 use Rattle.task_program.specs.Programs.{IsProgram}
 use Rattle.task_program.proofs.Nested.{is_nested}
+use Rattle.task_segments.specs.MarksTable.{IsReading}
 use Rattle.task_segments.specs.Moments.{begins_task, opens}
 use Rattle.task_segments.proofs.Steps.{count-cons}
-
--- the root's beginning opens one more segment
-pub record IsReading (marks : List Mark) : Type 0 where
-  pub nested : IsNested marks
-  pub tasks : count_by begins_task marks ≤ MOST_TASKS
-  pub segments : count_by opens marks + 1 ≤ MOST_SEGMENTS
-  pub work : work_of marks ≤ MOST_WORK
 
 task_counted : (mark : Mark) → tasks_begun mark ≡ cond (begins_task mark) 1 0
 task_counted (Begins d i) = refl
@@ -87,3 +82,11 @@ segments_counted marks h =
 -- the marks of a program are nested and keep within the limits
 pub reading : (program : ProgramMarks) → IsProgram program → IsReading program.marks
 reading program h = grind (arith, is_nested, tasks_counted, segments_counted)
+
+-- within the limits of a program's table
+pub record IsWithinLimits (marks : List Mark) : Type 0 where
+  pub segments : count_by opens marks + 1 ≤ MOST_SEGMENTS
+  pub tasks : count_by begins_task marks + 1 ≤ MOST_TASKS_WITH_ROOT
+
+pub few_rows : (program : ProgramMarks) → IsProgram program → IsWithinLimits program.marks
+few_rows program h = grind (arith, is_nested, tasks_counted, segments_counted)

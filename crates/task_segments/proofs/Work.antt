@@ -15,7 +15,7 @@ use Rattle.task_program.proofs.Nested.{is_nested}
 use Rattle.task_segments.specs.declared.table.Segment.{Segment}
 use Rattle.task_segments.specs.Moments.{segments_so_far, opening_of, opens, cost_of, is_latest}
 use Rattle.task_segments.specs.Moments.{moment_after, last_moment, IsProper}
-use Rattle.task_segments.specs.ProgramTable.{IsProgramTable}
+use Rattle.task_segments.specs.MarksTable.{IsMarksTable}
 use Rattle.task_segments.specs.Table.{Table, costs_of, segment_row, table_at, table_of}
 use Rattle.task_segments.proofs.Facts.{begun_some_segment}
 use Rattle.task_segments.proofs.LastMoment.{last_of_nested}
@@ -169,7 +169,7 @@ work_read e (m ∷ marks) =
     omega (arith, work_read (m ∷ e) marks, sum_by-cons work_done m e, sum_by-cons work_done m marks)
 
 -- the limit of the work of a table
-pub little_work : (table : Table) → IsProgramTable table
+pub little_work : (table : Table) → IsMarksTable table
     → sum (map (λ (row : Segment). row.cost) table.segments) ≤ MOST_WORK
 little_work table h = grind (arith, map, sum-map, total_is, sums, work_read)
 

@@ -4,7 +4,7 @@ ghost use Rattle.task_segments.specs.Copies.{facts_of};
 ghost use Rattle.task_segments.specs.Precedence.{IsTask};
 ghost use Rattle.task_segments.specs.Table.{task};
 
-use crate::table::{SegTable, TaskRow};
+use crate::table::{BoundedTable, TaskRow};
 use task_program::AllocFault;
 
 /// What the table says of a task, but for its depend items.
@@ -19,12 +19,12 @@ pub struct TaskFacts {
     pub siblings_before: u32,
 }
 
-impl SegTable {
+impl<const SEGMENTS: u32, const TASKS: u32> BoundedTable<SEGMENTS, TASKS> {
     /// An equal table. The error is out of memory.
-    pub fn copy(&self) -> Result<SegTable, AllocFault>
+    pub fn copy(&self) -> Result<BoundedTable<SEGMENTS, TASKS>, AllocFault>
         ensures { IfOk result (λ table. table ≡ self.now) }
     {
-        Ok(SegTable {
+        Ok(BoundedTable {
             segments: self.segments.clone()?,
             tasks: copy_rows(&self.tasks)?,
             groups: self.groups.clone()?,
@@ -33,19 +33,19 @@ impl SegTable {
 
     /// Whether two tables are equal: exactly where all other calls but `copy` answer the same of
     /// both (`laws::equal_where_alike`).
-    pub fn same(&self, other: &SegTable) -> bool
+    pub fn same(&self, other: &BoundedTable<SEGMENTS, TASKS>) -> bool
         ensures { IsTrue result ↔ (self.now ≡ other.now) }
     {
         self.same_segments(other) && self.same_tasks(other)
     }
 
-    fn same_segments(&self, other: &SegTable) -> bool
+    fn same_segments(&self, other: &BoundedTable<SEGMENTS, TASKS>) -> bool
         ensures { IsTrue result ↔ (self.now.segments ≡ other.now.segments) }
     {
         self.segments == other.segments
     }
 
-    fn same_tasks(&self, other: &SegTable) -> bool
+    fn same_tasks(&self, other: &BoundedTable<SEGMENTS, TASKS>) -> bool
         ensures { IsTrue result ↔ (self.now.tasks ≡ other.now.tasks) }
     {
         if self.tasks() != other.tasks() {
@@ -59,7 +59,7 @@ impl SegTable {
         true
     }
 
-    fn same_task(&self, other: &SegTable, t: u32) -> bool
+    fn same_task(&self, other: &BoundedTable<SEGMENTS, TASKS>, t: u32) -> bool
         requires one { IsTask self.now t }
         requires other { IsTask other.now t }
         ensures { IsTrue result ↔ (task self.now t ≡ task other.now t) }

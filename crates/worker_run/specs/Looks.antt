@@ -1,5 +1,7 @@
 -- Carried out: looks at lanes, one after another.
 use Rattle.std.specs.Prelude.{ℕ, ◌≡◌, ◌++◌, List, [], ◌∷◌, take, drop, ◌⊎◌, Option, Some, None}
+use Rattle.crossbeam_deque.specs.declared.steal.Steal.{Steal}
+use Rattle.crossbeam_deque.specs.declared.steal.Steal.TheVariants.{Empty, Success, Retry}
 use Rattle.worker_run.specs.declared.look.Found.{Found}
 use Rattle.worker_run.specs.declared.look.Found.TheVariants.{Token, Nothing, Unsure}
 use Rattle.worker_run.specs.declared.signal.Turn.{Turn}
@@ -9,6 +11,12 @@ use Rattle.worker_run.specs.declared.station.Next.TheVariants.{Run, Wait, Again}
 -- those from a place upwards, and then those below it
 abbrev pub in_turn : {A : Type 0} → ℕ → List A → List A
 in_turn first xs = drop first xs ++ take first xs
+
+-- what a steal tells of its lane
+abbrev pub of_steal : Steal ℕ → Found
+of_steal (Success token) = Token token
+of_steal Empty = Nothing
+of_steal Retry = Unsure
 
 -- what is found in all, where an earlier look was unsure
 abbrev pub after_unsure : Found → Found

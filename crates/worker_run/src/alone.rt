@@ -7,7 +7,7 @@ ghost use Rattle.worker_run.specs.Jobs.{IsJobOf};
 ghost use Rattle.worker_run.specs.NewLanes.{lanes_of};
 ghost use Rattle.worker_run.specs.Workers.{AreBelow};
 
-use crate::closing::close_all;
+use crate::closing::{Leftover, close_all};
 use crate::crew::new_lanes;
 use crate::gate::Gate;
 use crate::lane_names::Lanes;
@@ -35,7 +35,8 @@ pub(crate) fn work_alone<K: Kernel, G: Gate>(
     ensures err { IfErr result (MayAnswer core.old.table K.value_of K.may_fault 1) }
 {
     let lanes = new_lanes(alloc, core.table(), 1)?;
-    work_at::<Brand, K, G>(alloc, core, gated, lanes)
+    work_at::<Brand, K, G>(alloc, core, gated, lanes)?;
+    Ok(())
 }
 
 /// Works at this one lane until it is empty, and closes it.
@@ -44,20 +45,20 @@ fn work_at<J: Lanes, K: Kernel, G: Gate>(
     core: &mut Core<K>,
     gated: &GatedKernel<'_, K, G>,
     lanes: Vec<NewLane>,
-) -> Result<(), RunFault>
+) -> Result<Leftover, RunFault>
     requires named { (i : ℕ) → i < length lanes.items
         → slice_index_or (lanes_of lanes.items) i (0, 0) ≡ J.lane_of i }
     requires one { length lanes.items ≡ 1 }
     requires thieves { All (λ l. length l.thieves.items + 1 ≡ 1) lanes.items }
     requires below { AreBelow 1 core.old.history }
+    ensures left { IfOk result (λ left. length left.counts.items ≡ 1) }
     ensures table { OnOk result (core.new.table ≡ core.old.table) }
     ensures below { OnOk result (AreBelow 1 core.new.history) }
     ensures err { IfErr result (MayAnswer core.old.table K.value_of K.may_fault 1) }
 {
     let mut stations = open_stations::<J>(alloc, lanes)?;
     run_tokens(alloc, core, gated, &mut stations[0])?;
-    close_all(alloc, stations)?;
-    Ok(())
+    Ok(close_all(alloc, stations)?)
 }
 
 /// Runs the segments of the lane's tokens, and puts those that become ready by each into the lane,

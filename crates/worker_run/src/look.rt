@@ -1,8 +1,9 @@
 //! Looks for a token at several lanes, one after another.
-ghost use Rattle.worker_run.specs.Looks.{AreLookedAt, in_turn, after_unsure};
+ghost use Rattle.worker_run.specs.Looks.{AreLookedAt, in_turn, after_unsure, of_steal};
 ghost use Rattle.std.specs.Prelude.{◌≡◌};
 
 use crate::signal::Signal;
+use crossbeam_deque::Steal;
 
 /// What a look for a token found, at one lane or at several.
 #[derive(Clone, Copy, Debug, PartialEq, Eq)]
@@ -63,6 +64,17 @@ pub(crate) fn look_in_turn<S: TokenSource>(
 }
 
 impl Found {
+    /// What a steal tells of its lane. Where another thread was in the way there may be a token.
+    pub(crate) fn of_steal(steal: Steal<u32>) -> Found
+        ensures { result ≡ of_steal steal }
+    {
+        match steal {
+            Steal::Success(token) => Found::Token(token),
+            Steal::Empty => Found::Nothing,
+            Steal::Retry => Found::Unsure,
+        }
+    }
+
     /// What this and an unsure look before it amount to.
     fn after_unsure(self) -> Found
         ensures { result ≡ after_unsure self }

@@ -1,5 +1,7 @@
 """Runs many cases side by side."""
 import concurrent.futures
+import contextlib
+import fnmatch
 import sys
 import time
 
@@ -7,6 +9,7 @@ from tester.cases import Case
 from tester.directed import directed_programs, kinds_of
 from tester.generate import random_program
 from tester.results import Results
+from tester.second_try import SecondTries, doubtful
 from tester.variants import in_variant
 
 DIRECTED_UNIT, RANDOM_UNIT = 100_000, 1_000  # nanoseconds for a cost of 1
@@ -18,9 +21,10 @@ def cases_of(name, body, variants, unit):
     return [Case(name, written, variant, unit) for written, variant in reversed(bodies.items())]
 
 
-def directed_cases(kinds, variants):
-    """The cases of the directed part, and the names of programs that need a kind that the compiler lacks."""
-    programs = directed_programs()
+def directed_cases(kinds, variants, pattern="*"):
+    """The cases of the directed part, of programs whose names fit a pattern of the shell's, and the names of those that
+    need a kind that the compiler lacks."""
+    programs = [(name, body) for name, body in directed_programs() if fnmatch.fnmatchcase(name, pattern)]
     cases = [case for name, body in programs if kinds_of(body) <= kinds
              for case in cases_of(name, body, variants, DIRECTED_UNIT)]
     return cases, [name for name, body in programs if not kinds_of(body) <= kinds]
@@ -52,15 +56,35 @@ class Progress:
 
 
 def tried(bench, cases, plan, jobs):
-    """Each of the cases with its tallies, as it ends; each is run as the plan says."""
-    progress, pool = Progress(len(cases)), concurrent.futures.ThreadPoolExecutor(jobs)
+    """Each of the cases with its tallies, as it ends; each is run as the plan says. What may only have been slow comes
+    last, after a second try."""
+    progress, pool, slow = Progress(len(cases)), concurrent.futures.ThreadPoolExecutor(jobs), []
     try:
         futures = {pool.submit(bench.try_case, case, plan.conditions(case)): case for case in cases}
         for future in concurrent.futures.as_completed(futures):
             progress.add(future.result())
-            yield futures[future], future.result()
+            if doubtful(future.result()):
+                slow.append((futures[future], future.result()))
+            else:
+                yield futures[future], future.result()
+        tries = SecondTries(lambda case, conditions: bench.try_case(case, [conditions])[0])
+        for case, tallies in slow:
+            yield case, tries.settled(case, tallies)
     finally:
         pool.shutdown(cancel_futures=True)
+
+
+def some_failing(bench, cases, plan, jobs, enough):
+    """The results of cases, which end once so many programs have failed."""
+    begun, outcomes, failed = time.monotonic(), [], set()
+    with contextlib.closing(tried(bench, cases, plan, jobs)) as running:
+        for case, tallies in running:
+            outcomes.append((case, tallies))
+            if any(tally.failures for tally in tallies):
+                failed.add(case.name)
+            if len(failed) >= enough:
+                break
+    return summed(outcomes, begun)
 
 
 def run_cases(bench, cases, plan, jobs):

@@ -1,17 +1,19 @@
 """Cases: a program in one variant, built, run under several conditions, and judged."""
 import collections
 import itertools
+import shutil
 import zlib
 from dataclasses import dataclass, field
 
 from tester.coverage import Coverage
 from tester.emit_c import c_text
+from tester.expected import Expectations
 from tester.explain import explain
 from tester.judge import Verdict
 from tester.launch import Conditions, launch
 from tester.segments import Table
 from tester.text import text_of
-from tester.tied import moved
+from tester.tied import moved, unconstrained
 from tester.toolchain import BuildFailed
 
 
@@ -49,6 +51,8 @@ class Tally:
     failures: list = field(default_factory=list)
     schedules: collections.Counter = field(default_factory=collections.Counter)  # runs by the schedule's name
     coverage: collections.Counter = field(default_factory=collections.Counter)   # as Coverage.of_run
+    seen_once: int = 0  # hangs that a second try did not show
+    expected: collections.Counter = field(default_factory=collections.Counter)   # failures by what is known of them
 
 
 @dataclass(frozen=True)
@@ -62,10 +66,12 @@ class Plan:
 
     def conditions(self, case):
         """The conditions for a case; which setting goes with which number of threads differs from case to case."""
-        first = zlib.crc32(case.name.encode())
-        return [Conditions(threads, self.runs, self.seed, case.unit, self.timeout,
-                           self.settings[(first + number) % len(self.settings)])
-                for number, threads in enumerate(self.threads)]
+        first = zlib.crc32(case.name.encode()) + self.seed * len(self.threads)
+        settings = [self.settings[(first + number) % len(self.settings)] for number in range(len(self.threads))]
+        if case.name.startswith("priority") and "priorities" in self.settings:
+            settings = ["priorities" if number % 2 else setting for number, setting in enumerate(settings)]
+        return [Conditions(threads, self.runs, self.seed, case.unit, self.timeout, setting)
+                for threads, setting in zip(self.threads, settings)]
 
 
 class Examined:
@@ -81,18 +87,24 @@ class Examined:
     def source(self):
         return c_text(self.case.body, self.table, self.record.preds)
 
-    def judged(self, log):
-        """The verdict of spanprof, and on what it accepts whether tied tasks stayed on their threads."""
+    def judged(self, log, constrained):
+        """The verdict of spanprof, and on what it accepts whether tied tasks stayed on their threads and, where the
+        runtime was not told otherwise, whether threads began tied tasks only where they may."""
         verdict = self.judge.verdict(self.text, self.record, log)
-        words = moved(self.table, log.events) if verdict.accepted else None
-        return Verdict("moved", words) if words else verdict
+        if not verdict.accepted or log.unlogged:
+            return verdict
+        tests = {"moved": moved, "unconstrained": unconstrained} if constrained else {"moved": moved}
+        told = {kind: test(self.table, log.events) for kind, test in tests.items()}
+        return next((Verdict(kind, words) for kind, words in told.items() if words), verdict)
 
-    def verdict(self, log, threads):
+    def verdict(self, log, conditions):
         """The verdict on a log, and what it tried. Equal logs get equal answers, so each is looked at once."""
-        key = (threads, log.end, log.detail, tuple(log.events))
+        constrained = conditions.setting != "unconstrained"
+        key = (conditions.threads, constrained, log.end, log.detail, log.unlogged, tuple(log.events))
         if key not in self.known:
-            verdict = self.judged(log)
-            tried = self.coverage.of_run(log.events, threads) if verdict.accepted else collections.Counter()
+            verdict = self.judged(log, constrained)
+            ordered = verdict.accepted and not log.unlogged
+            tried = self.coverage.of_run(log.events, conditions.threads) if ordered else collections.Counter()
             self.known[key] = verdict, tried
         return self.known[key]
 
@@ -100,8 +112,9 @@ class Examined:
 class Bench:
     """Where cases are built, run and judged."""
 
-    def __init__(self, toolchain, judge, environment):
+    def __init__(self, toolchain, judge, environment, expectations=Expectations("", ())):
         self.toolchain, self.judge, self.environment = toolchain, judge, environment
+        self.expectations = expectations
         self.programs, self.numbers = {}, itertools.count()
 
     def build(self, source):
@@ -111,9 +124,8 @@ class Bench:
         return self.programs[source]
 
     def forget(self):
-        """Removes all programs that were built."""
-        for program in self.programs.values():
-            program.unlink()
+        """Removes all programs that were built, where they are not to be kept."""
+        self.toolchain.forget(self.programs.values())
         self.programs.clear()
 
     def examined(self, case):
@@ -130,15 +142,23 @@ class Bench:
                     for c in all_conditions]
         return [self.tally(examined, program, conditions) for conditions in all_conditions]
 
+    def stacks_of(self, case, conditions):
+        """The stacks of all threads in a run of a case that hangs, where a debugger is there and one hangs again."""
+        if not shutil.which("gdb"):
+            return []
+        program = self.build(self.examined(case).source())
+        logs = launch(program, conditions, {**self.environment, "CONFORMANCE_STACKS": "1"})
+        return next((log.stacks for log in logs if log.stacks), [])
+
     def tally(self, examined, program, conditions):
         tally = Tally(conditions)
         for log in launch(program, conditions, self.environment):
             tally.runs += 1
             tally.events += len(log.events)
             tally.schedules[log.schedule] += 1
-            verdict, tried = examined.verdict(log, conditions.threads)
+            verdict, tried = examined.verdict(log, conditions)
             tally.coverage.update(tried)
             if not verdict.accepted:
                 told = explain(examined.text, verdict, log)
                 tally.failures.append(Failure(examined.case, conditions, verdict, told.rule, told.words, log))
-        return tally
+        return self.expectations.settled(tally)

@@ -1,25 +1,31 @@
 """The commands of the tester. Each takes the options and a folder for what it builds, and answers an exit status."""
 import contextlib
+import json
 import pathlib
 import sys
+from dataclasses import replace
 
-from tester import tables
+from tester import gcov, store, tables
+from tester.bisect import UNTESTABLE, sample
+from tester.built import built_in, try_mutant
 from tester.campaign import cases_of, directed_cases, random_cases, run_cases
 from tester.cases import Bench, Case
 from tester.directed import directed_programs, first_comment
 from tester.explain import explain
 from tester.facts import facts_of, tested
 from tester.journal import Journal
-from tester.judge import Missing
+from tester.judge import Missing, Refused
 from tester.launch import read_logs
 from tester.long_campaign import run_campaign
 from tester.mutants import build_mutants, mutants_of, mutated
 from tester.opening import entry_points, judge_of, mutate, open_bench, plan_of, program_in
+from tester.program import KINDS
 from tester.publish import publish
 from tester.report import Report
 from tester.reproduce import Reproducer
-from tester.second_try import run_surely
+from tester.shards import merged
 from tester.text import text_of
+from tester.toolchain import BuildFailed
 from tester.variants import in_variant
 
 
@@ -29,24 +35,36 @@ def command_run(options, folder):
     if options.mutate:
         mutate(bench, options.mutate)
     plan = plan_of(options, bench)
-    what = tested(options, bench, plan.settings, entry_points(bench))
+    what = tested(options, bench, plan.settings)
+    if options.gcov:
+        gcov.clear(options.gcov)
     if options.hours:
         with contextlib.closing(Journal(options.state, what)) as journal:
             results = run_campaign(options, bench, plan, journal)
     else:
         results = run_once(options, bench, plan)
+        if options.shard.of > 1:
+            keep_part(options, what, results)
     found = shrink_failures(options, bench, results)
-    publish(options.report, Report(facts_of(what, results), bench.toolchain.kinds, results, found))
+    sources = list(gcov.rows(gcov.reached(options.gcov))) if options.gcov else []
+    publish(options.report, Report(facts_of(what, results), bench.toolchain.kinds, results, found, sources))
     return 1 if results.groups else 0
 
 
 def run_once(options, bench, plan):
-    """The results of the directed part and of so many random programs."""
+    """The results of the directed part and of so many random programs, or of a part of them."""
     kinds = bench.toolchain.kinds
-    cases = directed_cases(kinds, options.tasks)[0] if options.directed else []
+    cases = directed_cases(kinds, options.tasks, options.match)[0] if options.directed else []
     seeds = range(options.seed, options.seed + options.programs)
     cases += random_cases(seeds, kinds, options.tasks, options.without)
-    return run_cases(bench, cases, plan, options.jobs)
+    return run_cases(bench, options.shard.part(cases), plan, options.jobs)
+
+
+def keep_part(options, what, results):
+    """Writes the results of a part to its file, for `merge`; what was there before it goes."""
+    pathlib.Path(options.state).unlink(missing_ok=True)
+    with contextlib.closing(Journal(options.state, what)) as journal:
+        journal.add({"seeds": [options.seed, options.seed + options.programs], "results": store.as_json(results)})
 
 
 def shrink_failures(options, bench, results):
@@ -63,19 +81,38 @@ def shrink_failures(options, bench, results):
 def command_mutants(options, folder):
     """Runs the directed part on each mutant, all of which have to be caught, and on none."""
     bench = open_bench(options, folder)
+    if options.built:
+        return try_built(options, bench)
     family = entry_points(bench)
     library, plain = build_mutants(family, folder), bench.environment
-    cases, _ = directed_cases(bench.toolchain.kinds, ["tied"])
+    cases, _ = directed_cases(bench.toolchain.kinds, ["tied"], options.match)
+    options.settings = options.settings or ["free"]
     print("\n".join(tables.table(tables.MUTANT_HEADS, [])))
     caught = {}
     for name, meaning in {"none": "nothing", **mutants_of(family)}.items():
         bench.environment = mutated(plain, library, name)
-        results = run_surely(bench, cases, plan_of(options, bench), options.jobs)
+        results = run_cases(bench, cases, plan_of(options, bench), options.jobs)
         caught[name] = results.failed_programs()
         print(tables.mutant_line(name, meaning, results), flush=True)
     if options.report:
         pathlib.Path(options.report).write_text(tables.matrix(caught))
     return 0 if all(bool(programs) == (name != "none") for name, programs in caught.items()) else 1
+
+
+def try_built(options, bench):
+    """The same with runtimes that were built from changed sources, in campaigns."""
+    plain, plan, seen = bench.environment, plan_of(options, bench), {}
+    wrong = False
+    print("\n".join(tables.table(tables.BUILT_HEADS, [])))
+    for mutant in built_in(options.built, options.only):
+        bench.environment = mutant.environment(plain)
+        caught = try_mutant(bench, options, lambda seed: replace(plan, seed=seed))
+        print(tables.built_line(mutant, caught), flush=True)
+        seen[mutant.name] = caught.as_json()
+        if options.report:
+            pathlib.Path(options.report).write_text(json.dumps(seen, indent=1) + "\n")
+        wrong |= mutant.is_wrong != caught.surely(options.campaigns)
+    return 1 if wrong else 0
 
 
 def command_shrink(options, folder):
@@ -89,6 +126,38 @@ def command_shrink(options, folder):
     found = shrink_failures(options, bench, results)
     publish(options.report, Report([], bench.toolchain.kinds, results, found))
     return 1 if results.groups else 0
+
+
+def command_merge(options, _folder):
+    """Makes one report of the files of several parts."""
+    tested_there, results = merged(options.files)
+    facts = [*tested_there.items(), ("time", f"{results.seconds:.0f} s")]
+    publish(options.report, Report(facts, set(KINDS), results, []))
+    return 1 if results.groups else 0
+
+
+def command_bisect(options, folder):
+    """Whether a program fails often enough: status 1 if it does, 0 if not, 125 where it cannot be tried."""
+    try:
+        bench = open_bench(options, folder)
+        body = program_in(options.file, bench.judge)
+        (case,) = cases_of(pathlib.Path(options.file).stem, body, [options.tasks], options.unit)
+        conditions = plan_of(options, bench).conditions(case)[0]
+        found = sample(lambda at: built_tally(bench, case, at), conditions, options.runs, options.fails)
+    except (BuildFailed, Missing, Refused) as reason:
+        print(reason, file=sys.stderr)
+        return UNTESTABLE
+    print(found.told(options.fails))
+    return found.status(options.fails)
+
+
+def built_tally(bench, case, conditions):
+    """The tally of a case, which has to be built."""
+    (tally,) = bench.try_case(case, [conditions])
+    for failure in tally.failures:
+        if failure.verdict.kind == "not built":
+            raise BuildFailed(failure.words)
+    return tally
 
 
 def command_emit(options, _folder):
@@ -123,5 +192,5 @@ def command_list(_options, _folder):
     return 0
 
 
-COMMANDS = {"run": command_run, "mutants": command_mutants, "shrink": command_shrink, "emit": command_emit,
-            "judge": command_judge, "list": command_list}
+COMMANDS = {"run": command_run, "mutants": command_mutants, "shrink": command_shrink, "merge": command_merge,
+            "bisect": command_bisect, "emit": command_emit, "judge": command_judge, "list": command_list}

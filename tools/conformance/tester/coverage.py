@@ -20,7 +20,8 @@ from tester.segments import conflict, dependence_of
 
 TRIED_RULES = ("dependence", "undeferred", "taskwait", "taskgroup")
 MEASURES = ("waits", "held", "close")
-CLOSE = 2  # events from the finish to the start
+CLOSE = 2            # events from the finish to the start
+MOST_COUNTED = 1000  # segments of a program of which this is counted
 
 
 def all_waits(kinds):
@@ -44,10 +45,13 @@ class Coverage:
     """What the runs of one program, given its table of segments, try."""
 
     def __init__(self, table):
-        self.needs = [table.needs(segment) for segment in range(len(table.cost))]
+        count = len(table.cost) if len(table.cost) <= MOST_COUNTED else 0
+        self.needs = [table.needs(segment) for segment in range(count)]
 
     def of_run(self, events, threads):
         """Counts by rule, construct and measure, of an accepted run's lines on so many threads."""
+        if not self.needs:
+            return collections.Counter()
         counts, finished, worker_of = collections.Counter(), {}, {}
         idle, last_idle, running = [], -1, 0
         for place, event in enumerate(events):

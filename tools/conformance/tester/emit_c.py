@@ -1,7 +1,7 @@
 """Writes a program as C with OpenMP tasks. To test another language, write its like of this file and of harness/."""
 import pathlib
 
-from tester.forms import form_of, is_of_regions
+from tester.forms import form_of, is_of_regions, is_wait_for_items
 from tester.locations import Locations
 from tester.program import Group, Loop, Task, Wait, Work, segment_count
 from tester.text import item_runs, text_of
@@ -121,6 +121,12 @@ class Emitter:
 
     def task(self, node, indent):
         self.put(indent, "segment_finish();")
+        if is_wait_for_items(node):
+            self.pragma("taskwait" + self.depend(node))
+            self.put(indent, f"segment_pass({self.segment(self.next)});")
+            self.next += 1
+            self.start(indent)
+            return
         self.pragma("task" + self.clauses(node))
         self.put(indent, "{")
         self.task_body(node, indent + 1)
@@ -138,14 +144,17 @@ class Emitter:
         """Conditions are constants in every other task, since a compiler translates those in another way."""
         self.tasks += 1
         variable = self.tasks % 2
-        words = "".join(f" {clause}" for clause in node.clauses)
+        words = "".join(f" {clause}" for clause in node.clauses if clause != "taskwait")
         if node.undeferred:
             words += " if(conformance_no)" if variable else " if(0)"
         if node.final:
             words += " final(conformance_yes)" if variable else " final(1)"
-        for kind, items in item_runs(node.items):
-            words += f" depend({kind}: {', '.join(self.locations.of(item) for item in items)})"
-        return words
+        return words + self.depend(node)
+
+    def depend(self, node):
+        """The `depend` clauses of a task."""
+        return "".join(f" depend({kind}: {', '.join(self.locations.of(item) for item in items)})"
+                       for kind, items in item_runs(node.items))
 
 
 def roles_of(table):

@@ -3,6 +3,7 @@ from dataclasses import dataclass
 
 from tester.reader import read_program
 from tester.segments import Table, conflict
+from tester.standing import Standing, without_places
 
 RULES = {
     "order": "a task's own code runs in its order",
@@ -19,7 +20,7 @@ KINDS = {
     "UnknownSegment": ("unknown", "a program has only its own segments"),
     "UnknownWorker": ("unknown", "spanprof counts 64 threads"),
 }
-MOST_SEARCHED = 400  # segments of a program whose ready segments are listed
+MOST_RUNNING, MOST_READY = 3, 5  # segments that are named
 
 
 @dataclass
@@ -34,6 +35,8 @@ def explain(text, verdict, log):
         return refused(Table(read_program(text)), verdict.detail, log)
     if verdict.kind in ("hung", "incomplete", "crashed"):
         return stopped(Table(read_program(text)), verdict, log)
+    if log and log.unlogged and verdict.kind == "refused":
+        return Explanation("twice", verdict.detail)
     return Explanation(verdict.detail if verdict.kind == "refused" else verdict.kind, verdict.detail)
 
 
@@ -73,20 +76,13 @@ def reason_of(table, need, after):
 
 
 def stopped(table, verdict, log):
-    """Where a run stood that did not come to its end."""
-    started = [int(line.split()[2]) for line in log.events if line.startswith("start")]
-    finished = {int(line.split()[2]) for line in log.events if line.startswith("finish")}
-    running = [s for s in started if s not in finished]
-    detail = f" ({verdict.detail})" if verdict.kind == "crashed" else ""
-    words = [f"{verdict.kind.capitalize()}{detail}, with {len(finished)} of {len(table.cost)} segments finished."]
-    words += [f"Running: {table.name_of(s)}." for s in running[:3]]
-    words += [f"Ready, but not started: {table.name_of(s)}." for s in ready(table, set(started), finished)[:5]]
-    return Explanation(verdict.detail if verdict.kind == "crashed" else verdict.kind, " ".join(words))
-
-
-def ready(table, started, finished):
-    """The segments that might have been started; none are looked for in a large program."""
-    if len(table.cost) > MOST_SEARCHED:
-        return []
-    return [s for s in range(len(table.cost))
-            if s not in started and all(need.before in finished for need in table.needs(s))]
+    """Where a run stood that did not come to its end. Hangs are told apart by where they stand, breakdowns by what the
+    runtime said."""
+    standing = Standing(table, log.events)
+    detail = f" ({verdict.detail})" if verdict.detail and verdict.kind != "incomplete" else ""
+    words = [f"{verdict.kind.capitalize()}{detail}, with {len(standing.finished)} of {len(table.cost)} segments "
+             "finished."]
+    words += [f"Running: {table.name_of(s)}." for s in standing.running[:MOST_RUNNING]]
+    words += [f"Ready, but not started: {table.name_of(s)}." for s in standing.ready[:MOST_READY]]
+    rules = {"hung": f"at {standing.places()}", "crashed": without_places(verdict.detail)}
+    return Explanation(rules.get(verdict.kind, verdict.kind), " ".join(words))

@@ -2,10 +2,10 @@
 import os
 
 from tester.campaign import directed_cases
-from tester.known_faults import left_out
+from tester.settings import SETTINGS
 
 
-def tested(options, bench, settings, family):
+def tested(options, bench, settings):
     """What is tested, and how: the same whenever a campaign goes on."""
     toolchain = bench.toolchain
     facts = {"compiler": f"{toolchain.version()}, flags `{' '.join(toolchain.shown_flags)}`",
@@ -13,10 +13,11 @@ def tested(options, bench, settings, family):
              "threads": ", ".join(map(str, options.threads)),
              "runs each": str(options.runs),
              "seed": str(options.seed),
-             "settings": ", ".join(settings),
+             **{f"setting {name}": SETTINGS[name].told() for name in settings},
              "tasks": ", ".join(options.tasks),
              "mutant": options.mutate,
-             "left out of settings, as it breaks this runtime": left_out(family, settings),
+             "part": str(options.shard) if options.shard.of > 1 else "",
+             "directed programs": options.match if options.match != "*" else "",
              "left out of random programs": ", ".join(options.without),
              "left out, as the compiler lacks a kind of item": lacking(options, toolchain.kinds)}
     return {name: fact for name, fact in facts.items() if fact}
@@ -24,7 +25,7 @@ def tested(options, bench, settings, family):
 
 def lacking(options, kinds):
     """The directed programs that need a kind of item that the compiler lacks."""
-    return ", ".join(directed_cases(kinds, options.tasks)[1]) if options.directed else ""
+    return ", ".join(directed_cases(kinds, options.tasks, options.match)[1]) if options.directed else ""
 
 
 def facts_of(what, results):

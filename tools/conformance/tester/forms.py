@@ -10,6 +10,12 @@ def is_plain(node):
     return isinstance(node, Task) and not node.undeferred and not node.items
 
 
+def is_wait_for_items(node):
+    """Whether a statement is an undeferred task that only waits for its items, and is to be written as a taskwait."""
+    return isinstance(node, Task) and "taskwait" in node.clauses and node.undeferred and bool(node.items) and \
+        not node.body and not node.final
+
+
 def is_task_loop(node):
     """Whether a statement is a loop of plain tasks and nothing else."""
     return isinstance(node, Loop) and node.turns > 0 and len(node.body) == 1 and is_plain(node.body[0])

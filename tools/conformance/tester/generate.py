@@ -5,11 +5,10 @@ from dataclasses import dataclass
 from tester.program import Group, Index, Item, Loop, Task, Wait, Work, segment_count
 
 NAMES = ("a", "b", "c", "d")
-MOST_SEGMENTS = 600
-MOST_LOOPS = 3      # in one another
 MOST_ITEMS = 6
 # What random programs may be told to do without, beside the kinds of items.
-CONSTRUCTS = ("if(0)", "final", "loop", "repeated item", "mergeable", "priority", "taskyield", "taskloop", "parallel")
+CONSTRUCTS = ("if(0)", "final", "loop", "repeated item", "mergeable", "priority", "taskyield", "taskloop", "parallel",
+              "taskwait with depend")
 
 
 @dataclass(frozen=True)
@@ -23,6 +22,12 @@ class Shape:
     undeferred: float = .1
     final: float = .06
     regions: bool = False     # whether the root is a list of parallel regions
+    turns: tuple = (0, 1, 2, 3, 7)      # of a loop
+    costs: tuple = (0, 1, 2, 5, 20)
+    offsets: tuple = (-1, 0, 1, 2)      # of the index of an item
+    plain: float = .9                   # how likely an item outside of loops has no index
+    loops: int = 3                      # in one another
+    sizes: tuple = (3, 600)             # segments of a program, at least and at most
 
     def length_at(self, depth):
         return max(1, int(self.longest / (1 + self.narrows * depth)))
@@ -39,6 +44,13 @@ SHAPES = {
     "final": Shape((9, 1, 2, 0, 1, 1), 6, 6, .4, .8, final=.3),
     "loops": Shape((5, 1, 1, 6, .5, 1), 4, 5, .4, 1.5),
     "regions": Shape((8, 2, 2, 1, 1, 2), 5, 7, .5, 1.2, regions=True),
+    # Many at once: more ready tasks than a runtime queues, full queues, short waits, tables of locations that grow.
+    "crowd": Shape((6, 1, 3, 4, .5, 1), 3, 5, .4, .6, turns=(70, 150, 300), costs=(0, 0, 1),
+                   loops=1, sizes=(150, 2500)),
+    "pairs": Shape((6, 4, 2, 5, 1, .5), 3, 4, .3, .6, turns=(20, 60, 150), costs=(0,),
+                   loops=1, sizes=(100, 2000)),
+    "names": Shape((9, .5, .5, 3, 0, 1), 3, 9, .5, 1.5, turns=(7, 40, 110), costs=(0, 0, 1, 20),
+                   offsets=(0, 13, 31, 61, 97), plain=.2, loops=1, sizes=(60, 1500)),
 }
 
 
@@ -71,13 +83,13 @@ class Generator:
     def statement(self, depth, loops):
         calls = (self.task, self.wait, self.group, self.loop, self.pause, self.work)
         made = self.rng.choices(calls, self.shape.weights)[0]
-        no_loop = "loop" in self.without or len(loops) == MOST_LOOPS
+        no_loop = "loop" in self.without or len(loops) == self.shape.loops
         if depth >= self.shape.deepest or made == self.loop and no_loop:
             made = self.work
         return made(depth, loops)
 
     def work(self, _depth, _loops):
-        return Work(self.rng.choice((0, 1, 2, 5, 20)))
+        return Work(self.rng.choice(self.shape.costs))
 
     def wait(self, _depth, _loops):
         return Wait()
@@ -96,7 +108,7 @@ class Generator:
 
     def turns(self, loops):
         first = self.rng.randrange(3)
-        return "ijk"[len(loops)], first, first + self.rng.choice((0, 1, 2, 3, 7))
+        return "ijk"[len(loops)], first, first + self.rng.choice(self.shape.turns)
 
     def task_loop(self, depth, loops):
         """A taskloop, with its group or without."""
@@ -109,8 +121,11 @@ class Generator:
 
     def task(self, depth, loops):
         undeferred = self.chance("if(0)", self.shape.undeferred)
+        items = self.items(loops)
+        if undeferred and items and self.chance("taskwait with depend", .3):
+            return Task(True, False, items, (), ("taskwait",))
         final = self.chance("final", self.shape.final)
-        return Task(undeferred, final, self.items(loops), self.body(depth + 1, loops), self.clauses())
+        return Task(undeferred, final, items, self.body(depth + 1, loops), self.clauses())
 
     def clauses(self):
         """Clauses that change nothing of what must precede what."""
@@ -129,16 +144,17 @@ class Generator:
         return tuple(items)
 
     def index(self, loops):
-        if self.rng.random() < (.2 if loops else .9):
+        if self.rng.random() < (.2 if loops else self.shape.plain):
             return None
-        return Index(self.rng.choice((None, *loops)) if loops else None, self.rng.randint(-1, 2))
+        return Index(self.rng.choice((None, *loops)) if loops else None, self.rng.choice(self.shape.offsets))
 
 
 def random_program(seed, kinds, without=()):
     """The name of its shape, and the program. Items are of these kinds; constructs in `without` are left out."""
     rng = random.Random(seed)
+    name = rng.choice(list(SHAPES))
+    least, most = SHAPES[name].sizes
     while True:
-        name = rng.choice(list(SHAPES))
         body = Generator(rng, SHAPES[name], kinds, without).program()
-        if 2 < segment_count(body) < MOST_SEGMENTS:
+        if least <= segment_count(body) <= most or "loop" in without and segment_count(body) > 2:
             return name, body

@@ -1,4 +1,5 @@
 """Asks spanprof about a program and about logs of its runs."""
+import collections
 import pathlib
 import shutil
 import subprocess
@@ -71,6 +72,8 @@ class Judge:
 
     def verdict(self, text, record, log):
         """Whether a run's log is that of a legal and finished run with the right record and values."""
+        if log.unlogged:
+            return unordered_verdict(record, log)
         events = [event for event in log.events if event != "overflow"]
         replayed = self.replay(text, record, "\n".join(events))
         if replayed.kind == "refused":
@@ -94,3 +97,19 @@ class Judge:
         if rest != record.lines:
             return Verdict("refused", "another record than that of `run`")
         return Verdict("accepted")
+
+
+def unordered_verdict(record, log):
+    """The verdict on a run of which only values and counts are known, and no order."""
+    if log.end != "done":
+        return Verdict(log.end, log.detail)
+    counted = collections.Counter(log.events)
+    repeated = sorted(event for event, count in counted.items() if count > 1)
+    if repeated:
+        return Verdict("refused", f"{counted[repeated[0]]} times `{repeated[0]}`")
+    ended = sum(event.startswith("finish ") for event in counted)
+    if ended < record.segments:
+        return Verdict("incomplete", f"finished {ended} of {record.segments} segments")
+    if log.detail != record.digest:
+        return Verdict("values", f"digest {log.detail} and not {record.digest}")
+    return Verdict("accepted")

@@ -3,15 +3,7 @@ import os
 import subprocess
 from dataclasses import dataclass, field
 
-# What the programs of a setting are started with: words before the program's own, and variables of the environment.
-SETTINGS = {
-    "free": ([], {}),
-    "priorities": ([], {"OMP_MAX_TASK_PRIORITY": "9"}),
-    "pinned": (["taskset", "-c", "{processor}"], {}),
-    "active": ([], {"OMP_WAIT_POLICY": "active"}),
-    "passive": ([], {"OMP_WAIT_POLICY": "passive"}),
-}
-
+from tester.settings import SETTINGS
 
 @dataclass
 class Log:
@@ -20,7 +12,9 @@ class Log:
     schedule: str = ""
     events: list = field(default_factory=list)
     end: str = "crashed"  # done, hung or crashed
-    detail: str = ""      # the digest, or how it broke down
+    detail: str = ""      # the digest, or how it hung or broke down
+    unlogged: bool = False  # whether the events are told apart from their order
+    stacks: list = field(default_factory=list)  # of a run that hung, as a debugger's lines
 
 
 @dataclass(frozen=True)
@@ -30,13 +24,14 @@ class Conditions:
     runs: int
     seed: int             # 0: no delays
     unit: int             # what a cost of 1 lasts, in nanoseconds
-    timeout: int          # for one run, in seconds
+    timeout: int          # in seconds, without an event until a run hangs
     setting: str = "free"
 
     def words(self):
         return [str(n) for n in (self.threads, self.runs, self.seed, self.unit, self.timeout)]
 
 
+LONGEST = 11  # times as long as a run may log nothing: more than harness/watch.c gives it
 ENDS = {"done": "done", "hung": "hung", "signal": "crashed"}
 
 
@@ -46,10 +41,12 @@ def read_logs(text):
     for line in text.split("\n"):
         word, _, rest = line.partition(" ")
         if word == "run":
-            number, _, schedule = rest.partition(" ")
-            logs.append(Log(int(number), schedule))
+            number, *more = rest.split()
+            logs.append(Log(int(number), more[0] if more else "", unlogged="unlogged" in more[1:]))
         elif word in ENDS and logs:
-            logs[-1].end, logs[-1].detail = ENDS[word], "" if word == "hung" else rest
+            logs[-1].end, logs[-1].detail = ENDS[word], rest
+        elif word == "stack" and logs:
+            logs[-1].stacks.append(rest)
         elif word in ("start", "finish", "overflow") and logs:
             logs[-1].events.append(line)
     return logs
@@ -70,11 +67,11 @@ def launch(program, conditions, environment):
 
 def command_of(program, conditions):
     """The words with which a program is started, and what its environment has besides."""
-    before, variables = SETTINGS[conditions.setting]
+    setting = SETTINGS[conditions.setting]
     processors = sorted(os.sched_getaffinity(0))
     processor = processors[conditions.seed % len(processors)]
-    words = [word.format(processor=processor) for word in before]
-    return [*words, str(program), *conditions.words()], variables
+    words = [word.format(processor=processor) for word in setting.words]
+    return [*words, str(program), *conditions.words()], setting.variables
 
 
 def run_to_end(program, conditions, environment):
@@ -84,7 +81,7 @@ def run_to_end(program, conditions, environment):
     with subprocess.Popen(words, stdout=subprocess.PIPE, stderr=subprocess.PIPE, text=True,
                           env={**environment, **variables}) as process:
         try:
-            written, complaints = process.communicate(timeout=(conditions.runs + 1) * conditions.timeout)
+            written, complaints = process.communicate(timeout=(conditions.runs + LONGEST) * conditions.timeout)
             return written, complaints, process.returncode
         except subprocess.TimeoutExpired:
             process.kill()

@@ -19,12 +19,13 @@ def next_seeds(batches, first, count):
 def cases_of_batch(options, kinds, seeds):
     if seeds:
         return random_cases(seeds, kinds, options.tasks, options.without)
-    return directed_cases(kinds, options.tasks)[0] if options.directed else []
+    return directed_cases(kinds, options.tasks, options.match)[0] if options.directed else []
 
 
 def run_batch(options, bench, plan, seeds):
-    """The results of a batch."""
-    results = run_cases(bench, cases_of_batch(options, bench.toolchain.kinds, seeds), plan, options.jobs)
+    """The results of a batch, or of a part of it."""
+    cases = options.shard.part(cases_of_batch(options, bench.toolchain.kinds, seeds))
+    results = run_cases(bench, cases, plan, options.jobs)
     bench.forget()
     return results
 

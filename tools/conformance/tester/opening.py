@@ -1,14 +1,18 @@
 """What the options ask for: the judge, a bench, how to run on it, and the program in a file."""
 import os
 import pathlib
+import sys
 
 from tester.cases import Bench, Plan
-from tester.judge import Judge, Missing, find_spanprof
-from tester.known_faults import usual_settings
-from tester.launch import SETTINGS
+from tester.judge import Judge, Missing, Refused, find_spanprof
+from tester.expected import USUAL, Expectations, read_expected
+from tester.settings import settings_of
 from tester.mutants import build_mutants, family_of, mutants_of, mutated
 from tester.reader import read_program
 from tester.toolchain import Toolchain
+
+sys.path.append(str(pathlib.Path(__file__).resolve().parents[2] / "plots"))
+from refusal import explained  # noqa: E402
 
 
 def judge_of(options):
@@ -16,9 +20,11 @@ def judge_of(options):
 
 
 def open_bench(options, folder):
-    toolchain = Toolchain(options.cc, options.cflags.split(), folder)
+    toolchain = Toolchain(options.cc, options.cflags.split(), folder, options.keep)
     environment = {**os.environ, "LD_PRELOAD": options.preload} if options.preload else dict(os.environ)
-    return Bench(toolchain, judge_of(options), environment)
+    files = [USUAL] * options.known_faults + options.expected
+    expectations = Expectations(toolchain.runtime(environment), read_expected(files))
+    return Bench(toolchain, judge_of(options), environment, expectations)
 
 
 def entry_points(bench):
@@ -27,7 +33,7 @@ def entry_points(bench):
 
 
 def plan_of(options, bench):
-    settings = options.settings or usual_settings(entry_points(bench), SETTINGS)
+    settings = options.settings or settings_of(entry_points(bench))
     return Plan(options.threads, options.runs, options.seed, options.timeout, tuple(settings))
 
 
@@ -42,6 +48,12 @@ def mutate(bench, name):
 
 def program_in(path, judge):
     """The program in a file, which spanprof has to accept."""
+    if not os.path.isfile(path):
+        raise Missing(f"{path}: no such file")
     text = pathlib.Path(path).read_text()
-    judge.record(text)
+    try:
+        judge.record(text)
+    except Refused as refused:
+        more = explained(path, ["run"], text, str(refused), lambda words, shorter: judge.ask(words, shorter)[1])
+        raise Refused("\n".join(filter(None, [more, f"spanprof: {refused}"]))) from refused
     return read_program(text)

@@ -69,7 +69,7 @@ class Task:
     final: bool
     items: tuple
     body: tuple
-    clauses: tuple = ()  # of C alone: untied, mergeable, priority(3)
+    clauses: tuple = ()  # of C alone: untied, mergeable, priority(3), taskwait
 
 
 def nodes(body):

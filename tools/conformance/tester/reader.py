@@ -5,7 +5,7 @@ from tester.forms import GROUP_FORMS, LOOP_FORMS
 from tester.program import KINDS, Group, Index, Item, Loop, Task, Wait, Work
 
 TOKEN = re.compile(r"\{[ \t]*#:[^\n]*|#[^\n]*|\w+|\S")  # a `{` and how its statement is written in C are one token
-CLAUSE = re.compile(r"untied|mergeable|priority\([0-9]+\)")
+CLAUSE = re.compile(r"untied|mergeable|taskwait|priority\([0-9]+\)")
 
 
 class Unreadable(Exception):

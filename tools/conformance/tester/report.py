@@ -1,6 +1,6 @@
 """Reports in Markdown and JSON."""
 import json
-from dataclasses import dataclass
+from dataclasses import dataclass, field
 
 from tester import tables
 
@@ -9,15 +9,18 @@ else held the segment back while somebody was free to start it / how often it th
 which it waited, on another thread. Without the rule, runs of the second kind could have been refused; those of the
 third nearly were. An undeferred task mostly runs on the thread that waits for it; then the third number stays 0."""
 
+SOURCE_HEADS = ("file", "lines", "ways out of branches")
+
 
 @dataclass
 class Report:
     """What a report tells: pairs of a name and what is so, the kinds of items that the compiler knows, what came of the
-    runs, and the small programs that fail."""
+    runs, the small programs that fail, and what was reached of the runtime's sources, as rows of a table."""
     facts: list
     kinds: set
     results: object
     found: list
+    sources: list = field(default_factory=list)
 
 
 def reproducer(number, found, name):
@@ -35,6 +38,8 @@ def reproducer(number, found, name):
              "```", found.text.rstrip(), "```", ""]
     if failure.log:
         lines += [f"The log up to there (schedule: {failure.log.schedule}):", "", "```", *found.events(), "```", ""]
+    if found.stacks:
+        lines += ["The stacks of the threads where it hung:", "", "```", *found.stacks, "```", ""]
     return lines + ["```c", found.source.rstrip(), "```", ""]
 
 
@@ -51,6 +56,10 @@ def markdown(report, stem):
     lines += ["## By construct and number of threads", "", *tables.summary(results), ""]
     lines += ["## How hard each rule was tried", "", *COVERAGE_WORDS.split("\n"), "", *coverage_lines(report), ""]
     lines += ["## By setting and schedule", "", *tables.conditions(results), ""]
+    if report.sources:
+        lines += ["## Reached of the runtime's sources", "", *tables.table(SOURCE_HEADS, report.sources), ""]
+    if results.expected:
+        lines += ["## Expected failures", "", *tables.expected(results), ""]
     if results.groups:
         lines += ["## Failures", "", *tables.kinds_of_failure(results), ""]
     if report.found:
@@ -72,7 +81,7 @@ def as_json(report, stem):
                 for (variant, kind, rule), group in results.most_frequent()]
     smallest = [{"file": f"{stem}-{number}.tasks", **found_fields(one)} for number, one in enumerate(report.found, 1)]
     return json.dumps({"facts": dict(report.facts), "rows": rows, "tried": tried, "failures": failures,
-                       "smallest": smallest}, indent=1)
+                       "expected": dict(results.expected), "smallest": smallest}, indent=1)
 
 
 def found_fields(found):
@@ -80,4 +89,4 @@ def found_fields(found):
     return {"origin": found.origin, "kind": failure.verdict.kind, "rule": failure.rule, "tasks": failure.case.variant,
             "threads": failure.conditions.threads, "setting": failure.conditions.setting, "words": failure.words,
             "text": found.text, "c": found.source, "log": found.events(), "failed": found.failed, "runs": found.runs,
-            "ways": found.ways}
+            "ways": found.ways, "stacks": found.stacks}

@@ -1,5 +1,5 @@
 """Shrinks failures to programs that a person can read."""
-from dataclasses import dataclass, replace
+from dataclasses import dataclass, field, replace
 
 from tester.cases import Failure
 from tester.judge import Refused
@@ -7,6 +7,7 @@ from tester.shrink import Shrinker, Trial
 
 MOST_EVENTS = 60        # of a log that is shown
 FACTORS = (1, 4, 5)     # by which the runs grow where a failure is not seen again
+LESS = 2                # by how much less often a small program fails where that is told
 LONGEST_TIMEOUT = 3     # seconds, while a program is made smaller
 
 
@@ -21,6 +22,8 @@ class Found:
     failed: int
     runs: int
     ways: list
+    rate: tuple = ()   # runs that failed, and runs, of the program that it was found in
+    stacks: list = field(default_factory=list)
 
     def events(self):
         """The log up to the refused event, or its end."""
@@ -34,6 +37,9 @@ class Found:
         """How surely the failure is seen again."""
         if not self.failed:
             return "It was not seen again: the program is the one that it was seen in."
+        if self.rate and self.failed * self.rate[1] * LESS < self.rate[0] * self.runs:
+            return f"It fails less often than the program that it was found in, where {self.rate[0]} of " \
+                   f"{self.rate[1]} runs did."
         if len(self.ways) > 1:
             return f"It fails in {len(self.ways)} ways: {'; '.join(self.ways)}."
         return ""
@@ -55,10 +61,11 @@ class Reproducer:
         if first:
             small = shrinker.shrink(self.failure.case.body, first)[1].failure
         tally = self.tally(small.case)
+        stacks = self.bench.stacks_of(small.case, self.conditions) if small.verdict.kind == "hung" else []
         examined = self.bench.examined(small.case)
         ways = sorted({f"{f.verdict.kind}, {f.rule}" for f in tally.failures})
         return Found(small, self.failure.case.name, examined.text, examined.source(), len(shrinker.seen),
-                     len(tally.failures), tally.runs, ways)
+                     len(tally.failures), tally.runs, ways, (first.failed, first.runs) if first else (), stacks)
 
     def first_again(self):
         """The failure once more. A rare one takes more runs, which then all later tries get."""
@@ -81,5 +88,17 @@ class Reproducer:
             tally = self.tally(replace(self.failure.case, body=body))
         except Refused:
             return None
-        failures = [f for f in tally.failures if self.any_way or f.signature == self.failure.signature]
-        return Trial(failures[0], len(failures)) if failures else None
+        failures = [f for f in tally.failures if self.any_way or is_like(f, self.failure)]
+        return Trial(failures[0], len(failures), tally.runs) if failures else None
+
+
+def places(failure):
+    """The constructs at which a run hung."""
+    return set(failure.rule.removeprefix("at ").split(", "))
+
+
+def is_like(failure, first):
+    """Whether a smaller program fails as the first one did; a hang may be at fewer constructs."""
+    if failure.signature == first.signature:
+        return True
+    return failure.verdict.kind == first.verdict.kind == "hung" and places(failure) <= places(first)

@@ -1,31 +1,43 @@
-"""Hangs that may be those of a busy machine: such programs are run again, alone and with more time."""
-import time
+"""Hangs that may be those of a busy machine: such programs are run again, alone and with more time, before they count.
+
+A run in which each thread slept all the time hangs for sure. One in which a thread was busy may only have been slow.
+"""
 from dataclasses import replace
 
-from tester.campaign import summed, tried
-
-PATIENCE = 10  # times as long as the first time
+PATIENCE = 5  # times as long as the first time
 
 
-def kinds_of_failures(tallies):
-    return {failure.verdict.kind for tally in tallies for failure in tally.failures}
+def is_doubtful(failure):
+    return failure.verdict.kind == "hung" and failure.verdict.detail != "asleep"
 
 
-def run_surely(bench, cases, plan, jobs):
-    """The results of cases. Where nothing but hanging was seen, a program counts as hung only if it hangs again; the
-    first that does ends the second tries."""
-    begun, outcomes = time.monotonic(), dict(tried(bench, cases, plan, jobs))
-    kinds = {case: kinds_of_failures(tallies) for case, tallies in outcomes.items()}
-    if set().union(*kinds.values()) == {"hung"}:
-        outcomes.update(second_tries(bench, [case for case in cases if kinds[case]], plan))
-    return summed(outcomes.items(), begun)
+def doubtful(tallies):
+    """Whether any of the tallies has such a hang."""
+    return any(is_doubtful(failure) for tally in tallies for failure in tally.failures)
 
 
-def second_tries(bench, cases, plan):
-    """The cases with new tallies, one after another, until one fails again."""
-    patient = replace(plan, timeout=plan.timeout * PATIENCE)
-    for case in cases:
-        tallies = bench.try_case(case, patient.conditions(case))
-        yield case, tallies
-        if kinds_of_failures(tallies):
-            return
+class SecondTries:
+    """`again` answers a case's tally under some conditions, with nothing else running. Where a hang was seen again,
+    those with its signature count without being tried."""
+
+    def __init__(self, again):
+        self.again, self.sure = again, set()
+
+    def settled(self, case, tallies):
+        """The tallies, in which each hang counts or is told as seen once."""
+        return [self.settled_tally(case, tally) for tally in tallies]
+
+    def settled_tally(self, case, tally):
+        hangs = [failure for failure in tally.failures if is_doubtful(failure)]
+        if all(self.is_sure(case, failure) for failure in hangs):
+            return tally
+        kept = [failure for failure in tally.failures if failure not in hangs]
+        return replace(tally, failures=kept, seen_once=tally.seen_once + len(hangs))
+
+    def is_sure(self, case, failure):
+        if failure.signature in self.sure:
+            return True
+        patient = replace(failure.conditions, timeout=failure.conditions.timeout * PATIENCE)
+        if any(other.verdict.kind == "hung" for other in self.again(case, patient).failures):
+            self.sure.add(failure.signature)
+        return failure.signature in self.sure

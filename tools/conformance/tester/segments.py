@@ -5,7 +5,7 @@ has tried, so it follows the table of docs/MODEL.md pair by pair and not the kep
 """
 from dataclasses import dataclass, field
 
-from tester.forms import form_of
+from tester.forms import form_of, is_of_regions
 from tester.program import Group, Loop, Wait, Work
 from tester.text import head_of
 
@@ -21,6 +21,7 @@ class Made:
     head: str
     final_inside: bool
     tied: bool = True
+    implicit: bool = False  # whether it stands for a part of an implicit task of a region
     children: list = field(default_factory=list)
     segments: list = field(default_factory=list)
 
@@ -52,6 +53,7 @@ class Table:
 
     def __init__(self, body):
         self.task_of, self.cost, self.cut, self.tasks = [], [], [], []
+        self.regions = is_of_regions(body)
         root = self.begin(None, -1, "", (), "the root", False)
         self.walk(body, root, {})
 
@@ -78,6 +80,8 @@ class Table:
             elif isinstance(node, Group):
                 before = len(task.children)
                 self.walk(node.body, task, loops)
+                for child in task.children[before:]:
+                    child.implicit = self.regions and task.parent is None
                 inside = [t for child in task.children[before:] for t in child.family()]
                 self.open(task, Cut("taskgroup", form_of(node), tuple(inside)))
             elif isinstance(node, Loop):

@@ -89,9 +89,15 @@ def without_costs(body):
 
 @dataclass
 class Trial:
-    """A program that fails: one of its failures, and how many runs failed."""
+    """A program that fails: one of its failures, and how many of how many runs failed."""
     failure: object
     failed: int
+    runs: int = 1
+
+    @property
+    def rate(self):
+        """How often it fails. A run that hangs is the last of its process, so there may be few runs."""
+        return self.failed / self.runs
 
 
 class Shrinker:
@@ -124,4 +130,4 @@ class Shrinker:
 
 def fades(body, trial, candidate, again):
     """Whether a candidate has only less work than the body, and fails much less often."""
-    return 2 * again.failed < trial.failed and without_costs(candidate) == without_costs(body)
+    return 2 * again.rate < trial.rate and without_costs(candidate) == without_costs(body)

@@ -6,16 +6,19 @@ from tester.cases import Case, Failure
 from tester.judge import Verdict
 from tester.launch import Conditions, Log
 from tester.reader import read_program
-from tester.results import Group, Results
+from tester.results import Group, Outcome, Results
 from tester.text import text_of
 
 
 def as_json(results):
-    """All that results are but the names of programs without failures."""
+    """All that results are."""
     return {"seconds": results.seconds,
             "rows": [[*key, dict(counts)] for key, counts in sorted(results.rows.items())],
             "conditions": [[*key, dict(counts)] for key, counts in sorted(results.conditions.items())],
             "tried": [[*key, count] for key, count in sorted(results.coverage.items())],
+            "expected": dict(results.expected),
+            "outcomes": [[*key, dict(outcome.counts), outcome.words, outcome.known]
+                         for key, outcome in sorted(results.outcomes.items())],
             "failures": [group_as_json(group) for _, group in results.most_frequent()]}
 
 
@@ -32,6 +35,9 @@ def from_json(fields):
     """The results that were written so."""
     results = Results()
     results.seconds = fields["seconds"]
+    results.expected.update(fields["expected"])
+    for name, variant, counts, words, known in fields["outcomes"]:
+        results.outcomes[name, variant] = Outcome(collections.Counter(counts), words, known)
     results.coverage.update({tuple(key): count for *key, count in fields["tried"]})
     for name, kept in (("rows", results.rows), ("conditions", results.conditions)):
         kept.update({tuple(key): collections.Counter(counts) for *key, counts in fields[name]})

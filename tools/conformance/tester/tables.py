@@ -1,7 +1,9 @@
 """Tables in Markdown."""
 from tester.coverage import MEASURES, TRIED_RULES, all_waits, never
+from tester.results import EXPECTED, SEEN_ONCE
 
-COUNTS = ("programs", "runs", "events", "refused", "incomplete", "values", "moved", "hung", "crashed", "not built")
+COUNTS = ("programs", "runs", "events", "refused", "incomplete", "values", "moved", "unconstrained", "hung",
+          SEEN_ONCE, "crashed", "not built", EXPECTED)
 
 
 def table(heads, rows):
@@ -65,6 +67,12 @@ def kinds_of_failure(results):
     return table(("kind", "rule", "tasks", "runs", "threads", "programs"), rows) if rows else []
 
 
+def expected(results):
+    """What is known of the failures that were expected, and how many they were."""
+    rows = sorted(results.expected.items())
+    return table(("expected failures", "runs"), rows) if rows else []
+
+
 MUTANT_HEADS = ("mutant", "what it breaks", "caught by", "seen as", "programs that caught it", "seconds")
 
 
@@ -72,6 +80,17 @@ def mutant_line(name, meaning, results):
     """The row of one mutant."""
     programs, seen = results.failed_programs(), "; ".join(sorted({rule for _, _, rule in results.groups}))
     return line_of((f"`{name}`", meaning, len(programs), seen, first_few(programs), f"{results.seconds:.0f}"))
+
+
+BUILT_HEADS = ("mutant", "rule", "breaks it", "campaigns", "programs", "seen as", "programs that caught it", "seconds")
+
+
+def built_line(mutant, caught):
+    """The row of one runtime that was built from a changed source."""
+    programs = caught.programs()
+    return line_of((f"`{mutant.name}`", mutant.rule, mutant.breaks.split(":")[0],
+                    f"{caught.times()} of {len(caught.campaigns)}", len(programs), "; ".join(sorted(caught.ways)),
+                    first_few(programs), f"{caught.seconds:.0f}"))
 
 
 def matrix(caught):

@@ -1,6 +1,10 @@
 """A compiler and its runtime: what they can do, and programs built with them."""
+import functools
+import hashlib
+import os
 import pathlib
 import shlex
+import shutil
 import subprocess
 
 from tester.program import KINDS
@@ -34,15 +38,16 @@ class BuildFailed(Exception):
 
 
 class Toolchain:
-    """`cc` with the flags for OpenMP; objects go to `folder`."""
+    """`cc` with the flags for OpenMP; objects go to `folder`. Programs go to the folder `kept`, if there is one, for
+    other processes to find."""
 
-    def __init__(self, cc, flags, folder):
-        self.cc, self.folder = shlex.split(cc), pathlib.Path(folder)
+    def __init__(self, cc, flags, folder, kept=None):
+        self.cc, self.folder, self.kept = shlex.split(cc), pathlib.Path(folder), kept and pathlib.Path(kept).resolve()
         self.shown_flags = ["-O1", "-g", "-fopenmp", *flags]
         if "clang" in self.cc[0] and not any("fopenmp-version" in flag for flag in flags):
             self.shown_flags.append("-fopenmp-version=52")
         self.flags = [*self.shown_flags, f"-I{HARNESS}"]
-        self.kinds = self.known_kinds()
+        self.kinds = self.kept_kinds() if self.kept else self.known_kinds()
         self.harness = [self.object_of(source) for source in sorted(HARNESS.glob("*.c"))]
 
     def compile(self, words):
@@ -52,9 +57,27 @@ class Toolchain:
 
     def object_of(self, source):
         """The object file of a file of the harness."""
-        target = self.folder / f"{source.stem}.o"
-        self.compile(["-c", source, "-o", target])
+        target = (self.kept or self.folder) / (self.digest(source.name) + ".o" if self.kept else f"{source.stem}.o")
+        if not target.exists():
+            made = self.folder / f"{source.stem}.made.o"
+            self.compile(["-c", source, "-o", made])
+            self.move(made, target)
         return target
+
+    @staticmethod
+    def move(made, target):
+        """Puts a file where other processes may look for it, which then find the whole of it or none."""
+        target.parent.mkdir(parents=True, exist_ok=True)
+        shutil.copy(made, f"{target}.{os.getpid()}")
+        os.rename(f"{target}.{os.getpid()}", target)
+
+    def kept_kinds(self):
+        """The kinds of depend items that the compiler knows, as another process may have found out."""
+        self.kept.mkdir(parents=True, exist_ok=True)
+        path = self.kept / (self.digest("kinds") + ".txt")
+        if not path.exists():
+            path.write_text(" ".join(sorted(self.known_kinds())))
+        return set(path.read_text().split())
 
     def known_kinds(self):
         """The kinds of depend items that the compiler knows; not so `inoutset` in older ones."""
@@ -76,8 +99,29 @@ class Toolchain:
         return program
 
     def build(self, text, name):
-        """Compiles a generated program and links it to the harness."""
-        return self.build_text(text, name, self.harness)
+        """Compiles a generated program and links it to the harness, unless it is there already."""
+        if not self.kept:
+            return self.build_text(text, name, self.harness)
+        target = self.kept / self.digest(text)
+        if not target.exists():
+            self.move(self.build_text(text, name, self.harness), target)
+        return target
+
+    @functools.cached_property
+    def origin(self):
+        """All that a program is made of beside its own text."""
+        harness = "".join(path.read_text() for path in sorted(HARNESS.iterdir()))
+        return f"{self.cc}\n{self.version()}\n{self.shown_flags}\n{harness}"
+
+    def digest(self, text):
+        """The name of a kept program."""
+        return hashlib.sha256(f"{self.origin}\n{text}".encode()).hexdigest()[:24]
+
+    def forget(self, programs):
+        """Removes programs, where they are not to be kept."""
+        if not self.kept:
+            for program in programs:
+                program.unlink()
 
     def version(self):
         done = subprocess.run([*self.cc, "--version"], capture_output=True, text=True, check=False)

@@ -18,6 +18,10 @@ class Cases(unittest.TestCase):
         self.assertEqual([case.variant for case in cases_of("x", body_of("task { }"), ALL, 1)], ["tied", "untied"])
         self.assertEqual([case.variant for case in cases_of("x", body_of("taskwait"), ALL, 1)], ["tied"])
 
+    def test_directed_programs_by_their_names(self):
+        names = {case.name for case in directed_cases(set(KINDS), ["tied"], "taskwait_depend_*")[0]}
+        self.assertEqual(names, {f"taskwait_depend_{which}" for which in ("in", "out", "several")})
+
     def test_directed_programs_that_need_an_unknown_kind(self):
         cases, skipped = directed_cases({"in", "out", "inout"}, ["tied"])
         self.assertIn("depend_two_sets", skipped)

@@ -30,6 +30,10 @@ class StubToolchain:
         program.chmod(0o755)
         return program
 
+    def forget(self, programs):
+        for program in programs:
+            program.unlink()
+
 
 class StubJudge:
     """Refuses logs that are EARLY, and counts what it is asked."""

@@ -32,6 +32,11 @@ class Quiet(unittest.TestCase):
 
 
 class Publishing(Quiet):
+    def test_several_forms_of_one_report(self):
+        names = [self.folder / f"all.{suffix}" for suffix in ("xml", "tap", "md")]
+        self.call(publish, ",".join(map(str, names)), report_of())
+        self.assertEqual([name.read_text()[:5] for name in names], ["<?xml", "TAP v", "# Con"])
+
     def test_report_with_its_programs(self):
         for suffix in ("md", "json"):
             name = self.folder / f"report.{suffix}"

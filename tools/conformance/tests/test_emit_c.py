@@ -26,6 +26,13 @@ class Emission(unittest.TestCase):
                       "depend(in: at_a, at_b_[0]) depend(out: at_a)", lines)
         self.assertIn("#pragma omp task if(0) final(1)", lines)
 
+    def test_taskwait_with_depend(self):
+        lines = lines_of("task if(0) depend(in: a) { #: taskwait\n} taskwait")
+        self.assertEqual(lines[1:5], ["segment_finish();", "#pragma omp taskwait depend(in: at_a)", "segment_pass(1u);",
+                                      "segment_start(2u);"])
+        self.assertIn("#pragma omp task if(conformance_no) depend(in: at_a)",
+                      lines_of("task if(0) depend(in: a) { #: taskwait\n work 1 taskwait }"))
+
     def test_segments_in_loops(self):
         lines = lines_of("for i 1 3 { for j 0 1 { taskwait } task { } } taskwait")
         self.assertIn("segment_start(1u + 4u * (unsigned)(v_i - 1) + 1u * (unsigned)(v_j - 0));", lines)

@@ -63,7 +63,7 @@ class Stops(unittest.TestCase):
     def test_hung(self):
         log = Log(0, "late", ["start 0 0", "finish 0 0", "start 1 1"], "hung")
         found = explain(WORKED, Verdict("hung"), log)
-        self.assertEqual(found.rule, "hung")
+        self.assertEqual(found.rule, "at after a task")
         self.assertEqual(found.words, "Hung, with 1 of 4 segments finished. Running: segment 1 (part 1 of 1 of task 1, "
                                       "`task`). Ready, but not started: segment 2 (part 2 of 3 of task 0, `the root`).")
 
@@ -73,7 +73,7 @@ class Stops(unittest.TestCase):
         self.assertTrue(found.words.startswith("Crashed (signal 6: oh), with 0 of 4 segments finished."))
 
     def test_large_programs_list_nothing_ready(self):
-        text = "omptasks 2 for i 1 300 { task { } }"
+        text = "omptasks 2 for i 1 600 { task { } }"
         self.assertNotIn("Ready", explain(text, Verdict("hung"), Log(0, "late", [], "hung")).words)
 
 

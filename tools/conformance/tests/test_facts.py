@@ -4,6 +4,7 @@ import unittest
 
 from tester.facts import facts_of, tested
 from tester.results import Results
+from tester.shards import Shard
 
 
 class StubToolchain:
@@ -17,12 +18,12 @@ class StubToolchain:
         return environment["RUNTIME"]
 
 
-def facts(family="gomp", settings=("free", "pinned"), directed=True, **others):
+def facts(settings=("free", "pinned"), directed=True, **others):
     options = types.SimpleNamespace(threads=(2, 4), runs=3, seed=7, tasks=["tied"], mutate="", without=[],
-                                    directed=directed)
+                                    directed=directed, shard=Shard(), match="*")
     options.__dict__.update(others)
     bench = types.SimpleNamespace(toolchain=StubToolchain(), environment={"RUNTIME": "/lib/libgomp.so"})
-    return tested(options, bench, settings, family)
+    return tested(options, bench, settings)
 
 
 class Facts(unittest.TestCase):
@@ -30,12 +31,11 @@ class Facts(unittest.TestCase):
         found = facts(settings=("free", "priorities"), directed=False)
         self.assertEqual(found, {
             "compiler": "cc 1.0, flags `-O1 -fopenmp`", "runtime": "/lib/libgomp.so", "threads": "2, 4",
-            "runs each": "3", "seed": "7", "settings": "free, priorities", "tasks": "tied"})
+            "runs each": "3", "seed": "7", "setting free": "as the runtime is by itself",
+            "setting priorities": "priorities count: `OMP_MAX_TASK_PRIORITY=9`", "tasks": "tied"})
 
     def test_what_is_left_out(self):
         found = facts(without=["loop"])
-        self.assertEqual(found["left out of settings, as it breaks this runtime"],
-                         "priorities (found/priority_child_above_parent.md)")
         self.assertEqual(found["left out of random programs"], "loop")
         self.assertIn("depend_two_sets", found["left out, as the compiler lacks a kind of item"])
 

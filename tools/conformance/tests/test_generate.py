@@ -2,7 +2,7 @@
 import unittest
 
 from tester.constructs import constructs
-from tester.generate import CONSTRUCTS, MOST_SEGMENTS, random_program
+from tester.generate import CONSTRUCTS, SHAPES, random_program
 from tester.program import KINDS, Task, nodes, segment_count
 from tester.reader import read_program
 from tester.text import text_of
@@ -17,8 +17,9 @@ class Generation(unittest.TestCase):
 
     def test_programs_are_small_enough_and_come_back_from_their_texts(self):
         for seed in SEEDS:
-            _, body = random_program(seed, KINDS)
-            self.assertLess(segment_count(body), MOST_SEGMENTS)
+            shape, body = random_program(seed, KINDS)
+            least, most = SHAPES[shape].sizes
+            self.assertTrue(least <= segment_count(body) <= most)
             self.assertEqual(read_program(text_of(body)), body)
 
     def test_every_construct_turns_up(self):

@@ -3,7 +3,7 @@ import pathlib
 import tempfile
 import unittest
 
-from tester.judge import Judge, Missing, Record, Refused, find_spanprof
+from tester.judge import Judge, Missing, Record, Refused, Verdict, find_spanprof
 from tester.launch import Log
 
 RUN = "segments 4\nedges 4\ndigest 704969\npreds 0\npreds 1 0\npreds 2 0\npreds 3 1 2\n"
@@ -74,6 +74,20 @@ class Judging(unittest.TestCase):
         self.assertEqual(verdict(WHOLE, end="hung", detail="").kind, "hung")
         self.assertEqual(verdict((0, "events 0\nfinished 0\npreds 0\n"), end="crashed", detail="signal 6").detail,
                          "signal 6")
+
+    def unordered(self, events, detail="704969", end="done"):
+        judge = Answers((1, "error: nobody asks\n"))
+        found = judge.verdict("omptasks 1\n", RECORD, Log(0, "plain", events, end, detail, unlogged=True))
+        self.assertEqual(judge.asked, [])
+        return found
+
+    def test_runs_without_an_order(self):
+        whole = [f"{what} 0 {s}" for s in range(4) for what in ("start", "finish")]
+        self.assertTrue(self.unordered(whole).accepted)
+        self.assertEqual(self.unordered(whole, "1").kind, "values")
+        self.assertEqual(self.unordered(whole[:-1]).detail, "finished 3 of 4 segments")
+        self.assertEqual(self.unordered([*whole, "start 0 2"]).detail, "2 times `start 0 2`")
+        self.assertEqual(self.unordered(whole[:3], "asleep", "hung"), Verdict("hung", "asleep"))
 
 
 class Finding(unittest.TestCase):

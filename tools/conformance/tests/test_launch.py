@@ -4,8 +4,10 @@ import os
 import pathlib
 import tempfile
 import unittest
+import unittest.mock
 
-from tester.launch import SETTINGS, Log, breakdown, command_of, launch, read_logs
+from tester.launch import Log, breakdown, command_of, launch, read_logs
+from tester.settings import SETTINGS
 from tests.helpers import conditions
 
 TEXT = """run 0 plain
@@ -14,7 +16,7 @@ finish 0 0
 done 17
 run 1 late
 start 0 0
-hung 14
+hung asleep
 run 2 creation
 overflow
 signal 11
@@ -26,9 +28,13 @@ class Reading(unittest.TestCase):
     def test_logs(self):
         self.assertEqual(read_logs(TEXT), [
             Log(0, "plain", ["start 0 0", "finish 0 0"], "done", "17"),
-            Log(1, "late", ["start 0 0"], "hung", ""),
+            Log(1, "late", ["start 0 0"], "hung", "asleep"),
             Log(2, "creation", ["overflow"], "crashed", "11"),
             Log(3, "scattered", [], "crashed", "")])
+
+    def test_runs_without_an_order(self):
+        log, = read_logs("run 3 late unlogged\nstart 0 0\nfinish 0 0\ndone 17\n")
+        self.assertEqual((log.schedule, log.unlogged, log.end), ("late", True, "done"))
 
     def test_logs_of_other_runtimes(self):
         self.assertEqual(read_logs("run 7\nstart 1 0\ndone\n"), [Log(7, "", ["start 1 0"], "done", "")])
@@ -85,7 +91,8 @@ class Launching(unittest.TestCase):
         self.assertEqual([log.end for log in self.launched("exit 1")], ["crashed"])
 
     def test_program_that_has_to_be_killed(self):
-        log, = self.launched("echo run 0 plain; exec sleep 60", timeout=1)
+        with unittest.mock.patch("tester.launch.LONGEST", 0):
+            log, = self.launched("echo run 0 plain; exec sleep 60", timeout=1)
         self.assertEqual((log.end, log.detail), ("hung", ""))
 
 

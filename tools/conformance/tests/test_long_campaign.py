@@ -9,6 +9,7 @@ from unittest import mock
 from tester import store
 from tester.journal import Journal
 from tester.long_campaign import next_seeds, run_campaign
+from tester.shards import Shard
 from tests.helpers import PLAN, StubBench
 
 TESTED = {"compiler": "none"}
@@ -16,7 +17,7 @@ TESTED = {"compiler": "none"}
 
 def options(hours, directed=False):
     return types.SimpleNamespace(hours=hours, seed=5, programs=2, tasks=["tied"], without=[], jobs=1,
-                                 directed=directed)
+                                 directed=directed, shard=Shard(), match="*")
 
 
 class Interrupted(StubBench):

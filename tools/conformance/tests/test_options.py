@@ -5,6 +5,7 @@ import unittest
 
 from tester.commands import COMMANDS
 from tester.options import parse
+from tester.shards import Shard
 
 
 def parsed(words):
@@ -22,15 +23,22 @@ class Options(unittest.TestCase):
         run, mutants = parsed("run --cc gcc"), parsed("mutants --cc gcc")
         self.assertEqual(run.threads, (1, 2, 4, 16))
         self.assertEqual(mutants.threads, (2, 4))
-        self.assertEqual((run.settings, mutants.settings), ([], ["free"]))  # none: those that the runtime stands
+        self.assertEqual((run.settings, mutants.settings), ([], []))  # those for the runtime
+        self.assertEqual((run.known_faults, run.expected), (True, []))
         self.assertEqual(run.tasks, ["tied", "untied", "mixed"])
         self.assertEqual((run.hours, run.directed, run.report), (0, True, ""))
 
     def test_each_command_is_called(self):
         for name, call in COMMANDS.items():
-            words = {"emit": "x", "judge": "x y", "shrink": "x --cc gcc", "list": ""}.get(name, "--cc gcc")
+            words = {"emit": "x", "judge": "x y", "shrink": "x --cc gcc", "bisect": "x --cc gcc",
+                     "merge": "x.jsonl y.jsonl", "list": ""}.get(name, "--cc gcc")
             self.assertIs(parsed(f"{name} {words}").call, call)
             self.assertTrue(call.__doc__, name)
+
+    def test_parts(self):
+        self.assertEqual(parsed("run --cc gcc").shard, Shard(1, 1))
+        self.assertEqual(parsed("run --cc gcc --shard 2/8").shard, Shard(2, 8))
+        self.assertIn("invalid", self.refused("run --cc gcc --shard 9/8"))
 
     def test_lists(self):
         options = parsed("run --cc gcc --threads 3,64 --settings pinned,free --tasks mixed --without loop,if(0)")

@@ -5,7 +5,7 @@ from tester.cases import Tally
 from tester.judge import Refused, Verdict
 from tester.launch import Log
 from tester.program import Wait, nodes
-from tester.reproduce import MOST_EVENTS, Found, Reproducer
+from tester.reproduce import MOST_EVENTS, Found, Reproducer, is_like
 from tests.helpers import StubBench, body_of, case_of, failure_of
 
 
@@ -18,6 +18,9 @@ class Bench(StubBench):
 
     def name_of(self, case):
         return repr(case.body)
+
+    def stacks_of(self, _case, _conditions):
+        return ["Thread 1"]
 
     def source(self):
         return "C"
@@ -70,7 +73,25 @@ class Reproducing(unittest.TestCase):
         self.assertEqual(self.reproduced(Bench(refuses)).failure.case.name, "large")
 
 
+class Alike(unittest.TestCase):
+    def test_hangs_at_fewer_constructs(self):
+        first = failure_of(kind="hung", rule="at taskgroup, taskwait")
+        self.assertTrue(is_like(failure_of(kind="hung", rule="at taskwait"), first))
+        self.assertFalse(is_like(failure_of(kind="hung", rule="at if(0), taskwait"), first))
+
+    def test_other_failures_have_one_rule(self):
+        self.assertTrue(is_like(failure_of(rule="taskwait"), failure_of(rule="taskwait")))
+        self.assertFalse(is_like(failure_of(rule="taskwait"), failure_of(rule="taskgroup")))
+
+
 class Telling(unittest.TestCase):
+    def test_a_program_that_fails_less_often(self):
+        found = self.found("", [])
+        found.rate, found.runs = (4, 5), 20
+        self.assertIn("where 4 of 5 runs did", found.remark())
+        found.rate = (1, 20)
+        self.assertEqual(found.remark(), "")
+
     def found(self, detail, events, ways=("refused, taskwait",)):
         failure = failure_of()
         failure.verdict, failure.log = Verdict("refused", detail), Log(0, "late", events)

@@ -1,50 +1,51 @@
-"""Programs that hung are run again, alone and with more time."""
+"""Hangs that may be those of a busy machine are tried again, alone and with more time."""
+import dataclasses
 import unittest
 
-from tester.second_try import PATIENCE, run_surely
-from tests.helpers import PLAN, StubBench, case_of, failure_of
-
-CASES = [case_of(name) for name in ("short", "slow", "slower", "stuck")]
-
-
-class Bench(StubBench):
-    """`needs` has the seconds that programs take; `refused` are those that break a rule."""
-
-    def __init__(self, needs, refused=()):
-        super().__init__()
-        self.needs, self.refused = needs, refused
-
-    def tally(self, case, at):
-        tally = super().tally(case, at)
-        kinds = ["refused"] * (case.name in self.refused) + ["hung"] * (self.needs.get(case.name, 0) > at.timeout)
-        tally.failures = [failure_of(case, at.threads, kind) for kind in kinds]
-        return tally
+from tester.cases import Tally
+from tester.judge import Verdict
+from tester.second_try import PATIENCE, SecondTries, doubtful
+from tests.helpers import case_of, conditions, failure_of
 
 
-class SecondTries(unittest.TestCase):
-    def outcome(self, needs, refused=()):
-        """The programs that failed, and those that were run once more."""
-        bench = Bench(needs, refused)
-        results = run_surely(bench, CASES, PLAN, 2)
-        self.assertEqual(results.rows["all", 2]["programs"], len(CASES))
-        return results.failed_programs(), [case.name for case in bench.tried[len(CASES):]]
+def hang(rule="at taskwait", detail="busy"):
+    return dataclasses.replace(failure_of(kind="hung", rule=rule), verdict=Verdict("hung", detail))
 
-    def test_nothing_is_run_again_where_nothing_fails(self):
-        self.assertEqual(self.outcome({}), ([], []))
 
-    def test_slow_programs_end_with_more_time(self):
-        slow = PLAN.timeout * PATIENCE
-        self.assertEqual(self.outcome({"slow": slow, "slower": slow}), ([], ["slow", "slower"]))
+class Again(unittest.TestCase):
+    def settled(self, failures, again):
+        """What counts, how many hangs were seen once, and the conditions of the second tries."""
+        tried = []
 
-    def test_a_program_that_never_ends_hangs_again(self):
-        self.assertEqual(self.outcome({"stuck": 10 ** 9}), (["stuck"], ["stuck"]))
+        def try_again(_case, at):
+            tried.append(at)
+            return Tally(at, 3, 9, again)
 
-    def test_one_that_hangs_again_is_enough(self):
-        needs = {"slow": PLAN.timeout + 1, "slower": 10 ** 9, "stuck": 10 ** 9}
-        self.assertEqual(self.outcome(needs), (["slower", "stuck"], ["slow", "slower"]))
+        tally = Tally(conditions(), 3, 9, failures)
+        (after,) = SecondTries(try_again).settled(case_of(), [tally])
+        return after.failures, after.seen_once, tried
 
-    def test_a_broken_rule_needs_no_second_try(self):
-        self.assertEqual(self.outcome({"stuck": 10 ** 9}, ["short"]), (["short", "stuck"], []))
+    def test_threads_that_all_slept_hang_for_sure(self):
+        self.assertFalse(doubtful([Tally(conditions(), 3, 9, [hang(detail="asleep"), failure_of()])]))
+        failures = [hang(detail="asleep")]
+        self.assertEqual(self.settled(failures, []), (failures, 0, []))
+
+    def test_busy_threads_may_only_be_slow(self):
+        self.assertTrue(doubtful([Tally(conditions(), 3, 9, [hang()])]))
+        self.assertTrue(doubtful([Tally(conditions(), 3, 9, [hang(detail="")])]))
+
+    def test_a_hang_that_is_seen_again_counts(self):
+        failures, once, tried = self.settled([hang()], [hang(detail="asleep")])
+        self.assertEqual((failures, once), ([hang()], 0))
+        self.assertEqual([at.timeout for at in tried], [conditions().timeout * PATIENCE])
+
+    def test_one_that_is_not_seen_again_is_told(self):
+        self.assertEqual(self.settled([failure_of(), hang()], [])[:2], ([failure_of()], 1))
+        self.assertEqual(self.settled([hang()], [failure_of()])[:2], ([], 1))
+
+    def test_one_second_try_stands_for_its_signature(self):
+        self.assertEqual(len(self.settled([hang(), hang()], [hang()])[2]), 1)
+        self.assertEqual(len(self.settled([hang(), hang("at taskgroup")], [hang()])[2]), 2)
 
 
 if __name__ == "__main__":

@@ -42,6 +42,20 @@ class Toolchains(unittest.TestCase):
             self.assertEqual(len([line for line in words if str(source) in line]), 1, source.name)
         self.assertIn(f"{self.folder}/log.o", words[-2])
 
+    def test_kept_programs_are_built_once(self):
+        first = self.toolchain()
+        first.kept = self.folder / "kept"
+        program = first.build("int main(void) { return 0; }", "p0")
+        compiled = len((self.folder / "words").read_text().split("\n"))
+        self.assertEqual(first.build("int main(void) { return 0; }", "p1"), program)
+        self.assertEqual(len((self.folder / "words").read_text().split("\n")), compiled)
+        self.assertNotEqual(first.build("int main(void) { return 1; }", "p2"), program)
+        first.forget([program])
+        self.assertTrue(program.exists())
+
+    def test_programs_of_other_flags_are_others(self):
+        self.assertNotEqual(self.toolchain().digest("x"), self.toolchain(flags=["-O2"]).digest("x"))
+
     def test_flags(self):
         self.assertEqual(self.toolchain(flags=["-O2"]).shown_flags, ["-O1", "-g", "-fopenmp", "-O2"])
         self.assertIn("-fopenmp-version=52", self.toolchain("clang-16").shown_flags)

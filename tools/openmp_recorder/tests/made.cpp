@@ -7,9 +7,9 @@
 #include "../fold.hpp"
 #include "check.hpp"
 
-Made::Made(unsigned threads) : count(threads) {
-  for (unsigned i = 0; i < threads; i++) logs.push_back(std::make_unique<Log>(i));
-  logs[0]->regions.push_back({1, true, time, 0});
+Made::Made(unsigned many) : count(many) {
+  for (unsigned i = 0; i < many; i++) threads.push_back(std::make_unique<Kept>(i));
+  threads[0]->log.regions.push_back({1, true, time, 0});
   add(0, Told::ParallelBegin, 0, 1);
   begin_threads();
 }
@@ -26,7 +26,7 @@ Made &Made::stood_still(uint32_t nanoseconds) {
 
 Made &Made::add(unsigned thread, Told told, uint32_t task, uint32_t other, unsigned detail, uint64_t code) {
   Record record{};
-  record.at = time;
+  record.at = record.wall = time;
   record.order = order++;
   record.stood_still = std::exchange(still, 0);
   record.task = task;
@@ -34,7 +34,7 @@ Made &Made::add(unsigned thread, Told told, uint32_t task, uint32_t other, unsig
   record.code = code;
   record.kind = static_cast<uint8_t>(told);
   record.detail = detail;
-  logs[thread]->records.push(record);
+  threads[thread]->records.push_back(record);
   return *this;
 }
 
@@ -48,9 +48,9 @@ Made &Made::create(unsigned thread, uint32_t task, uint32_t child, unsigned deta
 }
 
 Made &Made::depend(unsigned thread, uint32_t task, const std::vector<DependItem> &items) {
-  Log &log = *logs[thread];
+  Log &log = threads[thread]->log;
   add(thread, Told::Dependences, task, static_cast<uint32_t>(log.items.size()), 0, items.size());
-  for (const DependItem &one : items) log.items.push(one);
+  for (const DependItem &one : items) log.items.push_back(one);
   return *this;
 }
 
@@ -70,10 +70,19 @@ Made &Made::barrier(unsigned thread, uint32_t task) {
   return add(thread, Told::SyncBegin, task, 0, ompt_sync_region_barrier_implicit_parallel);
 }
 
-Run Made::read(const Ending &ending, uint64_t most_replayed) {
-  if (!ending.wall) logs[0]->regions[0].end = time;
-  std::vector<const Log *> all;
-  for (auto &log : logs) all.push_back(log.get());
+Made &Made::passed(unsigned thread, int64_t wall, int64_t processor, bool slept) {
+  add(thread, Told::Passed, 0);
+  threads[thread]->records.back().passed = {slept, wall, processor};
+  return *this;
+}
+
+Run Made::read(Ending ending, uint64_t most_replayed) {
+  if (!ending.wall) threads[0]->log.regions[0].end = time;
+  std::vector<Records *> all;
+  for (auto &thread : threads) {
+    thread->begin_again();
+    all.push_back(thread.get());
+  }
   return read_run(all, ending, most_replayed);
 }
 

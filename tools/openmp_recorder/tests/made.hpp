@@ -9,9 +9,20 @@
 #include "../run.hpp"
 #include "../text.hpp"
 
+class Kept : public Records {  // records that are kept in a list
+ public:
+  explicit Kept(unsigned worker) : Records(worker) {}
+  const Record *next() override { return at == records.size() ? nullptr : &records[at++]; }
+  void begin_again() { at = 0; }
+  std::vector<Record> records;
+
+ private:
+  size_t at = 0;
+};
+
 class Made {
  public:
-  explicit Made(unsigned threads = 1);  // of region 1, whose implicit tasks have the numbers 1 and on
+  explicit Made(unsigned many = 1);  // of region 1, whose implicit tasks have the numbers 1 and on
   Made &after(int64_t nanoseconds);     // the next records are so much later
   Made &stood_still(uint32_t nanoseconds);  // of them the next record's thread was in the recorder
   Made &add(unsigned thread, Told told, uint32_t task, uint32_t other = 0, unsigned detail = 0, uint64_t code = 0);
@@ -22,10 +33,11 @@ class Made {
   Made &run(unsigned thread, uint32_t from, uint32_t task, int64_t nanoseconds);  // begins, costs so much, and ends
   Made &sync(unsigned thread, uint32_t task, ompt_sync_region_t kind);            // begins and ends at once
   Made &barrier(unsigned thread, uint32_t task);                                  // begins
-  Run read(const Ending &ending = {}, uint64_t most_replayed = UINT64_MAX);
+  Made &passed(unsigned thread, int64_t wall, int64_t processor, bool slept);     // until the next record
+  Run read(Ending ending = {}, uint64_t most_replayed = UINT64_MAX);
 
  private:
-  std::vector<std::unique_ptr<Log>> logs;
+  std::vector<std::unique_ptr<Kept>> threads;
   unsigned count;
   uint32_t order = 0, still = 0;
   int64_t time = 1000;

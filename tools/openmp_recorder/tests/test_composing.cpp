@@ -1,5 +1,7 @@
 // A region whose threads make tasks, before and after barriers.
 #include "../compose.hpp"
+#include "../fold.hpp"
+#include "../program_time.hpp"
 #include "check.hpp"
 #include "made.hpp"
 
@@ -14,7 +16,7 @@ Made &explicit_barrier(Made &made) {
 }  // namespace
 
 TEST(the_only_part_with_tasks_is_the_root) {
-  Run run = Made(2).after(4).create(0, 1, 3).barrier(0, 1).barrier(1, 2).run(1, 2, 3, 5).read();
+  Run run = Made(2).barrier(1, 2).after(4).create(0, 1, 3).barrier(0, 1).run(1, 2, 3, 5).read();
   EXPECT(text_of(only_region(run)), "work 4\ntask {\n  work 5\n}\n");
 }
 
@@ -45,11 +47,97 @@ TEST(a_long_part_without_tasks_is_written) {
   EXPECT(region.in_tasks, 5);
 }
 
-TEST(a_short_one_is_left_out_and_remarked) {
-  Run run = Made(2).create(0, 1, 3).barrier(0, 1).after(900).barrier(1, 2).run(0, 1, 3, 5).read();
+TEST(one_of_a_hundredth_of_the_work_is_left_out) {
+  Run light = Made(2).create(0, 1, 3).barrier(0, 1).after(10).barrier(1, 2).run(0, 1, 3, 990).read();
+  Region &region = only_region(light);
+  EXPECT(text_of(region), "task {\n  work 990\n}\n");
+  EXPECT(region.in_parts, 10);
+  Run heavier = Made(2).create(0, 1, 3).barrier(0, 1).after(10).barrier(1, 2).run(0, 1, 3, 989).read();
+  EXPECT_PART(text_of(only_region(heavier)), part + "    work 10\n  }\n");
+}
+
+// Each by itself is less than a hundredth.
+TEST(parts_are_left_out_by_their_sum) {
+  const int steps = 200;
+  Made made(2);
+  made.create(0, 1, 3);
+  explicit_barrier(made).run(0, 1, 3, 500);
+  for (int i = 0; i < steps; i++) explicit_barrier(made.after(100));
+  Run run = made.barrier(0, 1).barrier(1, 2).read();
   Region &region = only_region(run);
-  EXPECT(text_of(region), "task {\n  work 5\n}\n");
-  EXPECT(region.remarks.count(Remark::PartsLeftOut), 1u);
+  EXPECT(region.root->total >= region.cost - region.cost / 100, true);
+  EXPECT(region.root->total < region.cost, true);
+  EXPECT(region.remarks.empty(), true);
+}
+
+// Of a region of three threads: one makes a task of 5, one takes this time, and one takes none.
+unsigned parts_written(Parts asked, int64_t cost) {
+  Run run = Made(3).create(0, 1, 4).barrier(0, 1).barrier(2, 3).after(cost).barrier(1, 2).run(0, 1, 4, 5).read();
+  Region &region = *run.regions.begin()->second;
+  EXPECT(compose(region, {asked, false}), true);
+  EXPECT(region.remarks.count(Remark::PartsLeftOut), asked == Parts::None && cost ? 1u : 0u);
+  return region.root->part ? 1 : region.root->children;
+}
+
+TEST(which_parts_are_written) {
+  for (Parts asked : {Parts::Heavy, Parts::All, Parts::None, Parts::AllOrNone}) {
+    EXPECT(parts_written(asked, 0), asked == Parts::All ? 3u : 1u);
+    EXPECT(parts_written(asked, 5), asked == Parts::None ? 1u : asked == Parts::Heavy ? 2u : 3u);
+  }
+}
+
+TEST(parts_with_tasks_come_first) {
+  Run run = Made(2).after(4).create(1, 2, 3).barrier(0, 1).barrier(1, 2).run(0, 1, 3, 5).read();
+  EXPECT(text_of(only_region(run)), "taskgroup {\n" + part + "    work 4\n    task {\n      work 5\n    }\n  }\n" +
+                                        part + "    work 4\n  }\n}\n");
+}
+
+TEST(what_the_commands_have_no_room_for_is_left_out_and_remarked) {
+  const unsigned steps = 2 * most_tasks;
+  Made made;
+  made.create(0, 1, 2);
+  for (unsigned i = 0; i < steps; i++)
+    made.add(0, Told::SyncBegin, 1, 0, ompt_sync_region_barrier_explicit)
+        .add(0, Told::SyncEnd, 1, 0, ompt_sync_region_barrier_explicit).after(10);
+  Run run = made.barrier(0, 1).run(0, 1, 2, 5).read();
+  Region &region = *run.regions.begin()->second;
+  EXPECT(compose(region), true);
+  EXPECT(region.root->children, most_tasks - 2);
+  EXPECT(region.remarks[Remark::PartsLeftOut].times > most_tasks - 100, true);
+  add_up(region);
+  EXPECT(over_the_limits(fold(region, {}), 1).what, "");
+}
+
+TEST(the_runtimes_own_region_is_no_code) {
+  Run run = Made().add(0, Told::ParallelBegin, 0, 2, is_runtimes).add(0, Told::ImplicitBegin, 9, 2, 0, 1).after(50)
+                .add(0, Told::ImplicitEnd, 9).read();
+  EXPECT(run.regions.at(2)->cost, 50);
+  EXPECT(in_code(*run.regions.at(2)), 0);
+}
+
+// A region of two threads in a task of 100: its other thread runs so long, and this one half of it.
+Run region_in_a_task(int64_t other) {
+  Made made(2);
+  made.create(0, 1, 3).barrier(0, 1).barrier(1, 2).go(0, 1, 3).add(0, Told::ParallelBegin, 3, 2);
+  made.add(0, Told::ImplicitBegin, 4, 2, 0, 2).add(1, Told::ImplicitBegin, 5, 2, 0, 2).after(other / 2).barrier(0, 4);
+  made.after(other - other / 2).barrier(1, 5).add(1, Told::ImplicitEnd, 5).after(100 - other);
+  made.add(0, Told::ImplicitEnd, 4).after(7).go(0, 3, 1, ompt_task_complete);
+  return made.read();
+}
+
+TEST(a_region_in_a_task_counts_there_but_for_what_its_other_threads_do) {
+  Run run = region_in_a_task(60);
+  Region &outer = *run.regions.at(1), &inner = *run.regions.at(2);
+  EXPECT(outer.in_own_regions, 100);
+  EXPECT(in_code(outer), 7);
+  EXPECT(in_code(inner), 30 + 60);
+  EXPECT(in_code(run), 97);
+  EXPECT(compose(inner), false);
+  remark_nested(inner);
+  EXPECT(outer.remarks.count(Remark::NestedRegion), 1u);
+  inner.met.passed = 59;  // as by the processor's clock, where waiting is nothing
+  remark_nested(inner);
+  EXPECT(outer.remarks.count(Remark::NestedWaits), 1u);
 }
 
 TEST(a_region_without_tasks_is_none) {

@@ -1,4 +1,6 @@
 // Folds, limits, advice, and the span that the recorder adds up.
+#include <cstring>
+
 #include "../advice.hpp"
 #include "../fold.hpp"
 #include "../span.hpp"
@@ -96,22 +98,27 @@ TEST(events_of_a_chunk_are_its_last_tasks) {
 }
 
 TEST(limits_are_told) {
-  EXPECT(over_the_limits({4096, 16384, 64, 32, 999999999999, 1}, 1), "");
-  EXPECT_PART(over_the_limits({4097, 1, 0, 0, 0, 0}, 1), "4097 tasks, and spanprof takes 4096");
-  EXPECT_PART(over_the_limits({1, 16385, 0, 0, 0, 0}, 1), "segments");
-  EXPECT_PART(over_the_limits({1, 1, 65, 0, 0, 0}, 1), "inside each other");
-  EXPECT_PART(over_the_limits({1, 1, 0, 33, 0, 0}, 1), "depend items");
-  EXPECT_PART(over_the_limits({1, 1, 0, 0, 1000000000000, 0}, 1), "in one piece");
-  EXPECT(over_the_limits({1, 1, 0, 0, 1000000000000, 0}, 1000), "");
+  EXPECT(over_the_limits({4096, 16384, 64, 32, 999999999999, 1}, 1).what, "");
+  Excess tasks = over_the_limits({4097, 1, 0, 0, 0, 0}, 1);
+  EXPECT(tasks.what + " of " + tasks.program, "tasks of spanprof");
+  EXPECT(tasks.has, 4097u);
+  EXPECT(tasks.takes, 4096u);
+  EXPECT(over_the_limits({1, 16385, 0, 0, 0, 0}, 1).what, "segments");
+  EXPECT(over_the_limits({1, 1, 65, 0, 0, 0}, 1).what, "blocks");
+  EXPECT(over_the_limits({1, 1, 0, 33, 0, 0}, 1).what, "items");
+  EXPECT(over_the_limits({1, 1, 0, 0, 1000000000000, 0}, 1).what, "piece");
+  EXPECT(over_the_limits({1, 1, 0, 0, 1000000000000, 0}, 1000).what, "");
 }
 
 TEST(limits_of_any_size_are_told) {
-  EXPECT(over_the_limits({9000000, 20000000, 1048576, 32, 999999999999, 1}, 1, of_any_size), "");
-  EXPECT_PART(over_the_limits({1, 1, 1048577, 0, 0, 0}, 1, of_any_size),
-              "1048577 tasks and groups inside each other, and spanprof_large takes 1048576");
-  EXPECT_PART(over_the_limits({1, 1, 1, 33, 0, 0}, 1, of_any_size), "depend items");
-  EXPECT_PART(over_the_limits({1, 1, 1, 1, 1000000000000, 0}, 1, of_any_size), "in one piece");
-  EXPECT_PART(over_the_limits({1, 1, 1, 1, 1, 1000000000000000}, 1, of_any_size), "units of work");
+  EXPECT(over_the_limits({9000000, 20000000, 1048576, 32, 999999999999, 1}, 1, of_any_size).what, "");
+  Excess blocks = over_the_limits({1, 1, 1048577, 0, 0, 0}, 1, of_any_size);
+  EXPECT(blocks.what + " of " + blocks.program, "blocks of spanprof_large");
+  EXPECT(blocks.has, 1048577u);
+  EXPECT(blocks.takes, 1048576u);
+  EXPECT(over_the_limits({1, 1, 1, 33, 0, 0}, 1, of_any_size).what, "items");
+  EXPECT(over_the_limits({1, 1, 1, 1, 1000000000000, 0}, 1, of_any_size).what, "piece");
+  EXPECT(over_the_limits({1, 1, 1, 1, 1, 1000000000000000}, 1, of_any_size).what, "work");
 }
 
 TEST(a_fold_that_is_tried_leaves_what_the_fold_leaves) {
@@ -140,15 +147,26 @@ TEST(a_fold_that_leaves_too_much_is_tried_no_further) {
   EXPECT(tried.written.size(), 102u);
 }
 
+std::string parallelism(int64_t work, int64_t span) {
+  char text[32];
+  snprintf(text, sizeof text, "%.1f", static_cast<double>(work) / static_cast<double>(span));
+  return text;
+}
+
+std::string told(const Advice &advice, const Offer &offer) {
+  return std::string(offer.fold) + "=" + std::to_string(offer.value) + " (" + std::to_string(offer.tasks) +
+         " tasks left, parallelism " + parallelism(advice.work, offer.span) + ")";
+}
+
 TEST(many_tasks_in_a_row_are_advised_to_be_chunks) {
   Run run = in_a_row(std::vector<int64_t>(9000, 50));
   Region &region = only_region(run);
   region.span = span_of(region);
-  std::string advice = advice_for(region, 1);
-  EXPECT_PART(advice, "parallelism is 50.7; make the program's own cutoff or blocks larger, or record with "
-                      "SPANPROF_FOLD_CHUNK=3 (3000 tasks left, parallelism 50.2)");
-  EXPECT(advice.find("FOLD_COST"), std::string::npos);  // since it leaves no parallelism
-  EXPECT(over_the_limits(fold(region, {0, 0, 3}), 1), "");
+  Advice advice = advice_for(region, 1);
+  EXPECT(parallelism(advice.work, advice.span), "50.7");
+  EXPECT(advice.offers.size(), 1u);  // a fold by costs leaves no parallelism
+  EXPECT(told(advice, advice.offers[0]), "CHUNK=3 (3000 tasks left, parallelism 50.2)");
+  EXPECT(over_the_limits(fold(region, {0, 0, 3}), 1).what, "");
 }
 
 TEST(advice_on_costs_leaves_room_for_other_costs) {
@@ -157,9 +175,11 @@ TEST(advice_on_costs_leaves_room_for_other_costs) {
   Run run = in_a_row(costs, 2);
   Region &region = only_region(run);
   region.span = span_of(region);
-  std::string advice = advice_for(region, 1), setting = "SPANPROF_FOLD_COST=";
-  EXPECT_PART(advice, setting);
-  int64_t below = std::stoll(advice.substr(advice.find(setting) + setting.size()));
+  Advice advice = advice_for(region, 1);
+  int64_t below = 0;
+  for (const Offer &offer : advice.offers)
+    if (!std::strcmp(offer.fold, "COST")) below = static_cast<int64_t>(offer.value);
+  EXPECT(below > 0, true);
   EXPECT(fold(region, {0, below, 0}).tasks <= most_tasks / 2, true);
 }
 
@@ -167,7 +187,8 @@ TEST(deep_tasks_are_advised_to_be_folded_by_depth) {
   Run run = nested(70, 5);
   Region &region = only_region(run);
   region.span = span_of(region);
-  EXPECT_PART(advice_for(region, 1), "SPANPROF_FOLD_DEPTH=63 (63 tasks left");
+  Advice advice = advice_for(region, 1);
+  EXPECT_PART(told(advice, advice.offers.at(0)), "DEPTH=63 (63 tasks left");
 }
 
 TEST(advice_tells_what_a_fold_by_depth_leaves) {
@@ -175,10 +196,11 @@ TEST(advice_tells_what_a_fold_by_depth_leaves) {
   Region &region = only_region(run);
   region.span = span_of(region);
   EXPECT(region.span, 10);
-  EXPECT(over_the_limits(fold(region, {}), 1), "201 tasks and groups inside each other, and spanprof takes 64");
-  EXPECT_PART(advice_for(region, 1), "parallelism is 200.0; make the program's own cutoff or blocks larger, or record "
-                                     "with SPANPROF_FOLD_DEPTH=63 (125 tasks left, parallelism 1.4)");
-  EXPECT(over_the_limits(fold(region, {63, 0, 0}), 1), "");
+  EXPECT(over_the_limits(fold(region, {}), 1).has, 201u);
+  Advice advice = advice_for(region, 1);
+  EXPECT(parallelism(advice.work, advice.span), "200.0");
+  EXPECT(told(advice, advice.offers.at(0)), "DEPTH=63 (125 tasks left, parallelism 1.4)");
+  EXPECT(over_the_limits(fold(region, {63, 0, 0}), 1).what, "");
   EXPECT(span_of(region), 10 * (200 - 62));
 }
 
@@ -189,7 +211,7 @@ TEST(tasks_with_depend_are_not_folded) {
   Run run = made.barrier(0, 1).read();
   Region &region = only_region(run);
   region.span = span_of(region);
-  EXPECT_PART(advice_for(region, 1), "larger; no fold fits, since tasks with depend are not folded");
+  EXPECT(advice_for(region, 1).offers.size(), 0u);
 }
 
 TEST(the_span_goes_by_dependences) {

@@ -24,6 +24,33 @@ TEST(a_group_ends_where_its_wait_begins) {
   EXPECT(text_of(only_region(run)), "taskgroup {\n  work 3\n  task {\n    work 9\n  }\n  work 2\n}\nwork 6\n");
 }
 
+TEST(a_barrier_ends_the_groups_around_it_and_begins_them_anew) {
+  constexpr auto group = ompt_sync_region_taskgroup, barrier = ompt_sync_region_barrier_explicit;
+  Made made(2);
+  for (unsigned thread : {0u, 1u})
+    made.add(thread, Told::SyncBegin, 1 + thread, 0, group).create(thread, 1 + thread, 3 + thread)
+        .add(thread, Told::SyncBegin, 1 + thread, 0, barrier);
+  made.run(0, 1, 3, 9).run(1, 2, 4, 9);
+  for (unsigned thread : {1u, 0u})
+    made.add(thread, Told::SyncEnd, 1 + thread, 0, barrier).create(thread, 1 + thread, 5 + thread)
+        .add(thread, Told::WaitBegin, 1 + thread, 0, group);
+  for (unsigned thread : {0u, 1u}) made.run(thread, 1 + thread, 5 + thread, 7);
+  for (unsigned thread : {0u, 1u}) made.add(thread, Told::SyncEnd, 1 + thread, 0, group).barrier(thread, 1 + thread);
+  Run run = made.read();
+  std::string text = text_of(only_region(run));
+  for (const char *cost : {"9", "7"}) {
+    std::string part = "  task {  # one of the region's threads\n    taskgroup {\n      task {\n        work " + std::string(cost) +
+                       "\n      }\n    }\n  }\n";
+    EXPECT_PART(text, "taskgroup {\n" + part + part + "}\n");
+  }
+}
+
+TEST(a_group_whose_begin_is_not_told_has_no_end) {
+  Run run = Made().create(0, 1, 2).add(0, Told::WaitBegin, 1, 0, ompt_sync_region_taskgroup).run(0, 1, 2, 9)
+                .add(0, Told::SyncEnd, 1, 0, ompt_sync_region_taskgroup).after(6).barrier(0, 1).read();
+  EXPECT(text_of(only_region(run)), "task {\n  work 9\n}\nwork 6\n");
+}
+
 TEST(a_task_that_a_full_queue_runs_at_once_interrupts_its_maker) {
   Run run = Made().after(5).create(0, 1, 2).run(0, 1, 2, 4).after(1).barrier(0, 1).read();
   EXPECT(text_of(only_region(run)), "work 5\ntask {\n  work 4\n}\nwork 1\n");
@@ -97,6 +124,28 @@ TEST(what_only_a_remark_can_tell) {
     EXPECT(region.remarks.count(remark), 1u);
   EXPECT(text_of(region), "task depend(inoutset: a0) {\n}\n");
   EXPECT(text_of(region, {1, true}), "task depend(inout: a0) {\n}\n");
+}
+
+TEST(tasks_that_only_make_those_of_a_loop_are_left_out) {
+  Run run = Made(2).after(2).create(0, 1, 3).after(1).create(0, 1, 9)
+                .add(0, Told::SyncBegin, 1, 0, ompt_sync_region_taskwait).barrier(1, 2)
+                .go(1, 2, 3).after(4).create(1, 1, 4).after(5).create(1, 1, 5).after(6).go(1, 3, 2, ompt_task_complete)
+                .run(1, 2, 5, 20).run(1, 2, 9, 40).go(1, 2, 4).create(1, 1, 6).after(7).create(1, 1, 7)
+                .go(1, 4, 2, ompt_task_complete).run(1, 2, 6, 30).run(1, 2, 7, 50)
+                .add(0, Told::SyncEnd, 1, 0, ompt_sync_region_taskwait).barrier(0, 1).read();
+  Region &region = only_region(run);
+  EXPECT_PART(text_of(region), "    work 2\n    task {\n      work 34\n    }\n    task {\n      work 57\n    }\n"
+                               "    task {\n      work 31\n    }\n    work 1\n    task {\n      work 40\n    }\n    taskwait\n");
+  EXPECT_PART(events_of(region), "finish 0 1\nstart 0 3\nfinish 0 3\nstart 0 5\nfinish 0 5\nstart 0 7\nfinish 0 7\n");
+}
+
+TEST(what_ordered_turns_wait_for_is_remarked) {
+  Run run = Made().create(0, 1, 2).run(0, 1, 2, 1).depend(0, 0, {item(ompt_dependence_type_source, 3)})
+                .depend(0, 0, {item(ompt_dependence_type_sink, 2), item(ompt_dependence_type_sink, 1)})
+                .barrier(0, 1).read();
+  Region &region = only_region(run);
+  EXPECT(region.remarks[Remark::BetweenTurns].times, 1u);
+  EXPECT(region.remarks.count(Remark::UnknownItem), 0u);
 }
 
 TEST(tasks_outside_of_regions_are_counted) {

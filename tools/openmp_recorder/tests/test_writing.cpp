@@ -10,14 +10,18 @@
 #include "../head.hpp"
 #include "../merge.hpp"
 #include "../modules.hpp"
+#include "../program_start.hpp"
+#include "../program_time.hpp"
+#include "../run_files.hpp"
 #include "check.hpp"
 #include "made.hpp"
 
 namespace {
 Run two_tasks() {
-  return Made(2).after(1499).create(0, 1, 3).barrier(0, 1).barrier(1, 2).go(1, 2, 3).after(2500)
-      .go(1, 3, 2, ompt_task_complete).read();
+  return Made(2).barrier(1, 2).after(1499).create(0, 1, 3).barrier(0, 1).run(1, 2, 3, 2500).read();
 }
+
+Run two_parts() { return Made(2).after(1499).create(0, 1, 3).barrier(0, 1).barrier(1, 2).run(1, 2, 3, 2500).read(); }
 }  // namespace
 
 TEST(costs_are_in_the_unit_and_rounded) {
@@ -90,10 +94,8 @@ TEST(a_new_file_stays_only_where_all_is_written) {
   whole.put("two");
   EXPECT(whole.end(), true);
   EXPECT(access(name.c_str(), F_OK), 0);
-  setenv("SPANPROF_MESSAGES", "/dev/null", 1);
   EXPECT(ends_where_six_bytes_fit(name), false);
   EXPECT(NewFile("/no/such/folder/x").end(), false);
-  unsetenv("SPANPROF_MESSAGES");
   EXPECT(access(name.c_str(), F_OK), -1);
 }
 
@@ -115,20 +117,47 @@ TEST(a_run_that_is_not_whole_says_so) {
 }
 
 TEST(the_head_tells_the_recording) {
-  Run run = two_tasks();
+  Run run = two_parts();
   Region &region = only_region(run);
   region.place = 2;
-  region.locks[7] = {ompt_mutex_critical, nullptr, 3, 400, 90};
+  region.locks[7] = {ompt_mutex_critical, nullptr, 3, 400, 90, 300};
+  region.divided[Divided::Loops].times = 4;
+  region.differing.add(2000, 49000, nullptr);
+  region.differing.add(1000, 1000, nullptr);
   region.remarks[Remark::Detach].add(nullptr);
   Options options;
   options.unit_name = "ns";
-  Recording recording{"sort", "2026-11-24T00:10:02Z", 5, {100, 9000}};
+  Recording recording{"sort", "2026-11-24T00:10:02Z", 5, {100, 9000}, {100, 7798, true}};
   std::string head = head_of(region, recording, options, Places());
   EXPECT(head, "# recorded: from sort, 2026-11-24T00:10:02Z, threads 2, clock wall, unit ns\n# region: 2 of 5\n"
+               "# covers: 69.6 % of the program's thread-time (5498 of 7898 ns)\n"
+               "# not covered: 100 outside regions, 2300 in other regions, 0 of this region\n"
+               "# divided among 2 threads: loops, 4 times\n"
+               "# divided among 2 threads: code of the region, 2 parts, 1499 ns beside the longest\n"
+               "# clock reading: 0 ns, taken off at each record\n"
+               "# clocks differ: in 3000 of 5498 ns of the work, by 50000 ns, 2 times\n"
                "# elapsed: 3999\n# outside regions: 100\n# in other regions: 5001\n# in parts without tasks: 1499\n"
-               "# in tasks: 3999\n# lock critical: 3 times, 400 inside, 90 waiting\n"
-               "# remark: detach, written as complete where the code ends, 1 time: span too low\n"
-               "# remark: parts without tasks, left out, 1 time: work and span too low\n");
+               "# in tasks: 3999\n# most held lock: 300 ns inside, one thread at a time\n"
+               "# lock critical: 3 times, 400 inside, 90 waiting\n"
+               "# remark: detach, written as complete where the code ends, 1 time: span too low\n");
+}
+
+TEST(the_head_says_what_is_not_in_the_text) {
+  Run run = two_tasks();
+  Region &region = only_region(run);
+  region.in_own_regions = 500;  // of 3999
+  Options options;
+  options.unit = 1000, options.unit_name = "us";
+  Recording recording{"sort", "", 5, {100, 9000}, {1000, 6000, false}};
+  std::string head = head_of(region, recording, options, Places());
+  EXPECT_PART(head, "# covers: at most 42.8 % of the program's thread-time (3 of 7 us)\n"
+                    "# not covered: 1 outside regions, 3 in other regions, 0 of this region\n");
+}
+
+TEST(a_text_of_one_thread_is_told) {
+  Run run = Made().create(0, 1, 2, is_undeferred).run(0, 1, 2, 5).barrier(0, 1).read();
+  std::string head = head_of(only_region(run), {"sort", "", 1, {}, {}}, {}, Places());
+  EXPECT_PART(head, "# one thread: every task is undeferred, so that this text says nothing of more threads\n");
 }
 
 TEST(locks_that_take_a_hundredth_are_remarked) {
@@ -143,9 +172,10 @@ TEST(locks_that_take_a_hundredth_are_remarked) {
 }
 
 TEST(lengths_are_limited) {
-  EXPECT(over_the_length("work 1 # " + std::string(1048577, 'x') + "\n"), "");
-  EXPECT_PART(over_the_length(std::string(1048577, 'x')), "1048577 bytes outside comments");
-  EXPECT_PART(over_the_length("#" + std::string(4194304, 'x')), "SPANPROF_LINES=0");
+  EXPECT(over_the_length("work 1 # " + std::string(1048577, 'x') + "\n").what, "");
+  EXPECT(over_the_length(std::string(1048577, 'x')).what, "bytes outside comments");
+  EXPECT(over_the_length(std::string(1048577, 'x')).has, 1048577u);
+  EXPECT(over_the_length("#" + std::string(4194304, 'x')).what, "bytes");
 }
 
 TEST(files_of_a_run_are_known_by_their_names) {
@@ -157,10 +187,39 @@ TEST(files_of_a_run_are_known_by_their_names) {
     EXPECT(is_of_run(name, "out"), false);
 }
 
+TEST(files_of_a_process_of_mpi_have_its_number) {
+  EXPECT(name_of_rank("out"), "out");
+  setenv("PMI_RANK", "3", 1);
+  EXPECT(name_of_rank("out"), "out");
+  setenv("PMI_SIZE", "4", 1);
+  EXPECT(name_of_rank("out"), "out.rank3");
+  EXPECT(name_of_rank("out.rank3.runs/run1"), "out.rank3.runs/run1");
+  setenv("PMI_SIZE", "1", 1);
+  EXPECT(name_of_rank("out"), "out");
+  unsetenv("PMI_RANK");
+  unsetenv("PMI_SIZE");
+}
+
 TEST(a_module_calls_what_its_relocations_name) {
-  EXPECT(one_module_calls({"opendir", "dl_iterate_phdr"}), true);  // files.cpp and modules.cpp
+  EXPECT(one_module_calls({"opendir", "dl_iterate_phdr"}), true);  // run_files.cpp and modules.cpp
   EXPECT(one_module_calls({"opendir", "GOMP_task"}), false);
-  EXPECT(has_unseen_detach(), false);
+  EXPECT(unseen_of_gcc(), 0u);
+}
+
+// Of the work by all together, of the span by one.
+TEST(clocks_are_remarked_where_they_move_a_number_by_a_twentieth) {
+  auto remarked = [](int64_t work, int64_t span, int64_t off) {
+    Region region;
+    region.work = work, region.span = span;
+    region.differing.add(off, off, nullptr);
+    region.differing.add(off, off, nullptr);
+    remark_clocks(region);
+    return region.remarks.count(Remark::Preempted) == 1;
+  };
+  EXPECT(remarked(2000000, 1000000, 50000), false);
+  EXPECT(remarked(1999999, 1000000, 50000), true);
+  EXPECT(remarked(2000000, 999999, 50000), true);
+  EXPECT(remarked(2000000, 900000, 49999), false);  // a few microseconds of a short region are not worth a word
 }
 
 TEST(a_remark_on_what_is_not_seen_has_no_number) {
@@ -169,31 +228,36 @@ TEST(a_remark_on_what_is_not_seen_has_no_number) {
 }
 
 TEST(records_come_in_their_common_order) {
-  Log first(0), second(1);
-  for (uint32_t order : {0u, 3u, 4u, 7u}) {
-    Record record{};
-    record.order = order;
-    first.records.push(record);
-  }
-  for (uint32_t order : {1u, 2u, 5u, 6u, 8u}) {
-    Record record{};
-    record.order = order;
-    second.records.push(record);
-  }
+  Kept first(0), second(1);
+  auto add = [](Kept &thread, std::initializer_list<uint64_t> orders) {
+    for (uint64_t order : orders) thread.records.emplace_back().order = order;
+  };
+  add(first, {0, 3, 4, 7});
+  add(second, {1, 2, 5, 6, 8});
   InOrder records({&first, &second});
   std::string seen;
   while (const Record *record = records.next())
-    seen += std::to_string(record->order) + (&records.log() == &first ? "a" : "b");
+    seen += std::to_string(record->order) + (&records.log() == &first.log ? "a" : "b");
   EXPECT(seen, "0a1b2b3a4a5b6b7a8b");
 }
 
 TEST(locks_count_times_inside_and_waiting) {
   Locks locks;
   locks.ask(ompt_mutex_critical, 7, nullptr, 100);
-  EXPECT(locks.get(7, 130, 0), 100);
-  locks.leave(7, 1, 150);  // on the thread's own clock, which stood still until 100
+  EXPECT(locks.get(7, 130, 0, 5), 100);
+  locks.leave(7, 1, 150, 5);  // on the thread's own clock, which stood still until 100
   const LockUse &use = locks.uses().at({1, 7});
   EXPECT(use.times, 1u);
   EXPECT(use.waiting, 30);
   EXPECT(use.inside, 50);
+  EXPECT(use.alone, 50);
+}
+
+TEST(where_records_came_meanwhile_a_lock_may_have_held_another_task) {
+  Locks locks;
+  locks.ask(ompt_mutex_critical, 7, nullptr, 100);
+  locks.get(7, 100, 0, 5);
+  locks.leave(7, 1, 150, 6);
+  EXPECT(locks.uses().at({1, 7}).inside, 50);
+  EXPECT(locks.uses().at({1, 7}).alone, 0);
 }

@@ -62,7 +62,7 @@ class Commands(unittest.TestCase):
         self.assertEqual(self.told(), (0, """\
 remark: untied, 1 time: span too low
 work 8, span 7, parallelism 1.1, 2 of 3 segments on a critical path
-proved: work and span of the text, and that both are 7 for the masked text; the places are not
+proved of this text: its work and span, and that both are 7 for the masked text; of the places nothing
  of span  of work  segments  place
    71.4%    62.5%         1  task at a.c:3
    28.6%    25.0%         1  the beginning
@@ -93,7 +93,9 @@ proved: work and span of the text, and that both are 7 for the masked text; the 
 
     def test_a_text_that_is_refused(self):
         self.write("mine.tasks", "tasks")
-        self.assertEqual(self.told(), (1, "", "spanprof-path: spanprof_large: error: line 1: BadHeader\n"))
+        status, printed, said = self.told()
+        self.assertEqual((status, printed), (1, ""))
+        self.assertRegex(said, "(?s)^spanprof-path: .*mine.tasks:1: BadHeader: .*\n    1 | tasks\n.*: line 1: BadHeader\n$")
 
     def test_a_program_that_fails(self):
         self.assertEqual(self.told(status=3), (1, "", "spanprof-path: spanprof_path: no good\n"))

@@ -48,8 +48,25 @@ class Head:
     clock: str = "wall"
     unit: str = "us"
     elapsed: int = 40
+    division: dict = field(default_factory=dict)
+    covered: int = 97
+    thread_time: int = 100
+    covers_at_most: bool = False
+    not_covered: dict = field(default_factory=dict)
+    divided: list = field(default_factory=list)
+    beside: int = None
+    one_thread: bool = False
+    most_held: int = None
+    clocks_differ: dict = field(default_factory=dict)
+    runs: int = None
+    is_median: bool = False
+    spread: dict = field(default_factory=dict)
     remarks: list = field(default_factory=list)
     locks: list = field(default_factory=list)
+
+    @property
+    def nanoseconds(self):
+        return {"ns": 1, "us": 1000, "ms": 1000000}.get(self.unit)
 
 
 @dataclass
@@ -57,6 +74,7 @@ class Answers:
     """What `report.answers` would answer of a text of three segments."""
     name: str = "sort.tasks"
     tasks: int = 1
+    parts: int = 0
     work: int = 100
     span: int = 70
     head: Head = field(default_factory=Head)

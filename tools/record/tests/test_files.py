@@ -58,41 +58,17 @@ class Recordings(InAFolder):
         files.remove_old(self.out)
         self.assertEqual(self.names(), ["mine", "mine.c", "mine.html", "mine.x.tasks"])
 
+    def test_old_logs_go_and_what_else_is_in_them_stays(self):
+        for name in ("mine.log/head", "mine.log/modules", "mine.log/thread.12", "mine.log/thread.12.last", "mine.rank1.4711.log/head",
+                     "mine.4712-2.log/notes", "mine.4712-2.log/thread.0"):
+            self.write(name)
+        files.remove_old(self.out)
+        self.assertEqual(self.names(), ["mine.4712-2.log"])
+        self.assertEqual(os.listdir(os.path.join(self.kept.name, "mine.4712-2.log")), ["notes"])
+
     def test_a_folder_that_is_none(self):
         with self.assertRaisesRegex(Fault, "no folder"):
             files.check_folder(os.path.join(self.out, "x"))
-
-
-class Messages(InAFolder):
-    LINES = """\
-spanprof recorder: recording to {0}.tasks
-spanprof recorder: {0}: mutexinoutset, 1 time: span too low
-spanprof recorder: {0}.tasks and {0}.replay: 3 tasks, 7 segments, work 10 ns
-spanprof recorder: {0}.2.tasks: 3 tasks, 7 segments, work 10 ns
-spanprof recorder: {0}.3.large.tasks: 21890 tasks, 43781 segments, work 10 ns
-spanprof recorder: {0}.3.tasks is not written: 21890 tasks, and spanprof takes 4096; \
-record with SPANPROF_FOLD_DEPTH=7; with SPANPROF_FOLD_EXACT=1 work and span stay
-"""
-
-    def test_only_what_the_summary_does_not_show(self):
-        said = files.messages(self.write("words", self.LINES.format(self.out)))
-        self.assertTrue(said.loaded)
-        advice = "mine.3.tasks is not written: 21890 tasks, and spanprof takes 4096; " \
-            "record with --fold depth=7; with --fold exact work and span stay"
-        shown = [self.out + ".tasks"]
-        self.assertEqual(said.news(self.out, shown, {"mutexinoutset, 1 time: span too low"}), [
-            "mine.2.tasks: 3 tasks, 7 segments, work 10 ns",
-            "mine.3.large.tasks: 21890 tasks, 43781 segments, work 10 ns",
-            advice])
-        self.assertEqual(said.news(self.out, shown + [self.out + ".3.large.tasks", self.out + ".2.tasks"]), [
-            "mine: mutexinoutset, 1 time: span too low", advice])
-
-    def test_a_text_that_is_one_of_several_runs(self):
-        said = files.messages(self.write("words", self.LINES.format(self.out)))
-        self.assertEqual(len(said.without([self.out + ".tasks"]).lines), 5)
-
-    def test_none(self):
-        self.assertFalse(files.messages(os.path.join(self.kept.name, "words")).loaded)
 
 
 class Recorder(InAFolder):
@@ -124,6 +100,9 @@ class Recorder(InAFolder):
         self.assertEqual(built.why_not_built(""), "no word of it")
 
 
+SPREAD = "# runs: 3, %s\n# work of the runs: 10 least, 20 median, 30 most\n# span of the runs: 7 least, 8 median, 9 most\n"
+
+
 class Repeated(InAFolder):
     def test_the_runs_have_a_folder(self):
         self.write("mine.runs/run9.tasks")
@@ -140,17 +119,33 @@ class Repeated(InAFolder):
             self.assertEqual(file.read(), "omptasks 1\nwork 5\n---\nstart 0 0\nfinish 0 0\n")
 
     def three(self):
-        texts = [self.write("run%d.tasks" % i, "# %d\n" % i) for i in (1, 2, 3)]
+        texts = [self.write("run%d.tasks" % i, "# %d\nomptasks 1\n" % i) for i in (1, 2, 3)]
         return [files.recording(text[:-len(".tasks")]) for text in texts]
 
     def test_runs_of_different_shapes_leave_the_one_in_the_middle(self):
         tool = self.write("tool.py", "import sys; sys.exit('they differ')\n")
-        works = iter((30, 10, 20))
-        with mock.patch("record.repeat.work", side_effect=lambda text: next(works)):
+        numbers = iter(((30, 7), (10, 9), (20, 8)))
+        with mock.patch("record.repeat.work_and_span", side_effect=lambda text: next(numbers)):
             remarks = repeat.combine(tool, self.out, self.three())
         self.assertIn("they differ", remarks[0])
         with open(self.out + ".tasks", encoding="utf-8") as file:
-            self.assertEqual(file.read(), "# 3\n")
+            self.assertEqual(file.read(), "# 3\n" + SPREAD % "and this is the one with the median work" + "omptasks 1\n")
+
+    def test_the_spread_stands_before_the_remarks(self):
+        text = self.write("mine.tasks", "# in tasks: 5\n# remark: folded\nomptasks 1\n# remark: no\n")
+        repeat.add_to_head(text, repeat.spread_lines((30, 10, 20), (7, 9, 8), "so"))
+        with open(text, encoding="utf-8") as file:
+            self.assertEqual(file.read(), "# in tasks: 5\n" + SPREAD % "so" + "# remark: folded\nomptasks 1\n# remark: no\n")
+
+    def test_the_next_run_has_the_parts_of_the_first(self):
+        part = "taskgroup {\n  task {  # one of the region's threads\n    %s\n  }\n}\n"
+        for words, parts in (("work 5", "all"), ("work 5  # 2 tasks folded", "all"), ("task {\n    }", "none")):
+            text = self.write("mine.tasks", "omptasks 1\n" + part % words)
+            self.assertEqual(repeat.parts_of_the_next([text]), parts)
+        self.assertEqual(repeat.parts_of_the_next([self.write("mine.tasks", "omptasks 1\ntask {\n}\n")]), "none")
+
+    def test_of_an_even_number_the_lower_median(self):
+        self.assertIn("# work of the runs: 1 least, 2 median, 4 most\n", repeat.spread_lines((4, 1, 3, 2), (1,) * 4, ""))
 
     def test_regions_that_all_runs_wrote(self):
         for name in ("run1.tasks", "run1.2.tasks", "run2.2.tasks"):
@@ -163,10 +158,10 @@ class Repeated(InAFolder):
 
     def test_the_tool_gets_all_runs(self):
         tool = self.write("tool.py", "import sys; open(sys.argv[1], 'w').write(str(len(sys.argv) - 2))\n")
-        with mock.patch("record.repeat.work", return_value=1):
+        with mock.patch("record.repeat.work_and_span", return_value=(1, 1)):
             self.assertEqual(repeat.combine(tool, self.out, self.three()), [])
         with open(self.out + ".tasks", encoding="utf-8") as file:
-            self.assertEqual(file.read(), "3")
+            self.assertEqual(file.read().split("\n")[0], "3# runs: 3, and each cost is the median of theirs")
 
 
 if __name__ == "__main__":

@@ -82,9 +82,9 @@ class Preloading(unittest.TestCase):
         with self.assertRaisesRegex(Fault, "no such file"):
             to_preload("mine", Linkage(), "/no/such/library")
 
-    def test_the_version_that_was_tried_comes_first(self):
-        paths = ["/usr/lib/llvm-%d/lib/libomp.so.5" % n for n in (14, 19, 16)]
-        self.assertEqual([p.split("/")[3] for p in sorted(paths, key=by_version)], ["llvm-16", "llvm-19", "llvm-14"])
+    def test_the_newest_version_comes_first(self):
+        paths = ["/usr/local/lib/libomp.so"] + ["/usr/lib/llvm-%d/lib/libomp.so.5" % n for n in (9, 19, 16)]
+        self.assertEqual([p.split("/")[3] for p in sorted(paths, key=by_version)], ["llvm-19", "llvm-16", "llvm-9", "lib"])
 
     def test_what_llvm_lacks(self):
         table = SYMBOLS.replace("UND GOMP_taskwait", "12 GOMP_taskwait")

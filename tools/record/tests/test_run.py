@@ -19,20 +19,20 @@ def options(**given):
 
 class Environment(unittest.TestCase):
     def test_what_is_not_asked_for_stays(self):
-        new = environment({"OMP_NUM_THREADS": "3", "SPANPROF_UNIT": "ms"}, options(), "/r.so", "", "/out", "/words")
+        new = environment({"OMP_NUM_THREADS": "3", "SPANPROF_UNIT": "ms"}, options(), "/r.so", "", "/out")
         self.assertEqual(new, {"OMP_NUM_THREADS": "3", "SPANPROF_UNIT": "ms", "OMP_TOOL": "enabled",
-                               "OMP_TOOL_LIBRARIES": "/r.so", "SPANPROF_OUT": "/out", "SPANPROF_MESSAGES": "/words"})
+                               "OMP_TOOL_LIBRARIES": "/r.so", "SPANPROF_OUT": "/out", "SPANPROF_QUIET": "1"})
 
     def test_what_is_asked_for(self):
         asked = options(unit="us", clock="cpu", threads=8, fold=[("depth", 2), ("chunk", 5)])
-        new = environment({}, asked, "/r.so", "", "o", "m")
+        new = environment({}, asked, "/r.so", "", "o")
         self.assertEqual([new[name] for name in ("SPANPROF_UNIT", "SPANPROF_CLOCK", "OMP_NUM_THREADS",
                                                  "SPANPROF_FOLD_DEPTH", "SPANPROF_FOLD_CHUNK")],
                          ["us", "cpu", "8", "2", "5"])
 
     def test_other_tools_and_libraries_come_after(self):
         new = environment({"LD_PRELOAD": "/a.so", "OMP_TOOL_LIBRARIES": "/b.so", "OMP_TOOL": "disabled"}, options(),
-                          "/r.so", "/llvm.so", "o", "m")
+                          "/r.so", "/llvm.so", "o")
         self.assertEqual((new["LD_PRELOAD"], new["OMP_TOOL_LIBRARIES"], new["OMP_TOOL"]),
                          ("/llvm.so:/a.so", "/r.so:/b.so", "enabled"))
 
@@ -126,7 +126,7 @@ class Words(unittest.TestCase):
     def test_folds(self):
         chosen = parse(["--fold", "exact", "--fold", "depth=3", "--", "x"])
         self.assertEqual(chosen.fold, [("exact", 1), ("depth", 3)])
-        new = environment({}, chosen, "/r.so", "", "o", "m")
+        new = environment({}, chosen, "/r.so", "", "o")
         self.assertEqual((new["SPANPROF_FOLD_EXACT"], new["SPANPROF_FOLD_DEPTH"]), ("1", "3"))
 
     def test_wrong_words(self):

@@ -9,20 +9,20 @@ from unittest import mock
 from path.table import Place
 from record import command, measure, session
 from record.fault import Fault
-from record.files import Messages, Recording
+from record.files import Recording
 from record.tests.made_up import Answers, Head
+from record.told import Told
 
 
 class Reasons(unittest.TestCase):
-    def why(self, status=0, loaded=True, lines=(), is_script=False):
-        return session.why_nothing(status, Messages(loaded, list(lines)), "/tmp/mine", is_script)
+    def why(self, status=0, loaded=True, things=(), is_script=False):
+        return session.why_nothing(status, Told(loaded, list(things)), "/tmp/mine", is_script)
 
     def test_each(self):
-        self.assertEqual(self.why(status=-11, lines=["recording to /tmp/mine.tasks",
-                                                     "/tmp/mine: detach: span too low"]),
-                         "the program ended by SIGSEGV, and then nothing is written; mine: detach: span too low")
-        self.assertEqual(self.why(lines=["recording to /tmp/mine.tasks", "no parallel region with tasks"]),
-                         "no parallel region with tasks")
+        nothing = {"told": "no tasks", "inside": False}
+        self.assertEqual(self.why(status=-11, things=[nothing]),
+                         "the program ended by SIGSEGV; no parallel region with tasks")
+        self.assertEqual(self.why(things=[nothing]), "no parallel region with tasks")
         self.assertIn("did not load the recorder", self.why(loaded=False))
         self.assertIn("--runtime FILE", self.why(loaded=False, is_script=True))
         self.assertIn("says nothing", self.why())
@@ -31,6 +31,13 @@ class Reasons(unittest.TestCase):
         with mock.patch("record.session.what_it_lacks", return_value=["GOMP_scope_start"]):
             self.assertIn("GOMP_scope_start", session.notes_on("/llvm.so", {"GOMP_scope_start"})[0])
             self.assertEqual(session.notes_on("", {"GOMP_scope_start"}), [])
+
+    def test_target_tasks_of_gcc_are_refused(self):
+        with mock.patch("record.session.what_it_lacks", return_value=["GOMP_target_ext"]), \
+                mock.patch("record.runtime.llvm_runtime", return_value="/llvm.so"):
+            with self.assertRaisesRegex(Fault, "GOMP_target_ext, which LLVM's runtime does not have.*--runtime /llvm.so"):
+                session.notes_on("/llvm.so", {"GOMP_target_ext"})
+            self.assertIn("GOMP_target_ext", session.notes_on("/llvm.so", {"GOMP_target_ext"}, True)[0])
 
 
 class Runs(unittest.TestCase):
@@ -46,14 +53,16 @@ class Runs(unittest.TestCase):
     def session(self, runs, statuses):
         made = session.Session.__new__(session.Session)
         made.options, made.out, made.notes, made.is_script = argparse.Namespace(runs=runs), self.out, [], False
-        left = iter(statuses)
+        made.rank = None
+        left, self.parts = iter(statuses), []
 
-        def run(out):
+        def run(out, others=None):
             status = next(left)
+            self.parts.append((others or {}).get("SPANPROF_PARTS"))
             if status == 0:
                 with open(out + ".tasks", "w", encoding="utf-8") as file:
                     file.write("omptasks 1\n")
-            return status, Messages(True, ["no parallel region with tasks"])
+            return status, Told(True, [{"told": "no tasks", "inside": False}])
 
         made.run = run
         return made
@@ -87,6 +96,7 @@ class Runs(unittest.TestCase):
             made = self.session(3, [0, 0, 0])
             self.assertEqual(made.record()[0], 0)
         self.assertEqual(made.notes, ["the runs have no median"])
+        self.assertEqual(self.parts, ["all-or-none", "none", "none"])
 
     def test_a_run_that_fails_is_the_last(self):
         (status, found, _), told = self.record(3, [0, 7])
@@ -94,24 +104,41 @@ class Runs(unittest.TestCase):
         self.assertIn("run 2 of 3 is the last", told)
 
 
+def setUpModule():
+    """The lead asks spanprof; its own tests are those of `whatif`."""
+    patch = mock.patch("record.command.lead", return_value=None)
+    patch.start()
+    unittest.addModuleCleanup(patch.stop)
+
+
 class Summaries(unittest.TestCase):
     def test_the_heaviest_region_is_the_one_that_is_told(self):
         by_path = {"a.tasks": Answers(name="a.tasks", work=10, span=5), "b.tasks": Answers(name="b.tasks")}
-        made = mock.Mock(notes=["a note"], out="/tmp/mine")
+        made = mock.Mock(notes=["a note"], rank=None, out="/tmp/mine")
         told = io.StringIO()
         with mock.patch("record.command.Answers", side_effect=by_path.get), contextlib.redirect_stderr(told):
-            found = command.print_summary(made, [Recording("a.tasks"), Recording("b.tasks")], Messages(True, []))
+            found = command.print_summary(made, [Recording("a.tasks"), Recording("b.tasks")], Told(True, []))
         self.assertEqual(found.text, "b.tasks")
         self.assertTrue(told.getvalue().startswith("b.tasks, region at"))
         self.assertIn("remarks       a note\nother regions a.tasks", told.getvalue())
 
     def test_a_remark_of_another_region_is_told_once(self):
         answers = Answers(head=Head(remarks=["folded task: span too high"]))
-        said = Messages(True, ["/tmp/mine: folded task: span too high"])
+        said = Told(True, [{"told": "remark", "name": "/tmp/mine", "remark": "folded task: span too high"}])
         told = io.StringIO()
         with mock.patch("record.command.Answers", return_value=answers), contextlib.redirect_stderr(told):
-            command.print_summary(mock.Mock(notes=[], out="/tmp/mine"), [Recording("mine.tasks")], said)
+            command.print_summary(mock.Mock(notes=[], rank=None, out="/tmp/mine"), [Recording("mine.tasks")], said)
         self.assertEqual(told.getvalue().count("folded task"), 1)
+
+
+    def test_each_process_of_mpi_tells_a_line(self):
+        by_path = {"a.tasks": Answers(name="a.tasks", work=10, span=5), "b.tasks": Answers(name="b.tasks")}
+        made = mock.Mock(notes=["a note"], rank=1, out="/tmp/mine.rank1", options=argparse.Namespace(out="mine"))
+        told = io.StringIO()
+        with mock.patch("record.command.Answers", side_effect=by_path.get), contextlib.redirect_stderr(told):
+            command.print_summary(made, [Recording("a.tasks"), Recording("b.tasks")], Told(True, []))
+        lines = told.getvalue().splitlines()
+        self.assertEqual([line.partition(", region")[0] for line in lines], ["a.tasks", "b.tasks", "mine: a note"])
 
 
 class Large(unittest.TestCase):
@@ -123,9 +150,13 @@ class Large(unittest.TestCase):
         self.folder, self.out = kept.name, os.path.join(kept.name, "mine")
         with open(self.out + ".large.tasks", "w", encoding="utf-8") as file:
             file.write("# recorded: from mine, 2026-11-24T00:10:02Z, threads 4, clock wall, unit us\n"
-                       "# region: at mine.c:9, 1 of 1\n# elapsed: 40\nomptasks 1\n# remark: none\nwork 1\n")
-        self.lines = [self.out + ".large.tasks: 9000 tasks, 20001 segments, work 100 us",
-                      self.out + ".tasks is not written: 9000 tasks, and spanprof takes 4096"]
+                       "# region: at mine.c:9, 1 of 1\n# elapsed: 40\n"
+                       "# covers: 95.1 % of the program's thread-time (951 of 1000 us)\n"
+                       "# not covered: 49 outside regions, 0 in other regions, 0 of this region\nomptasks 1\n# remark: none\nwork 1\n")
+        self.things = [
+            {"told": "text", "file": self.out + ".large.tasks", "tasks": 9000, "segments": 20001, "work": 100, "unit": "us"},
+            {"told": "too large", "file": self.out + ".tasks", "what": "tasks", "program": "spanprof", "has": 9000,
+             "takes": 4096}]
 
     def program(self, words, status=0):
         path = os.path.join(self.folder, "large")
@@ -136,11 +167,11 @@ class Large(unittest.TestCase):
 
     def told(self, program, small=(), **places):
         found = list(small) + [Recording(self.out + ".large.tasks", is_large=True)]
-        made = mock.Mock(notes=["a note"], out=self.out, options=argparse.Namespace(html=None))
+        made = mock.Mock(notes=["a note"], rank=None, out=self.out, options=argparse.Namespace(html=None))
         told = io.StringIO()
         with mock.patch("record.command.spanprof_large", return_value=program), contextlib.redirect_stderr(told), \
                 mock.patch("record.large.heaviest_places", **places):
-            command.report(made, found, Messages(True, self.lines))
+            command.report(made, found, Told(True, self.things))
         return told.getvalue()
 
     def test_the_numbers_of_the_program(self):
@@ -148,13 +179,15 @@ class Large(unittest.TestCase):
         places = [Place(20, 50, 3, "task at mine.c:12"), Place(10, 10, 1, "the beginning")]
         self.assertEqual(self.told([program], return_value=places), """\
 mine.large.tasks, region at mine.c:9, 4 threads, costs in us of wall time
+covers        95.1 % of the program's thread-time in code; not covered: 49 outside regions (measured)
 tasks         9,000, in 20,001 segments (recorded)
-work          100 us: the time of one thread (measured; the sum is proved for the recorded text)
-span          30 us: no run ends sooner (proved for the recorded text, of measured costs)
-parallelism   3.34: work / span; no number of threads gives more (proved for the recorded text)
-elapsed       40 us on 4 threads: it was 2.50 times as fast as one (measured)
-span by place 66.7 % of the span, 50.0 % of the work: task at mine.c:12
-              33.3 % of the span, 10.0 % of the work: the beginning
+runs          1: another run has other costs
+work          100 us: code on 4 threads, added up (measured)
+span          30 us: it ends no sooner on any number of threads (proved of the recorded text)
+parallelism   3.34: work / span; it gains no more on any number of threads (proved of the recorded text)
+elapsed       40 us on 4 threads: 2.50 of them busy in this code on average (measured)
+span by place 66.7 % of the span, 50.0 % of the work: task at mine.c:12 (measured)
+              33.3 % of the span, 10.0 % of the work: the beginning (measured)
 remarks       a note
               mine.tasks is not written: 9000 tasks, and spanprof takes 4096
 """)
@@ -189,10 +222,11 @@ remarks       spanprof_large, which measures it, is not found; tools/prove_progr
             self.told(["/no/such/program"])
 
     def test_no_page(self):
-        made = mock.Mock(notes=[], out=self.out, options=argparse.Namespace(html="p.html"))
+        made = mock.Mock(notes=[], rank=None, out=self.out, options=argparse.Namespace(html="p.html"))
         with mock.patch("record.command.spanprof_large", return_value=[]), \
-                contextlib.redirect_stderr(io.StringIO()), self.assertRaisesRegex(Fault, "no page is written"):
-            command.report(made, [Recording(self.out + ".large.tasks", is_large=True)], Messages(True, []))
+                contextlib.redirect_stderr(io.StringIO()) as told:
+            command.report(made, [Recording(self.out + ".large.tasks", is_large=True)], Told(True, []))
+        self.assertIn("spanprof-record: no page is written: the recording is beyond the limits", told.getvalue())
 
     def test_where_the_program_is_looked_for(self):
         with mock.patch.dict(os.environ, {"SPANPROF_LARGE": "nice large"}):
@@ -215,12 +249,12 @@ class Statuses(unittest.TestCase):
 
     def test_the_program_decides(self):
         self.assertEqual(self.status((0, ["a"], None)), 0)
-        self.assertEqual(self.status((3, ["a"], None), Fault("no page is written")), 3)
+        self.assertEqual(self.status((3, ["a"], None), Fault("spanprof span: out of memory")), 3)
         self.assertEqual(self.status((-6, [], None)), -6)
 
     def test_what_goes_wrong_here(self):
         self.assertEqual(self.status((0, [], None)), 125)
-        self.assertEqual(self.status((0, ["a"], None), Fault("no page is written")), 125)
+        self.assertEqual(self.status((0, ["a"], None), Fault("spanprof span: out of memory")), 125)
         self.assertEqual(self.status(Fault("no such program", 127)), 127)
         self.assertEqual(self.status(KeyboardInterrupt), -2)
 
@@ -228,7 +262,7 @@ class Statuses(unittest.TestCase):
 class Pages(unittest.TestCase):
     def page(self, **options):
         chosen = argparse.Namespace(**dict(dict(html="p.html", open=False), **options))
-        command.write_page(chosen, Recording("mine.tasks", "mine.replay"))
+        command.try_page(chosen, Recording("mine.tasks", "mine.replay"))
 
     def test_the_words_of_the_reporter(self):
         with mock.patch("subprocess.run", return_value=mock.Mock(returncode=0)) as run:
@@ -242,8 +276,11 @@ class Pages(unittest.TestCase):
         browser.assert_called_once_with("file://" + os.path.abspath("p.html"))
 
     def test_no_page(self):
-        with mock.patch("subprocess.run", return_value=mock.Mock(returncode=1)), self.assertRaises(Fault):
+        """That is told, and the status stays the program's."""
+        with mock.patch("subprocess.run", return_value=mock.Mock(returncode=1)), \
+                contextlib.redirect_stderr(io.StringIO()) as told:
             self.page()
+        self.assertEqual(told.getvalue(), "spanprof-record: no page is written\n")
 
 
 if __name__ == "__main__":

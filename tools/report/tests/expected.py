@@ -1,6 +1,9 @@
 """What each number of a page has to be, worked out again from the answers of spanprof alone."""
 import os
 import re
+from functools import cached_property
+
+from report.changed_text import with_costs, without_costs
 
 ROWS_OF_A_CURVE = 64
 
@@ -59,6 +62,10 @@ class Program:
     def tasks(self):
         return max(self.task_of)
 
+    def parts(self):
+        """Tasks that stand for a thread's own code, by the comments of the text."""
+        return len(re.findall(r"(?m)^\s*task\b.*\{.*# one of the region's threads$", self.text))
+
     def head(self, *name):
         return int(re.search(r"(?m)^# %s: (\d+)" % " ".join(name), self.text)[1])
 
@@ -116,8 +123,29 @@ class Program:
                  if self.cost[s]}
         return ["whatif"] + ["%d=%d" % pair for pair in sorted(costs.items())]
 
-    def whatif(self, place, factor, name):
-        return self.line(name, *self.changed([(int(place), float(factor))]))
+    def whatif(self, place, factor, name, threads=None):
+        changes = self.changed([(int(place), float(factor))])
+        return self.line(name, *changes) if threads is None else self.end_with(changes[1:], threads)
+
+    def end_with(self, changes, threads):
+        """The end of the greedy run of a text that costs what the changes say, and is else this one."""
+        costs = list(self.cost)
+        for change in changes:
+            s, cost = map(int, change.split("="))
+            costs[s] = cost
+        text = with_costs(self.without_costs, costs)
+        rows = table(self.ask(["slack"], text))
+        assert [(int(row["cost"]), int(row["task"])) for row in rows] == list(zip(costs, self.task_of))
+        assert self.waits() == self.waits_of(text), "what waits for what has changed"
+        return max(int(row["end"]) for row in table(self.ask(["greedy", "--threads", threads], text)))
+
+    @cached_property
+    def without_costs(self):
+        return without_costs(self.answer("show"))
+
+    def count(self, number):
+        """Of threads, as the page names them."""
+        return int(number)
 
     def factors(self, *words):
         pairs = [word.split("=") for word in words[:-1]]
@@ -130,9 +158,12 @@ class Program:
     def waits(self):
         """Of each segment what it has to wait for, by a run of all segments in their order."""
         if "waits" not in self.kept:
-            events = "".join("start 0 %d finish 0 %d\n" % (s, s) for s in range(len(self.cost)))
-            self.kept["waits"] = recorded_waits(self.ask(["replay"], self.text + "\n---\n" + events))
+            self.kept["waits"] = self.waits_of(self.text)
         return self.kept["waits"]
+
+    def waits_of(self, text):
+        events = "".join("start 0 %d finish 0 %d\n" % (s, s) for s in range(len(self.cost)))
+        return recorded_waits(self.ask(["replay"], text + "\n---\n" + events))
 
     def edges_of_tasks(self, kind, a, b, of=None):
         """Between two tasks, or between the tasks of two places: a task's first segment waits for its creation."""

@@ -12,12 +12,15 @@ class Numbers(unittest.TestCase):
 
     def test_a_number_tells_its_source_and_kind(self):
         self.assertEqual(Figures().number(1200, "span work", PROVED, unit="µs"),
-                         '<data value="1200" title="proved (span work)" data-from="span work" class="proved">'
-                         '1,200 µs</data>')
+                         '<data value="1200" title="proved of the text (span work)" data-from="span work" '
+                         'class="proved">1,200 µs</data>')
 
     def test_the_second_program(self):
         self.assertIn('data-from="other percent span span / span work"',
                       Figures("other ").share(1, 3, "span span / span work", PROVED))
+
+    def test_a_share_below_nothing(self):
+        self.assertIn(">−3.4 %<", Figures().share(-34, 1000, "tasks / tasks", PROVED))
 
     def test_quotients(self):
         self.assertIn('value="0.333333"', Figures().times(1, 3, "span work / elapsed", MEASURED))
@@ -41,4 +44,4 @@ class Words(unittest.TestCase):
         self.assertEqual([unit_name(unit) for unit in ("us", "ns", "", "250 ns")], ["µs", "ns", "", "× 250 ns"])
 
     def test_a_badge_explains_itself(self):
-        self.assertRegex(badge(PROVED), '<span class="badge proved" title="follows from .*">proved</span>')
+        self.assertRegex(badge(PROVED), '<span class="badge proved" title="follows from .*">proved of the text</span>')

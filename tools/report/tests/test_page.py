@@ -75,8 +75,8 @@ class WrongNumbers(unittest.TestCase):
         self.assertEqual(self.faults("<title>mesh", "<title>mesh_14"), [])
 
     def test_a_number_without_a_source(self):
-        self.assertEqual(self.faults("shorten this chain.", "shorten this chain of 31."),
-                         ["'. To make the program faster on many threads, shorten this chain of 31.': "
+        self.assertEqual(self.faults("lets the text end sooner.</p>", "lets the text end before 31.</p>"),
+                         ["'. With threads to spare, only a shorter chain lets the text end before 31.': "
                           "a number without a source"])
 
     def test_another_greedy_run(self):

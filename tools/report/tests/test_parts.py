@@ -30,8 +30,9 @@ class OfOneProgram(unittest.TestCase):
         self.trials = Trials(self.view)
 
     def test_summary(self):
-        words = seen(summary_part(self.view, self.trials.halved))
-        for part in ("Work 41 µs", "Span 31 µs", "Tasks 5", "13 segments", "Reached on 2 threads",
+        words = seen(summary_part(self.view, self.trials))
+        for part in ("Work 41 µs measured code on 2 threads, added up", "Span 31 µs", "Tasks 5", "13 segments",
+                     "Busy, of 2 threads 1.02 measured on average, in this code; elapsed 40 µs", "one run",
                      "outside regions 10 µs", "lock critical at mesh.c:9: 3 times",
                      "recorded from mesh, the parallel region at mesh.c:6"):
             self.assertIn(part, words)
@@ -40,14 +41,91 @@ class OfOneProgram(unittest.TestCase):
         self.assertIn("remarked: span too low", seen(moved(self.view, "span")))
         self.assertEqual(moved(self.view, "work"), "")
 
+    def told(self, **head):
+        """The words of the summary, where the head tells this too."""
+        for name, value in head.items():
+            setattr(self.view.answers.head, name, value)
+        return seen(summary_part(self.view, self.trials))
+
+    def test_what_binds_on_the_threads(self):
+        self.assertIn("On 2 threads the text ends no sooner than 31 µs proved of the text .", self.told())
+        self.assertIn("Its work divided by 2 threads is 20 µs , its span 31 µs . What bounds its end there is the span "
+                      ", which only a shorter critical path lowers.", self.told())
+        words = self.told(most_held=36)
+        self.assertIn("What bounds its end there is the most held lock ,", words)
+        self.assertNotIn("pays most", words)
+
+    def test_what_pays_on_the_threads(self):
+        self.assertIn("Of the places below, half the cost of task at mesh.c:8 pays most there: the greedy run of the "
+                      "text would end at 25 µs in place of 31 µs , 19.4 % less, and the span be 25 µs , 19.4 % less "
+                      "proved of", self.told())
+        self.trials.ends = {place.number: 31 for place in self.view.places}
+        self.assertNotIn("pays most", self.told())
+
+    def test_a_lock_is_in_the_bounds(self):
+        words = self.told(most_held=36)
+        self.assertIn("2 threads: up to 1.14 times as fast as its work in a row", words)
+        self.assertIn("The most held lock was held for 36 µs , by one thread at a time: no run of this code is more "
+                      "than 1.14 times as fast as its work in a row measured .", words)
+        self.assertIn("1.14: work / time inside the most held lock", curve_part([self.view]))
+        words = self.told(most_held=36, remarks=["a: work and span too high"])
+        self.assertIn("held for 36 µs measured ; another run may hold it for less, beside its work (remarks).", words)
+        self.assertNotIn("most held", self.told(most_held=30) + curve_part([self.view]))
+
+    def test_a_part_of_the_program(self):
+        left_out = {"outside regions": 9, "in other regions": 0, "of this region": 1}
+        words = self.told(covered=41, thread_time=51, not_covered=left_out)
+        self.assertIn("The text has only 80.3 % of the program's thread-time in code; the rest is 9 µs outside "
+                      "regions, 1 µs of this region. measured", words)
+        self.assertIn("The text has 97.6 % of the program's", self.told(covered=41, thread_time=42, not_covered={}))
+
+    def test_divided_code(self):
+        words = self.told(divided=["loops, 3 times at mesh.c:9"])
+        self.assertIn("Span 31 µs measured a longest chain of the text; on another number of threads its code is "
+                      "divided otherwise", words)
+        self.assertIn("On 2 threads the text ends no sooner", words)
+        self.view.answers.wanted_threads = 4
+        words = self.told()
+        self.assertIn("The text says nothing of 4 threads : on another number of threads its code", words)
+        self.assertNotRegex(words, "pays most|What bounds|4 threads: up to")
+        self.assertNotIn("greedy run at half", seen(what_if_part(self.view, self.trials, [])))
+
+    def test_the_spread_of_several_runs(self):
+        words = self.told(runs=7, is_median=True, spread={"work": (39, 41, 1044), "span": (30, 31, 36)})
+        self.assertIn("the median of 7 runs", words)
+        self.assertIn("code on 2 threads, added up 39 to 1,044 in 7 runs", words)
+        self.assertIn("30 to 36 in 7 runs", words)
+
+    def test_several_runs_without_a_median(self):
+        self.assertIn("one of 7 runs, which have no median", self.told(runs=7))
+
+    def test_one_thread(self):
+        words = self.told(threads=1, one_thread=True)
+        self.assertIn("code on one thread", words)
+        self.assertNotRegex(words, "any number of threads|pays most|threads: up to")
+        self.assertIn("it is of one thread, and says nothing of more", curve_part([self.view]))
+
+    def test_no_claim_against_a_remark(self):
+        self.assertIn("Span 31 µs measured proved of the text it ends no sooner on any number", self.told())
+        words = self.told(remarks=["folded task: span too high"])
+        self.assertIn("Span 31 µs measured a longest chain of the text; the program's may be less (remarks) remarked",
+                      words)
+        self.assertNotRegex(words, "ends no sooner on any number|gains no more on any number")
+
+    def test_what_is_said_on_the_threads_is_a_claim_of_the_text(self):
+        for head in (dict(remarks=[]), dict(remarks=["a: span too high"]), dict(locks=[]), dict(most_held=90)):
+            for sentence in re.split(r"(?<=[a-z])\. ", self.told(**head)):
+                if "proved" in sentence:
+                    self.assertIn("proved of the text", sentence)
+
     def test_no_guess_at_why_a_run_is_slow(self):
-        words = seen(summary_part(self.view, self.trials.halved))
+        words = seen(summary_part(self.view, self.trials))
         self.assertNotRegex(words, "left threads idle|its own part is large")
 
     def test_curve(self):
         part = curve_part([self.view])
         self.assertEqual(part.count('class="dot s0"'), 16)
-        self.assertIn("2 threads: 1.02 times, reached, by the clock", part)
+        self.assertIn("2 threads: 1.02, work / elapsed of the recorded run", part)
 
     def test_what_was_reached_is_inside_the_picture(self):
         mark = re.search(r'd="M\S+ (\S+)l7 7l-7 7l-7 -7z"', curve_part([worked.view("odd")]))
@@ -103,7 +181,7 @@ class OfTwo(unittest.TestCase):
 
     def test_differences(self):
         words = seen(compare_part(self.views))
-        self.assertIn("work 41 µs 37 µs −9.8 % proved", words)
+        self.assertIn("work 41 µs 37 µs −9.8 % proved of the text", words)
         self.assertIn("threads of the recorded run 2 2 the same recorded", words)
         self.assertIn("elapsed 40 µs 30 µs −25.0 % measured", words)
         self.assertIn("cost: mesh.tasks , in µs of its span", words)
@@ -111,7 +189,7 @@ class OfTwo(unittest.TestCase):
     def test_times_of_different_units_are_not_compared(self):
         words = seen(compare_part([self.views[0], worked.view("plain", prefix="other ")]))
         self.assertIn("costs in different units: µs and none named . So their times are not compared.", words)
-        self.assertRegex(words, r"work 41 µs \d+ proved span 31 µs \d+ proved")
+        self.assertRegex(words, r"work 41 µs \d+ proved of the text span 31 µs \d+ proved of")
         self.assertRegex(words, r"tasks 5 \d+ \S+ % recorded declared segments")
         self.assertIn("threads of the recorded run 2 recorded elapsed 40 µs measured", words)
 

@@ -44,10 +44,10 @@ class ByClock(unittest.TestCase):
         self.addCleanup(shutil.rmtree, self.folder)
         shutil.copy(worked.path("split.replay"), self.folder)
 
-    def run_with(self, times):
+    def run_with(self, times, answers=None):
         with open(os.path.join(self.folder, "split.times"), "w", encoding="utf-8") as file:
             file.write(times)
-        return recorded_run(os.path.join(self.folder, "split.replay"), Answers(worked.path("split.tasks")))
+        return recorded_run(os.path.join(self.folder, "split.replay"), answers or Answers(worked.path("split.tasks")))
 
     def test_times_in_the_unit_of_the_text(self):
         with open(worked.path("split.times"), encoding="utf-8") as file:
@@ -55,6 +55,13 @@ class ByClock(unittest.TestCase):
         self.assertTrue(run.is_timed)
         self.assertAlmostEqual(run.starts[0], 0.3)
         self.assertEqual(run.nanoseconds(run.ends[0]), 4710)
+
+    def test_a_folded_text_has_no_times_of_all_its_code(self):
+        with open(worked.path("split.times"), encoding="utf-8") as file:
+            times = file.read()
+        answers = Answers(worked.path("split.tasks"))
+        answers.head.remarks.append("folded task, 3 times: span too high, which is an upper bound")
+        self.assertFalse(self.run_with(times, answers).is_timed)
 
     def test_a_table_of_another_program(self):
         for row in ("99,0,1,2", "0,x,1,2", "0", "0,\ufffd,1,2"):

@@ -2,6 +2,7 @@
 ghost use Rattle.std.specs.Prelude.{◌≡◌, ◌<◌, length};
 
 mod changes;
+mod lists;
 
 use crate::tests::graph_of;
 use std::alloc::Global;

@@ -224,12 +224,46 @@ const TRIED_COSTS: &[(&[&str], &str, Status)] = &[
         "error: WorkTooLarge\n",
         Status::Refused,
     ),
+    (
+        &["1=2", "2=999999999999992"],
+        "work 1000000000000000\nspan 999999999999998\nwas 9\n",
+        Status::Done,
+    ),
+    (
+        &["2=999999999999992", "1=2"],
+        "error: WorkTooLarge\n",
+        Status::Refused,
+    ),
+    (
+        &["2=4", "2=1000000000000001", "9=1", "2=1000000000000000"],
+        "error: CostTooLarge\n",
+        Status::Refused,
+    ),
 ];
 
 /// Changes are made in their order, up to the first that is refused.
 #[test]
 fn tried_costs(rt: HostRuntime) -> Result<(), Fail> {
     all_answer(&rt, &["spanprof", "whatif"], WORKED, TRIED_COSTS)?;
+    Ok(())
+}
+
+/// Changes of two segments, and back and forth.
+const TURN: &[&str] = &["2=9", "1=999999999999000", "1=0", "2=4"];
+
+/// Of a thousand changes each segment's last stays.
+#[test]
+fn many_tried_costs(rt: HostRuntime) -> Result<(), Fail> {
+    let mut words = Vec::new(rt.alloc());
+    words.push("spanprof")?;
+    words.push("whatif")?;
+    for _turn in 0..250 {
+        for word in TURN {
+            words.push(*word)?;
+        }
+    }
+    let text = "work 10\nspan 10\nwas 9\n";
+    assert!(rt; gives(&rt, words.as_slice(), WORKED, text, Status::Done)?);
     Ok(())
 }
 
@@ -247,5 +281,22 @@ const WORKER_RUNS: &[(&[&str], &str, Status)] = &[
 #[test]
 fn worker_runs(rt: HostRuntime) -> Result<(), Fail> {
     all_answer(&rt, &["spanprof", "run", "--workers"], WORKED, WORKER_RUNS)?;
+    Ok(())
+}
+
+/// Costs at, above and far above the most turns that the kernel makes.
+const COSTLY: &str = "omptasks 1\nwork 4097 task { work 4096 } taskwait work 1000000000000\n";
+
+const COSTLY_RUN: &str =
+    "segments 4\nedges 4\ndigest 5853351162929840137\npreds 0\npreds 1 0\npreds 2 0\npreds 3 1 2\n";
+
+/// The digest was computed apart from this program, with 4,096 turns for each greater cost.
+#[test]
+fn runs_of_great_costs(rt: HostRuntime) -> Result<(), Fail> {
+    let rows: [(&[&str], &str, Status); 2] = [
+        (&["1"], COSTLY_RUN, Status::Done),
+        (&["2"], COSTLY_RUN, Status::Done),
+    ];
+    all_answer(&rt, &["spanprof", "run", "--workers"], COSTLY, &rows)?;
     Ok(())
 }

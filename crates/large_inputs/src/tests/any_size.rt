@@ -6,6 +6,7 @@ use spanprof_command::Status;
 use std::alloc::{AllocGlobal, Global};
 use std::process::Abort;
 use std::test::Fail;
+use task_program::name_key::NameKey;
 
 /// These words write this text with this status.
 fn assert_ends(
@@ -20,7 +21,13 @@ fn assert_ends(
     let mut writer = Counted::new(Sink {
         taken: Vec::new(alloc),
     });
-    let status = command(alloc, line.as_slice(), &mut reader, &mut writer);
+    let status = command(
+        alloc,
+        NameKey::fixed(),
+        line.as_slice(),
+        &mut reader,
+        &mut writer,
+    );
     let Sink { taken } = writer.into_inner();
     let (wanted_status, text) = wanted;
     assert!(rt; taken.as_slice() == text, "{words:?}");

@@ -9,6 +9,7 @@ use std::io;
 use std::io::{ErrorKind, Read};
 use std::process::Abort;
 use std::test::Fail;
+use task_program::name_key::NameKey;
 
 /// Gives the bytes of a text, a few in each call. Once so few are left, it fails for some calls.
 #[derive(Drop)]
@@ -53,7 +54,13 @@ fn is_told(alloc: Global, stream: Stream<'_>, wanted: (Status, &str)) -> Result<
     let mut writer = Counted::new(Sink {
         taken: Vec::new(alloc),
     });
-    let status = command(alloc, line.as_slice(), &mut reader, &mut writer);
+    let status = command(
+        alloc,
+        NameKey::fixed(),
+        line.as_slice(),
+        &mut reader,
+        &mut writer,
+    );
     let Sink { taken } = writer.into_inner();
     let (wanted_status, text) = wanted;
     Ok(status == wanted_status && taken.as_slice() == text.as_bytes())

@@ -10,6 +10,7 @@ use program_text::fault::ReadKind;
 use std::alloc::Global;
 use std::process::Abort;
 use std::test::Fail;
+use task_program::name_key::NameKey;
 
 /// With comments, CR and names to cut, and with faults early, late and at the end.
 static TEXTS: [&str; 8] = [
@@ -38,7 +39,7 @@ fn in_two(alloc: Global, text: &[u8], cut: usize) -> Result<Meter, LargeFault>
     requires within { cut ≤ length text.now }
 {
     let (first, rest) = text.split_at(cut);
-    let mut meter = TextMeter::new(alloc);
+    let mut meter = TextMeter::new(alloc, NameKey::fixed());
     meter.take(first)?;
     meter.take(rest)?;
     meter.finish()
@@ -47,7 +48,7 @@ fn in_two(alloc: Global, text: &[u8], cut: usize) -> Result<Meter, LargeFault>
 fn by_bytes(alloc: Global, text: &[u8]) -> Result<Meter, LargeFault>
     requires { length text.now ≤ LARGEST_PIECE }
 {
-    let mut meter = TextMeter::new(alloc);
+    let mut meter = TextMeter::new(alloc, NameKey::fixed());
     let mut taken = 0;
     'bytes: while taken < text.len() {
         meter.take(&text[taken..taken + 1])?;

@@ -11,6 +11,7 @@ use std::process::Abort;
 use std::sync::Wait;
 use std::test::Fail;
 use std::thread::Threads;
+use task_program::name_key::NameKey;
 
 /// The words of a command, its input, and what it writes.
 #[derive(Clone, Copy)]
@@ -139,7 +140,7 @@ fn answer_to<H: AllocGlobal + Threads + Wait + Abort + Sync>(
     let mut writer = empty_room();
     let status = match asked {
         Command::LargeNumbers | Command::LargeBounds => {
-            large_command::command(rt.alloc(), line, &mut reader, &mut writer)
+            large_command::command(rt.alloc(), NameKey::fixed(), line, &mut reader, &mut writer)
         }
         _ => command(rt, line, &mut reader, &mut writer),
     };

@@ -1,4 +1,5 @@
-//! Programs of any size, in one pass: over statements, over a text, and over a text in two pieces.
+//! Programs of any size, in one pass: over statements, over a text, over a text in two pieces, and
+//! with the table of a text.
 ghost use Rattle.std.specs.Prelude.{◌+◌, ◌<◌, ◌≤◌, ◌^◌, length};
 ghost use Rattle.large_text.specs.declared.limits.TheConstants.{LARGEST_PIECE};
 
@@ -12,6 +13,7 @@ use std::process::Abort;
 use std::test::Fail;
 use task_program::AllocFault;
 use task_program::fault::ReadKind;
+use task_program::name_key::NameKey;
 use task_program::program::Program;
 
 /// Six tasks are open at once, and six names are mentioned.
@@ -80,7 +82,7 @@ fn of_pieces(alloc: Global, supply: &mut Supply, text: &[u8]) -> Result<Numbers,
     requires { length text.now ≤ LARGEST_PIECE }
 {
     let (first, rest) = text.split_at(text.len() / 2);
-    let mut pieces = TextMeter::new(alloc);
+    let mut pieces = TextMeter::new(alloc, NameKey::fixed());
     supply.before_call();
     pieces.take(first)?;
     supply.before_call();
@@ -102,5 +104,34 @@ pub(super) fn pieces<H: AllocGlobal + Abort>(rt: &H, supply: &mut Supply) -> Res
         }
     };
     assert_eq!(rt; numbers, NUMBERS);
+    Ok(())
+}
+
+/// Tasks, with the root, and segments.
+fn rows_of(alloc: Global, supply: &mut Supply, text: &[u8]) -> Result<(u32, u32), LargeFault>
+    requires { length text.now ≤ LARGEST_PIECE }
+{
+    supply.before_call();
+    let mut pieces = TextMeter::with_rows(alloc, NameKey::fixed())?;
+    supply.before_call();
+    pieces.take(text)?;
+    supply.before_call();
+    match pieces.finish_table()? {
+        Some(table) => Ok((table.tasks(), table.len())),
+        None => Ok((0, 0)),
+    }
+}
+
+/// The rows of a text's table. Where the meter was refused anything, the text is begun anew.
+pub(super) fn table<H: AllocGlobal + Abort>(rt: &H, supply: &mut Supply) -> Result<(), Fail> {
+    let rows = match rows_of(rt.alloc(), supply, DEEP) {
+        Ok(rows) => rows,
+        Err(fault) => {
+            supply.refused();
+            assert_eq!(rt; fault.kind, ReadKind::OutOfMemory);
+            rows_of(rt.alloc(), supply, DEEP)?
+        }
+    };
+    assert_eq!(rt; rows, (8, 18));
     Ok(())
 }

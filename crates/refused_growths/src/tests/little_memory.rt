@@ -110,6 +110,11 @@ fn pieces(rt: HostRuntime) -> Result<(), Fail> {
 }
 
 #[test]
+fn large_table(rt: HostRuntime) -> Result<(), Fail> {
+    refuse_each(&rt, Calls::LargeTable)
+}
+
+#[test]
 fn command_span(rt: HostRuntime) -> Result<(), Fail> {
     refuse_each(&rt, Calls::Of(Command::Span))
 }

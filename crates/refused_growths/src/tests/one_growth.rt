@@ -123,6 +123,11 @@ fn pieces(rt: HostRuntime) -> Result<(), Fail> {
 }
 
 #[test]
+fn large_table(rt: HostRuntime) -> Result<(), Fail> {
+    make_once(&rt, Calls::LargeTable)
+}
+
+#[test]
 fn command_span(rt: HostRuntime) -> Result<(), Fail> {
     make_once(&rt, Calls::Of(Command::Span))
 }

@@ -140,11 +140,11 @@ fn created(
     let siblings = kept_siblings(supply, table, items)?;
     assert_eq!(rt; siblings.as_slice(), wanted, "before task {task}");
     supply.before_call();
-    let kept = match table.create(task, items) {
+    let kept = match table.generate(task, items) {
         Ok(kept) => kept,
         Err(_) => {
             supply.refused();
-            table.create(task, items)?
+            table.generate(task, items)?
         }
     };
     assert_eq!(rt; kept.as_slice(), wanted, "of task {task}");

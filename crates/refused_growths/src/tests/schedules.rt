@@ -13,6 +13,7 @@ use std::test::Fail;
 use std::thread::Threads;
 use task_program::AllocFault;
 use whatif_costs::fault::WhatFault;
+use whatif_costs::new_costs::NewCost;
 use whatif_costs::what_if::WhatIf;
 
 fn analysed(alloc: Global, graph: &Graph) -> Result<Analysis, AllocFault> {
@@ -142,6 +143,22 @@ fn set(trial: &mut WhatIf, segment: u32, cost: u64) -> Result<u64, WhatFault> {
     trial.set(segment, cost)
 }
 
+/// Segment 2 costs 4, and segment 1 costs 5.
+const RAISED: &[NewCost] = &[
+    NewCost {
+        segment: 2,
+        cost: 4,
+    },
+    NewCost {
+        segment: 1,
+        cost: 5,
+    },
+];
+
+fn set_all(trial: &mut WhatIf, changes: &[NewCost]) -> Result<u64, WhatFault> {
+    trial.set_all(changes)
+}
+
 fn reset(trial: &mut WhatIf) -> Result<u64, WhatFault> {
     trial.reset()
 }
@@ -180,10 +197,26 @@ fn assert_reset(rt: &impl Abort, supply: &mut Supply, trial: &mut WhatIf) {
     assert_sums(rt, trial, 11, 9);
 }
 
-/// A cost is changed, and changed back.
+/// A refused list of changes leaves it so too.
+fn assert_set_all(rt: &impl Abort, supply: &mut Supply, trial: &mut WhatIf) {
+    supply.before_call();
+    let span = match set_all(trial, RAISED) {
+        Err(WhatFault::OutOfMemory) => {
+            supply.refused();
+            assert_sums(rt, trial, 11, 9);
+            set_all(trial, RAISED)
+        }
+        answer => answer,
+    };
+    assert_eq!(rt; span, Ok(11));
+    assert_sums(rt, trial, 15, 11);
+}
+
+/// A cost is changed, and changed back, and then two are changed at once.
 pub(super) fn trial<H: AllocGlobal + Abort>(rt: &H, supply: &mut Supply) -> Result<(), Fail> {
     let mut trial = trial_of(rt, supply)?;
     assert_set(rt, supply, &mut trial);
     assert_reset(rt, supply, &mut trial);
+    assert_set_all(rt, supply, &mut trial);
     Ok(())
 }

@@ -132,6 +132,14 @@ fn finished_graph(core: Core<MixKernel>) -> Result<Graph, Fail> {
     }
 }
 
+/// The run that an unfinished run is given back as.
+fn unfinished_core(core: Core<MixKernel>) -> Result<Core<MixKernel>, Fail> {
+    match core.into_graph() {
+        Ok(_) => Err("a graph".into()),
+        Err(unfinished) => Ok(unfinished.core),
+    }
+}
+
 /// The finished run of the worked program has the program's graph.
 fn check_worked_graph(rt: &impl Abort, alloc: Global, core: Core<MixKernel>) -> Result<(), Fail> {
     Ok(check_graph(rt, alloc, &finished_graph(core)?, WORKED_PREDS)?)
@@ -274,11 +282,14 @@ fn finish_worked(rt: &impl Abort, core: &mut Core<MixKernel>) -> Result<(), Fail
     Ok(())
 }
 
+/// After these refusals the run is unfinished, is given back so, and goes on.
 #[test]
 fn results_refused_in_a_run(rt: HostRuntime) -> Result<(), Fail> {
     let mut core = worked_run(rt.alloc(), &[start(0, 0), finish(0, 0)])?;
     check_start(&rt, &mut core, 0, 1, 781)?;
     check_refusals(&rt, &mut core)?;
+    let mut core = unfinished_core(core)?;
+    assert_eq!(rt; event_count(&core), 3);
     finish_worked(&rt, &mut core)?;
     check_worked_graph(&rt, rt.alloc(), core)
 }

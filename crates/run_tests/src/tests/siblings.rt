@@ -36,10 +36,10 @@ impl Siblings {
         let task = self.task + 1;
         self.task = task;
         let siblings = self.table.kept_siblings(items)?;
-        let kept = self.table.create(task, items)?;
+        let kept = self.table.generate(task, items)?;
         check_siblings(rt, task, siblings.as_slice(), kept.as_slice());
         assert!(rt; kept.capacity() > kept.len(), "room for one more");
-        let plain = self.plain.create(task, items)?;
+        let plain = self.plain.generate(task, items)?;
         check_siblings(rt, task, kept.as_slice(), plain.as_slice());
         Ok(kept)
     }
@@ -112,11 +112,11 @@ fn many_writers_then_many_readers(rt: HostRuntime) -> Result<(), Fail> {
     let writers: Vec<u32> = (1..2048).collect(rt.alloc())?;
     let mut table = SiblingTable::new(rt.alloc())?;
     for task in 1..2048 {
-        let kept = table.create(task, &[item(DependInOutSet, 0)])?;
+        let kept = table.generate(task, &[item(DependInOutSet, 0)])?;
         assert!(rt; kept.is_empty());
     }
     for task in 2048..4096 {
-        let kept = table.create(task, &[item(DependIn, 0)])?;
+        let kept = table.generate(task, &[item(DependIn, 0)])?;
         check_siblings(&rt, task, kept.as_slice(), writers.as_slice());
     }
     Ok(())

@@ -2,6 +2,7 @@
 mod calls;
 mod faults;
 mod overlap;
+mod sleeps;
 
 use crate::tests::{check_graph, graph_of_body, preds_text, table_of_body};
 use dispatch_core::dispatch::Core;

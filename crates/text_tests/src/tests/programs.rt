@@ -12,6 +12,7 @@ mod calls;
 mod limits;
 mod long_texts;
 mod loops;
+mod name_keys;
 mod printed;
 mod refused;
 

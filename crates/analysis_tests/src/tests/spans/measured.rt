@@ -1,16 +1,21 @@
 //! Texts that are measured in one pass: tasks and segments are those of the table, work and span
-//! those of the analysis.
+//! those of the analysis, also of the table that the pass makes.
+ghost use Rattle.std.specs.Prelude.{◌≤◌, length};
+ghost use Rattle.large_text.specs.declared.limits.TheConstants.{LARGEST_PIECE};
+
 use super::WORKED;
 use super::examples::EXAMPLES;
 use dispatch_core::replay::in_order;
-use large_text::measure_text;
+use large_text::fault::LargeFault;
+use large_text::{TextMeter, measure_text};
 use span_analysis::analysis::analyse;
 use std::alloc::Global;
 use std::process::Abort;
 use std::test::Fail;
+use task_program::name_key::NameKey;
 use task_program::read::read_program;
 use task_segments::cut;
-use task_segments::table::SegTable;
+use task_segments::table::{BoundedTable, LargeTable, SegTable};
 
 static TEXTS: [&str; 10] = [
     "omptasks 1 taskgroup { task { work 2 taskwait work 3 } work 1 } task { work 4 } taskwait",
@@ -53,7 +58,10 @@ fn table_of(alloc: Global, text: &str) -> Result<SegTable, Fail> {
 }
 
 /// Work and span of a table's graph.
-fn analysed(alloc: Global, table: SegTable) -> Result<(u64, u64), Fail> {
+fn analysed<const SEGMENTS: u32, const TASKS: u32>(
+    alloc: Global,
+    table: BoundedTable<SEGMENTS, TASKS>,
+) -> Result<(u64, u64), Fail> {
     let Ok(graph) = in_order(alloc, table) else {
         return Err("memory".into());
     };
@@ -69,8 +77,32 @@ fn by_analysis(alloc: Global, text: &str) -> Result<Numbers, Fail> {
     Ok((tasks, segments, work, span))
 }
 
+/// The table of a text that comes in one piece, whatever its size.
+fn large_table_of(alloc: Global, text: &[u8]) -> Result<Option<LargeTable>, LargeFault>
+    requires { length text.now ≤ LARGEST_PIECE }
+{
+    let mut pieces = TextMeter::with_rows(alloc, NameKey::fixed())?;
+    pieces.take(text)?;
+    pieces.finish_table()
+}
+
+fn by_rows(alloc: Global, text: &str) -> Result<Numbers, Fail> {
+    if text.len() > 1_000_000 {
+        return Err("a longer text".into());
+    }
+    let Some(table) = large_table_of(alloc, text.as_bytes())? else {
+        return Err("no table".into());
+    };
+    let tasks = u64::from(table.tasks()).saturating_sub(1);
+    let segments = u64::from(table.len());
+    let (work, span) = analysed(alloc, table)?;
+    Ok((tasks, segments, work, span))
+}
+
 fn assert_alike(rt: &impl Abort, alloc: Global, text: &str) -> Result<(), Fail> {
-    assert_eq!(rt; by_meter(alloc, text)?, by_analysis(alloc, text)?, "{text}");
+    let wanted = by_analysis(alloc, text)?;
+    assert_eq!(rt; by_meter(alloc, text)?, wanted, "{text}");
+    assert_eq!(rt; by_rows(alloc, text)?, wanted, "{text}");
     Ok(())
 }
 

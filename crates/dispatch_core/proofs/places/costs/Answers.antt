@@ -6,7 +6,7 @@ use Rattle.task_segments.specs.declared.table.Segment.{Segment}
 use Rattle.dispatch_core.proofs.places.costs.Goals as goal
 
 pub loop-segment-preserved : goal.loop-segment-preserved
-loop-segment-preserved c =
+loop-segment-preserved g c =
     let number = c.loop-segment.segment in
     let all = costs_of c.args.table.now in
     let within : number < length c.args.table.now.segments =

@@ -3,4 +3,4 @@ use Rattle.task_segments.specs.Table.{costs_of}
 use Rattle.dispatch_core.proofs.places.costs.Given as goal
 
 abbrev pub invariant-loop-segment : goal.invariant-loop-segment
-invariant-loop-segment l = l.list.items ≡ take l.segment (costs_of l.table)
+invariant-loop-segment g l = l.list.items ≡ take l.segment (costs_of l.table)

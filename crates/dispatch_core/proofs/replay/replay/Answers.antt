@@ -7,7 +7,7 @@ use Rattle.dispatch_core.proofs.GivenRuns.{refused_there}
 use Rattle.dispatch_core.proofs.replay.replay.Goals as goal
 
 pub returns-in-Err-make_event-clause-refused : goal.returns-in-Err-make_event-clause-refused
-returns-in-Err-make_event-clause-refused c =
+returns-in-Err-make_event-clause-refused g c =
     let P : ReplayFault → Type 0 = λ fault. RefusesReplay c.args.table c.args.events.now fault in
     subst P (sym c.replay_fault.ensures) (
     refused_there c.args.table c.loop-index.core.table c.args.events.now c.loop-index.core.history

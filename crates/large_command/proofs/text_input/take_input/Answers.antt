@@ -39,7 +39,7 @@ pieces-preserved g c =
       taken = is_taken _ _ _ c.pieces.room c.in-Some.rest _ _ c.pieces.text c.take.new.self
           c.pieces.invariant.taken c.in-Ok.ensures.reads
           (take-append-le c.in-Ok.taken c.read_piece.new.buffer _ within) c.in-Some.ensures
-          c.in-Ok-take.ensures;
+          c.in-Ok-take.ensures.takes;
       fewer = omega arith;
       paid = omega (arith, c.in-Ok.ensures.paid, c.pieces.invariant.paid);
     }

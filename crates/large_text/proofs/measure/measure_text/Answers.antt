@@ -1,10 +1,12 @@
-use Rattle.std.proofs.Common.{◌≡◌, ◌≢◌, [], None, refl, rules}
+use Rattle.std.proofs.Common.{◌≡◌, ◌≢◌, [], None, refl, rules, subst, sym}
+use Rattle.large_text.specs.Measured.{MeasuresText}
 use Rattle.program_text.specs.declared.fault.ReadKind.TheVariants.{OutOfMemory}
 use Rattle.program_text.specs.Tokens.{tokens_of, line_at_end}
 use Rattle.large_text.specs.LargeTrees.{IsLargeFirstFault}
 use Rattle.large_text.specs.Streamed.{HasTakenLines}
 use Rattle.large_text.proofs.Streaming.{taken_first, keeps_more, fault_last, ends_early, ends_whole}
 use Rattle.large_text.proofs.Memory.{line_of_first}
+use Rattle.large_text.proofs.Tallying.{of_tally}
 use Rattle.large_text.proofs.measure.measure_text.Goals as goal
 
 pub returns-in_err-line-clause-refused : goal.returns-in_err-line-clause-refused
@@ -45,8 +47,10 @@ returns-clause-measured c =
     let h : HasTakenLines text text 1 reader meter =
     keeps_more [] [] text 1 reader meter
     (taken_first reader meter c.new-reader.ensures c.new-meter.ensures) in
-    ends_whole None text text text 1 reader c.take_tokens.new.reader meter
-    c.take_tokens.new.meter refl refl h c.in_ok-line.ensures.reads c.in_ok-finish.ensures.whole
+    subst (MeasuresText (tokens_of text)) (sym c.into_meter.ensures)
+    (of_tally (tokens_of text) c.take_tokens.new.meter
+    (ends_whole None text text text 1 reader c.take_tokens.new.reader meter
+    c.take_tokens.new.meter refl refl h c.in_ok-line.ensures.reads c.in_ok-finish.ensures.whole))
 
 pub returns-in_err-finish-clause-memory : goal.returns-in_err-finish-clause-memory
 returns-in_err-finish-clause-memory c =

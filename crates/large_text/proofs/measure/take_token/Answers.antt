@@ -20,8 +20,8 @@ pub returns-in_ok-take_mark-in-Some-clause-reads :
 returns-in_ok-take_mark-in-Some-clause-reads c = λ before m.
     let token = token_on c.args.token c.args.line in
     mark_taken before token c.in-Some.mark c.args.reader.now c.take.new.self c.args.meter.now
-    c.take_mark.new.meter
+    c.take_mark.new.tally
     (λ tokens marks r. subst
     (λ (mark : Option TextMark). IsReadSoFar (tokens ++ token ∷ []) (marks_after marks mark)
     c.take.new.self)
-    c.in-Some.is (c.in_ok-mark.ensures.reads tokens marks r)) c.in_ok-take_mark-in-Some.ensures m
+    c.in-Some.is (c.in_ok-mark.ensures.reads tokens marks r)) c.in_ok-take_mark-in-Some.ensures.takes m

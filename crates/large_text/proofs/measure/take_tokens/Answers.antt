@@ -1,4 +1,4 @@
-use Rattle.std.proofs.Common.{◌≢◌, ◌+◌, ◌++◌, ℕ, List, rules, false}
+use Rattle.std.proofs.Common.{refl, ◌∙◌, ◌≢◌, ◌+◌, ◌++◌, ℕ, List, rules, false}
 use Rattle.program_text.specs.declared.fault.ReadKind.TheVariants.{OutOfMemory}
 use Rattle.program_text.specs.ScannerSeen.{token_seen}
 use Rattle.program_text.specs.Tokens.{Token, tokens_from}
@@ -8,26 +8,30 @@ use Rattle.large_text.proofs.Measuring.{goes_first, goes_on, goes_still, goes_wh
 use Rattle.large_text.proofs.measure.take_tokens.Goals as goal
 
 pub tokens-init : goal.tokens-init
-tokens-init c =
-    goes_first c.args.text.now c.args.lines c.new-scanner.result c.args.reader.now
-    c.args.meter.now c.new-scanner.ensures.rest c.new-scanner.ensures.line
+tokens-init c = (
+  goes_first c.args.text.now c.args.lines c.new-scanner.result c.args.reader.now
+      c.args.meter.now c.new-scanner.ensures.rest c.new-scanner.ensures.line,
+  refl,
+)
 
 pub take_token-requires : goal.take_token-requires
 take_token-requires c =
     goes_still c.args.text.now c.args.lines c.tokens.scanner c.args.reader.now c.tokens.reader
-    c.args.meter.now c.tokens.meter c.tokens.invariant c.requires.taken
+    c.args.meter.now c.tokens.meter c.tokens.invariant.0 c.requires.taken
 
 pub tokens-preserved : goal.tokens-preserved
-tokens-preserved c =
-    goes_on c.args.text.now c.args.lines c.tokens.scanner c.next_token.new.self
-    (token_seen c.in-Some.token) c.args.reader.now c.tokens.reader c.take_token.new.reader
-    c.args.meter.now c.tokens.meter c.take_token.new.meter c.tokens.invariant
-    c.in-Some.ensures.first c.in-Some.ensures.line c.in_ok-take_token.ensures.reads
+tokens-preserved c = (
+  goes_on c.args.text.now c.args.lines c.tokens.scanner c.next_token.new.self
+      (token_seen c.in-Some.token) c.args.reader.now c.tokens.reader c.take_token.new.reader
+      c.args.meter.now c.tokens.meter c.take_token.new.meter c.tokens.invariant.0
+      c.in-Some.ensures.first c.in-Some.ensures.line c.in_ok-take_token.ensures.reads,
+  c.take_token.ensures.rows ∙ c.tokens.invariant.1,
+)
 
 pub returns-clause-reads : goal.returns-clause-reads
 returns-clause-reads c =
     goes_whole c.args.text.now c.args.lines c.tokens.scanner c.args.reader.now c.tokens.reader
-    c.args.meter.now c.tokens.meter c.tokens.invariant c.in_default.ensures.first
+    c.args.meter.now c.tokens.meter c.tokens.invariant.0 c.in_default.ensures.first
 
 pub returns-in_err-take_token-clause-refused : goal.returns-in_err-take_token-clause-refused
 returns-in_err-take_token-clause-refused c =
@@ -37,6 +41,6 @@ returns-in_err-take_token-clause-refused c =
     → IsLargeFirstFault (before ++ (tokens_from false (c.args.lines + 1) c.args.text.now ++ later)) end_line fault =
     λ some. stops_at c.args.text.now c.args.lines c.tokens.scanner c.next_token.new.self
     (token_seen c.in-Some.token)
-    c.args.reader.now c.tokens.reader c.args.meter.now c.tokens.meter fault c.tokens.invariant c.in-Some.ensures.first
+    c.args.reader.now c.tokens.reader c.args.meter.now c.tokens.meter fault c.tokens.invariant.0 c.in-Some.ensures.first
     (c.in_err-take_token.ensures.refused some) in
     search (stops, rules)

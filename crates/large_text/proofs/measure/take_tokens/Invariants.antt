@@ -1,9 +1,12 @@
-use Rattle.std.proofs.Common.{length}
+use Rattle.std.proofs.Common.{length, ◌≡◌}
+use Rattle.large_text.specs.Tallied.{keeps_rows}
 use Rattle.large_text.proofs.Measuring.{GoesThrough}
 use Rattle.large_text.proofs.measure.take_tokens.Given as goal
 
 abbrev pub invariant-tokens : goal.invariant-tokens
-invariant-tokens l = GoesThrough l.text l.lines l.scanner l.fn.reader l.reader l.fn.meter l.meter
+invariant-tokens l =
+    GoesThrough l.text l.lines l.scanner l.fn.reader l.reader l.fn.meter l.meter
+    × (keeps_rows l.meter ≡ keeps_rows l.fn.meter)
 
 abbrev pub decreases-tokens : goal.decreases-tokens
 decreases-tokens l = length l.scanner.rest.now

@@ -10,7 +10,7 @@ use Rattle.open_segments.proofs.Joining.{joins_then_before, none_joins}
 use Rattle.open_segments.proofs.continuing.after_group.Goals as goal
 
 pub loop-segment-init : goal.loop-segment-init
-loop-segment-init c =
+loop-segment-init g c =
     let table : Table = c.args.table.now in
     let from : ℕ = c.group_begin-from.result in
     subst (λ (l : List ℕ). Lists (Below (λ p. Joins table p c.args.next) from) l)
@@ -20,7 +20,7 @@ loop-segment-init c =
     c.requires.follows c.requires.ends wait)) c.group_begin-from.ensures.reached)
 
 pub loop-segment-preserved : goal.loop-segment-preserved
-loop-segment-preserved c =
+loop-segment-preserved g c =
     let table : Table = c.args.table.now in
     let number : ℕ = c.loop-segment.segment in
     let P : ℕ → Type 0 = λ p. Joins table p c.args.next in
@@ -35,7 +35,7 @@ loop-segment-preserved c =
     c.loop-segment.invariant)
 
 pub returns : goal.returns
-returns c =
+returns g c =
     let table : Table = c.args.table.now in
     joins_then_before table c.args.before c.args.next c.loop-segment.segment
     c.loop-segment.preds.items

@@ -4,4 +4,4 @@ use Rattle.open_segments.proofs.ListLemmas.{Below}
 use Rattle.open_segments.proofs.continuing.after_group.Given as goal
 
 abbrev pub invariant-loop-segment : goal.invariant-loop-segment
-invariant-loop-segment l = Lists (Below (λ p. Joins l.table p l.next) l.segment) l.preds.items
+invariant-loop-segment g l = Lists (Below (λ p. Joins l.table p l.next) l.segment) l.preds.items

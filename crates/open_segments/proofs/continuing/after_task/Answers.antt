@@ -1,3 +1,4 @@
+use Rattle.std.proofs.Common.{rules}
 use Rattle.std.proofs.Common.{ℕ, ◌≡◌, ◌++◌, ◌∷◌, [], List, sym, ap, ◌∙◌, subst}
 use Rattle.task_segments.specs.Table.{Table, task}
 use Rattle.depend_table.specs.KeptEdges.{IsKeptEdge}
@@ -6,12 +7,16 @@ use Rattle.open_segments.proofs.Edges.{deferred_edges, resumed_edges}
 use Rattle.open_segments.proofs.continuing.after_task.Goals as goal
 
 pub last-last-requires : goal.last-last-requires
-last-last-requires c =
-    (c.reads_in_place.ensures.creates c.args.before c.args.child c.requires.follows.is_from
-    c.requires.creates).0
+last-last-requires g c = (
+  search rules,
+  (
+      (c.reads_in_place.ensures.creates c.args.before c.args.child c.requires.follows.is_from
+      c.requires.creates).0
+      ),
+)
 
 pub returns-then-not-undeferred : goal.returns-then-not-undeferred
-returns-then-not-undeferred c =
+returns-then-not-undeferred g c =
     let table : Table = c.args.table.now in
     let items : c.push.new.self.items ≡ c.args.before ∷ [] = c.in_ok-push.ensures.items
     ∙ ap (λ (l : List ℕ). l ++ c.args.before ∷ []) c.new-preds.ensures.items in
@@ -20,7 +25,7 @@ returns-then-not-undeferred c =
     c.requires.follows c.requires.creates (sym c.undeferred.ensures ∙ c.if-not-undeferred.true))
 
 pub returns : goal.returns
-returns c =
+returns g c =
     let table : Table = c.args.table.now in
     let one : c.push.new.self.items ≡ c.args.before ∷ [] = c.in_ok-push.ensures.items
     ∙ ap (λ (l : List ℕ). l ++ c.args.before ∷ []) c.new-preds.ensures.items in

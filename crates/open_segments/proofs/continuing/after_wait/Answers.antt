@@ -1,3 +1,4 @@
+use Rattle.std.proofs.Common.{rules}
 use Rattle.std.proofs.Common.{ℕ, ◌<◌, ◌≡◌, ◌++◌, ◌∷◌, [], List, Vec, Global, sym, ap, ◌∙◌, subst}
 use Rattle.std.proofs.Common.{arith}
 use Rattle.std.specs.Option.{is_some}
@@ -11,7 +12,7 @@ use Rattle.open_segments.proofs.continuing.after_wait.Goals as goal
 use Rattle.open_segments.proofs.continuing.after_wait.Goals.{in-Creates+in_ok-push, in_default}
 
 pub loop-segment-init : goal.loop-segment-init
-loop-segment-init c =
+loop-segment-init g c =
     let table : Table = c.args.table.now in
     let from : ℕ = c.wait_begin-segment.result in
     subst (λ (l : List ℕ). IsWalked table c.args.before c.args.next from l)
@@ -26,26 +27,30 @@ loop-segment-init c =
     })
 
 pub last-requires : goal.last-requires
-last-requires c =
-    (c.reads_in_place.ensures.creates c.loop-segment.segment c.in-Creates.child
-    c.loop-segment.invariant.of_task.is_segment (sym c.closing.ensures ∙ c.in-Creates.is)).0
+last-requires g c = (
+  search rules,
+  (
+      (c.reads_in_place.ensures.creates c.loop-segment.segment c.in-Creates.child
+      c.loop-segment.invariant.of_task.is_segment (sym c.closing.ensures ∙ c.in-Creates.is)).0
+      ),
+)
 
 pub unwrap-segment-requires : goal.unwrap-segment-requires
-unwrap-segment-requires c =
+unwrap-segment-requires g c =
     let on = goes_on c.args.table.now c.args.before c.loop-segment.segment c.reads_in_place.ensures
     c.requires.follows.is_from c.loop-segment.invariant.of_task
     (omega (arith, c.loop-segment-test.true)) in
     ap (λ o. is_some o) ((c.next.ensures on.0).1 on.1)
 
 pub loop-segment-smaller : goal.loop-segment-smaller
-loop-segment-smaller c =
+loop-segment-smaller g c =
     let on = (c.next.ensures c.unwrap-segment.result).0 c.unwrap-segment.ensures in
     let further = c.reads_in_place.ensures.follows_later c.loop-segment.segment
     c.unwrap-segment.result on in
     omega (arith, further, c.loop-segment-test.true)
 
 pub loop-segment-preserved : goal.loop-segment-preserved
-loop-segment-preserved c =
+loop-segment-preserved g c =
     let table : Table = c.args.table.now in
     let on : Continues table c.loop-segment.segment c.unwrap-segment.result =
     (c.next.ensures c.unwrap-segment.result).0 c.unwrap-segment.ensures in
@@ -72,7 +77,7 @@ loop-segment-preserved c =
     ]
 
 pub returns : goal.returns
-returns c =
+returns g c =
     let table : Table = c.args.table.now in
     joins_then_before table c.args.before c.args.next c.loop-segment.segment
     c.loop-segment.preds.items

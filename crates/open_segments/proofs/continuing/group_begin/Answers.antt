@@ -6,7 +6,7 @@ use Rattle.open_segments.proofs.Since.{above_root, passed_all}
 use Rattle.open_segments.proofs.continuing.group_begin.Goals as goal
 
 pub overflow_sub-task : goal.overflow_sub-task
-overflow_sub-task c =
+overflow_sub-task g c =
     let some =
     above_root c.args.table.now c.loop-from.task c.last.result c.args.next c.reads_in_place.ensures
     c.nests.ensures c.requires.follows.is_to c.last.ensures
@@ -14,7 +14,7 @@ overflow_sub-task c =
     omega (arith, some)
 
 pub loop-from-smaller : goal.loop-from-smaller
-loop-from-smaller c =
+loop-from-smaller g c =
     let some =
     above_root c.args.table.now c.loop-from.task c.last.result c.args.next c.reads_in_place.ensures
     c.nests.ensures c.requires.follows.is_to c.last.ensures
@@ -22,7 +22,7 @@ loop-from-smaller c =
     omega (arith, some)
 
 pub returns-clause-reached : goal.returns-clause-reached
-returns-clause-reached c s kept =
+returns-clause-reached g c s kept =
     let table : Table = c.args.table.now in
     passed_all table c.args.before c.args.next c.loop-from.task c.loop-from.from s
     c.reads_in_place.ensures c.nests.ensures c.groups_nest.ensures

@@ -5,7 +5,7 @@ use Rattle.std.proofs.Common.{length}
 use Rattle.open_segments.proofs.continuing.latest_task.Given as goal
 
 abbrev pub invariant-loop-begun : goal.invariant-loop-begun
-invariant-loop-begun l = record {
+invariant-loop-begun g l = record {
   some : l.begun < l.end;
   within : l.end ≤ length l.table.tasks;
   low : (task l.table l.begun).first ≤ l.segment;
@@ -13,4 +13,4 @@ invariant-loop-begun l = record {
 }
 
 abbrev pub decreases-loop-begun : goal.decreases-loop-begun
-decreases-loop-begun l = l.end - l.begun
+decreases-loop-begun g l = l.end - l.begun

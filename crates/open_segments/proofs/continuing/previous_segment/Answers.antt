@@ -3,7 +3,7 @@ use Rattle.task_segments.specs.Table.{Table, segment, task}
 use Rattle.open_segments.proofs.continuing.previous_segment.Goals as goal
 
 pub returns : goal.returns
-returns c s =
+returns g c s =
     let table : Table = c.args.table.now in
     let opener = c.opener.ensures.some s in (
       λ is. elim (opener.0 is) [

@@ -4,11 +4,11 @@ use Rattle.open_segments.proofs.Within.{within_table}
 use Rattle.open_segments.proofs.laws.serves_runs.Goals as goal
 
 pub returns : goal.returns
-returns c = record {
+returns g c = record {
   some_segment = c.reads_in_place.ensures.some_segment;
-  few_segments = c.within_limits.ensures.segments;
-  few_tasks = c.within_limits.ensures.tasks;
-  little_work = c.within_limits.ensures.work;
+  few_segments = c.within_rows.ensures.few_segments;
+  few_tasks = c.within_rows.ensures.few_tasks;
+  little_work = c.within_rows.ensures.work;
   goes_up = record {
     ascending = c.goes_up.ensures;
     within = λ s t edge. within_table c.args.table.now s t c.nests.ensures edge;

@@ -8,7 +8,7 @@ use Rattle.open_segments.proofs.Openers.{opens_after}
 use Rattle.open_segments.proofs.opener.opener.Goals as goal
 
 pub returns-then-segment-eq0 : goal.returns-then-segment-eq0
-returns-then-segment-eq0 c =
+returns-then-segment-eq0 g c =
     let table : Table = c.args.table.now in
     let first : c.args.segment ≡ 0 = c.if-segment-eq0.true in
     record {
@@ -21,7 +21,7 @@ returns-then-segment-eq0 c =
     }
 
 pub returns-in-EndsTask : goal.returns-in-EndsTask
-returns-in-EndsTask c =
+returns-in-EndsTask g c =
     let table : Table = c.args.table.now in
     let facts = c.reads_in_place.ensures in
     let apart = c.if-segment-eq0.false in
@@ -44,7 +44,7 @@ returns-in-EndsTask c =
     }
 
 pub returns-in_default : goal.returns-in_default
-returns-in_default c =
+returns-in_default g c =
     let table : Table = c.args.table.now in
     let apart = c.if-segment-eq0.false in
     let before : ℕ = c.args.segment - 1 in

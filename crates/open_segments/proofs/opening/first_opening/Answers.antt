@@ -1,3 +1,4 @@
+use Rattle.std.proofs.Common.{rules}
 use Rattle.std.proofs.Common.{ℕ, ◌≡◌, List, Some, sym, ap, subst, arith, ◌∙◌, inl, inr}
 use Rattle.std.specs.Prelude.{Contains, slice_set, slice_get}
 use Rattle.task_segments.specs.Table.{Table, task}
@@ -12,7 +13,7 @@ use Rattle.open_segments.proofs.SiblingSteps.{siblings_so_far, siblings_more}
 use Rattle.open_segments.proofs.opening.first_opening.Goals as goal
 
 pub returns-in_default : goal.returns-in_default
-returns-in_default c =
+returns-in_default g c =
     let table : Table = c.args.table.now in
     let facts = c.reads_in_place.ensures in
     let finished : ℕ = c.args.finished in
@@ -32,58 +33,65 @@ returns-in_default c =
       room = tt;
     }
 
-pub kept_siblings-requires-clause-known : goal.kept_siblings-requires-clause-known
-kept_siblings-requires-clause-known c =
-    let closing = sym c.closing.ensures ∙ c.in-Creates.is in
-    (c.reads_in_place.ensures.creates c.args.finished c.in-Creates.child c.requires.known closing).0
+pub kept_siblings-requires : goal.kept_siblings-requires
+kept_siblings-requires g c = (
+  search rules,
+  (
+    (let closing = sym c.closing.ensures ∙ c.in-Creates.is in
+        (c.reads_in_place.ensures.creates c.args.finished c.in-Creates.child c.requires.known closing).0),
+    (
+      (let child : ℕ = c.in-Creates.child in
+          let facts = c.reads_in_place.ensures in
+          let closing = sym c.closing.ensures ∙ c.in-Creates.is in
+          let made = facts.creates c.args.finished child c.requires.known closing in
+          above_root c.args.table.now child c.args.finished facts made.1),
+      (λ parent of_parent. let table : Table = c.args.table.now in
+          let child : ℕ = c.in-Creates.child in
+          let values = c.requires.values in
+          let closing = sym c.closing.ensures ∙ c.in-Creates.is in
+          let next =
+          next_child table c.args.values.now c.args.finished child parent c.reads_in_place.ensures
+          c.requires.known closing of_parent values c.requires.unfinished c.requires.earlier in
+          subst
+          (λ (l : List (List Sibling)). slice_get l parent ≡ Some (children_below table parent child))
+          (sym c.as_slice.ensures.value)
+          (siblings_so_far table c.args.values.now c.args.finished child parent c.args.siblings.now.items
+          next
+          c.requires.so_far)),
+    ),
+  ),
+)
 
-pub kept_siblings-requires-clause-later : goal.kept_siblings-requires-clause-later
-kept_siblings-requires-clause-later c =
-    let child : ℕ = c.in-Creates.child in
-    let facts = c.reads_in_place.ensures in
-    let closing = sym c.closing.ensures ∙ c.in-Creates.is in
-    let made = facts.creates c.args.finished child c.requires.known closing in
-    above_root c.args.table.now child c.args.finished facts made.1
-
-pub kept_siblings-requires-clause-so_far : goal.kept_siblings-requires-clause-so_far
-kept_siblings-requires-clause-so_far c parent of_parent =
-    let table : Table = c.args.table.now in
-    let child : ℕ = c.in-Creates.child in
-    let values = c.requires.values in
-    let closing = sym c.closing.ensures ∙ c.in-Creates.is in
-    let next =
-    next_child table c.args.values.now c.args.finished child parent c.reads_in_place.ensures
-    c.requires.known closing of_parent values c.requires.unfinished c.requires.earlier in
-    subst
-    (λ (l : List (List Sibling)). slice_get l parent ≡ Some (children_below table parent child))
-    (sym c.as_slice.ensures.value)
-    (siblings_so_far table c.args.values.now c.args.finished child parent c.args.siblings.now.items
-    next
-    c.requires.so_far)
-
-pub add_sibling-requires-clause-later : goal.add_sibling-requires-clause-later
-add_sibling-requires-clause-later c =
-    let child : ℕ = c.in-Creates.child in
-    let facts = c.reads_in_place.ensures in
-    let closing = sym c.closing.ensures ∙ c.in-Creates.is in
-    let made = facts.creates c.args.finished child c.requires.known closing in
-    above_root c.args.table.now child c.args.finished facts made.1
-
-pub add_sibling-requires-clause-so_far : goal.add_sibling-requires-clause-so_far
-add_sibling-requires-clause-so_far c parent of_parent =
-    let table : Table = c.args.table.now in
-    let child : ℕ = c.in-Creates.child in
-    let values = c.requires.values in
-    let closing = sym c.closing.ensures ∙ c.in-Creates.is in
-    let next =
-    next_child table c.args.values.now c.args.finished child parent c.reads_in_place.ensures
-    c.requires.known closing of_parent values c.requires.unfinished c.requires.earlier in
-    siblings_so_far table c.args.values.now c.args.finished child parent c.args.siblings.now.items
-    next
-    c.requires.so_far
+pub add_sibling-requires : goal.add_sibling-requires
+add_sibling-requires g c = (
+  search rules,
+  (
+    (search rules),
+    (
+      (let child : ℕ = c.in-Creates.child in
+          let facts = c.reads_in_place.ensures in
+          let closing = sym c.closing.ensures ∙ c.in-Creates.is in
+          let made = facts.creates c.args.finished child c.requires.known closing in
+          above_root c.args.table.now child c.args.finished facts made.1),
+      (
+        (search rules),
+        (λ parent of_parent. let table : Table = c.args.table.now in
+            let child : ℕ = c.in-Creates.child in
+            let values = c.requires.values in
+            let closing = sym c.closing.ensures ∙ c.in-Creates.is in
+            let next =
+            next_child table c.args.values.now c.args.finished child parent c.reads_in_place.ensures
+            c.requires.known closing of_parent values c.requires.unfinished c.requires.earlier in
+            siblings_so_far table c.args.values.now c.args.finished child parent c.args.siblings.now.items
+            next
+            c.requires.so_far),
+      ),
+    ),
+  ),
+)
 
 pub returns-clause-entered : goal.returns-clause-entered
-returns-clause-entered c value =
+returns-clause-entered g c value =
     let table : Table = c.args.table.now in
     let child : ℕ = c.in-Creates.child in
     let finished : ℕ = c.args.finished in
@@ -102,7 +110,7 @@ returns-clause-entered c value =
     next c.requires.so_far)
 
 pub returns-clause-first : goal.returns-clause-first
-returns-clause-first c =
+returns-clause-first g c =
     let table : Table = c.args.table.now in
     let child : ℕ = c.in-Creates.child in
     let finished : ℕ = c.args.finished in
@@ -125,7 +133,7 @@ returns-clause-first c =
     }
 
 pub make_room-requires : goal.make_room-requires
-make_room-requires c place has =
+make_room-requires g c place has =
     let table : Table = c.args.table.now in
     let child : ℕ = c.in-Creates.child in
     let finished : ℕ = c.args.finished in
@@ -146,9 +154,9 @@ make_room-requires c place has =
     ]
 
 pub returns-in_err-kept-clause-roomier : goal.returns-in_err-kept-clause-roomier
-returns-in_err-kept-clause-roomier c = roomier_same c.args.successors.now.items
+returns-in_err-kept-clause-roomier g c = roomier_same c.args.successors.now.items
 
 pub returns-clause-room : goal.returns-clause-room
-returns-clause-room c p has apart none =
+returns-clause-room g c p has apart none =
     c.in_ok-make_room.ensures.room p
     (subst (λ (l : List ℕ). Contains l p) (sym c.as_slice-2.ensures.value) has) apart none

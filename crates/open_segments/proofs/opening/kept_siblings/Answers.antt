@@ -9,7 +9,7 @@ use Rattle.open_segments.proofs.SiblingSteps.{stands_at, are_kept}
 use Rattle.open_segments.proofs.opening.kept_siblings.Goals as goal
 
 pub returns-clause-kept : goal.returns-clause-kept
-returns-clause-kept c =
+returns-clause-kept g c =
     let table : Table = c.args.table.now in
     let child : ℕ = c.args.child in
     let parent : ℕ = c.in-Some.parent in
@@ -24,13 +24,13 @@ returns-clause-kept c =
     children c.items.ensures c.in_ok-kept-in-Some.ensures)
 
 pub bounds-siblings-parent : goal.bounds-siblings-parent
-bounds-siblings-parent c =
+bounds-siblings-parent g c =
     let there = c.requires.so_far c.in-Some.parent (sym c.parent.ensures ∙ c.in-Some.is) in
     let within = slice_get_within c.args.siblings.now c.in-Some.parent
     (children_below c.args.table.now c.in-Some.parent c.args.child) there in
     omega (arith, within)
 
 pub unreachable-requires : goal.unreachable-requires
-unreachable-requires c =
+unreachable-requires g c =
     let made = c.reads_in_place.ensures.below_root c.args.child c.requires.later c.requires.known in
     none-some made.parent (sym (sym c.parent.ensures ∙ c.in-None.is) ∙ made.is_parent)

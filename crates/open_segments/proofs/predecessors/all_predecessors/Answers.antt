@@ -7,7 +7,7 @@ use Rattle.open_segments.proofs.KeptLists.{entered_first, first_pushed, list_pus
 use Rattle.open_segments.proofs.predecessors.all_predecessors.Goals as goal
 
 pub loop-segment-init : goal.loop-segment-init
-loop-segment-init c =
+loop-segment-init g c =
     let table : Table = c.args.table.now in
     let siblings : c.in_ok-siblings.siblings.items ≡ replicate (length table.tasks) [] =
     c.in_ok-siblings.ensures
@@ -21,7 +21,7 @@ loop-segment-init c =
     }
 
 pub loop-segment-preserved : goal.loop-segment-preserved
-loop-segment-preserved c =
+loop-segment-preserved g c =
     let table : Table = c.args.table.now in
     let segment : ℕ = c.loop-segment.segment in
     let same : segment ≡ (segment + 1) - 1 = omega arith in

@@ -4,7 +4,7 @@ use Rattle.open_segments.specs.NumberLists.{lists_of}
 use Rattle.open_segments.proofs.predecessors.all_predecessors.Given as goal
 
 abbrev pub invariant-loop-segment : goal.invariant-loop-segment
-invariant-loop-segment l = record {
+invariant-loop-segment g l = record {
   lists : AreFirstLists l.table l.segment (lists_of l.lists.items);
   entered : AreEntered l.table (l.segment - 1) l.siblings.items;
 }

@@ -1,3 +1,4 @@
+use Rattle.std.proofs.Common.{rules}
 use Rattle.std.proofs.Common.{ℕ, ◌+◌, ◌≡◌, List, Some, sym, subst}
 use Rattle.std.specs.Prelude.{slice_get}
 use Rattle.task_segments.specs.Table.{Table}
@@ -9,39 +10,46 @@ use Rattle.open_segments.proofs.KeptLists.{entered_child, entered_so_far}
 use Rattle.open_segments.proofs.SiblingSteps.{above_root}
 use Rattle.open_segments.proofs.predecessors.enter_child.Goals as goal
 
-pub kept_siblings-requires-clause-known : goal.kept_siblings-requires-clause-known
-kept_siblings-requires-clause-known c =
-    (c.reads_in_place.ensures.creates c.args.creator c.args.child c.requires.known
-    c.requires.creates).0
+pub kept_siblings-requires : goal.kept_siblings-requires
+kept_siblings-requires g c = (
+  search rules,
+  (
+    ((c.reads_in_place.ensures.creates c.args.creator c.args.child c.requires.known
+        c.requires.creates).0),
+    (
+      (let facts = c.reads_in_place.ensures in
+          let made = facts.creates c.args.creator c.args.child c.requires.known c.requires.creates in
+          above_root c.args.table.now c.args.child c.args.creator facts made.1),
+      (λ parent of_parent. subst
+          (λ (l : List (List Sibling)). slice_get l parent
+          ≡ Some (children_below c.args.table.now parent c.args.child))
+          (sym c.as_slice.ensures.value)
+          (entered_so_far c.args.table.now c.args.creator c.args.child parent c.args.siblings.now.items
+          c.reads_in_place.ensures c.requires.known c.requires.creates of_parent c.requires.so_far)),
+    ),
+  ),
+)
 
-pub kept_siblings-requires-clause-later : goal.kept_siblings-requires-clause-later
-kept_siblings-requires-clause-later c =
-    let facts = c.reads_in_place.ensures in
-    let made = facts.creates c.args.creator c.args.child c.requires.known c.requires.creates in
-    above_root c.args.table.now c.args.child c.args.creator facts made.1
-
-pub kept_siblings-requires-clause-so_far : goal.kept_siblings-requires-clause-so_far
-kept_siblings-requires-clause-so_far c parent of_parent =
-    subst
-    (λ (l : List (List Sibling)). slice_get l parent
-    ≡ Some (children_below c.args.table.now parent c.args.child))
-    (sym c.as_slice.ensures.value)
-    (entered_so_far c.args.table.now c.args.creator c.args.child parent c.args.siblings.now.items
-    c.reads_in_place.ensures c.requires.known c.requires.creates of_parent c.requires.so_far)
-
-pub add_sibling-requires-clause-later : goal.add_sibling-requires-clause-later
-add_sibling-requires-clause-later c =
-    let facts = c.reads_in_place.ensures in
-    let made = facts.creates c.args.creator c.args.child c.requires.known c.requires.creates in
-    above_root c.args.table.now c.args.child c.args.creator facts made.1
-
-pub add_sibling-requires-clause-so_far : goal.add_sibling-requires-clause-so_far
-add_sibling-requires-clause-so_far c parent of_parent =
-    entered_so_far c.args.table.now c.args.creator c.args.child parent c.args.siblings.now.items
-    c.reads_in_place.ensures c.requires.known c.requires.creates of_parent c.requires.so_far
+pub add_sibling-requires : goal.add_sibling-requires
+add_sibling-requires g c = (
+  search rules,
+  (
+    (search rules),
+    (
+      (let facts = c.reads_in_place.ensures in
+          let made = facts.creates c.args.creator c.args.child c.requires.known c.requires.creates in
+          above_root c.args.table.now c.args.child c.args.creator facts made.1),
+      (
+        (search rules),
+        (λ parent of_parent. entered_so_far c.args.table.now c.args.creator c.args.child parent c.args.siblings.now.items
+            c.reads_in_place.ensures c.requires.known c.requires.creates of_parent c.requires.so_far),
+      ),
+    ),
+  ),
+)
 
 pub returns-clause-kept : goal.returns-clause-kept
-returns-clause-kept c =
+returns-clause-kept g c =
     let table : Table = c.args.table.now in
     let facts = c.reads_in_place.ensures in
     let made = facts.creates c.args.creator c.args.child c.requires.known c.requires.creates in
@@ -49,7 +57,7 @@ returns-clause-kept c =
     (facts.first_created c.args.child c.args.creator made.0 made.1) c.first_predecessors.ensures
 
 pub returns-clause-entered : goal.returns-clause-entered
-returns-clause-entered c =
+returns-clause-entered g c =
     let table : Table = c.args.table.now in
     let child : ℕ = c.args.child in
     let creator : ℕ = c.args.creator in

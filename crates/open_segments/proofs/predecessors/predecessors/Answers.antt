@@ -1,3 +1,4 @@
+use Rattle.std.proofs.Common.{rules}
 use Rattle.std.proofs.Common.{ℕ, ◌+◌, ◌-◌, ◌<◌, ◌≡◌, Some, length, ap, ◌∙◌, subst, arith}
 use Rattle.std.proofs.Common.{inl, inr}
 use Rattle.std.specs.Prelude.{IfOk, OnOk}
@@ -9,40 +10,45 @@ use Rattle.open_segments.proofs.KeptLists.{entered_still, on_ok}
 use Rattle.open_segments.proofs.predecessors.predecessors.Goals as goal
 
 pub returns-in-Creates-clause-kept : goal.returns-in-Creates-clause-kept
-returns-in-Creates-clause-kept c =
+returns-in-Creates-clause-kept g c =
     let next : (c.args.segment - 1) + 1 ≡ c.args.segment = let later = c.requires.later in
     omega (arith, later) in
     subst (λ (t : ℕ). IfOk c.enter_child.result (λ preds.
     Lists (λ p. IsKeptEdge c.args.table.now p t) preds.items)) next c.enter_child.ensures.kept
 
 pub returns-in-Creates-clause-entered : goal.returns-in-Creates-clause-entered
-returns-in-Creates-clause-entered c =
+returns-in-Creates-clause-entered g c =
     let next : (c.args.segment - 1) + 1 ≡ c.args.segment = let later = c.requires.later in
     omega (arith, later) in
     subst (λ (t : ℕ). OnOk c.enter_child.result
     (AreEntered c.args.table.now t c.enter_child.new.siblings.items)) next
     c.enter_child.ensures.entered
 
-pub next_predecessors-requires : goal.next_predecessors-requires
-next_predecessors-requires c =
-    let facts = c.reads_in_place.ensures in
-    let later = c.requires.later in
-    elim ((c.opener.ensures.some c.in-Some.opener).0 c.in-Some.is) [
-      | inl follows ↦ follows
-      | inr creation ↦
-          let made = facts.created c.in-Some.opener creation.child creation.is_child
-          creation.creator in
-          let first = facts.first_created creation.child c.in-Some.opener creation.is_child
-          creation.creator in
-          let at_first = creation.first in
-          let same : c.args.segment - 1 ≡ c.in-Some.opener =
-          omega (arith, first, at_first, later) in
-          absurd (c.in_default.not-Creates creation.child (c.closing.ensures
-          ∙ ap (λ (n : ℕ). (segment c.args.table.now n).closing) same ∙ made.1))
-    ]
+pub after_opener-requires : goal.after_opener-requires
+after_opener-requires g c = (
+  search rules,
+  (
+    (let facts = c.reads_in_place.ensures in
+        let later = c.requires.later in
+        elim ((c.opener.ensures.some c.in-Some.opener).0 c.in-Some.is) [
+          | inl follows ↦ follows
+          | inr creation ↦
+              let made = facts.created c.in-Some.opener creation.child creation.is_child
+              creation.creator in
+              let first = facts.first_created creation.child c.in-Some.opener creation.is_child
+              creation.creator in
+              let at_first = creation.first in
+              let same : c.args.segment - 1 ≡ c.in-Some.opener =
+              omega (arith, first, at_first, later) in
+              absurd (c.in_default.not-Creates creation.child (c.closing.ensures
+              ∙ ap (λ (n : ℕ). (segment c.args.table.now n).closing) same ∙ made.1))
+        ]),
+    (search rules),
+  ),
+)
 
 pub returns-clause-entered : goal.returns-clause-entered
-returns-clause-entered c =
+returns-clause-entered g c =
     let table : Table = c.args.table.now in
     let facts = c.reads_in_place.ensures in
     let later = c.requires.later in
@@ -56,4 +62,4 @@ returns-clause-entered c =
     let entered : AreEntered table c.args.segment c.args.siblings.now.items =
     subst (λ (t : ℕ). AreEntered table t c.args.siblings.now.items) next
     (entered_still table before c.args.siblings.now.items known none c.requires.so_far) in
-    on_ok c.next_predecessors.result entered
+    on_ok c.after_opener.result entered

@@ -4,7 +4,7 @@ use Rattle.open_segments.specs.WaysToOpen.{last_segment}
 use Rattle.open_segments.proofs.record.to_last_segments.Given as goal
 
 abbrev pub invariant-loop-at : goal.invariant-loop-at
-invariant-loop-at l =
+invariant-loop-at g l =
     (l.tasks.items
     ≡ map (last_segment l.table) (take l.at l.initial.tasks.items)
     ++ drop l.at l.initial.tasks.items)

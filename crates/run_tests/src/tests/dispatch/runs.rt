@@ -1,7 +1,7 @@
 //! Whole runs, with values of the mixing kernel that were computed apart from this program.
 use super::{
     WORKED, WORKED_PREDS, check_preds, check_ready, check_refusal, check_start, check_worked_graph,
-    event_count, finish_on, finished_graph, mixed_result, new_core, start_on,
+    event_count, finish_on, finished_graph, mixed_result, new_core, start_on, unfinished_core,
 };
 use crate::tests::{check_graph, graph_of_body};
 use dispatch_core::dispatch::Core;
@@ -82,14 +82,6 @@ fn values_of_programs(rt: HostRuntime) -> Result<(), Fail> {
         check_edges(&rt, core, *edges, body)?;
     }
     Ok(())
-}
-
-/// The run that an unfinished run is given back as.
-fn unfinished_core(core: Core<MixKernel>) -> Result<Core<MixKernel>, Fail> {
-    match core.into_graph() {
-        Ok(_) => Err("a graph".into()),
-        Err(unfinished) => Ok(unfinished.core),
-    }
 }
 
 /// A worker runs this segment, or none.

@@ -33,7 +33,7 @@ impl PlainTable {
     }
 
     /// The earlier siblings that a new task is kept after.
-    pub(crate) fn create(&mut self, task: u32, items: &[Item]) -> Result<Vec<u32>, AllocFault> {
+    pub(crate) fn generate(&mut self, task: u32, items: &[Item]) -> Result<Vec<u32>, AllocFault> {
         let mut ranked = Vec::new(self.alloc);
         for item in items {
             ranked.push(RankedItem {

@@ -6,8 +6,8 @@ use Rattle.span_cert.proofs.broken_pairs.broken_in_column.Given as goal
 
 -- t stands in the column, and no segment of the column before it is broken
 abbrev pub invariant-loop-t : goal.invariant-loop-t
-invariant-loop-t l =
+invariant-loop-t g l =
     InColumn l.column l.t × NoneInColumn l.table (moments_of_starts l.starts) l.column l.t
 
 abbrev pub decreases-loop-t : goal.decreases-loop-t
-decreases-loop-t l = length l.table.segments - l.t
+decreases-loop-t g l = length l.table.segments - l.t

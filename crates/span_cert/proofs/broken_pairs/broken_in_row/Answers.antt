@@ -7,12 +7,12 @@ use Rattle.span_cert.proofs.EndTimes.{has_ended}
 use Rattle.span_cert.proofs.broken_pairs.broken_in_row.Goals as goal
 
 pub returns-then-is_broken : goal.returns-then-is_broken
-returns-then-is_broken c =
+returns-then-is_broken g c =
     row_found c.args.table.now (moments_of_starts c.args.starts.now) c.loop-s.s c.args.t
     (c.is_broken.ensures.0 c.if-is_broken.true) c.loop-s.invariant
 
 pub loop-s-preserved : goal.loop-s-preserved
-loop-s-preserved c =
+loop-s-preserved g c =
     let starts = c.args.starts.now in
     let t_inside : c.args.t < length c.args.table.now.segments =
     omega (arith, c.if-t-len.false, c.len.ensures) in
@@ -31,6 +31,6 @@ loop-s-preserved c =
     ])
 
 pub returns : goal.returns
-returns c = λ r b.
+returns g c = λ r b.
     let up = c.goes_up.ensures r c.args.t b.precedes in
     c.loop-s.invariant r (omega (arith, up)) b

@@ -5,4 +5,4 @@ use Rattle.span_cert.proofs.broken_pairs.broken_in_row.Given as goal
 
 -- no segment before s is one that t has to wait for and does not
 abbrev pub invariant-loop-s : goal.invariant-loop-s
-invariant-loop-s l = (r : ℕ) → r < l.s → ¬ IsBroken l.table (moments_of_starts l.starts) r l.t
+invariant-loop-s g l = (r : ℕ) → r < l.s → ¬ IsBroken l.table (moments_of_starts l.starts) r l.t

@@ -7,7 +7,7 @@ use Rattle.span_cert.proofs.Counting.{cost-at, moment-at}
 use Rattle.span_cert.proofs.broken_pairs.is_broken.Goals as goal
 
 pub returns-then-is_too_soon : goal.returns-then-is_too_soon
-returns-then-is_too_soon c =
+returns-then-is_too_soon g c =
     let starts = c.args.starts.now in
     let none : Start = record { segment = 0; moment = 0 } in
     let to = moment-at starts c.args.t none (omega (arith, c.requires.each, c.requires.to)) in

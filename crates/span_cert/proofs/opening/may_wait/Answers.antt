@@ -11,7 +11,7 @@ use Rattle.span_cert.proofs.Openings.{after_child_waits, first_waits}
 use Rattle.span_cert.proofs.opening.may_wait.Goals as goal
 
 pub returns-else-eq : goal.returns-else-eq
-returns-else-eq c = λ precedes.
+returns-else-eq g c = λ precedes.
     let table = c.args.table.now in
     let marks = c.args.marks.now in
     let opens : OpensTask table c.args.t =
@@ -30,7 +30,7 @@ returns-else-eq c = λ precedes.
     ]
 
 pub returns-else-t-s-eq1 : goal.returns-else-t-s-eq1
-returns-else-t-s-eq1 c = λ precedes.
+returns-else-t-s-eq1 g c = λ precedes.
     let table = c.args.table.now in
     let opens : OpensAfterChild table c.args.t =
     subst (λ (o : OpensAt). IsOpening table c.args.t o) c.in-AfterChild.is c.requires.opening in

@@ -3,8 +3,8 @@ use Rattle.large_text.specs.Streamed.{HasNoLineFeed}
 use Rattle.large_text.proofs.Streaming.{kept, where_ok, no_feed_more}
 use Rattle.large_text.proofs.stream.TextMeter.keep.Goals as goal
 
-pub returns : goal.returns
-returns c =
+pub returns-clause-takes : goal.returns-clause-takes
+returns-clause-takes c =
     let self = c.args.self.now in
     where_ok c.extend_from_slice.result _ c.extend_from_slice.new.self.items self.tail.items
     c.args.bytes.now c.extend_from_slice.ensures.items (λ is taken fits h. record {

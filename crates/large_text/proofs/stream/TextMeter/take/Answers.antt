@@ -11,12 +11,12 @@ take_lines-requires-clause-taken c =
     (split_whole bytes lines tail c.whole_lines-end.result c.split_at.ensures.front
     c.split_at.ensures.back) c.requires.room
 
-pub returns : goal.returns
-returns c =
+pub returns-clause-takes : goal.returns-clause-takes
+returns-clause-takes c =
     let bytes = c.args.bytes.now in
     let lines = c.split_at.result.0.now in
     let tail = c.split_at.result.1.now in
     on_ok_weaker c.keep-2.result
     (takes_two bytes lines tail c.args.self.now c.take_lines.new.self c.keep-2.new.self
     (split_whole bytes lines tail c.whole_lines-end.result c.split_at.ensures.front
-    c.split_at.ensures.back) c.in_ok-take_lines.ensures) c.keep-2.ensures
+    c.split_at.ensures.back) c.in_ok-take_lines.ensures.takes) c.keep-2.ensures.takes

@@ -4,8 +4,8 @@ use Rattle.program_text.specs.Tokens.{is_line_feed}
 use Rattle.large_text.proofs.Streaming.{lines_done, fault_done}
 use Rattle.large_text.proofs.stream.TextMeter.take_lines.Goals as goal
 
-pub returns-in-Ok : goal.returns-in-Ok
-returns-in-Ok c = λ taken fits h.
+pub returns-in-Ok-clause-takes : goal.returns-in-Ok-clause-takes
+returns-in-Ok-clause-takes c = λ taken fits h.
     let self = c.args.self.now in
     record {
       fits = fits;
@@ -18,8 +18,8 @@ returns-in-Ok c = λ taken fits h.
           (omega (arith, c.in-Ok.ensures.line)) c.in-Ok.ensures.reads;
     }
 
-pub returns-else-eq : goal.returns-else-eq
-returns-else-eq c = λ taken fits h.
+pub returns-else-eq-clause-takes : goal.returns-else-eq-clause-takes
+returns-else-eq-clause-takes c = λ taken fits h.
     let self = c.args.self.now in
     record {
       fits = fits;

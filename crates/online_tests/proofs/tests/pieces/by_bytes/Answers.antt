@@ -68,6 +68,6 @@ pub bytes-preserved : goal.bytes-preserved
 bytes-preserved c =
     let i = c.bytes.invariant in record {
       so_far = one_more c.args.text.now i.so_far.0 c.bytes.meter c.take.new.self c.bytes.taken
-          (search c.bytes-test.true) (search c.requires) i.so_far.1 i.so_far.2 c.in_ok-take.ensures;
+          (search c.bytes-test.true) (search c.requires) i.so_far.1 i.so_far.2 c.in_ok-take.ensures.takes;
       within = omega (arith, c.bytes-test.true);
     }

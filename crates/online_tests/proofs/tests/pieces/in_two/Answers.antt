@@ -34,7 +34,7 @@ take-requires-2-clause-room c =
     let first = c.split_at.result.0.now in
     let rest = c.split_at.result.1.now in
     can_take first rest c.take.new.self
-    (has_taken [] first c.new-meter.result c.take.new.self c.in_ok-take.ensures c.new-meter.ensures
+    (has_taken [] first c.new-meter.result c.take.new.self c.in_ok-take.ensures.takes c.new-meter.ensures
     (omega (arith, c.split_at.ensures.front_len, c.requires.short)))
     (omega (arith, c.split_at.ensures.front_len, c.split_at.ensures.back_len, c.requires.short))
 
@@ -44,8 +44,8 @@ finish-requires c =
     let rest = c.split_at.result.1.now in
     let both = length-append first rest in
     can_take (first ++ rest) [] c.take-2.new.self
-    (has_taken first rest c.take.new.self c.take-2.new.self c.in_ok-take-2.ensures
-    (has_taken [] first c.new-meter.result c.take.new.self c.in_ok-take.ensures c.new-meter.ensures
+    (has_taken first rest c.take.new.self c.take-2.new.self c.in_ok-take-2.ensures.takes
+    (has_taken [] first c.new-meter.result c.take.new.self c.in_ok-take.ensures.takes c.new-meter.ensures
     (omega (arith, c.split_at.ensures.front_len, c.requires.short)))
     (omega (arith, c.split_at.ensures.front_len, c.split_at.ensures.back_len, c.requires.short)))
     (omega (

@@ -4,7 +4,7 @@ use Rattle.open_segments.proofs.Stages.{successors_at, successor_counted, room_f
 use Rattle.open_segments.proofs.counters.Counters.allocate.Goals as goal
 
 pub with_one-requires-clause-known : goal.with_one-requires-clause-known
-with_one-requires-clause-known c t has =
+with_one-requires-clause-known g c t has =
     let state = c.requires.up_to_date in
     let there = successors_at c.args.table.now c.args.values.now c.args.self.now c.args.finished
     c.index.result.now state c.requires.known c.index.ensures in
@@ -14,7 +14,7 @@ with_one-requires-clause-known c t has =
     subst (λ (l : List ℕ). t < length l) (sym c.as_slice.ensures.value) less
 
 pub with_one-requires-clause-once : goal.with_one-requires-clause-once
-with_one-requires-clause-once c =
+with_one-requires-clause-once g c =
     let state = c.requires.up_to_date in
     let there = successors_at c.args.table.now c.args.values.now c.args.self.now c.args.finished
     c.index.result.now state c.requires.known c.index.ensures in
@@ -22,7 +22,7 @@ with_one-requires-clause-once c =
     (state.successors.once c.args.finished c.index.result.now.items there c.requires.unfinished)
 
 pub returns-clause-made : goal.returns-clause-made
-returns-clause-made c =
+returns-clause-made g c =
     let state = c.requires.up_to_date in
     let there = successors_at c.args.table.now c.args.values.now c.args.self.now c.args.finished
     c.index.result.now state c.requires.known c.index.ensures in

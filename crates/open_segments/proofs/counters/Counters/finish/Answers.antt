@@ -3,11 +3,12 @@ use Rattle.open_segments.specs.Openings.{AreMade, IsOpened, IsRoomToOpen, AreRea
 use Rattle.open_segments.specs.UpToDate.{IsFreed}
 use Rattle.open_segments.proofs.Stages.{IsFinishing, recorded_still, has_successors, can_open_next}
 use Rattle.open_segments.proofs.Stages.{can_open_first, stage_first, siblings_end, sorted_lists}
+use Rattle.open_segments.proofs.counters.Counters.finish.Given.{Over}
 use Rattle.open_segments.proofs.counters.Counters.finish.Goals.{After-lower}
 use Rattle.open_segments.proofs.counters.Counters.finish.Goals as goal
 
 pub lower-requires : goal.lower-requires
-lower-requires c =
+lower-requires g c =
     let each = c.requires.each in
     let known = c.requires.known in
     let state = recorded_still c.args.table.now c.args.values.now.items c.args.self.now
@@ -18,10 +19,10 @@ lower-requires c =
     record { known = has.within; once = has.once; counted = has.counted }
 
 -- what is so once the successors are lowered
-finishing : (c : After-lower)
+finishing : (g : Over) (c : After-lower g)
     → IsFinishing c.args.table.now c.args.values.now.items c.args.finished c.args.value
     c.allocate.new.self c.lower.new.self c.in_ok-allocations.allocations
-finishing c =
+finishing g c =
     let each = c.requires.each in
     let known = c.requires.known in
     record {
@@ -40,17 +41,17 @@ finishing c =
     }
 
 pub open-requires : goal.open-requires
-open-requires c =
+open-requires g c =
     let allocations = c.in_ok-allocations.allocations in
     record {
       room = subst
           (λ (v : List (Option ℕ)). IsRoomToOpen v c.lower.new.self allocations.next allocations.ready)
           (sym c.as_slice-2.ensures.value)
-          (can_open_next _ _ _ _ _ _ _ (finishing (goal.at.open-requires c).After-lower));
+          (can_open_next _ _ _ _ _ _ _ (finishing g (goal.at.open-requires g c).After-lower));
     }
 
 pub open-requires-2 : goal.open-requires-2
-open-requires-2 c =
+open-requires-2 g c =
     let allocations = c.in_ok-allocations.allocations in
     let opened = subst
     (λ (v : List (Option ℕ)). IsOpened v allocations.next c.lower.new.self c.open.new.self)
@@ -63,13 +64,13 @@ open-requires-2 c =
           (λ (v : List (Option ℕ)). IsRoomToOpen v c.open.new.self allocations.first c.open.new.ready)
           (sym c.as_slice-3.ensures.value)
           (can_open_first _ _ _ _ _ _ c.open.new.self _ c.open.new.ready
-          (finishing (goal.at.open-requires-2 c).After-lower) opened ready);
+          (finishing g (goal.at.open-requires-2 g c).After-lower) opened ready);
     }
 
 pub returns : goal.returns
-returns c =
+returns g c =
     let allocations = c.in_ok-allocations.allocations in
-    let here = finishing (goal.at.returns c).After-lower in
+    let here = finishing g (goal.at.returns g c).After-lower in
     let opened = subst
     (λ (v : List (Option ℕ)). IsOpened v allocations.next c.lower.new.self c.open.new.self)
     c.as_slice-2.ensures.value c.open.ensures.opened in

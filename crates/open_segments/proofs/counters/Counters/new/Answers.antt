@@ -5,7 +5,7 @@ use Rattle.open_segments.proofs.AtFirst.{up_to_date_first}
 use Rattle.open_segments.proofs.counters.Counters.new.Goals as goal
 
 pub returns : goal.returns
-returns c =
+returns g c =
     up_to_date_first c.args.table.now
     (record {
       preds = c.in_ok-no_lists.field-0;

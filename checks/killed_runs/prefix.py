@@ -1,0 +1,46 @@
+"""Whether a text is the beginning of another: of each task that it has, the first steps that the other text has."""
+import re
+
+WAIT = "taskwait"
+
+
+def read(text):
+    """The program of a text as a list of steps: a wait is a word, and a task the list of its own steps. Work is left
+    out, since its costs differ from run to run."""
+    steps, open_tasks = [], []
+    for line in text.split("\n"):
+        words = line.partition("#")[0].strip()
+        if re.match(r"task\b", words):
+            open_tasks.append(steps)
+            steps.append([])
+            steps = steps[-1]
+        elif words == "}":
+            steps = open_tasks.pop()
+        elif words == WAIT:
+            steps.append(WAIT)
+    return steps
+
+
+def is_prefix(some, whole):
+    """Deep trees are gone through with a list of what is left."""
+    left = [(some, whole)]
+    while left:
+        one, other = left.pop()
+        if len(one) > len(other):
+            return False
+        for step, wanted in zip(one, other):
+            if (step == WAIT) != (wanted == WAIT):
+                return False
+            if step != WAIT:
+                left.append((step, wanted))
+    return True
+
+
+def count(steps):
+    """How many tasks it has."""
+    left, tasks = [steps], 0
+    while left:
+        inner = [step for step in left.pop() if step != WAIT]
+        tasks += len(inner)
+        left += inner
+    return tasks

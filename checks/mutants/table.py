@@ -1,0 +1,92 @@
+#!/usr/bin/env python3
+"""What the tester caught of the mutants, by rule, as tables in Markdown: table.py FOLDER SEEN.json [OWN.json]
+
+FOLDER is what build.py made, SEEN.json the report of `conformance.py mutants --built FOLDER`, and OWN.json what
+own_tests.py wrote.
+"""
+import argparse
+import json
+import pathlib
+import sys
+
+OUTSIDE = ("detach", "mutexinoutset", "depobj", "grainsize")  # rules of what the text does not have
+
+
+def options_of(words=None):
+    parser = argparse.ArgumentParser(description=__doc__.split("\n", maxsplit=1)[0])
+    add = parser.add_argument
+    add("folder", type=pathlib.Path, help="what build.py made")
+    add("seen", type=pathlib.Path, help="the report of the tester")
+    add("own", type=pathlib.Path, nargs="?", help="what own_tests.py wrote")
+    add("--campaigns", type=int, default=5, help="as the tester was told (5)")
+    add("--names", action="store_true", help="a row for each mutant too")
+    return parser.parse_args(words)
+
+
+def is_caught(seen, campaigns):
+    """Whether two programs failed, or something did in half of the campaigns."""
+    programs = set().union(*seen["campaigns"])
+    return len(programs) > 1 or 2 * sum(bool(some) for some in seen["campaigns"]) >= campaigns
+
+
+class Counts:
+    """What came of the mutants of a rule that break it."""
+
+    def __init__(self, mutants, seen, own, campaigns):
+        wrong = [name for name, fields in mutants.items() if fields["breaks"] == "yes" and name in seen]
+        self.wrong = len(wrong)
+        self.kept = sum(name in seen for name in mutants) - self.wrong
+        self.surely = sum(is_caught(seen[name], campaigns) for name in wrong)
+        self.once = sum(any(seen[name]["campaigns"]) for name in wrong) - self.surely
+        self.escaped = [name for name in wrong if not any(seen[name]["campaigns"])]
+        self.false = [name for name, fields in mutants.items()
+                      if fields["breaks"] != "yes" and any(seen.get(name, {"campaigns": []})["campaigns"])]
+        self.own = sum(bool(own.get(name)) for name in wrong)
+
+    def cells(self, has_own):
+        names = ", ".join(f"`{name}`" for name in self.escaped)
+        return [self.wrong, self.surely, self.once, names, *([self.own] if has_own else []), self.kept, len(self.false)]
+
+
+def rows(mutants, seen, own, campaigns):
+    """A row for each rule, for the rules of the text, and for all."""
+    rules = sorted({fields["rule"] for fields in mutants.values()}, key=lambda rule: (rule in OUTSIDE, rule))
+    inside = [rule for rule in rules if rule not in OUTSIDE]
+    groups = [*((rule, [rule]) for rule in rules), ("**rules of the text**", inside), ("**all**", rules)]
+    for title, chosen in groups:
+        some = {name: fields for name, fields in mutants.items() if fields["rule"] in chosen}
+        yield [title, *Counts(some, seen, own, campaigns).cells(bool(own))]
+
+
+def lines_of(heads, table):
+    yield "| " + " | ".join(heads) + " |"
+    yield "|" + "---|" * len(heads)
+    for row in table:
+        yield "| " + " | ".join(map(str, row)) + " |"
+
+
+def by_name(mutants, seen, own):
+    """A row for each mutant."""
+    for name, fields in sorted(mutants.items(), key=lambda pair: (pair[1]["rule"], pair[0])):
+        if name in seen:
+            programs = set().union(*seen[name]["campaigns"])
+            yield [f"`{name}`", fields["rule"], fields["breaks"].split(":")[0], len(programs),
+                   "; ".join(seen[name]["ways"]), len(own.get(name, []))]
+
+
+def main():
+    options = options_of()
+    mutants = json.loads((options.folder / "mutants.json").read_text())
+    seen = json.loads(options.seen.read_text())
+    own = json.loads(options.own.read_text()) if options.own else {}
+    heads = ["rule", "break it", "caught", "caught once", "escaped", *(["own tests"] if own else []), "break nothing",
+             "of these refused"]
+    print("\n".join(lines_of(heads, rows(mutants, seen, own, options.campaigns))))
+    if options.names:
+        heads = ["mutant", "rule", "breaks it", "programs", "seen as", "own tests"]
+        print("\n" + "\n".join(lines_of(heads, by_name(mutants, seen, own))))
+    return 0
+
+
+if __name__ == "__main__":
+    sys.exit(main())

@@ -1,0 +1,133 @@
+"""The mutants' heads, how they are built, and how what was caught is counted."""
+import pathlib
+import tempfile
+import unittest
+import unittest.mock
+
+import build
+import own_tests
+import sources
+import table
+from patches import FOLDER, NoMutant, mutants_of, read_mutant
+
+HEAD = "Description: a task never ends\nRule: progress\nBreaks: yes\n\n--- a/task.c\n+++ b/task.c\n"
+
+
+class Patches(unittest.TestCase):
+    def read(self, text):
+        with tempfile.TemporaryDirectory() as folder:
+            path = pathlib.Path(folder) / "never-ends.patch"
+            path.write_text(text)
+            return read_mutant(path)
+
+    def test_head(self):
+        mutant = self.read(HEAD)
+        self.assertEqual((mutant.name, mutant.words, mutant.rule), ("never-ends", "a task never ends", "progress"))
+        self.assertTrue(mutant.is_wrong)
+        self.assertFalse(self.read(HEAD.replace("yes", "no: slower")).is_wrong)
+
+    def test_head_without_a_field(self):
+        with self.assertRaisesRegex(NoMutant, "no Rule"):
+            self.read(HEAD.replace("Rule: progress\n", ""))
+
+    def test_all_that_there_are(self):
+        for family, least in (("gomp", 40), ("kmp", 15)):
+            mutants = mutants_of(family)
+            self.assertGreaterEqual(sum(mutant.is_wrong for mutant in mutants), least)
+            for mutant in mutants:
+                self.assertRegex(mutant.breaks, "^(yes|no: .+)$", mutant.name)
+                self.assertLess(len(mutant.words), 121, mutant.name)
+                self.assertIn("\n+++ b/", mutant.path.read_text(), mutant.name)
+
+    def test_names(self):
+        self.assertEqual([mutant.name for mutant in mutants_of("gomp", ["if-ignored"])], ["if-ignored"])
+        with self.assertRaisesRegex(NoMutant, "no mutant nothing of gomp"):
+            mutants_of("gomp", ["nothing"])
+
+    def test_each_name_is_that_of_its_file(self):
+        self.assertEqual({path.parent.name for path in FOLDER.glob("*/*.patch")}, set(sources.FAMILIES))
+
+
+class Building(unittest.TestCase):
+    def test_options(self):
+        options = build.options_of("gomp out one two --jobs 3".split())
+        self.assertEqual((options.family, options.names, options.jobs), ("gomp", ["one", "two"], 3))
+
+    def test_no_archive(self):
+        with unittest.mock.patch.object(sources.Gomp, "archives", "/nowhere/*.xz"):
+            with self.assertRaisesRegex(sources.NoSource, "gcc-12-source"):
+                sources.archive_of("gomp")
+            self.assertEqual(sources.archive_of("gomp", "some.tar"), "some.tar")
+
+    def test_a_patch_is_applied_and_taken_back(self):
+        with tempfile.TemporaryDirectory() as folder:
+            tree, called = pathlib.Path(folder), []
+            (tree / "lib.so").write_text("library")
+            family = unittest.mock.Mock(library="lib.so")
+            family.make.side_effect = lambda *_: called.append("make")
+            with unittest.mock.patch.dict(sources.FAMILIES, {"some": family}), \
+                    unittest.mock.patch.object(sources, "run", lambda words, *_: called.append(" ".join(words[:3]))):
+                sources.build_patched("some", tree, "a.patch", tree / "a.so")
+            self.assertEqual(called, ["patch -p1 -i", "make", "patch -p1 -R"])
+            self.assertEqual((tree / "a.so").read_text(), "library")
+
+    def test_a_command_that_fails_tells_its_last_lines(self):
+        with tempfile.TemporaryDirectory() as folder:
+            with self.assertRaisesRegex(sources.NoSource, "sh -c .* fails: bad luck"):
+                sources.run(["sh", "-c", "echo bad luck; exit 1"], folder, pathlib.Path(folder) / "log")
+
+
+class Tables(unittest.TestCase):
+    MUTANTS = {"lost": {"rule": "once", "breaks": "yes"}, "slow": {"rule": "once", "breaks": "no: slower"},
+               "early": {"rule": "taskwait", "breaks": "yes"}, "detached": {"rule": "detach", "breaks": "yes"}}
+
+    def seen(self, *campaigns):
+        return {"campaigns": list(campaigns), "ways": ["hung"]}
+
+    def row(self, title, seen, own=()):
+        return next(row for row in table.rows(self.MUTANTS, seen, dict(own), 5) if row[0] == title)[1:]
+
+    def test_caught(self):
+        self.assertTrue(table.is_caught(self.seen(["a", "b"]), 5))
+        self.assertTrue(table.is_caught(self.seen(["a"], [], ["a"], [], ["a"]), 5))
+        self.assertFalse(table.is_caught(self.seen(["a"], [], ["a"], [], []), 5))
+
+    def test_rows(self):
+        seen = {"lost": self.seen(["a", "b"]), "slow": self.seen([]), "early": self.seen([]),
+                "detached": self.seen(["c"])}
+        self.assertEqual(self.row("once", seen), [1, 1, 0, "", 1, 0])
+        self.assertEqual(self.row("taskwait", seen, {"early": ["x"]}.items()), [1, 0, 0, "`early`", 1, 0, 0])
+        self.assertEqual(self.row("**rules of the text**", seen), [2, 1, 0, "`early`", 1, 0])
+        self.assertEqual(self.row("**all**", seen), [3, 1, 1, "`early`", 1, 0])
+
+    def test_what_breaks_nothing_and_was_refused(self):
+        self.assertEqual(self.row("once", {"slow": self.seen(["a"])}), [0, 0, 0, "", 1, 1])
+
+    def test_a_row_for_each_mutant(self):
+        rows = list(table.by_name(self.MUTANTS, {"lost": self.seen(["a"], ["b"])}, {"lost": ["x", "y"]}))
+        self.assertEqual(rows, [["`lost`", "once", "yes", 2, "hung", 2]])
+
+
+class OwnTests(unittest.TestCase):
+    def test_status_and_time(self):
+        with tempfile.TemporaryDirectory() as folder:
+            program = pathlib.Path(folder) / "prog"
+            program.write_text('#!/bin/sh\n[ "$LD_PRELOAD" = good.so ]\n')
+            program.chmod(0o755)
+            self.assertTrue(own_tests.passes(program, "good.so"))
+            self.assertFalse(own_tests.passes(program, "bad.so"))
+            program.write_text("#!/bin/sh\nexec sleep 9\n")
+            with unittest.mock.patch.object(own_tests, "SECONDS", .1):
+                self.assertFalse(own_tests.passes(program, ""))
+
+    def test_libraries(self):
+        with tempfile.TemporaryDirectory() as folder:
+            folder = pathlib.Path(folder)
+            for name in ("a", "none", "b"):
+                (folder / f"{name}.so").touch()
+            self.assertEqual([name for name, _ in own_tests.libraries(folder, [])], ["none", "a", "b"])
+            self.assertEqual([name for name, _ in own_tests.libraries(folder, ["b"])], ["none", "b"])
+
+
+if __name__ == "__main__":
+    unittest.main()

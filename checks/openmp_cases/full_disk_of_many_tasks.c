@@ -1,0 +1,19 @@
+// Where there was no room for the whole log, no fold is advised on what is left of the region.
+// says: out.tasks is not written: \d+ tasks, and spanprof takes 4096; this is the region's beginning only, and no fold is advised
+// file: out.large.tasks
+// no file: out.tasks
+#include <sys/resource.h>
+
+#include "spend.h"
+
+int main(void) {
+    struct rlimit most = {1500000, 1500000};
+    setrlimit(RLIMIT_FSIZE, &most);
+#pragma omp parallel
+#pragma omp single
+    for (int i = 0; i < 40000; i++) {
+#pragma omp task
+        spend(0);
+    }
+    return 0;
+}

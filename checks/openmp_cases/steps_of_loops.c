@@ -1,0 +1,38 @@
+// One region around 60 steps, each with a loop of 4 ms on 4 threads: a thread's code of a step is less than a hundredth
+// of the whole, and in the text all the same. The head tells what is divided among the threads.
+// env: SPANPROF_CLOCK=cpu
+// expect: work >= 240000000
+// expect: covers >= 90
+// expect: tasks = 60
+// text: # divided among 4 threads: loops, 60 times at steps_of_loops.c:15
+// text: # divided among 4 threads: sections, 1 time at steps_of_loops.c:29
+// text: # divided among 4 threads: code of the region, \d+ parts, 1[4-9]\d{7} ns beside the longest
+// no text: # remark: parts without tasks
+#include "spend.h"
+
+static void steps(void) {
+    for (int step = 0; step < 60; step++) {
+#pragma omp for schedule(static, 1)
+        for (int i = 0; i < 4; i++) spend(1);
+#pragma omp single
+        {
+#pragma omp task
+            spend(0);
+        }
+    }
+}
+
+int main(void) {
+#pragma omp parallel
+    {
+        steps();
+#pragma omp sections
+        {
+#pragma omp section
+            spend(1);
+#pragma omp section
+            spend(1);
+        }
+    }
+    return 0;
+}

@@ -1,0 +1,55 @@
+"""The programs of libgomp's own tests that have tasks, from the distribution's package gcc-12-source."""
+import glob
+import os
+import re
+import subprocess
+from dataclasses import dataclass
+
+ARCHIVES = "/usr/src/gcc-*/gcc-*.tar.xz"
+FOLDERS = ("libgomp.c", "libgomp.c++", "libgomp.c-c++-common")
+TASKS = re.compile(r"^\s*#\s*pragma\s+omp\b.*\btask", re.M)
+RUN = re.compile(r"dg-do\s+(\w+)")
+OPTIONS = re.compile(r"""dg-(?:additional-)?options\s+"([^"]*)"\s*(?:\{([^{}]*)\})?""")
+
+
+@dataclass(frozen=True)
+class Program:
+    name: str
+    path: str
+    options: tuple
+    is_cpp: bool
+
+
+def archive():
+    """The newest of those that are installed, or None."""
+    return max(glob.glob(ARCHIVES), default=None)
+
+
+def unpack(tar, folder):
+    top = os.path.basename(tar).replace("-dfsg", "").replace(".tar.xz", "")
+    names = ["%s/libgomp/testsuite/%s" % (top, it) for it in FOLDERS]
+    subprocess.run(["tar", "-xf", tar, "-C", folder] + names, check=True)
+    return os.path.join(folder, top, "libgomp", "testsuite")
+
+
+def options(source):
+    """Of the test's head those for every target."""
+    return tuple(word for words, target in OPTIONS.findall(source) if not target for word in words.split()
+                 if word != "-fopenmp")
+
+
+def is_run(source):
+    """Whether the test is run, and not compiled alone; libgomp's are run where nothing else is said."""
+    found = RUN.search(source)
+    return not found or found.group(1) == "run"
+
+
+def programs(folder):
+    found = []
+    for path in sorted(glob.glob(os.path.join(folder, "*", "*.[cC]"))):
+        with open(path, encoding="latin-1") as file:
+            source = file.read()
+        if TASKS.search(source) and is_run(source):
+            name = os.path.relpath(path, folder).replace("libgomp.", "").replace("/", ":")
+            found.append(Program(name, path, options(source), path.endswith(".C")))
+    return found

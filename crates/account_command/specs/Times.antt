@@ -1,0 +1,21 @@
+-- The times of a run, as they stand in a document behind its program.
+use Rattle.std.specs.Prelude.{ℕ, ◌≡◌, ◌+◌, List, map, count_by}
+use Rattle.program_text.specs.Document.{lines_of, program_part}
+use Rattle.program_text.specs.Tokens.{is_line_feed}
+use Rattle.time_accounts.specs.TimedRun.{TimedRun}
+use Rattle.time_text.specs.TimesTexts.{TellsTimes}
+use Rattle.time_text.specs.declared.line.RegionTimes.{RegionTimes}
+use Rattle.time_text.specs.declared.line.SegmentTimes.{SegmentTimes}
+
+-- the times of the segments, by number
+abbrev pub run_of : List SegmentTimes → TimedRun
+run_of segments = record {
+  threads = map (λ (times : SegmentTimes). times.thread) segments;
+  begins = map (λ (times : SegmentTimes). times.begin) segments;
+  ends = map (λ (times : SegmentTimes). times.end) segments;
+}
+
+-- The number in a document, from 1 on, of the line with this index behind the divider: before it
+-- stand the lines of the program, the divider, and as many lines as the index says.
+abbrev pub line_behind : List ℕ → ℕ → ℕ
+line_behind program i = count_by is_line_feed program + i + 2

@@ -1,0 +1,76 @@
+//! The program's way in: words that the system may fail to hand over, and an exit status.
+//!
+//! `run_program` is all of `main`; what the process gives and takes is named by no contract, so all
+//! else is in `start`.
+ghost use Rattle.std.specs.Prelude.{◌≡◌, ◌≢◌, ◌+◌, ◌<◌, ◌≤◌, ◌^◌, IfErr, IfOk, OnErr, map};
+ghost use Rattle.std.specs.Prelude.{None, string_bytes, true};
+ghost use Rattle.std.specs.Process.{exit_status};
+ghost use Rattle.std.specs.IoError.{error_kind};
+ghost use Rattle.counted_io.specs.Counted.{faults_of, flushes_of, inner_of, is_flushed};
+ghost use Rattle.counted_io.specs.Input.{ConsumesAtMost};
+ghost use Rattle.counted_io.specs.declared.input.TheConstants.{LARGEST_INPUT};
+ghost use Rattle.spanprof_command.specs.Command.{ExitsAfter, ExitsWith, HadFaults};
+ghost use Rattle.spanprof_command.specs.Report.{out_of_memory, wrong_words};
+ghost use Rattle.account_command.specs.AccountCommand.{ReportsInput};
+ghost use Rattle.account_command.specs.AccountWords.{request_of};
+ghost use Rattle.std.specs.declared.io.ErrorKind.TheVariants.{OutOfMemory};
+
+use crate::engine::command;
+use counted_io::Counted;
+use spanprof_command::{given_words, without_words};
+use std::alloc::{AllocGlobal, Global};
+use std::env::Env;
+use std::io;
+use std::io::{Input, Print, Read, Write};
+use std::process::ExitCode;
+
+/// The whole program: hands the words, standard input and standard output of the process to
+/// `start`, and answers what it answers.
+pub fn run_program<H: AllocGlobal + Env + Input + Print>(rt: &H) -> ExitCode {
+    let mut reader = Counted::new(rt.reader());
+    let mut writer = Counted::new(io::writer(rt));
+    start(rt.alloc(), given_words(rt), &mut reader, &mut writer)
+}
+
+/// Does what `command` does with the words that the system handed over, and answers the exit
+/// status: 0 where the report was written, 1 where the document was refused, 2 for wrong words, and 3
+/// where memory ran out, a read failed or a write failed. Where there are no words, nothing is
+/// read: words that are not text are wrong words.
+pub fn start<R: Read, W: Write>(
+    alloc: Global,
+    words: io::Result<Vec<String>>,
+    reader: &mut Counted<R>,
+    writer: &mut Counted<W>,
+) -> ExitCode
+    requires reader { faults_of reader.old < 2 ^ 63 }
+    requires writer { faults_of writer.old < 2 ^ 63 }
+    ensures given { IfOk words (λ given. ExitsWith (ReportsInput (map string_bytes given.items)
+        (R.remaining (inner_of reader.old)) (R.remaining (inner_of reader.new)))
+        (HadFaults (faults_of reader.old) (faults_of reader.new))
+        (W.contents (inner_of writer.old)) (W.contents (inner_of writer.new))
+        (HadFaults (faults_of writer.old) (faults_of writer.new)) result) }
+    ensures memory { IfErr words (λ error. error_kind error ≡ OutOfMemory → ExitsAfter out_of_memory
+        (W.contents (inner_of writer.old)) (W.contents (inner_of writer.new))
+        (HadFaults (faults_of writer.old) (faults_of writer.new)) result) }
+    ensures no_text { IfErr words (λ error. error_kind error ≢ OutOfMemory → ExitsAfter wrong_words
+        (W.contents (inner_of writer.old)) (W.contents (inner_of writer.new))
+        (HadFaults (faults_of writer.old) (faults_of writer.new)) result) }
+    ensures reads_nothing { OnErr words (reader.new ≡ reader.old) }
+    ensures reads_for_words { IfOk words (λ given.
+        request_of (map string_bytes given.items) ≡ None
+        → reader.new ≡ reader.old) }
+
+    // In every case, as of `command`.
+    ensures reads_so_much { ConsumesAtMost (LARGEST_INPUT + 1) (R.remaining (inner_of reader.old))
+        (R.remaining (inner_of reader.new)) }
+    ensures flushed { exit_status result ≢ 3 → is_flushed writer.new ≡ true }
+    ensures flushed_without_fault { faults_of writer.new ≡ faults_of writer.old
+        → is_flushed writer.new ≡ true }
+    ensures flushes { flushes_of writer.new ≤ flushes_of writer.old + 1 }
+{
+    let status = match words {
+        Ok(words) => command(alloc, words.as_slice(), reader, writer),
+        Err(error) => without_words(error.kind(), writer),
+    };
+    ExitCode::from(status.exit_status())
+}

@@ -1,0 +1,191 @@
+-- No words and input have two reports.
+use Rattle.std.proofs.Common.{◌≡◌, ◌∙◌, ℕ, true, false, List, ◌++◌, Option, Some, None, inl}
+use Rattle.std.proofs.Common.{inr, ap, sym, subst, arith, append-nil}
+use Rattle.command_words.specs.LargeWords.{large_request_of}
+use Rattle.command_words.specs.declared.large.LargeRequest.{LargeRequest}
+use Rattle.command_words.specs.declared.large.LargeRequest.TheVariants.{Bounds, Numbers}
+use Rattle.program_text.specs.Limits.{work_of}
+use Rattle.program_text.specs.Marks.{Mark}
+use Rattle.program_text.specs.Tokens.{line_at_end, texts, tokens_of}
+use Rattle.task_program.proofs.FirstFaults.{no_fault}
+use Rattle.task_segments.proofs.Schedules.{span-unique}
+use Rattle.task_segments.specs.Moments.{last_moment, segments_so_far}
+use Rattle.task_segments.specs.Precedence.{MustPrecede}
+use Rattle.task_segments.specs.Table.{costs_of, table_of}
+use Rattle.online_span.specs.Spans.{IsSpanOf}
+use Rattle.large_text.proofs.Whole.{one_fault}
+use Rattle.large_text.specs.LargeTrees.{large_rules}
+use Rattle.large_text.specs.Streamed.{FitsText}
+use Rattle.spanprof_command.specs.Report.{Report}
+use Rattle.large_command.specs.LargeCommand.{AnswersWords, IsReport, ReadsText, is_in_range}
+use Rattle.large_command.specs.LargeReports.{AcceptsText, Answers, AnswersWithin, RefusesText}
+use Rattle.large_command.specs.LargeReports.{Tells, bounds_report, numbers_report, text_refusal}
+use Rattle.large_command.specs.Lengths.{IsTooLong}
+use Rattle.large_command.specs.OneReport.{HasOneReport}
+use Rattle.large_command.proofs.Lengths.{not_both, stays_too_long}
+use Rattle.large_command.proofs.OneTree.{one_tree}
+
+same_told : (a b one other : Report) → a ≡ b → one ≡ a → other ≡ b → one ≡ other
+same_told a b one other same h g = h ∙ (same ∙ sym g)
+
+-- ---- of a program
+
+one_span : (marks : List Mark) (a b : ℕ) → IsSpanOf marks a → IsSpanOf marks b → a ≡ b
+one_span marks a b h g =
+    span-unique (costs_of (table_of marks)) (MustPrecede (table_of marks)) a b h.greatest_sum
+    g.greatest_sum
+
+-- of the same marks the same is told
+one_told : (asked : LargeRequest) (marks : List Mark) (one other : Report)
+    → Tells asked marks one
+    → Tells asked marks other
+    → one ≡ other
+one_told Numbers marks one other a b =
+    let last = last_moment marks in
+    let told : ℕ → ℕ → Report = λ tasks span.
+    numbers_report tasks (segments_so_far last) (work_of last) span in
+    let tasks : a.tasks ≡ b.tasks = omega (arith, a.all_tasks, b.all_tasks) in
+    let spans : a.span ≡ b.span = one_span marks a.span b.span a.is_span b.is_span in
+    same_told (told a.tasks a.span) (told b.tasks b.span) one other
+    (ap (λ (n : ℕ). told n a.span) tasks ∙ ap (λ (n : ℕ). told b.tasks n) spans) a.says b.says
+one_told (Bounds upto) marks one other a b =
+    let told : ℕ → Report = λ span. bounds_report upto (work_of (last_moment marks)) span in
+    same_told (told a.span) (told b.span) one other
+    (ap told (one_span marks a.span b.span a.is_span b.is_span)) a.says b.says
+
+-- ---- of a text
+
+one_accepted : (asked : LargeRequest) (text : List ℕ) (one other : Report)
+    → AcceptsText asked text one
+    → AcceptsText asked text other
+    → one ≡ other
+one_accepted asked text one other a b =
+    let same : b.marks ≡ a.marks =
+    one_tree (texts (tokens_of text)) b.marks a.marks b.tree a.tree in
+    one_told asked a.marks one other a.says
+    (subst (λ (marks : List Mark). Tells asked marks other) same b.says)
+
+one_refused : (text : List ℕ) (one other : Report)
+    → RefusesText text one
+    → RefusesText text other
+    → one ≡ other
+one_refused text one other a b =
+    same_told (text_refusal a.fault) (text_refusal b.fault) one other
+    (ap text_refusal (one_fault (tokens_of text) (line_at_end 1 text) a.fault b.fault a.is_fault
+    b.is_fault))
+    a.says b.says
+
+accepted_or_refused : (asked : LargeRequest) (text : List ℕ) (one other : Report)
+    → AcceptsText asked text one
+    → RefusesText text other
+    → ⊥
+accepted_or_refused asked text one other a b =
+    no_fault large_rules (tokens_of text) (line_at_end 1 text) b.fault b.is_fault a.right
+
+one_answer : (asked : LargeRequest) (text : List ℕ) (one other : Report)
+    → Answers asked text one
+    → Answers asked text other
+    → one ≡ other
+one_answer asked text one other (inl a) (inl b) = one_accepted asked text one other a b
+one_answer asked text one other (inl a) (inr b) =
+    absurd (accepted_or_refused asked text one other a b)
+one_answer asked text one other (inr a) (inl b) =
+    absurd (accepted_or_refused asked text other one b a)
+one_answer asked text one other (inr a) (inr b) = one_refused text one other a b
+
+-- ---- of what is read of an input
+
+-- a text that fits is all of the input
+all_read : (input rest text : List ℕ)
+    → ReadsText (Some input) (Some rest) text
+    → FitsText text
+    → text ≡ input
+all_read input rest text h fits =
+    sym (h.read ∙ (ap (λ (bytes : List ℕ). text ++ bytes) (h.to_the_end fits) ∙ append-nil text))
+
+-- so it is not read where another reading stops at a text that is too long
+fits_or_stops : (input rest left text other : List ℕ)
+    → ReadsText (Some input) (Some rest) text
+    → ReadsText (Some input) (Some left) other
+    → FitsText text
+    → IsTooLong other
+    → ⊥
+fits_or_stops input rest left text other h g fits too_long =
+    not_both input
+    (subst (λ (bytes : List ℕ). FitsText bytes) (all_read input rest text h fits) fits)
+    (subst (λ (bytes : List ℕ). IsTooLong bytes) (sym g.read) (stays_too_long other left too_long))
+
+one_within : (asked : LargeRequest) (input rest left text other : List ℕ) (one two : Report)
+    → ReadsText (Some input) (Some rest) text
+    → ReadsText (Some input) (Some left) other
+    → AnswersWithin asked text one
+    → AnswersWithin asked other two
+    → one ≡ two
+one_within asked input rest left text other one two h g (inl a) (inl b) = a.says ∙ sym b.says
+one_within asked input rest left text other one two h g (inl a) (inr b) =
+    absurd (fits_or_stops input left rest other text g h b.fits a.too_long)
+one_within asked input rest left text other one two h g (inr a) (inl b) =
+    absurd (fits_or_stops input rest left text other h g a.fits b.too_long)
+one_within asked input rest left text other one two h g (inr a) (inr b) =
+    let same : other ≡ text =
+    all_read input left other g b.fits ∙ sym (all_read input rest text h a.fits) in
+    one_answer asked text one two a.answers
+    (subst (λ (bytes : List ℕ). Answers asked bytes two) same b.answers)
+
+-- ---- of words
+
+same_request : (wanted : Option LargeRequest) (one other : LargeRequest) → wanted ≡ Some one
+    → wanted ≡ Some other → one ≡ other
+same_request wanted one other h g = cc
+
+no_request : (wanted : Option LargeRequest) (asked : LargeRequest) → wanted ≡ None
+    → wanted ≡ Some asked → ⊥
+no_request wanted asked h g = absurd cc
+
+in_range_or_not : (wanted : Option LargeRequest) (one other : LargeRequest)
+    → wanted ≡ Some one
+    → wanted ≡ Some other
+    → is_in_range one ≡ false
+    → is_in_range other ≡ true
+    → ⊥
+in_range_or_not wanted one other h g outside inside =
+    let same : is_in_range one ≡ is_in_range other =
+    ap (λ (asked : LargeRequest). is_in_range asked) (same_request wanted one other h g) in
+    let both : false ≡ true = sym outside ∙ (same ∙ inside) in
+    absurd cc
+
+one_words : (words : List (List ℕ)) (input rest left : List ℕ) (one other : Report)
+    → AnswersWords words (Some input) (Some rest) one
+    → AnswersWords words (Some input) (Some left) other
+    → one ≡ other
+one_words words input rest left one other a b =
+    let same : b.asked ≡ a.asked =
+    same_request (large_request_of words) b.asked a.asked b.asks a.asks in
+    one_within a.asked input rest left a.answers.text b.answers.text one other a.answers.read
+    b.answers.read a.answers.answers
+    (subst (λ (asked : LargeRequest). AnswersWithin asked b.answers.text other) same
+    b.answers.answers)
+
+one_by : (words : List (List ℕ)) (input rest left : List ℕ) (one other : Report)
+    → IsReport words (Some input) (Some rest) one
+    → IsReport words (Some input) (Some left) other
+    → one ≡ other
+one_by words input rest left one other (inl a) (inl b) = a.says ∙ sym b.says
+one_by words input rest left one other (inl a) (inr (inl b)) =
+    absurd (no_request (large_request_of words) b.asked a.none b.asks)
+one_by words input rest left one other (inl a) (inr (inr b)) =
+    absurd (no_request (large_request_of words) b.asked a.none b.asks)
+one_by words input rest left one other (inr (inl a)) (inl b) =
+    absurd (no_request (large_request_of words) a.asked b.none a.asks)
+one_by words input rest left one other (inr (inr a)) (inl b) =
+    absurd (no_request (large_request_of words) a.asked b.none a.asks)
+one_by words input rest left one other (inr (inl a)) (inr (inl b)) = a.says ∙ sym b.says
+one_by words input rest left one other (inr (inl a)) (inr (inr b)) =
+    absurd (in_range_or_not (large_request_of words) a.asked b.asked a.asks b.asks a.outside b.inside)
+one_by words input rest left one other (inr (inr a)) (inr (inl b)) =
+    absurd (in_range_or_not (large_request_of words) b.asked a.asked b.asks a.asks b.outside a.inside)
+one_by words input rest left one other (inr (inr a)) (inr (inr b)) =
+    one_words words input rest left one other a b
+
+pub one_report : (words : List (List ℕ)) (input : List ℕ) → HasOneReport words input
+one_report words input one other h g = one_by words input h.rest g.rest one other h.report g.report

@@ -1,0 +1,157 @@
+//! What is kept of the marks of a text: its work and its span, and its rows, where they are wanted.
+ghost use Rattle.std.specs.Prelude.{◌≡◌, ◌≤◌, ◌∷◌, [], false, IfOk, OnOk, IsTrue, List};
+ghost use Rattle.std.specs.Option.{IfSome, is_some};
+ghost use Rattle.program_text.specs.Marks.{Mark};
+ghost use Rattle.program_text.specs.Marks.Mark.{Begins};
+ghost use Rattle.task_segments.specs.MarkCutting.{AreWithin, Tables};
+ghost use Rattle.task_segments.specs.MarksTable.{IsReading};
+ghost use Rattle.online_span.specs.Measuring.{Measures, CanTake};
+ghost use Rattle.large_text.specs.LargeReading.{mark_seen};
+ghost use Rattle.large_text.specs.Tallied.{keeps_rows, Tallies, CanTally, CanEnter, HasRowsOf, IsWholeTally};
+ghost use Rattle.program_text.specs.Limits.{work_of};
+ghost use Rattle.program_text.specs.declared.limits.TheConstants.{MOST_WORK};
+ghost use Rattle.task_program.specs.Nested.{IsNested};
+ghost use Rattle.task_segments.specs.Moments.{last_moment};
+ghost use Rattle.task_segments.specs.Table.{table_of};
+
+use crate::marks::TextMark;
+use online_span::Meter;
+use program_text::AllocFault;
+use program_text::limits::MOST_WORK;
+use std::alloc::{AllocError, Global};
+use task_segments::mark_cutter::MarkCutter;
+use task_segments::table::LargeTable;
+
+/// The work and the span of the marks so far, and the rows, where they are kept.
+#[derive(Drop)]
+pub struct Tally {
+    pub meter: Meter,
+    pub rows: Option<MarkCutter>,
+}
+
+impl Tally {
+    /// The tally of a text of which no mark has come, without rows.
+    pub fn new(alloc: Global) -> Tally
+        ensures { Tallies result (Begins false [] ∷ []) }
+    {
+        Tally {
+            meter: Meter::new(alloc),
+            rows: None,
+        }
+    }
+
+    /// The same with rows.
+    pub fn with_rows(alloc: Global) -> Result<Tally, AllocFault>
+        ensures begun { IfOk result (λ tally. Tallies tally (Begins false [] ∷ [])) }
+        ensures rows { IfOk result (λ tally. IsTrue (keeps_rows tally)) }
+    {
+        Ok(Tally {
+            meter: Meter::new(alloc),
+            rows: Some(MarkCutter::new(alloc)?),
+        })
+    }
+}
+
+impl Tally {
+    /// The table of the marks, where rows were kept and the numbers of the table fit.
+    pub fn into_table(self) -> Option<LargeTable>
+        requires { IsWholeTally self }
+        ensures table { IfSome result (λ table. (marks : List Mark) → IsNested marks
+            → Tallies self (last_moment marks) → table ≡ table_of marks) }
+        ensures some { IsTrue (keeps_rows self) → (marks : List Mark) → IsReading marks
+            → Tallies self (last_moment marks) → IsTrue (is_some result) }
+    {
+        let Tally { meter, rows } = self;
+        let within = meter.total_work() <= MOST_WORK;
+        match rows {
+            Some(rows) => table_within(rows, within),
+            None => None,
+        }
+    }
+
+    /// The meter alone.
+    pub fn into_meter(self) -> Meter
+        ensures { result ≡ self.meter }
+    {
+        let Tally { meter, .. } = self;
+        meter
+    }
+}
+
+// The table of these rows, where they and the work are within the limits.
+fn table_within(rows: MarkCutter, within: bool) -> Option<LargeTable>
+    requires { HasRowsOf rows within }
+    ensures some { IsTrue within → AreWithin rows → IsTrue (is_some result) }
+    ensures table { IfSome result (λ table. (marks : List Mark) → IsNested marks
+        → Tables rows (last_moment marks) → (IsTrue within → work_of marks ≤ MOST_WORK)
+        → table ≡ table_of marks) }
+{
+    if within && rows.is_within() {
+        Some(rows.finish())
+    } else {
+        None
+    }
+}
+
+/// Takes the next mark. There is no room for it where memory runs out, or numbers do.
+pub(crate) fn take_mark(tally: &mut Tally, mark: TextMark) -> Result<(), AllocFault>
+    requires { CanTally tally.old (mark_seen mark) }
+    ensures rows { keeps_rows tally.new ≡ keeps_rows tally.old }
+    ensures takes { OnOk result ((moment : List Mark) → Tallies tally.old moment
+        → Tallies tally.new (mark_seen mark ∷ moment)) }
+{
+    measure_mark(&mut tally.meter, &mark)?;
+    match &mut tally.rows {
+        Some(rows) => enter(rows, mark),
+        None => Ok(()),
+    }
+}
+
+fn measure_mark(meter: &mut Meter, mark: &TextMark) -> Result<(), AllocFault>
+    requires { CanTake meter.old (mark_seen mark.now) }
+    ensures { OnOk result ((moment : List Mark) → Measures meter.old moment
+        → Measures meter.new (mark_seen mark.now ∷ moment)) }
+{
+    match mark {
+        TextMark::TaskBegins { undeferred, items } => {
+            meter.begin_task(*undeferred, items.as_slice())
+        }
+        TextMark::TaskEnds => meter.end_task(),
+        TextMark::Work(cost) => {
+            meter.work(*cost);
+            Ok(())
+        }
+        TextMark::Wait => {
+            meter.wait();
+            Ok(())
+        }
+        TextMark::GroupOpens => meter.begin_group(),
+        TextMark::GroupCloses => {
+            meter.end_group();
+            Ok(())
+        }
+    }
+}
+
+// Enters a mark into the rows.
+#[tactic(auto, using(crate::proofs::Tallying::can_enter))]
+fn enter(rows: &mut MarkCutter, mark: TextMark) -> Result<(), AllocFault>
+    requires { CanEnter rows.old (mark_seen mark) }
+    ensures { OnOk result ((moment : List Mark) → Tables rows.old moment
+        → Tables rows.new (mark_seen mark ∷ moment)) }
+{
+    if !rows.has_room() {
+        return Err(AllocError);
+    }
+    match mark {
+        TextMark::TaskBegins { undeferred, items } => rows.begin_task(undeferred, items),
+        TextMark::TaskEnds => rows.end_task(),
+        TextMark::Work(cost) => {
+            rows.work(cost);
+            Ok(())
+        }
+        TextMark::Wait => rows.wait(),
+        TextMark::GroupOpens => rows.begin_group(),
+        TextMark::GroupCloses => rows.end_group(),
+    }
+}

@@ -1,0 +1,19 @@
+use Rattle.std.proofs.Common.{List, [], ◌∷◌, reverse, refl, ap, ◌∙◌}
+use Rattle.std.proofs.lemmas.List.{reverse-append}
+use Rattle.task_segments.specs.declared.mark_cutter.GroupRow.{GroupRow}
+use Rattle.task_segments.proofs.MarkCutting.{running_has_row, runs_now, takes_group_begins}
+use Rattle.task_segments.proofs.Walks.{children_now}
+use Rattle.task_segments.proofs.mark_cutter.MarkCutter.begin_group.Goals as goal
+
+pub children-children_before-requires : goal.children-children_before-requires
+children-children_before-requires c =
+    running_has_row c.args.self.now c.requires.moment c.requires.tables
+
+pub returns : goal.returns
+returns c = λ e h.
+    let a = c.args.self.now in
+    let begun = c.in_ok-number.ensures e h.cuts in
+    takes_group_begins a _ e _ h begun.0 refl refl
+    (ap (λ (rows : List GroupRow). reverse rows) c.in_ok-push.ensures.items
+    ∙ reverse-append a.groups.items (_ ∷ [])) begun.1
+    (c.children-children_before.ensures ∙ children_now a.cutter e a.running h.cuts (runs_now a e h))

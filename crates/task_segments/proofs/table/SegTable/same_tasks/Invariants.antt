@@ -1,6 +1,0 @@
-use Rattle.std.proofs.Common.{◌<◌, ◌≡◌, ℕ}
-use Rattle.task_segments.specs.Table.{task}
-use Rattle.task_segments.proofs.table.SegTable.same_tasks.Given as goal
-
-abbrev pub invariant-loop-t : goal.invariant-loop-t
-invariant-loop-t l = (u : ℕ) → u < l.t → task l.self u ≡ task l.other u

@@ -1,0 +1,17 @@
+pub mod Within
+pub mod Totals
+pub mod TimedRuns
+pub mod ReadyMoments
+pub mod Outside
+pub mod AllShares
+pub mod Paths
+pub mod Sweeping
+pub mod SomePath
+pub mod Between
+pub mod Outer
+pub mod Measured
+pub mod Taking
+pub mod Checked
+pub mod OfProgram
+pub mod PathSteps
+pub mod FirstSegment

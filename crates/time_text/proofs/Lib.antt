@@ -1,0 +1,4 @@
+pub mod Words
+pub mod LineSteps
+pub mod WholeTexts
+pub mod OneReading

@@ -1,0 +1,4 @@
+pub mod TimeLines
+pub mod TimesTexts
+pub mod Reading
+pub mod OneReading

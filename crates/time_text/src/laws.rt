@@ -1,0 +1,35 @@
+//! Laws of the definitions.
+ghost use Rattle.std.specs.Prelude.{ℕ, ◌≡◌, ◌≢◌, ◌<◌, List, length};
+ghost use Rattle.time_text.specs.OneReading.{HasReading};
+ghost use Rattle.time_text.specs.TimesTexts.{IsTextFault, TellsTimes};
+ghost use Rattle.time_text.specs.declared.fault.TimeTextFault.{TimeTextFault};
+ghost use Rattle.time_text.specs.declared.fault.TimeTextFault.TheVariants.{OutOfMemory};
+ghost use Rattle.time_text.specs.declared.line.RegionTimes.{RegionTimes};
+ghost use Rattle.time_text.specs.declared.line.SegmentTimes.{SegmentTimes};
+
+/// Each text of one line or more tells the times of a run of so many segments, or has a fault.
+pub fn some_reading()
+    ensures { (n : ℕ) (lines : List (List ℕ)) → 0 < length lines → HasReading n lines }
+{}
+
+/// No text tells two runs.
+pub fn one_run()
+    ensures { (n : ℕ) (lines : List (List ℕ)) (region other : RegionTimes)
+        (segments others : List SegmentTimes)
+        → TellsTimes n lines region segments → TellsTimes n lines other others
+        → (region ≡ other) × (segments ≡ others) }
+{}
+
+/// No text has two faults, want of memory aside.
+pub fn one_fault()
+    ensures { (n : ℕ) (lines : List (List ℕ)) (fault other : TimeTextFault)
+        → fault ≢ OutOfMemory → other ≢ OutOfMemory
+        → IsTextFault n lines fault → IsTextFault n lines other → fault ≡ other }
+{}
+
+/// A text that tells the times of a run has no fault.
+pub fn no_fault()
+    ensures { (n : ℕ) (lines : List (List ℕ)) (region : RegionTimes)
+        (segments : List SegmentTimes) (fault : TimeTextFault) → fault ≢ OutOfMemory
+        → TellsTimes n lines region segments → IsTextFault n lines fault → ⊥ }
+{}

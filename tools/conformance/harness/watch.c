@@ -1,0 +1,65 @@
+#define _GNU_SOURCE
+#include "watch.h"
+#include <dirent.h>
+#include <pthread.h>
+#include <stdio.h>
+#include <stdlib.h>
+#include <string.h>
+#include <time.h>
+#include <unistd.h>
+
+enum { LONGEST = 10 }; /* times as long as nothing may happen */
+
+void next_run(struct watch *watch) {
+    atomic_fetch_add(&watch->run, 1);
+}
+
+/* The letter that tells what a thread of this process does; `S` where it sleeps. */
+static char state_of(const char *thread) {
+    char path[64], text[512];
+    snprintf(path, sizeof path, "/proc/self/task/%.20s/stat", thread);
+    FILE *file = fopen(path, "r");
+    if (!file) return 'S'; /* it has ended */
+    size_t length = fread(text, 1, sizeof text - 1, file);
+    fclose(file);
+    text[length] = 0;
+    const char *name_end = strrchr(text, ')');
+    return name_end && name_end[1] ? name_end[2] : 'R';
+}
+
+/* Whether each thread but this one sleeps. */
+static bool all_sleep(void) {
+    DIR *threads = opendir("/proc/self/task");
+    if (!threads) return false;
+    bool all = true;
+    for (struct dirent *entry; all && (entry = readdir(threads));)
+        if (entry->d_name[0] != '.' && atoi(entry->d_name) != gettid()) all = state_of(entry->d_name) == 'S';
+    closedir(threads);
+    return all;
+}
+
+static void *watching(void *handed) {
+    struct watch *watch = handed;
+    unsigned run = 0, happened = 0, quiet = 0, age = 0;
+    bool asleep = true;
+    for (;; age++) {
+        nanosleep(&(struct timespec){1, 0}, NULL);
+        unsigned run_now = atomic_load(&watch->run), happened_now = sum_of_counts(watch->counts);
+        if (run_now != run) age = 0;
+        if (run_now != run || happened_now != happened) {
+            run = run_now;
+            happened = happened_now;
+            quiet = 0;
+            asleep = true;
+            continue;
+        }
+        asleep = all_sleep() && asleep;
+        if (++quiet >= watch->seconds || age >= LONGEST * watch->seconds) watch->hangs(asleep);
+    }
+    return NULL;
+}
+
+bool start_watch(struct watch *watch) {
+    pthread_t thread;
+    return !pthread_create(&thread, NULL, watching, watch) && !pthread_detach(thread);
+}

@@ -1,0 +1,17 @@
+/* Sees that runs end. A run hangs where no segment begins or ends for so many seconds, or where it goes on for ten
+ * times as long as that. */
+#ifndef WATCH_H
+#define WATCH_H
+#include "counts.h"
+#include <stdatomic.h>
+
+struct watch {
+    const struct counts *counts;
+    unsigned seconds;           /* without a begin or an end until a run hangs */
+    void (*hangs)(bool asleep); /* called by a thread of its own; `asleep`: no thread ran in all that time */
+    atomic_uint run;            /* counts the runs, so that each has all of its time */
+};
+
+bool start_watch(struct watch *watch); /* false: no thread for it */
+void next_run(struct watch *watch);
+#endif

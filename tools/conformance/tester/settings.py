@@ -1,0 +1,39 @@
+"""How programs are started: words before a program's own, and variables of the environment."""
+from dataclasses import dataclass, field
+
+
+@dataclass(frozen=True)
+class Setting:
+    """`shows` says what it is for; `families` are the runtimes that it is for."""
+    shows: str
+    variables: dict = field(default_factory=dict)
+    words: tuple = ()
+    families: tuple = ("gomp", "kmp")
+
+    def told(self):
+        """What a report says of it."""
+        told = [" ".join(self.words), *(f"{name}={value}" for name, value in self.variables.items())]
+        return f"{self.shows}: `{' '.join(filter(None, told))}`" if any(told) else self.shows
+
+
+SETTINGS = {
+    "free": Setting("as the runtime is by itself"),
+    "priorities": Setting("priorities count", {"OMP_MAX_TASK_PRIORITY": "9"}),
+    "pinned": Setting("all threads on one processor", words=("taskset", "-c", "{processor}")),
+    "bound": Setting("each thread on its processor", {"OMP_PROC_BIND": "close", "OMP_PLACES": "threads"}),
+    "active": Setting("waiting threads spin", {"OMP_WAIT_POLICY": "active"}),
+    "passive": Setting("waiting threads sleep", {"OMP_WAIT_POLICY": "passive"}),
+    "sleepy": Setting("waiting threads sleep at once", {"GOMP_SPINCOUNT": "0", "KMP_BLOCKTIME": "0"}),
+    "perturbed": Setting("memory that is given back is overwritten", {"MALLOC_PERTURB_": "170"}),
+    "stacks": Setting("threads have small stacks", {"OMP_STACKSIZE": "1M"}),
+    "unlogged": Setting("threads share no counter of events; values and ends are judged", {"CONFORMANCE_LOG": "none"}),
+    "orphaned": Setting("outside of any parallel region", {"CONFORMANCE_TEAM": "orphaned"}),
+    "nested": Setting("in a region inside another one", {"CONFORMANCE_TEAM": "nested"}),
+    "unthrottled": Setting("queues of ready tasks grow", {"KMP_ENABLE_TASK_THROTTLING": "0"}, families=("kmp",)),
+    "unconstrained": Setting("threads take any task", {"KMP_TASK_STEALING_CONSTRAINT": "0"}, families=("kmp",)),
+}
+
+
+def settings_of(family):
+    """The names of those that are for a runtime."""
+    return [name for name, setting in SETTINGS.items() if family in setting.families]

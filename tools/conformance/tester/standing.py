@@ -1,0 +1,49 @@
+"""Where a run stood that did not come to its end: what ran, what could have gone on, and at which constructs."""
+import re
+
+MOST_SEARCHED = 1000  # segments of a program whose ready segments are looked for
+MOST_NAMED = 3        # constructs that tell hangs apart
+
+
+class Standing:
+    """What a log says of a program, given its table of segments."""
+
+    def __init__(self, table, events):
+        self.table = table
+        pairs = [line.split() for line in events if line != "overflow"]
+        self.started = [int(segment) for what, _, segment in pairs if what == "start"]
+        self.finished = {int(segment) for what, _, segment in pairs if what == "finish"}
+        self.running = [s for s in self.started if s not in self.finished]
+        self.ready = self.ready_segments()
+
+    def ready_segments(self):
+        """The segments that might have been started; none are looked for in a large program."""
+        count, started = len(self.table.cost), set(self.started)
+        if count > MOST_SEARCHED:
+            return []
+        return [s for s in range(count) if s not in started
+                and all(need.before in self.finished for need in self.table.needs(s))]
+
+    def place_of(self, segment):
+        """The construct at which a segment that might have been started is held up."""
+        task, cut = self.table.task_of[segment], self.table.cut[segment]
+        if segment != task.segments[0]:
+            return cut.construct if cut.construct else "after a task"
+        return "begin of a task with depend" if task.items else "begin of a task"
+
+    def places(self):
+        """In a few words, the constructs at which a run hangs: the same for hangs that are taken for the same."""
+        found = sorted({self.place_of(segment) for segment in self.ready})
+        if found:
+            return ", ".join(found[:MOST_NAMED])
+        if self.running:
+            return "inside a segment"
+        return "end of the region" if len(self.finished) == len(self.table.cost) else "somewhere"
+
+
+def without_places(breakdown):
+    """How a program broke down, as it is the same on another machine and in another version: the complaint without
+    paths and numbers."""
+    how, colon, complaint = breakdown.partition(": ")
+    words = re.sub(r"(?<!\w)/?(?:[\w.+-]+/)+(?=[\w.+-])", "", complaint)
+    return how + colon + re.sub(r"\b0x[0-9a-fA-F]+\b|\b[0-9]+\b", "N", words)

@@ -1,0 +1,47 @@
+"""Results as other tools read them: a test for each program and the way its tasks are written, in JUnit's XML and in
+the Test Anything Protocol."""
+import re
+import xml.etree.ElementTree
+
+SUITE = "spanprof-conformance"
+NO_XML = re.compile("[^\t\n\r\x20-\ud7ff\ue000-\ufffd]")  # characters that XML does not have
+
+
+def junit(results):
+    """The text of a file of JUnit's: a program fails, or is skipped where its failures were all expected."""
+    outcomes = sorted(results.outcomes.items())
+    suite = xml.etree.ElementTree.Element("testsuite", {
+        "name": SUITE, "tests": str(len(outcomes)), "time": f"{results.seconds:.0f}", "errors": "0",
+        "failures": str(sum(outcome.failed > 0 for _, outcome in outcomes)),
+        "skipped": str(sum(is_expected(outcome) for _, outcome in outcomes))})
+    for (name, variant), outcome in outcomes:
+        case = xml.etree.ElementTree.SubElement(suite, "testcase", {"classname": f"{SUITE}.{variant}", "name": name})
+        if outcome.failed:
+            failure = xml.etree.ElementTree.SubElement(case, "failure", {"message": told(outcome)})
+            failure.text = NO_XML.sub("?", outcome.words)
+        elif is_expected(outcome):
+            xml.etree.ElementTree.SubElement(case, "skipped", {"message": f"expected: {', '.join(outcome.known)}"})
+    xml.etree.ElementTree.indent(suite)
+    return xml.etree.ElementTree.tostring(suite, encoding="unicode", xml_declaration=True)
+
+
+def tap(results):
+    """The same as lines of the Test Anything Protocol; an expected failure is a test that is still to do."""
+    outcomes = sorted(results.outcomes.items())
+    lines = ["TAP version 13", f"1..{len(outcomes)}"]
+    for number, ((name, variant), outcome) in enumerate(outcomes, 1):
+        fails = outcome.failed or is_expected(outcome)
+        todo = f" # TODO {', '.join(outcome.known)}" if is_expected(outcome) else ""
+        lines.append(f"{'not ok' if fails else 'ok'} {number} - {name} ({variant}){todo}")
+        if outcome.failed:
+            lines += [f"# {line}" for line in [told(outcome), *outcome.words.split("\n")]]
+    return "\n".join(lines)
+
+
+def is_expected(outcome):
+    """Whether a program failed only as it was expected to."""
+    return bool(outcome.known) and not outcome.failed
+
+
+def told(outcome):
+    return f"{outcome.failed} of {outcome.counts['runs']} runs failed: {outcome.kinds()}"

@@ -1,0 +1,74 @@
+#include "clocks.hpp"
+
+#include <sys/resource.h>
+#include <time.h>
+
+#include <algorithm>
+#include <array>
+#include <utility>
+
+namespace {
+int64_t read_clock(clockid_t id) {
+  timespec t;
+  clock_gettime(id, &t);
+  return int64_t{t.tv_sec} * 1000000000 + t.tv_nsec;
+}
+}  // namespace
+
+int64_t wall_time() { return read_clock(CLOCK_MONOTONIC); }
+int64_t processor_time() { return read_clock(CLOCK_THREAD_CPUTIME_ID); }
+int64_t Clock::now() const { return of_processor ? processor_time() : wall_time(); }
+
+// The median of many, so that what else the machine does is in none of it.
+int64_t time_of_reading(const Clock &clock) {
+  std::array<int64_t, 501> taken;
+  int64_t before = clock.now();
+  for (int64_t &one : taken) {
+    int64_t now = clock.now();
+    one = now - std::exchange(before, now);
+  }
+  std::nth_element(taken.begin(), taken.begin() + taken.size() / 2, taken.end());
+  return taken[taken.size() / 2];
+}
+
+// By the processor's clock both are read at each call: what passed before the last of them is left out where the way
+// from there is far by itself.
+bool BothClocks::is_far(const Times &now) {
+  Times before = std::exchange(at, now);
+  if (at.wall - last.wall < far_apart) return false;
+  if (!by_processor) at.processor = processor_time();
+  else if (at.wall - before.wall >= far_apart) last = before;
+  return true;
+}
+
+// Since the clocks were seen apart before: a thread that sleeps makes them so.
+bool BothClocks::slept() {
+  rusage use;
+  if (getrusage(RUSAGE_THREAD, &use)) return false;
+  return use.ru_nvcsw != std::exchange(sleeps, use.ru_nvcsw);
+}
+
+std::optional<Passed> BothClocks::at_record(const Times &now) {
+  if (!is_far(now)) return {};
+  Passed since{false, at.wall - last.wall + before_wait.wall, at.processor - last.processor + before_wait.processor};
+  if (since.differ()) since.slept = slept();
+  bool is_first = !last.wall;
+  last = at;
+  before_wait = {};
+  return is_first ? std::nullopt : std::optional(since);
+}
+
+void BothClocks::wait_begins(const Times &now) {
+  if (!is_far(now)) return;
+  if (last.wall) {
+    before_wait.wall += at.wall - last.wall;
+    before_wait.processor += at.processor - last.processor;
+  }
+  last = at;
+}
+
+void BothClocks::wait_ends(const Times &now) {
+  if (!is_far(now)) return;
+  slept();
+  last = at;
+}

@@ -1,0 +1,45 @@
+// The clock that costs are read on, what reading it takes, and the other clock beside it.
+#pragma once
+#include <cstdint>
+#include <optional>
+
+struct Clock {
+  bool of_processor = false;  // of the calling thread; else the wall's
+  int64_t reading = 0;        // what reading it takes, on itself
+  int64_t now() const;
+};
+
+int64_t wall_time();
+int64_t processor_time();                     // of the calling thread
+int64_t time_of_reading(const Clock &clock);  // measured, on the clock itself
+
+// How far both clocks of a thread went until one of its records, since the thread read both before.
+struct Passed {
+  bool slept = false;  // the thread gave its processor up: it slept, or waited for something
+  int64_t wall = 0, processor = 0;
+  int64_t off() const { return wall > processor ? wall - processor : 0; }
+  bool differ() const { return off() > wall / 20; }
+};
+
+constexpr int64_t far_apart = 50000;  // of two readings of both clocks
+
+struct Times {
+  int64_t wall = 0, processor = 0;
+};
+
+// The clock that costs are not read on is read where 50 us have passed since, and the processor's takes time to read.
+// Where costs are read on the wall clock, callers leave the other one out.
+class BothClocks {
+ public:
+  explicit BothClocks(bool of_processor) : by_processor(of_processor) {}
+  std::optional<Passed> at_record(const Times &now);
+  void wait_begins(const Times &now);  // what passes until its end is no code's
+  void wait_ends(const Times &now);
+
+ private:
+  bool by_processor;
+  Times last, at, before_wait;  // as both were read last; at the call of the recorder; passed before a wait
+  long sleeps = 0;              // of the thread, so far
+  bool is_far(const Times &now);
+  bool slept();
+};

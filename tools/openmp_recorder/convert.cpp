@@ -1,0 +1,109 @@
+// convert_log NAME.log [OUT]: the texts of a recorded run, OUT.tasks and so on; without OUT it is NAME. What is asked for
+// stands in the environment, and what is to be said comes as lines of JSON. Status 1: the log cannot be converted.
+#include <time.h>
+#include <unistd.h>
+
+#include <exception>
+#include <new>
+#include <string>
+
+#include "log_reader.hpp"
+#include "options.hpp"
+#include "report.hpp"
+#include "run_files.hpp"
+#include "tell.hpp"
+
+namespace {
+using log_form::Head;
+using log_form::HowEnded;
+using log_form::Stopped;
+
+std::string date_of(int64_t time_of_day) {
+  time_t seconds = time_of_day / 1000000000;
+  tm parts{};
+  gmtime_r(&seconds, &parts);
+  char text[32];
+  return {text, strftime(text, sizeof text, "%Y-%m-%dT%H:%M:%SZ", &parts)};
+}
+
+std::string base_name(const std::string &path) { return path.substr(path.rfind('/') + 1); }
+
+std::vector<Remark> unseen(const Head &head) {
+  std::vector<Remark> out;
+  if (head.unseen & log_form::unseen_detach) out.push_back(Remark::UnseenDetach);
+  if (head.unseen & log_form::unseen_target) out.push_back(Remark::UnseenTarget);
+  return out;
+}
+
+bool stopped_early(const Head &head) { return head.stopped != Stopped::Not && head.stopped != Stopped::End; }
+
+Ending ending_of(const LogFolder &log) {
+  const Head &head = log.head;
+  Ending ending;
+  ending.full = stopped_early(head);
+  ending.killed = head.how_ended == HowEnded::Not && !ending.full;
+  if (ending.full) ending.wall = log.wall(head.stop);
+  else if (head.how_ended == HowEnded::InsideARegion) ending.wall = log.wall(head.end);
+  if (!head.by_processor) ending.clock = ending.wall;
+  return ending;
+}
+
+const char *word_of(Stopped why) {
+  if (why == Stopped::Full) return "full";
+  return why == Stopped::Numbers ? "numbers" : "unwritable";
+}
+
+// Where the log ends, if that is not where the program did.
+void tell_ending(const LogFolder &log, const Ending &ending) {
+  int64_t recorded = ending.last - log.head.first.wall;
+  if (ending.full) Line("stopped").put("why", word_of(log.head.stopped)).put("recorded", recorded);
+  else if (log.is_running()) Line("running").put("recorded", recorded);
+  else if (ending.killed) Line("killed").put("recorded", recorded).put("inside", ending.wall != 0);
+}
+
+void convert(const std::string &folder, const std::string &out) {
+  LogFolder log(folder);
+  const Head &head = log.head;
+  Options options = read_options();
+  options.processor_clock = head.by_processor;
+  set_record_clock({options.processor_clock, head.in_a_record});
+  std::vector<Records *> threads;
+  for (auto &thread : log.threads) threads.push_back(thread.get());
+  bool is_known = head.how_ended != HowEnded::Not && head.end_thread < threads.size();
+  Ending ending = ending_of(log);
+  remove_texts(out);
+  Job job{options, threads, log.modules, out, base_name(head.program), date_of(head.time_of_day), head.program_start,
+          log.wall(head.end), is_known ? &threads[head.end_thread]->log : nullptr, head.end_processor, head.is_child != 0,
+          unseen(head)};
+  report(job, ending);
+  tell_ending(log, ending);
+}
+
+std::string without_ending(std::string folder) {
+  const std::string ending = ".log";
+  while (!folder.empty() && folder.back() == '/') folder.pop_back();
+  if (folder.size() > ending.size() && !folder.compare(folder.size() - ending.size(), ending.size(), ending))
+    folder.resize(folder.size() - ending.size());
+  return folder;
+}
+}  // namespace
+
+int main(int count, char **words) {
+  if (count < 2 || count > 3) {
+    Line("fault").put("what", "convert_log NAME.log [OUT]");
+    return 1;
+  }
+  std::string folder = words[1];
+  while (folder.size() > 1 && folder.back() == '/') folder.pop_back();
+  try {
+    convert(folder, count == 3 ? words[2] : without_ending(folder));
+  } catch (const std::bad_alloc &) {
+    Line("fault").put("log", folder).put("what", "out of memory, and what is not written yet is not written");
+    return 1;
+  } catch (const std::exception &wrong) {
+    Line("fault").put("log", folder).put("what", wrong.what());
+    return 1;
+  }
+  fflush(stdout);
+  _exit(0);  // what a run took is given back by the end of the process
+}

@@ -1,0 +1,80 @@
+#include "elf_file.hpp"
+
+#include <algorithm>
+#include <cstring>
+#include <fstream>
+#include <iterator>
+
+namespace {
+std::string whole(const std::string &path) {
+  std::ifstream in(path, std::ios::binary);
+  return {std::istreambuf_iterator<char>(in), {}};
+}
+}  // namespace
+
+template <class T>
+std::vector<T> ElfFile::table(uint64_t offset, uint64_t bytes) const {
+  if (offset > file.size() || bytes > file.size() - offset) return {};
+  std::vector<T> out(bytes / sizeof(T));
+  std::memcpy(out.data(), file.data() + offset, out.size() * sizeof(T));
+  return out;
+}
+
+ElfFile::ElfFile(const std::string &path) : file(whole(path)) {
+  std::vector<Elf64_Ehdr> head = table<Elf64_Ehdr>(0, sizeof(Elf64_Ehdr));
+  if (head.empty() || std::memcmp(head[0].e_ident, ELFMAG, SELFMAG) || head[0].e_ident[EI_CLASS] != ELFCLASS64) return;
+  auto sections = table<Elf64_Shdr>(head[0].e_shoff, uint64_t{head[0].e_shnum} * sizeof(Elf64_Shdr));
+  for (const Elf64_Shdr &section : sections)
+    if (section.sh_type == SHT_DYNSYM) read_symbols(sections, section);
+}
+
+void ElfFile::read_symbols(const std::vector<Elf64_Shdr> &sections, const Elf64_Shdr &dynamic) {
+  if (dynamic.sh_link >= sections.size()) return;
+  const Elf64_Shdr &strings = sections[dynamic.sh_link];
+  symbols = table<Elf64_Sym>(dynamic.sh_offset, dynamic.sh_size);
+  if (strings.sh_offset <= file.size()) names = std::string_view(file).substr(strings.sh_offset, strings.sh_size);
+  for (const Elf64_Shdr &section : sections) {
+    if (section.sh_type != SHT_RELA) continue;
+    for (const Elf64_Rela &one : table<Elf64_Rela>(section.sh_offset, section.sh_size))
+      if (uint64_t number = ELF64_R_SYM(one.r_info)) imports[one.r_offset] = number;
+  }
+}
+
+std::string_view ElfFile::name_of(const Elf64_Sym &symbol) const {
+  std::string_view rest = names.substr(std::min<size_t>(symbol.st_name, names.size()));
+  return rest.substr(0, rest.find('\0'));
+}
+
+// The innermost one, as `dladdr` has it.
+std::optional<ElfFile::Symbol> ElfFile::symbol_at(uint64_t address) const {
+  const Elf64_Sym *best = nullptr;
+  for (const Elf64_Sym &one : symbols) {
+    if (one.st_shndx == SHN_UNDEF || ELF64_ST_TYPE(one.st_info) == STT_TLS || address < one.st_value) continue;
+    bool has = one.st_size ? address - one.st_value < one.st_size : address == one.st_value;
+    if (has && (!best || best->st_value < one.st_value)) best = &one;
+  }
+  if (!best) return {};
+  return Symbol{name_of(*best), address - best->st_value};
+}
+
+bool ElfFile::defines(std::string_view name) const {
+  return std::any_of(symbols.begin(), symbols.end(),
+                     [&](auto &one) { return one.st_shndx != SHN_UNDEF && name_of(one) == name; });
+}
+
+std::string_view ElfFile::import_at(uint64_t address) const {
+  auto found = imports.find(address);
+  return found == imports.end() || found->second >= symbols.size() ? std::string_view() : name_of(symbols[found->second]);
+}
+
+std::string_view ElfFile::bytes_at(uint64_t address, uint64_t count) const {
+  std::vector<Elf64_Ehdr> head = table<Elf64_Ehdr>(0, sizeof(Elf64_Ehdr));
+  if (head.empty()) return {};
+  for (const Elf64_Phdr &part : table<Elf64_Phdr>(head[0].e_phoff, uint64_t{head[0].e_phnum} * sizeof(Elf64_Phdr))) {
+    if (part.p_type != PT_LOAD || address < part.p_vaddr || address - part.p_vaddr >= part.p_filesz) continue;
+    uint64_t within = address - part.p_vaddr;
+    if (part.p_offset + within > file.size()) return {};
+    return std::string_view(file).substr(part.p_offset + within, std::min(count, part.p_filesz - within));
+  }
+  return {};
+}

@@ -1,0 +1,43 @@
+#include "lines.hpp"
+
+#include <set>
+
+namespace {
+struct Constructs {
+  std::set<const void *> tasks, waits;
+};
+
+Constructs constructs_of(const Region &region) {
+  Constructs found;
+  for (const Task &t : region.tasks) {
+    if (t.code && !t.part && !t.of_loop) found.tasks.insert(t.code);
+    for (const Step &step : t.steps)
+      if (step.kind == Kind::Wait && step.code()) found.waits.insert(step.code());
+  }
+  return found;
+}
+
+std::set<std::string> lines_of(const std::set<const void *> &codes, const Places &places) {
+  std::set<std::string> lines;
+  for (const void *code : codes)
+    if (std::string line = places.at(code); !line.empty()) lines.insert(line);
+  return lines;
+}
+}  // namespace
+
+// No `task` or `taskwait` stands on the line of its region, and no `taskwait` on a task's. A call of the runtime that is
+// its function's last may be a jump: then what is told is the place after the call of that function.
+void remark_lines(Region &region, const Places &places) {
+  Constructs all = constructs_of(region);
+  std::set<std::string> of_tasks = lines_of(all.tasks, places);
+  const std::string &of_region = places.at(region.code);
+  Seen seen;
+  auto look_at = [&](const void *code, bool is_wait) {
+    const std::string &line = places.at(code);
+    bool shared = !line.empty() && (line == of_region || (is_wait && of_tasks.count(line)));
+    if (shared || (places.modules() && !places.modules()->follows_call_of_runtime(code))) seen.add(code);
+  };
+  for (const void *code : all.tasks) look_at(code, false);
+  for (const void *code : all.waits) look_at(code, true);
+  if (seen.times) region.remarks[Remark::LineOfAnother] = seen;
+}

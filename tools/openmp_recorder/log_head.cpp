@@ -1,0 +1,179 @@
+#include "log_head.hpp"
+
+#include <errno.h>
+#include <fcntl.h>
+#include <sys/file.h>
+#include <sys/mman.h>
+#include <sys/stat.h>
+#include <time.h>
+#include <unistd.h>
+
+#include <atomic>
+#include <cstring>
+#include <mutex>
+#include <new>
+
+#include "log_modules.hpp"
+#include "say.hpp"
+
+namespace {
+using log_form::Head;
+using log_form::Stopped;
+
+constexpr std::size_t cache_line = 64;
+constexpr uint32_t numbers_at_once = 1024;
+alignas(cache_line) std::atomic<uint64_t> next_number{1};
+std::atomic<uint32_t> next_region{1}, next_thread{0};
+std::atomic<int64_t> open_regions{0};  // of the program, that are not inside another
+
+// The runtime says goodbye after the destructors of globals have run, so these are never destroyed.
+Beginning &beginning = *new Beginning;
+std::mutex &making = *new std::mutex;  // of the folder
+Head *head = nullptr;
+bool is_made = false;
+log_form::Pair first{}, second{};
+double tick = 1;  // nanoseconds
+int64_t in_a_record = 0;
+__attribute__((tls_model("initial-exec"))) __thread uint32_t last_number = 0, numbers_end = 0;
+
+int64_t time_of_day() {
+  timespec t;
+  clock_gettime(CLOCK_REALTIME, &t);
+  return int64_t{t.tv_sec} * 1000000000 + t.tv_nsec;
+}
+
+// The file stays open and locked as long as the process lives: who converts the log sees by that whether it is whole.
+Head *map_head(const std::string &path) {
+  int file = open(path.c_str(), O_RDWR | O_CREAT | O_EXCL | O_CLOEXEC, 0666);
+  if (file < 0) return nullptr;
+  flock(file, LOCK_SH);
+  void *page = MAP_FAILED;
+  if (!posix_fallocate(file, 0, sizeof(Head))) page = mmap(nullptr, sizeof(Head), PROT_READ | PROT_WRITE, MAP_SHARED, file, 0);
+  return page == MAP_FAILED ? nullptr : static_cast<Head *>(page);
+}
+
+void fill_head() {
+  head->version = log_form::version;
+  head->record_bytes = costs_by_processor ? log_form::bytes_by_processor : log_form::bytes_by_wall;
+  head->counter = by_time_stamp ? log_form::Counter::TimeStamp : log_form::Counter::ClockGettime;
+  head->by_processor = costs_by_processor;
+  head->first = first;
+  head->second = second;
+  head->time_of_day = time_of_day() - (wall_time() - first.wall);
+  head->program_start = beginning.program_start;
+  head->in_a_record = in_a_record;
+  head->process = static_cast<uint32_t>(getpid());
+  head->is_child = beginning.is_child;
+  head->unseen = beginning.unseen;
+  ssize_t length = readlink("/proc/self/exe", head->program, sizeof head->program - 1);
+  if (length < 0) head->program[0] = 0;
+  std::memcpy(head->magic, log_form::magic, sizeof head->magic);
+}
+
+bool make_log() {
+  if (mkdir(beginning.folder.c_str(), 0777)) return false;
+  head = map_head(beginning.folder + log_form::head_file);
+  if (!head) return false;
+  fill_head();
+  tell_modules(beginning.folder);
+  return true;
+}
+
+// Ticks of a millisecond: less than a ten-thousandth is wrong, where the program ends before it can say more.
+void measure_ticks() {
+  constexpr int64_t apart = 1000000;
+  first = read_pair();
+  if (!by_time_stamp) return;
+  while (wall_time() - first.wall < apart) {
+  }
+  second = read_pair();
+  tick = static_cast<double>(second.wall - first.wall) / static_cast<double>(second.ticks - first.ticks);
+}
+
+const char *word_of(Stopped why) {
+  switch (why) {
+    case Stopped::Full: return "the disk is full, and what follows is not recorded";
+    case Stopped::Numbers: return "there are more tasks than numbers, and what follows is not recorded";
+    default: return "the log cannot be written, and what follows is not recorded";
+  }
+}
+
+}  // namespace
+
+alignas(64) std::atomic<Stopped> log_stopped{Stopped::Not};
+__thread ThreadLog *thread_log = nullptr;
+
+const Beginning &this_log() { return beginning; }
+double nanoseconds_of_tick() { return tick; }
+
+int64_t wall_time_at(uint64_t ticks) {
+  return first.wall + static_cast<int64_t>(static_cast<double>(static_cast<int64_t>(ticks - first.ticks)) * tick);
+}
+
+void begin_log(const Beginning &how, void (*call)()) {
+  beginning = how;
+  if (first.wall) return;  // it is known from before a fork
+  measure_ticks();
+  in_a_record = time_of_record(call);
+}
+
+ThreadLog *make_thread_log() {
+  std::lock_guard<std::mutex> guard(making);
+  if (!is_made && !make_log()) {
+    stop_log(Stopped::Unwritable);
+    return nullptr;
+  }
+  is_made = true;
+  thread_log = new ThreadLog(next_thread++);
+  thread_log->is_slow = true;
+  return thread_log;
+}
+
+uint32_t new_number() {
+  if (last_number != numbers_end) return ++last_number;
+  uint64_t begin = next_number.fetch_add(numbers_at_once, std::memory_order_relaxed);
+  if (begin + numbers_at_once > UINT32_MAX) {
+    stop_log(Stopped::Numbers);
+    return 0;
+  }
+  last_number = static_cast<uint32_t>(begin);
+  numbers_end = last_number + numbers_at_once - 1;
+  return last_number;
+}
+
+uint32_t new_region() { return next_region.fetch_add(1, std::memory_order_relaxed); }
+
+void stop_log(Stopped why) {
+  Stopped before = Stopped::Not;
+  if (!log_stopped.compare_exchange_strong(before, why)) return;
+  if (head) {
+    head->stop = read_pair();
+    head->stopped = why;
+  }
+  if (why != Stopped::End) say(word_of(why));
+}
+
+void end_log(log_form::HowEnded how) {
+  stop_log(Stopped::End);
+  if (!head) return;
+  head->end = read_pair();
+  head->end_processor = processor_time();
+  head->end_thread = thread_log ? thread_log->number : 0;
+  head->how_ended = how;
+}
+
+bool nothing_recorded() { return !is_made; }
+void count_open_region(int more) { open_regions += more; }
+bool inside_a_region() { return open_regions > 0; }
+
+// The parent's files are mapped here too, and are not written any more.
+void forget_log() {
+  new (&making) std::mutex;  // another thread may have held it when the process forked
+  thread_log = nullptr;
+  last_number = numbers_end = 0;
+  head = nullptr;
+  is_made = false;
+  open_regions = 0;
+  next_thread = 0;
+  log_stopped = Stopped::Not;
+}

@@ -1,0 +1,51 @@
+#include "log_modules.hpp"
+
+#include <fcntl.h>
+#include <link.h>
+#include <unistd.h>
+
+#include <atomic>
+#include <cinttypes>
+#include <cstdio>
+
+#include "callers.hpp"
+#include "log_form.hpp"
+
+namespace {
+std::atomic<uint64_t> told_changes{0};
+
+uint64_t changes_of(const dl_phdr_info &any) { return any.dlpi_adds + any.dlpi_subs; }
+
+int read_changes(dl_phdr_info *any, size_t, void *changes) {
+  *static_cast<uint64_t *>(changes) = changes_of(*any);
+  return 1;
+}
+
+// `BASE FIRST END WHAT PATH` of each executable segment; without a path it is the program's own.
+int tell_module(dl_phdr_info *module, size_t, void *to) {
+  told_changes = changes_of(*module);
+  for (int i = 0; i < module->dlpi_phnum; i++) {
+    const ElfW(Phdr) &segment = module->dlpi_phdr[i];
+    if (segment.p_type != PT_LOAD || !(segment.p_flags & PF_X)) continue;
+    uint64_t first = module->dlpi_addr + segment.p_vaddr;
+    const char *what = in_runtime(reinterpret_cast<const void *>(first)) ? "runtime" : "module";
+    dprintf(*static_cast<int *>(to), "%" PRIx64 " %" PRIx64 " %" PRIx64 " %s %s\n", uint64_t{module->dlpi_addr}, first,
+            first + segment.p_memsz, what, module->dlpi_name);
+  }
+  return 0;
+}
+}  // namespace
+
+void tell_modules(const std::string &folder) {
+  std::string path = folder + log_form::modules_file;
+  int file = open(path.c_str(), O_WRONLY | O_CREAT | O_APPEND | O_CLOEXEC, 0666);
+  if (file < 0) return;
+  dl_iterate_phdr(tell_module, &file);
+  close(file);
+}
+
+void tell_new_modules(const std::string &folder) {
+  uint64_t changes = 0;
+  dl_iterate_phdr(read_changes, &changes);
+  if (changes != told_changes) tell_modules(folder);
+}

@@ -1,0 +1,170 @@
+// Logs as the recorder's library leaves them, also where it was killed.
+#include <unistd.h>
+
+#include <cstdio>
+#include <cstdlib>
+#include <cstring>
+#include <stdexcept>
+
+#include "../elf_file.hpp"
+#include "../log_reader.hpp"
+#include "../run_files.hpp"
+#include "check.hpp"
+
+namespace {
+using log_form::block_bytes;
+using log_form::Head;
+using log_form::RawRecord;
+
+constexpr size_t in_block = block_bytes / sizeof(RawRecord);
+
+RawRecord raw(uint64_t at, Told told, uint32_t task = 0, uint32_t other = 0, uint64_t code = 0, unsigned detail = 0) {
+  return {at, task, other, log_form::make_word(code, static_cast<unsigned>(told), detail)};
+}
+
+std::vector<RawRecord> schedules(uint64_t from, size_t count) {
+  std::vector<RawRecord> out;
+  for (size_t i = 0; i < count; i++) out.push_back(raw(from + i, Told::Schedule, 1, 2));
+  return out;
+}
+
+// A log of one thread, by the wall clock in nanoseconds, where a record takes 5 of them.
+class MadeLog {
+ public:
+  MadeLog() {
+    char name[] = "/tmp/spanprof-test-XXXXXX";
+    folder = std::string(mkdtemp(name)) + "/out.log";
+    if (system(("mkdir " + folder).c_str())) throw std::runtime_error("no folder");
+    std::memcpy(head.magic, log_form::magic, sizeof head.magic);
+    head.version = log_form::version;
+    head.record_bytes = log_form::bytes_by_wall;
+    head.in_a_record = 5;
+    write(log_form::modules_file, nullptr, 0);
+  }
+  ~MadeLog() {
+    if (system(("rm -r " + folder.substr(0, folder.rfind('/'))).c_str())) std::perror("rm");
+  }
+  void full(std::vector<RawRecord> records) { write("/thread.0", records.data(), records.size() * sizeof(RawRecord)); }
+  void last(std::vector<RawRecord> records) {
+    records.resize(in_block);
+    write("/thread.0.last", records.data(), block_bytes);
+  }
+  LogFolder open() {
+    write(log_form::head_file, &head, sizeof head);
+    return LogFolder(folder);
+  }
+  std::vector<Record> records() {
+    LogFolder log = open();
+    std::vector<Record> out;
+    while (const Record *record = log.threads.at(0)->next()) out.push_back(*record);
+    return out;
+  }
+  Head head{};
+  std::string folder;
+
+ private:
+  void write(const char *name, const void *bytes, size_t count) {
+    FILE *file = fopen((folder + name).c_str(), "w");
+    if (count) fwrite(bytes, 1, count, file);
+    fclose(file);
+  }
+};
+}  // namespace
+
+TEST(a_log_ends_at_the_first_record_that_is_not_there) {
+  MadeLog log;
+  log.last({raw(10, Told::Schedule, 1, 2, 0, 7), raw(20, Told::SyncBegin, 2, 0, 99), {}, raw(30, Told::Schedule)});
+  std::vector<Record> found = log.records();
+  EXPECT(found.size(), 2u);
+  EXPECT(found[0].detail, 7u);
+  EXPECT(found[1].at, 20);
+  EXPECT(reinterpret_cast<uint64_t>(found[1].place()), 99u);
+  EXPECT(found[1].stood_still, 5);  // what the first record took
+}
+
+TEST(full_blocks_come_before_the_last_one) {
+  MadeLog log;
+  log.full(schedules(1, 2 * in_block));
+  log.last(schedules(1 + 2 * in_block, 3));
+  std::vector<Record> found = log.records();
+  EXPECT(found.size(), 2 * in_block + 3);
+  EXPECT(found.back().order, 2 * in_block + 3);
+}
+
+TEST(a_block_that_was_written_and_not_cleared_counts_once) {
+  MadeLog log;
+  log.full(schedules(1, in_block));
+  log.last(schedules(1, in_block));
+  EXPECT(log.records().size(), in_block);
+}
+
+TEST(a_block_that_was_not_written_whole_is_the_last_one) {
+  MadeLog log;
+  log.full(schedules(1, in_block + 10));
+  log.last(schedules(1 + in_block, in_block));
+  EXPECT(log.records().size(), 2 * in_block);
+}
+
+TEST(items_follow_their_dependences) {
+  MadeLog log;
+  log.last({raw(10, Told::Dependences, 3, 0, 3), raw(uint64_t{1} << 56 | 64, Told::Items, 72, 2u << 24, 0, 2),
+            raw(uint64_t{3} << 56 | 80, Told::Items, 0, 0, 0, 1), raw(20, Told::Schedule, 1, 2)});
+  LogFolder folder = log.open();
+  Records &thread = *folder.threads.at(0);
+  EXPECT(thread.next()->code, 3u);
+  EXPECT(thread.log.items.size(), 3u);
+  EXPECT(thread.log.items[1].address, 72u);
+  EXPECT(thread.log.items[1].type, 2u);
+  EXPECT(thread.log.items[2].type, 3u);
+  EXPECT(static_cast<int>(thread.next()->told()), static_cast<int>(Told::Schedule));
+}
+
+TEST(time_in_the_recorder_and_for_locks_is_not_the_threads) {
+  MadeLog log;
+  log.last({raw(10, Told::Schedule, 1, 2), raw(40, Told::StoodStill, 30), raw(50, Told::LockAsked, 7, 0, 99, 1),
+            raw(80, Told::LockGot, 7), raw(90, Told::LockLeft, 7), raw(100, Told::Schedule, 2, 1)});
+  LogFolder folder = log.open();
+  Records &thread = *folder.threads.at(0);
+  thread.next();
+  EXPECT(thread.next()->stood_still, 3 * 5 + 30 + 30);  // three records outside of the wait
+  const LockUse &use = thread.log.locks.uses().at({0, 7});
+  EXPECT(use.waiting, 30);
+  EXPECT(use.times, 1u);
+}
+
+TEST(regions_of_a_thread_have_their_times) {
+  MadeLog log;
+  log.last({raw(10, Told::ParallelBegin, 0, 1, 99), raw(20, Told::ImplicitBegin, 1, 1, 2), raw(70, Told::ImplicitEnd, 1, 1),
+            raw(90, Told::ParallelEnd, 0, 1)});
+  LogFolder folder = log.open();
+  while (folder.threads.at(0)->next()) {
+  }
+  const RegionTime &time = folder.threads.at(0)->log.regions.at(0);
+  EXPECT(time.is_outermost, true);
+  EXPECT(time.begin, 10);
+  EXPECT(time.end, 90);
+}
+
+TEST(what_is_no_log_is_refused) {
+  auto why = [](MadeLog &log) -> std::string {
+    try {
+      log.open();
+    } catch (const std::runtime_error &wrong) {
+      return wrong.what();
+    }
+    return "";
+  };
+  MadeLog other, later;
+  other.head.magic[0] = 'X';
+  later.head.version = 2;
+  EXPECT(why(other), "no log of the recorder");
+  EXPECT(why(later), "version 2 of the log, and this is for version 1");
+}
+
+TEST(a_file_tells_its_symbols) {
+  ElfFile libc("/lib/x86_64-linux-gnu/libc.so.6"), none("/no/such/file");
+  EXPECT(libc.defines("printf"), true);
+  EXPECT(libc.defines("no_such_function"), false);
+  EXPECT(none.symbol_at(16).has_value(), false);
+  EXPECT(none.bytes_at(0, 4).empty(), true);
+}

@@ -1,0 +1,157 @@
+#include "thread_log.hpp"
+
+#include <errno.h>
+#include <fcntl.h>
+#include <sys/mman.h>
+#include <sys/resource.h>
+#include <unistd.h>
+
+#include <algorithm>
+#include <cstring>
+#include <string>
+#include <vector>
+
+#include "log_head.hpp"
+
+namespace {
+class KeepErrno {  // which the program may be about to read
+ public:
+  ~KeepErrno() { errno = kept; }
+
+ private:
+  int kept = errno;
+};
+
+bool is_allowed(uint64_t bytes) {  // else the program would get a signal
+  rlimit most{};
+  return getrlimit(RLIMIT_FSIZE, &most) || most.rlim_cur == RLIM_INFINITY || bytes <= most.rlim_cur;
+}
+
+// Its room is taken from the disk here, so no record can fail.
+char *map_block(const std::string &path) {
+  int file = open(path.c_str(), O_RDWR | O_CREAT | O_CLOEXEC, 0666);
+  if (file < 0) return nullptr;
+  void *pages = MAP_FAILED;
+  if (is_allowed(log_form::block_bytes) && !posix_fallocate(file, 0, log_form::block_bytes))
+    pages = mmap(nullptr, log_form::block_bytes, PROT_READ | PROT_WRITE, MAP_SHARED | MAP_POPULATE, file, 0);
+  close(file);
+  return pages == MAP_FAILED ? nullptr : static_cast<char *>(pages);
+}
+
+log_form::Stopped append(const std::string &path, const char *bytes, uint64_t at) {
+  if (!is_allowed(at + log_form::block_bytes)) return log_form::Stopped::Full;
+  int file = open(path.c_str(), O_WRONLY | O_CREAT | O_CLOEXEC, 0666);
+  if (file < 0) return log_form::Stopped::Unwritable;
+  uint64_t done = 0;
+  ssize_t more = 0;
+  while (done < log_form::block_bytes) {
+    more = pwrite(file, bytes + done, log_form::block_bytes - done, static_cast<off_t>(at + done));
+    if (more > 0) done += static_cast<uint64_t>(more);
+    else if (more == 0 || errno != EINTR) break;
+  }
+  bool is_full = more == 0 || errno == ENOSPC || errno == EDQUOT || errno == EFBIG;
+  close(file);
+  if (done == log_form::block_bytes) return log_form::Stopped::Not;
+  return is_full ? log_form::Stopped::Full : log_form::Stopped::Unwritable;
+}
+
+// Records that go nowhere, to see how long one takes.
+class Scratch : public ThreadLog {
+ public:
+  Scratch() : ThreadLog(0), room(log_form::block_bytes) {
+    next = room.data();
+    end = next + room.size();
+  }
+  // Between its records, in ticks or nanoseconds of the processor; where something else was done too, it is more.
+  std::vector<int64_t> apart(uint32_t bytes) const {
+    std::vector<int64_t> out;
+    for (const char *at = room.data(); at + bytes < next; at += bytes) out.push_back(time_at(at + bytes) - time_at(at));
+    return out;
+  }
+
+ private:
+  static int64_t time_at(const char *record) {
+    int64_t time;
+    std::memcpy(&time, record + (costs_by_processor ? sizeof(log_form::RawRecord) : 0), sizeof time);
+    return time;
+  }
+  std::vector<char> room;
+};
+}  // namespace
+
+ThreadLog::ThreadLog(unsigned of)
+    : number(of), bytes(costs_by_processor ? log_form::bytes_by_processor : log_form::bytes_by_wall),
+      far_ticks(static_cast<uint64_t>(far_apart / nanoseconds_of_tick())), both(costs_by_processor) {}
+
+// What was in the block is in the file before it is cleared: who converts the log after a kill finds it in one of both.
+bool ThreadLog::write_block() {
+  log_form::Stopped why = append(this_log().folder + log_form::thread_file + std::to_string(number), block, written);
+  if (why != log_form::Stopped::Not) {
+    stop_log(why);
+    return false;
+  }
+  std::memset(block, 0, log_form::block_bytes);
+  written += log_form::block_bytes;
+  return true;
+}
+
+bool ThreadLog::grow() {
+  KeepErrno kept;
+  is_slow = true;
+  if (is_stopped()) return false;
+  if (block && !write_block()) return false;
+  if (!block) block = map_block(this_log().folder + log_form::thread_file + std::to_string(number) + log_form::last_block);
+  if (!block) {
+    stop_log(log_form::Stopped::Unwritable);
+    return false;
+  }
+  next = block;
+  end = block + log_form::block_bytes;
+  return true;
+}
+
+Times ThreadLog::times(const Moment &now) const { return {wall_time_at(now.at), now.processor}; }
+
+void ThreadLog::compare_clocks(const Moment &now) {
+  looked = now.at;
+  is_slow = is_slow || !costs_by_processor;
+  std::optional<Passed> passed = both.at_record(times(now));
+  if (!passed) return;
+  is_slow = true;
+  auto processor = static_cast<uint64_t>(passed->processor);
+  uint64_t wall = std::min(static_cast<uint64_t>(passed->wall), log_form::code_mask);
+  put(now, Told::Passed, static_cast<uint32_t>(processor), static_cast<uint32_t>(processor >> 32), wall, passed->slept);
+}
+
+void ThreadLog::wait_begins(const Moment &now) {
+  if (!costs_by_processor && now.at - looked < far_ticks) return;
+  looked = now.at;
+  both.wait_begins(times(now));
+}
+
+void ThreadLog::wait_ends(const Moment &now) {
+  if (!costs_by_processor && now.at - looked < far_ticks) return;
+  looked = now.at;
+  both.wait_ends(times(now));
+}
+
+void ThreadLog::tell_slow(const Moment &began) {
+  is_slow = false;
+  Moment now = moment_now();
+  uint64_t took = costs_by_processor ? static_cast<uint64_t>(now.processor - began.processor) : now.at - began.at;
+  put(now, Told::StoodStill, static_cast<uint32_t>(took), static_cast<uint32_t>(took >> 32), 0, 0);
+}
+
+// The median of many, so that what else the machine does is in none of it.
+int64_t time_of_record(void (*call)()) {
+  constexpr int calls = 1000;
+  Scratch scratch;
+  thread_log = &scratch;
+  for (int i = 0; i < calls; i++) call();
+  thread_log = nullptr;
+  std::vector<int64_t> apart = scratch.apart(costs_by_processor ? log_form::bytes_by_processor : log_form::bytes_by_wall);
+  auto middle = apart.begin() + static_cast<std::ptrdiff_t>(apart.size() / 2);
+  std::nth_element(apart.begin(), middle, apart.end());
+  double in_nanoseconds = costs_by_processor ? 1 : nanoseconds_of_tick();
+  return static_cast<int64_t>(static_cast<double>(*middle) * in_nanoseconds + 0.5);
+}

@@ -1,0 +1,136 @@
+#include "thread_reader.hpp"
+
+#include <cstring>
+
+namespace {
+using log_form::block_bytes;
+
+std::string first_bytes(FILE *file, uint64_t from, size_t count) {
+  std::string bytes(count, 0);
+  if (fseek(file, static_cast<long>(from), SEEK_SET) || fread(bytes.data(), 1, count, file) != count) return {};
+  rewind(file);
+  return bytes;
+}
+}  // namespace
+
+ThreadReader::ThreadReader(const std::string &path, unsigned worker, const log_form::Head &head)
+    : Records(worker), file(fopen(path.c_str(), "re")), last(fopen((path + log_form::last_block).c_str(), "re")),
+      bytes(head.record_bytes), by_processor(head.by_processor), in_a_record(head.in_a_record), time(head),
+      buffer(block_bytes) {
+  if (!file || fseek(file.get(), 0, SEEK_END)) return;
+  left = static_cast<uint64_t>(ftell(file.get())) / block_bytes * block_bytes;
+  rewind(file.get());
+  // Killed before the block was cleared that it had written.
+  if (left && last && first_bytes(file.get(), left - block_bytes, bytes) == first_bytes(last.get(), 0, bytes)) last.reset();
+}
+
+// The next block, where there is one.
+bool ThreadReader::fill() {
+  std::unique_ptr<FILE, Close> &from = left ? file : last;
+  at = filled = 0;
+  if (!from) return false;
+  filled = fread(buffer.data(), 1, buffer.size(), from.get());
+  if (left) left -= block_bytes;
+  else last.reset();
+  return filled >= bytes;
+}
+
+// One record; none where the thread has written no more.
+bool ThreadReader::read() {
+  if (filled - at < bytes && !fill()) return false;
+  std::memcpy(&raw, buffer.data() + at, bytes);
+  at += bytes;
+  if (raw.told() != Told::Nothing) return true;
+  last.reset();
+  left = 0;
+  filled = at = 0;
+  return false;
+}
+
+// Where the program was killed among them, those that are there.
+void ThreadReader::read_items(uint64_t count) {
+  auto item = [](uint64_t packed) { return DependItem{packed, packed >> 56}; };
+  log.items.clear();
+  while (log.items.size() < count && read() && raw.told() == Told::Items) {
+    log.items.push_back(item(raw.record.at));
+    if (raw.detail() == 2) log.items.push_back(item(raw.wide()));
+  }
+}
+
+void ThreadReader::begin_region() {
+  bool is_outermost = !(raw.detail() & is_runtimes) && regions.size() < 2;
+  log.regions.push_back({raw.record.other, is_outermost, time.wall(raw.record.at), 0, by_processor ? -raw.processor : 0});
+}
+
+void ThreadReader::end_region() {
+  for (size_t i = log.regions.size(); i-- > 0;) {
+    RegionTime &own = log.regions[i];
+    if (own.region != raw.record.other || own.end) continue;
+    own.end = time.wall(raw.record.at);
+    if (by_processor) own.processor += raw.processor;
+    return;
+  }
+}
+
+// The thread's own clock stands still from when it asks for a lock until it has it.
+void ThreadReader::use_lock() {
+  int64_t now = cost_clock();
+  uint64_t name = raw.wide();
+  switch (raw.told()) {
+    case Told::LockAsked: return log.locks.ask(static_cast<int>(raw.detail()), name, raw.place(), now);
+    case Told::LockGot: log.stood_still += now - log.locks.get(name, now, log.stood_still, told); break;
+    default: log.locks.leave(name, regions.empty() ? 0 : regions.back(), now - log.stood_still, told);
+  }
+  log.stood_still += in_a_record;
+}
+
+// Whether the record is one for the reader of runs.
+bool ThreadReader::take() {
+  switch (raw.told()) {
+    case Told::Items: return false;
+    case Told::StoodStill:
+      log.stood_still += by_processor ? static_cast<int64_t>(raw.wide()) : time.nanoseconds(raw.wide());
+      return false;
+    case Told::LockAsked:
+    case Told::LockGot:
+    case Told::LockLeft: use_lock(); return false;
+    case Told::Divided:
+      log.divided[{raw.record.other, static_cast<Divided>(raw.detail())}].add(raw.place());
+      log.stood_still += in_a_record;
+      return false;
+    case Told::ParallelBegin: begin_region(); return true;
+    case Told::ParallelEnd: end_region(); return true;
+    case Told::ImplicitBegin: regions.push_back(raw.record.other); return true;
+    case Told::ImplicitEnd:
+      if (!regions.empty()) regions.pop_back();
+      return true;
+    default: return true;
+  }
+}
+
+const Record &ThreadReader::tell() {
+  record.wall = time.wall(raw.record.at);
+  record.at = by_processor ? raw.processor : record.wall;
+  record.order = raw.record.at;
+  record.stood_still = log.stood_still - log.told_still;
+  log.told_still = log.stood_still;
+  record.task = raw.record.task;
+  record.other = raw.record.other;
+  record.code = raw.code();
+  record.kind = static_cast<uint8_t>(raw.told());
+  record.detail = raw.detail();
+  if (raw.told() == Told::Passed) {
+    record.passed = {raw.detail() != 0, static_cast<int64_t>(raw.code()), static_cast<int64_t>(raw.wide())};
+    return record;
+  }
+  log.stood_still += in_a_record;
+  told++;
+  if (raw.told() == Told::Dependences) record.other = 0, read_items(record.code), record.code = log.items.size();
+  return record;
+}
+
+const Record *ThreadReader::next() {
+  while (read())
+    if (take()) return &tell();
+  return nullptr;
+}

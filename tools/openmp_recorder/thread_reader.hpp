@@ -1,0 +1,50 @@
+// The records of one thread of a log. What is no record of the runtime's is added up on the way.
+#pragma once
+#include <cstdio>
+#include <memory>
+#include <string>
+#include <vector>
+
+#include "log_reader.hpp"
+
+class ThreadReader : public Records {
+ public:
+  ThreadReader(const std::string &path, unsigned worker, const log_form::Head &head);
+  const Record *next() override;
+
+ private:
+  struct Raw {
+    log_form::RawRecord record;
+    int64_t processor;
+    Told told() const { return static_cast<Told>(record.word >> log_form::code_bits & 255); }
+    unsigned detail() const { return static_cast<unsigned>(record.word >> (log_form::code_bits + 8)); }
+    uint64_t code() const { return record.word & log_form::code_mask; }
+    const void *place() const { return reinterpret_cast<const void *>(code()); }
+    uint64_t wide() const { return record.task | uint64_t{record.other} << 32; }
+  };
+  struct Close {
+    void operator()(FILE *open) const { fclose(open); }
+  };
+  std::unique_ptr<FILE, Close> file, last;  // of whole blocks; of the block that was not full
+  uint32_t bytes;
+  bool by_processor;
+  int64_t in_a_record;
+  TickTime time;
+  std::vector<char> buffer;
+  size_t at = 0, filled = 0;
+  uint64_t left = 0;       // bytes of `file`
+  size_t told = 0;        // records so far that say what runs
+  std::vector<uint32_t> regions;  // of these tasks
+  Raw raw{};
+  Record record{};
+
+  bool fill();
+  bool read();
+  void read_items(uint64_t count);
+  int64_t cost_clock() const { return by_processor ? raw.processor : time.wall(raw.record.at); }
+  bool take();
+  void begin_region();
+  void end_region();
+  void use_lock();
+  const Record &tell();
+};

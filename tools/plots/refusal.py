@@ -1,0 +1,165 @@
+"""What spanprof's error lines mean, for people: the line with a caret, the word meant, the range allowed, what helps.
+
+spanprof tells the line of a fault and its kind. The token is found by asking it about shorter texts: it refuses a text
+for the same fault as soon as the wrong token stands in it.
+"""
+import difflib
+import re
+from itertools import islice
+
+TOKEN = re.compile(r"[A-Za-z0-9_]+|[^\sA-Za-z0-9_]")
+STATEMENTS = ("work", "task", "taskwait", "taskgroup", "for", "if", "final", "depend", "in", "out", "inout", "inoutset")
+AT_LINE = re.compile(r"error: line (\d+): (\w+)")
+AT_EVENT = re.compile(r"error: event (\d+): (\w+)(?: (\d+))?")
+CLOSEST = 0.6       # how alike a word has to be to one that is meant
+LONGEST_SHOWN = 100
+KINDS = {
+    "TooLong": "the text has too many bytes: 4,194,304 at most, and 1,048,576 outside blanks and comments",
+    "BadHeader": "a text begins with `omptasks 1`, or `omptasks 2` where it has loops",
+    "BadByte": "this character begins no word; `[ ] + -` belong to version 2",
+    "BadWord": "this cannot stand here",
+    "BadNumber": "a cost is a whole number up to 1,000,000,000,000, an `if` or `final` 0 or 1, a bound at most "
+                 "1,000,000",
+    "Unclosed": "this `{` is not closed",
+    "Unopened": "no `{` is open for this `}`",
+    "TooDeep": "at most 64 blocks are open at a time",
+    "TooManyTasks": "a text has at most 4,096 tasks; spanprof_large takes any number, and `spanprof-record --fold "
+                    "exact` writes fewer with the same work and span",
+    "TooManySegments": "a text has at most 16,384 segments: 1, and 2 for each task, 1 for each taskwait and taskgroup",
+    "TooManyItems": "a task has at most 32 depend items",
+    "WorkTooLarge": "all costs together are at most 1,000,000,000,000,000; a larger unit of time helps",
+    "TooManyTurns": "all loops together have at most 65,536 turns"}
+EVENTS = {
+    "UnknownWorker": "workers are 0 to 63",
+    "UnknownSegment": "the program has no such segment",
+    "WorkerBusy": "this worker still runs another segment",
+    "AlreadyStarted": "the segment was started before",
+    "NotReady": "segment %s, which has to come first, has not finished",
+    "NotRunning": "this worker does not run that segment"}
+WHOLE = {
+    "input too long": "standard input has at most 8,388,608 bytes",
+    "BadForm": "behind the line `---` a replay has words `start WORKER SEGMENT` and `finish WORKER SEGMENT`, and a "
+               "certificate `end`, `start`s and a `chain`",
+    "ThreadCount": "a number of threads is 1 to 1,024",
+    "WorkerCount": "a number of workers is 1 to 64",
+    "CostTooLarge": "a cost is at most 1,000,000,000,000,000",
+    "WorkTooLarge": "with this cost all costs together pass 1,000,000,000,000,000",
+    "wrong words": "this spanprof has no such command or option; it and these tools may be of different versions",
+    "out of memory": "more memory helps, or a smaller program; `ulimit -v` shows a limit"}
+
+
+def tokens(line):
+    """The tokens of a line, without its comment."""
+    return list(TOKEN.finditer(line.partition("#")[0]))
+
+
+def wrong_token(lines, number, answer, ask):
+    """The first token of that line with which the text is refused with this answer; none where that is not found."""
+    found = tokens(lines[number - 1])
+    before = "".join(line + "\n" for line in lines[:number - 1])
+
+    def is_refused(count):
+        return ask(before + lines[number - 1][:found[count].end()] + "\n").strip() == answer
+
+    if not found or not is_refused(len(found) - 1):
+        return None
+    low, high = 0, len(found) - 1
+    while low < high:
+        middle = (low + high) // 2
+        low, high = (low, middle) if is_refused(middle) else (middle + 1, high)
+    return found[low]
+
+
+def open_brace(lines, number):
+    """The last `{` of that line that nothing closes, in it or behind."""
+    closed = 0
+    for place in range(len(lines), number - 1, -1):
+        for token in reversed(tokens(lines[place - 1])):
+            if token.group() == "}":
+                closed += 1
+            elif token.group() == "{" and closed:
+                closed -= 1
+            elif token.group() == "{" and place == number:
+                return token
+    return None
+
+
+def meant(word):
+    """A hint at the word of the language that is most like this one."""
+    alike = difflib.get_close_matches(word, STATEMENTS, n=1, cutoff=CLOSEST)
+    return "; did you mean `%s`?" % alike[0] if alike and alike[0] != word else ""
+
+
+def picture(line, number, token):
+    """The line with a caret below the token, or below its beginning; of a long line what stands around the token."""
+    begin, end = token.span() if token else (len(line) - len(line.lstrip()),) * 2
+    left = max(0, begin - LONGEST_SHOWN // 2)
+    shown = line[left:left + LONGEST_SHOWN].replace("\t", " ")
+    head = "%5d | " % number
+    mark = "^" + "~" * max(0, min(end, left + LONGEST_SHOWN) - begin - 1)
+    return ["%s%s" % (head, shown), " " * (len(head) - 2) + "| " + " " * (begin - left) + mark]
+
+
+def at_line(name, text, answer, ask):
+    number, kind = AT_LINE.match(answer).groups()
+    lines, number = text.split("\n"), int(number)
+    words = KINDS.get(kind, "")
+    if not 1 <= number <= len(lines):
+        return "%s: %s" % (name, words or answer)
+    token = open_brace(lines, number) if kind == "Unclosed" else wrong_token(lines, number, answer, ask)
+    if token is None and kind in ("BadWord", "BadHeader"):
+        words = "the text ends too early" if number >= len(lines) - 1 else words
+    elif token and kind == "BadWord":
+        words = "`%s` cannot stand here%s" % (token.group(), meant(token.group()))
+    return "\n".join(["%s:%d: %s: %s" % (name, number, kind, words)] + picture(lines[number - 1], number, token))
+
+
+def of_event(text, answer):
+    """The event that is refused, and why; empty for another answer."""
+    found = AT_EVENT.match(answer)
+    if not found:
+        return ""
+    number, kind, other = found.groups()
+    words = re.split(r"(?m)^---\r?$", text, maxsplit=1)[-1].split()[3 * int(number):3 * int(number) + 3]
+    said = EVENTS.get(kind, kind)
+    return "`%s`: %s" % (" ".join(words), said % other if "%s" in said else said)
+
+
+def unknown_segment(command, segments):
+    """Which of the changes names a segment that there is not."""
+    named = [word.partition("=")[0] for word in command[1:]]
+    wrong = [word for word in named if word.isdigit() and int(word) >= segments]
+    return "there is no segment %s; they are 0 to %d, and `spanprof slack` lists them" % (
+        wrong[0] if wrong else "of this number", segments - 1)
+
+
+def without_text(path, answer, limits):
+    """The same of a file that is not held in memory: its line, without the token. `limits` has words for some kinds."""
+    found = AT_LINE.match(answer)
+    if not found:
+        return ""
+    number, kind = int(found[1]), found[2]
+    with open(path, encoding="utf-8", errors="replace", newline="\n") as file:
+        line = next(islice(file, number - 1, number), "").rstrip("\r\n")
+    words = limits.get(kind, KINDS.get(kind, ""))
+    return "\n".join(["%s:%d: %s: %s" % (path, number, kind, words)] + picture(line, number, None))
+
+
+def of_whole(command, text, answer, ask):
+    """What helps against a line that names no place in the text; empty for another answer."""
+    kind = answer.removeprefix("error: ")
+    if kind == "UnknownSegment" and command[:1] == ["whatif"]:
+        counted = re.match(r"segments (\d+)", ask(["span"], text))
+        return unknown_segment(command, int(counted[1])) if counted else ""
+    return WHOLE.get(kind, "")
+
+
+def explained(name, command, text, answer, ask):
+    """The words for people. `ask(words, text)` is what spanprof prints, whatever its exit status."""
+    answer = answer.strip()
+    if AT_LINE.match(answer):
+        return at_line(name, text.partition("\n---")[0], answer, lambda shorter: ask(["span"], shorter))
+    if AT_EVENT.match(answer):
+        return "%s: %s" % (name, of_event(text, answer))
+    more = of_whole(command, text, answer, ask)
+    return "%s: %s" % (name, more) if more else ""

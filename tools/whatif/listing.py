@@ -1,0 +1,20 @@
+"""What can be changed in a text: its code by place, its tasks, its waits, its depend items."""
+MOST_NAMES = 30
+
+
+def by_count(title, counted):
+    """The first names by their count, and how many more there are."""
+    names = [(name, number) for name, number in counted.most_common() if number]
+    if not names:
+        return []
+    more = ["%14s  of %d more names" % ("", len(names) - MOST_NAMES)] if len(names) > MOST_NAMES else []
+    return [title] + ["%14s  %s" % ("{:,}".format(number), name) for name, number in names[:MOST_NAMES]] + more
+
+
+def listing(seen):
+    yield from by_count("code, with its cost (--factor, --split, --grain, --task):", seen.costs)
+    yield from by_count("tasks (--join):", seen.tasks)
+    yield from by_count("waits (--drop-wait):", seen.waits)
+    yield from by_count("tasks with depend items (--drop-depend):", seen.dependent)
+    yield from by_count("names of depend items, with their items (--drop-name):", seen.items)
+    yield "depth of the tasks (--cutoff): %d" % seen.depth

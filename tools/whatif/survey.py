@@ -1,0 +1,79 @@
+"""What there is in a text to change: its places, waits, depend items, and what creating a task cost."""
+from collections import Counter
+from dataclasses import dataclass, field
+
+
+@dataclass
+class Survey:
+    """Counts by name; `costs` and `pieces` are of the code at a place."""
+    costs: Counter = field(default_factory=Counter)
+    pieces: Counter = field(default_factory=Counter)
+    tasks: Counter = field(default_factory=Counter)
+    waits: Counter = field(default_factory=Counter)         # taskwaits and taskgroups
+    ordered: Counter = field(default_factory=Counter)       # of these, those of tasks that depend items order too
+    dependent: Counter = field(default_factory=Counter)     # tasks with depend items, by place
+    items: Counter = field(default_factory=Counter)         # depend items, by their name
+    depth: int = 0
+    between: Counter = field(default_factory=Counter)       # costs of code between two creations of one task
+
+    def creating(self):
+        """The least cost that a quarter of the code between two creations does not exceed; None without any."""
+        rank, seen = (sum(self.between.values()) + 3) // 4, 0
+        for cost in sorted(self.between):
+            seen += self.between[cost]
+            if seen >= rank:
+                return cost
+        return None
+
+
+class Surveyor:
+    """Goes over statements."""
+
+    def __init__(self):
+        self.out = Survey()
+        self.since = None           # what the code cost since a task's end; None after another thing
+        self.has_items = [False]    # of each open task: whether it has made a task with depend items
+        self.groups = []
+
+    def work(self, one):
+        self.out.costs[one.name] += one.cost
+        self.out.pieces[one.name] += 1
+        self.since = None if self.since is None else self.since + one.cost
+
+    def task(self, one):
+        out = self.out
+        out.tasks[one.name] += 1
+        out.dependent[one.name] += bool(one.items)
+        for _, name in one.items:
+            out.items[name] += 1
+        self.has_items[-1] |= bool(one.items)
+        self.has_items.append(False)
+        out.depth = max(out.depth, len(self.has_items) - 1)
+        if self.since is not None:
+            out.between[self.since] += 1
+        self.since = None
+
+    def taskwait(self, one):
+        self.out.waits[one.name] += 1
+        self.out.ordered[one.name] += self.has_items[-1]
+        self.since = None
+
+    def taskgroup(self, one):
+        self.out.waits[one.name] += 1
+        self.groups.append(one.name)
+        self.since = None
+
+    def end(self, one):
+        if one.of == "task":
+            self.has_items.pop()
+            self.since = 0
+        else:
+            self.out.ordered[self.groups.pop()] += self.has_items[-1]
+            self.since = None
+
+
+def survey(stream):
+    surveyor = Surveyor()
+    for one in stream:
+        getattr(surveyor, one.kind)(one)
+    return surveyor.out
