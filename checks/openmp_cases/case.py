@@ -1,6 +1,7 @@
 """What a case asks for, read from the comments at the head of its program, and what a run left of it.
 
     // compiler: gcc              in the place of clang; the program then runs on LLVM's runtime in the place of gcc's
+    // needs: LLVM N              that version or a later one, to compile it
     // env: NAME=VALUE            a variable of the run
     // status: N                  its exit status, 0 where none is named; negative for a signal
     // old: FILE ..               files of an earlier run that lie there
@@ -18,7 +19,7 @@ import re
 from collections import defaultdict
 from dataclasses import dataclass, field
 
-KEYS = ("compiler", "env", "status", "old", "again", "says", "text", "no text", "file", "no file", "expect")
+KEYS = ("compiler", "needs", "env", "status", "old", "again", "says", "text", "no text", "file", "no file", "expect")
 COMPARE = {"<=": operator.le, ">=": operator.ge, "=": operator.eq}
 
 
@@ -46,6 +47,10 @@ def wants(source):
 
 def is_of_gcc(wanted):
     return wanted["compiler"] == ["gcc"]
+
+
+def needed_version(wanted):
+    return int(wanted["needs"][0].split()[1]) if wanted["needs"] else 0
 
 
 def has_file(left, pattern):

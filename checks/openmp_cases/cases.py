@@ -11,8 +11,8 @@ import subprocess
 import sys
 import tempfile
 
-from case import (Left, count_tasks, first_faults, is_of_gcc, last_faults, numbers_of_head, second_setting,
-                  unfolded_span, wants)
+from case import (Left, count_tasks, first_faults, is_of_gcc, last_faults, needed_version, numbers_of_head,
+                  second_setting, unfolded_span, wants)
 
 HERE = os.path.dirname(os.path.abspath(__file__))
 TOP = os.path.dirname(os.path.dirname(HERE))
@@ -57,8 +57,8 @@ def refused_runs(files):
 
 
 def run(program, folder, settings):
-    environment = dict(os.environ, OMP_NUM_THREADS="4", OMP_TOOL_LIBRARIES=RECORDER,
-                       SPANPROF_OUT=os.path.join(folder, "out"), **settings)
+    ours = {"OMP_NUM_THREADS": "4", "OMP_TOOL_LIBRARIES": RECORDER, "SPANPROF_OUT": os.path.join(folder, "out")}
+    environment = {**os.environ, **ours, **settings}
     done = subprocess.run([program], env=environment, capture_output=True, text=True, timeout=SECONDS)
     said = done.stderr + converted(folder, environment)
     files = {}
@@ -95,8 +95,14 @@ def faults_of(wanted, program, folder, version):
 
 
 def judge(source, version):
+    """What is wrong with a case, after its name is told."""
     with open(source, encoding="utf-8") as file:
         wanted = wants(file.read())
+    name = os.path.basename(source)[:-2]
+    if int(version.number) < needed_version(wanted):
+        print("%s: left out, it needs %s" % (name, wanted["needs"][0]), flush=True)
+        return []
+    print(name, flush=True)
     with tempfile.TemporaryDirectory() as folder:
         program = os.path.join(folder, os.path.basename(source)[:-2])
         build(source, program, is_of_gcc(wanted), version)
@@ -105,14 +111,13 @@ def judge(source, version):
 
 def main(names):
     sources = [os.path.join(HERE, name + ".c") for name in names] or sorted(glob.glob(os.path.join(HERE, "*.c")))
-    wrong = 0
+    wrong = []
     for version in asked(os.environ.get("LLVM_VERSIONS", TRIED)) or asked("")[:1]:
         print("LLVM " + version.number, flush=True)
         for source in sources:
-            faults = judge(source, version)
-            print(os.path.basename(source)[:-2] + "".join("\n  " + fault for fault in faults), flush=True)
-            wrong += bool(faults)
-    print("%d cases wrong" % wrong)
+            of = "LLVM %s, %s: " % (version.number, os.path.basename(source))
+            wrong += [of + fault for fault in judge(source, version)]
+    print("\n".join(wrong + ["%d faults" % len(wrong)]))
     return 1 if wrong else 0
 
 

@@ -1,4 +1,6 @@
 // Where there was no room for the whole log, no fold is advised on what is left of the region.
+// One thread makes all records, so that its log meets the limit however fast the machine is.
+// env: OMP_NUM_THREADS=1
 // says: out.tasks is not written: \d+ tasks, and spanprof takes 4096; this is the region's beginning only, and no fold is advised
 // file: out.large.tasks
 // no file: out.tasks
@@ -7,7 +9,7 @@
 #include "spend.h"
 
 int main(void) {
-    struct rlimit most = {1500000, 1500000};
+    struct rlimit most = {400000, 400000};
     setrlimit(RLIMIT_FSIZE, &most);
 #pragma omp parallel
 #pragma omp single

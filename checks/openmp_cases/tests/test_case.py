@@ -1,7 +1,7 @@
 import unittest
 
-from case import (Left, count_tasks, first_faults, is_of_gcc, last_faults, numbers_of_head, second_setting,
-                  unfolded_span, wants)
+from case import (Left, count_tasks, first_faults, is_of_gcc, last_faults, needed_version, numbers_of_head,
+                  second_setting, unfolded_span, wants)
 
 SOURCE = """\
 // A program.
@@ -35,6 +35,10 @@ class Wanted(unittest.TestCase):
     def test_the_compiler(self):
         self.assertFalse(is_of_gcc(self.wanted))
         self.assertTrue(is_of_gcc(wants("// compiler: gcc\n")))
+
+    def test_the_version(self):
+        self.assertEqual(needed_version(wants("// needs: LLVM 16\n")), 16)
+        self.assertEqual(needed_version(self.wanted), 0)
 
     def test_right(self):
         self.assertEqual(self.faults(), [])
