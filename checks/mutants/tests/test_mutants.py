@@ -114,11 +114,14 @@ class OwnTests(unittest.TestCase):
             program = pathlib.Path(folder) / "prog"
             program.write_text('#!/bin/sh\n[ "$LD_PRELOAD" = good.so ]\n')
             program.chmod(0o755)
-            self.assertTrue(own_tests.passes(program, "good.so"))
-            self.assertFalse(own_tests.passes(program, "bad.so"))
+            test = own_tests.Test(program)
+            self.assertTrue(own_tests.passes(test, "good.so"))
+            self.assertEqual(own_tests.usable([test, test], "good.so", 2), 2 * [own_tests.Test(program, own_tests.LEAST)])
+            self.assertEqual(own_tests.failed(3 * [test], "bad.so", 1), 3 * ["prog"])
+            self.assertEqual(own_tests.failed(3 * [test], "bad.so", 1, enough=2), 2 * ["prog"])
+            self.assertEqual(own_tests.usable([test], "bad.so", 1), [])
             program.write_text("#!/bin/sh\nexec sleep 9\n")
-            with unittest.mock.patch.object(own_tests, "SECONDS", .1):
-                self.assertFalse(own_tests.passes(program, ""))
+            self.assertFalse(own_tests.passes(own_tests.Test(program, .1), ""))
 
     def test_libraries(self):
         with tempfile.TemporaryDirectory() as folder:

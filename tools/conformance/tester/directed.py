@@ -1,6 +1,7 @@
 """The directed programs: one file each in directed/, named for what it shows, with a comment that says it."""
 import pathlib
 
+from tester.forms import kind_in_c
 from tester.program import Task, nodes
 from tester.reader import read_program
 
@@ -19,5 +20,5 @@ def first_comment(name):
 
 
 def kinds_of(body):
-    """The kinds of depend items that a program has."""
-    return {item.kind for node in nodes(body) if isinstance(node, Task) for item in node.items}
+    """The kinds of depend items that a program has in C."""
+    return {kind_in_c(item.kind, node) for node in nodes(body) if isinstance(node, Task) for item in node.items}

@@ -5,7 +5,8 @@ from tester.forms import GROUP_FORMS, LOOP_FORMS
 from tester.program import KINDS, Group, Index, Item, Loop, Task, Wait, Work
 
 TOKEN = re.compile(r"\{[ \t]*#:[^\n]*|#[^\n]*|\w+|\S")  # a `{` and how its statement is written in C are one token
-CLAUSE = re.compile(r"untied|mergeable|taskwait|priority\([0-9]+\)")
+CLAUSE = re.compile(r"untied|mergeable|priority\([0-9]+\)|taskwait|detach|depobj|iterator|mutexinoutset")
+CHUNKS = re.compile(r"(num_tasks|grainsize)\([1-9][0-9]*\)")
 
 
 class Unreadable(Exception):
@@ -122,12 +123,13 @@ class Reader:
 
 
 def form_in(words, forms):
-    """The form that the words after `#:` name: the plain one if there are none."""
+    """The form that the words after `#:` name, with its clause: the plain one if there are none."""
     if not words:
         return forms[0]
-    if len(words) > 1 or words[0] not in forms:
+    is_known = words[0] in forms and len(words) == 1
+    if not is_known and not (words[0] == "taskloop" and len(words) == 2 and CHUNKS.fullmatch(words[1])):
         raise Unreadable(f"{' '.join(words)!r} after #:")
-    return words[0]
+    return " ".join(words)
 
 
 def read_program(text):

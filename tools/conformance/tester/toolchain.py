@@ -7,7 +7,7 @@ import shlex
 import shutil
 import subprocess
 
-from tester.program import KINDS
+from tester.program import C_KINDS
 
 HARNESS = pathlib.Path(__file__).parent.parent / "harness"
 PROBE = """#include <omp.h>
@@ -74,7 +74,7 @@ class Toolchain:
     def kept_kinds(self):
         """The kinds of depend items that the compiler knows, as another process may have found out."""
         self.kept.mkdir(parents=True, exist_ok=True)
-        path = self.kept / (self.digest("kinds") + ".txt")
+        path = self.kept / (self.digest("kinds in C") + ".txt")
         if not path.exists():
             path.write_text(" ".join(sorted(self.known_kinds())))
         return set(path.read_text().split())
@@ -82,7 +82,7 @@ class Toolchain:
     def known_kinds(self):
         """The kinds of depend items that the compiler knows; not so `inoutset` in older ones."""
         kinds, complaint = set(), ""
-        for kind in KINDS:
+        for kind in C_KINDS:
             try:
                 self.build_text(PROBE % kind, "probe", ["-ldl"])
                 kinds.add(kind)
