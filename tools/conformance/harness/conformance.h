@@ -29,5 +29,6 @@ extern volatile int conformance_no, conformance_yes;
 
 void segment_start(unsigned segment); /* first in each segment's code */
 void segment_finish(void);            /* last in each segment's code */
+void expect(int is_right);            /* of a value that the runtime made */
 void segment_pass(unsigned segment);  /* a whole segment without code of its own */
 #endif

@@ -100,7 +100,9 @@ class Examined:
         verdict = self.judge.verdict(self.text, self.record, log)
         if not verdict.accepted or log.unlogged:
             return verdict
-        tests = {"moved": moved, "overlapping": overlapping, **({"unconstrained": unconstrained} if constrained else {})}
+        tests = {"moved": moved, "overlapping": overlapping}
+        if constrained:
+            tests["unconstrained"] = unconstrained
         told = {kind: test(self.table, log.events) for kind, test in tests.items()}
         return next((Verdict(kind, words) for kind, words in told.items() if words), verdict)
 

@@ -1,7 +1,7 @@
 """How statements are written in C: as the constructs that they ask for, where their bodies allow that."""
 from tester.program import Group, Loop, Task, Work
 
-GROUP_FORMS = ("taskgroup", "taskyield", "taskloop", "parallel")
+GROUP_FORMS = ("taskgroup", "taskyield", "taskloop", "parallel", "reduction")
 LOOP_FORMS = ("for", "taskloop")
 
 
@@ -36,6 +36,17 @@ def is_detached(node):
         tasks[0].undeferred and not tasks[0].items and not tasks[0].final and only_works(tasks[0].body)
 
 
+def adds(node):
+    """Whether a statement is a task that adds to the sum of a group around it, if that has one."""
+    return isinstance(node, Task) and not is_wait_for_items(node) and "detach" not in node.clauses
+
+
+def addends(body):
+    """How many tasks of a body add to its group's sum."""
+    loops = sum(node.turns * addends(node.body) for node in body if isinstance(node, Loop) and form_of(node) == "for")
+    return loops + sum(map(adds, body))
+
+
 def is_task_loop(node):
     """Whether a statement is a loop of plain tasks and nothing else."""
     return isinstance(node, Loop) and node.turns > 0 and len(node.body) == 1 and is_plain(node.body[0])
@@ -48,6 +59,7 @@ def form_of(node):
     allowed = {"taskgroup": True,
                "taskyield": not node.body,
                "taskloop": len(node.body) == 1 and is_task_loop(node.body[0]),
+               "reduction": addends(node.body) > 0,
                "parallel": bool(node.body) and all(is_plain(task) and not task.final for task in node.body)}
     return construct_of(node) if allowed[construct_of(node)] else "taskgroup"
 
@@ -59,7 +71,13 @@ def construct_of(node):
 
 def chunks_of(node):
     """The clause by which a taskloop puts several turns into a task, or nothing."""
-    return node.form.partition(" ")[2] if form_of(node) == "taskloop" else ""
+    clause = node.form.partition(" ")[2] if form_of(node) == "taskloop" else ""
+    return clause if clause != "reduction" else ""
+
+
+def has_sum(node):
+    """Whether a taskgroup or a taskloop with its group has a sum, to which its tasks add."""
+    return form_of(node) == "reduction" or form_of(node) == "taskloop" and node.form.endswith(" reduction")
 
 
 def is_of_regions(body):

@@ -2,6 +2,7 @@
 import random
 from dataclasses import dataclass, replace
 
+from tester.forms import addends
 from tester.program import Group, Index, Item, Loop, Task, Wait, Work, segment_count
 
 NAMES = ("a", "b", "c", "d")
@@ -9,7 +10,7 @@ MOST_ITEMS = 6
 # What random programs may be told to do without, beside the kinds of items.
 CONSTRUCTS = ("if(0)", "final", "loop", "repeated item", "mergeable", "priority", "taskyield", "taskloop", "parallel",
               "taskwait with depend", "depobj", "iterator", "detach", "depend(mutexinoutset)", "num_tasks",
-              "grainsize")
+              "grainsize", "reduction")
 
 
 @dataclass(frozen=True)
@@ -100,7 +101,8 @@ class Generator:
         return Group((), "taskyield" if self.chance("taskyield", .8) else "taskgroup")
 
     def group(self, depth, loops):
-        return Group(self.body(depth + 1, loops))
+        body = self.body(depth + 1, loops)
+        return Group(body, "reduction" if addends(body) and self.chance("reduction", .2) else "taskgroup")
 
     def loop(self, depth, loops):
         if self.chance("taskloop", .3):
@@ -120,6 +122,7 @@ class Generator:
         form = "taskloop" + self.chunks()
         if self.rng.random() < .5:
             return Loop(var, first, last, (task,), form)
+        form += " reduction" * (form == "taskloop" and self.chance("reduction", .3))
         return Group((Loop(var, first, last, (task,)),), form)
 
     def chunks(self):

@@ -6,7 +6,7 @@ from tester.program import KINDS, Group, Index, Item, Loop, Task, Wait, Work
 
 TOKEN = re.compile(r"\{[ \t]*#:[^\n]*|#[^\n]*|\w+|\S")  # a `{` and how its statement is written in C are one token
 CLAUSE = re.compile(r"untied|mergeable|priority\([0-9]+\)|taskwait|detach|depobj|iterator|mutexinoutset")
-CHUNKS = re.compile(r"(num_tasks|grainsize)\([1-9][0-9]*\)")
+OF_TASKLOOP = re.compile(r"(num_tasks|grainsize)\([1-9][0-9]*\)|reduction")
 
 
 class Unreadable(Exception):
@@ -127,7 +127,7 @@ def form_in(words, forms):
     if not words:
         return forms[0]
     is_known = words[0] in forms and len(words) == 1
-    if not is_known and not (words[0] == "taskloop" and len(words) == 2 and CHUNKS.fullmatch(words[1])):
+    if not is_known and not (words[0] == "taskloop" and len(words) == 2 and OF_TASKLOOP.fullmatch(words[1])):
         raise Unreadable(f"{' '.join(words)!r} after #:")
     return " ".join(words)
 

@@ -5,7 +5,7 @@ import pathlib
 import tempfile
 import unittest
 
-from tester.cases import Bench
+from tester.cases import Bench, Plan
 from tester.judge import Record, Verdict
 from tester.toolchain import BuildFailed
 from tests.helpers import PLAN, case_of
@@ -89,6 +89,12 @@ class Cases(unittest.TestCase):
     def test_equal_logs_are_judged_once(self):
         bench, _ = self.tallies(LOG, LOG, EARLY, LOG)
         self.assertEqual(bench.judge.asked, 4)  # two logs on two numbers of threads
+
+    def test_settings_that_names_ask_for(self):
+        plan = Plan((1, 2, 4), 1, 1, 1, ("free", "perturbed", "priorities"))
+        for name, setting in (("memory_of_parents", "perturbed"), ("priority_flat", "priorities")):
+            self.assertEqual(plan.conditions(case_of(name))[1].setting, setting)
+        self.assertEqual({at.setting for at in Plan((1, 2), 1, 1, 1).conditions(case_of("memory_x"))}, {"free"})
 
     def test_not_built(self):
         bench, tallies = self.tallies()
