@@ -18,7 +18,7 @@ from tester.tied import moved, unconstrained
 from tester.toolchain import BuildFailed
 
 
-# Settings that programs take for every other number of threads, by how their names begin.
+# Settings that programs take for the first of every two numbers of threads, by how their names begin.
 FAVOURED = {"priority": "priorities", "memory": "perturbed"}
 
 
@@ -75,7 +75,7 @@ class Plan:
         settings = [self.settings[(first + number) % len(self.settings)] for number in range(len(self.threads))]
         favoured = next((FAVOURED[begin] for begin in FAVOURED if case.name.startswith(begin)), "")
         if favoured in self.settings:
-            settings = [favoured if number % 2 else setting for number, setting in enumerate(settings)]
+            settings = [setting if number % 2 else favoured for number, setting in enumerate(settings)]
         return [Conditions(threads, self.runs, self.seed, case.unit, self.timeout, setting)
                 for threads, setting in zip(self.threads, settings)]
 

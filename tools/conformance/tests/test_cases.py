@@ -93,7 +93,7 @@ class Cases(unittest.TestCase):
     def test_settings_that_names_ask_for(self):
         plan = Plan((1, 2, 4), 1, 1, 1, ("free", "perturbed", "priorities"))
         for name, setting in (("memory_of_parents", "perturbed"), ("priority_flat", "priorities")):
-            self.assertEqual(plan.conditions(case_of(name))[1].setting, setting)
+            self.assertEqual([plan.conditions(case_of(name))[at].setting for at in (0, 2)], [setting, setting])
         self.assertEqual({at.setting for at in Plan((1, 2), 1, 1, 1).conditions(case_of("memory_x"))}, {"free"})
 
     def test_not_built(self):
