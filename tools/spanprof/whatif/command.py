@@ -4,10 +4,10 @@ import os
 import sys
 import tempfile
 
+from spanprof.answers import Answers
+from spanprof.cause import cause
+from spanprof.command import count
 from spanprof.errors import Fault
-from spanprof.record.cause import cause
-from spanprof.record.options import count
-from spanprof.report.answers import Answers
 from spanprof.whatif import advice
 from spanprof.whatif.creating import costs_for
 from spanprof.whatif.lead import run_account

@@ -2,9 +2,9 @@
 import os
 from typing import NamedTuple
 
+from spanprof.account import NoAccount, account_of
+from spanprof.cause import cause
 from spanprof.errors import Fault
-from spanprof.record.account import NoAccount, account_of
-from spanprof.record.cause import cause
 from spanprof.whatif.advice import first_change, then_change
 from spanprof.whatif.creating import costs_for
 from spanprof.whatif.survey import survey

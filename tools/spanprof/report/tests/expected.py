@@ -3,7 +3,7 @@ import os
 import re
 from functools import cached_property
 
-from spanprof.report.changed_text import with_costs, without_costs
+from spanprof.changed_text import with_costs, without_costs
 
 ROWS_OF_A_CURVE = 64
 

@@ -7,7 +7,7 @@ import csv
 import os
 from dataclasses import dataclass
 
-from spanprof.report.claims import is_folded
+from spanprof.claims import is_folded
 
 
 class NoAccount(Exception):

@@ -3,8 +3,8 @@ import tempfile
 import unittest
 from types import SimpleNamespace
 
-from spanprof.record.account import (Account, NoAccount, account, account_lines, lines_of, read_rows, ready_moments,
-                                     recorded_account)
+from spanprof.account import (Account, NoAccount, account, account_lines, lines_of, read_rows, ready_moments,
+                              recorded_account)
 
 # of the worked program of docs/MODEL.md: segment 1 is the child's, 2 and 3 are the root's after it
 WORKED = [[], [0], [0], [1, 2]]
