@@ -57,6 +57,13 @@ class Campaigns(unittest.TestCase):
         self.assertTrue(caught.surely(5))
         self.assertEqual(caught.ways, {"taskwait"})
 
+    def test_programs_of_the_rule_come_first(self):
+        options = types.SimpleNamespace(programs=2, seed=1, directed=True, without=[], match="*wait*")
+        names = [case.name for case in built.cases_of_campaign(options, {"in", "out"}, 0, "taskwait depend")]
+        first = [name for name in names if name.startswith("taskwait_depend")]
+        self.assertEqual(names[:len(first)], first)
+        self.assertGreater(len(first), 2)
+
     def test_half_of_the_campaigns_are_enough(self):
         self.assertTrue(built.Caught([["a"], [], ["a"], [], ["a"]], set()).surely(5))
         self.assertFalse(built.Caught([["a"], [], ["a"], [], []], set()).surely(5))
