@@ -31,6 +31,7 @@ def put_together(reports):
             before["campaigns"] += found["campaigns"]
             before["ways"] = sorted({*before["ways"], *found["ways"]})
             before["seconds"] += found["seconds"]
+            before["tried"] = before.get("tried", []) + found.get("tried", [])
     return seen
 
 

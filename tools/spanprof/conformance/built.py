@@ -3,7 +3,7 @@ libraries, and `mutants.json` that says what each change breaks."""
 import json
 import pathlib
 import random
-from dataclasses import dataclass
+from dataclasses import dataclass, field
 
 from spanprof.conformance.campaign import directed_cases, random_cases, some_failing
 from spanprof.conformance.judge import Missing
@@ -54,6 +54,7 @@ class Caught:
     campaigns: list
     ways: set
     seconds: float = 0
+    tried: list = field(default_factory=list)  # of each campaign, how many programs were tried
 
     def programs(self):
         return sorted(set().union(*self.campaigns))
@@ -67,7 +68,8 @@ class Caught:
         return len(self.programs()) > 1 or 2 * self.times() >= most
 
     def as_json(self):
-        return {"campaigns": self.campaigns, "ways": sorted(self.ways), "seconds": round(self.seconds)}
+        return {"campaigns": self.campaigns, "ways": sorted(self.ways), "seconds": round(self.seconds),
+                "tried": self.tried}
 
 
 def tries(case, rule):
@@ -89,8 +91,9 @@ def try_mutant(bench, options, plan_of_seed, rule=""):
     caught = Caught([], set())
     for number in range(options.campaigns):
         cases = cases_of_campaign(options, bench.toolchain.kinds, number, rule)
-        results = some_failing(bench, cases, plan_of_seed(options.seed + number), options.jobs, ENOUGH)
+        results = some_failing(bench, cases, plan_of_seed(options.seed + number), options.jobs, ENOUGH, options.seconds)
         caught.campaigns.append(results.failed_programs())
+        caught.tried.append(len(results.outcomes))
         caught.ways |= {f"{kind}: {rule}" if kind == "hung" else rule for _, kind, rule in results.groups}
         caught.seconds += results.seconds
         if len(caught.programs()) > 1:

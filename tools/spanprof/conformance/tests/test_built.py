@@ -40,7 +40,8 @@ class Folder(unittest.TestCase):
 
 class Campaigns(unittest.TestCase):
     def caught(self, fails):
-        options = types.SimpleNamespace(campaigns=5, programs=2, seed=1, jobs=1, directed=False, without=[], match="*")
+        options = types.SimpleNamespace(campaigns=5, programs=2, seed=1, jobs=1, directed=False, without=[], match="*",
+                                        seconds=60)
         bench, seeds = StubBench(fails), []
         caught = built.try_mutant(bench, options, lambda seed: seeds.append(seed) or PLAN)
         return caught, seeds, {case.name for case in bench.tried}
