@@ -68,7 +68,7 @@ def tried(bench, cases, plan, jobs, until=math.inf):
                 slow.append((futures[future], future.result()))
             else:
                 yield futures[future], future.result()
-            if time.monotonic() > until:
+            if until < math.inf and time.monotonic() > until:
                 pool.shutdown(cancel_futures=True)
                 break
         tries = SecondTries(lambda case, conditions: bench.try_case(case, [conditions])[0])
