@@ -94,10 +94,11 @@ class Tables(unittest.TestCase):
         self.assertFalse(table.is_caught(self.seen(["a"]), 5))
 
     def test_reports_are_put_together(self):
-        first = {"early": {"campaigns": [["a"]], "ways": ["hung"], "seconds": 3}}
-        more = {"early": {"campaigns": [["b"]], "ways": ["taskwait"], "seconds": 4}}
+        first = {"early": {"campaigns": [["a"]], "ways": ["hung"], "seconds": 3, "tried": [7]}}
+        more = {"early": {"campaigns": [["b"]], "ways": ["taskwait"], "seconds": 4, "tried": [9]}}
         self.assertEqual(table.put_together([first, more]),
-                         {"early": {"campaigns": [["a"], ["b"]], "ways": ["hung", "taskwait"], "seconds": 7}})
+                         {"early": {"campaigns": [["a"], ["b"]], "ways": ["hung", "taskwait"], "seconds": 7,
+                                    "tried": [7, 9]}})
 
     def test_rows(self):
         seen = {"lost": self.seen(["a", "b"]), "slow": self.seen([]), "early": self.seen([], []),
