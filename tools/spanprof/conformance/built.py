@@ -13,7 +13,7 @@ SEEDS_APART = 10_000
 # Parts of the names of programs that try a rule, where those are not the rule's own.
 TRY = {"dependence": ("depend",), "taskgroup": ("group", "taskloop"), "undeferred": ("undeferred", "final"),
        "taskwait": ("wait",), "taskwait depend": ("taskwait_depend",), "once": ("taskloop", "tree"),
-       "progress": ("pressure",), "region": ("threads", "tree"), "grainsize": ("taskloop",)}
+       "progress": ("pressure",), "region": ("threads", "tree"), "grainsize": ("num_tasks", "grainsize", "uneven")}
 
 
 @dataclass(frozen=True)
