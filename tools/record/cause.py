@@ -82,10 +82,16 @@ def lock(answers):
         (", " + head.locks[0].partition(": ")[0] if head.locks else ""))
 
 
-def off_the_processor(answers):
-    head = answers.head
-    share = head.clocks_differ.get("by", 0) / (head.threads * head.elapsed)
-    return head.clock == "wall" and share >= MUCH and Cause(
+def share_off(head, account):
+    """Of the threads' time, that which the system had put them off in code; the processor's clock alone tells none."""
+    if account and account.whole:
+        return account.held_up.preempted / account.whole
+    return head.clocks_differ.get("by", 0) / (head.threads * head.elapsed) if head.clock == "wall" else 0
+
+
+def off_the_processor(answers, account):
+    share = share_off(answers.head, account)
+    return share >= MUCH and Cause(
         "machine", "the machine: for %s of the threads' time they were off the processor in the midst of code "
                    "(measured)" % percent(share),
         instead="none of the program: record it on a machine with less to do, or with --clock cpu",
@@ -124,12 +130,18 @@ def of_idle_threads(answers, shares):
                  later=after_that(answers))
 
 
+def balanced(shares, account):
+    asleep = account.held_up.asleep / account.whole if account and account.whole else 0
+    slept = ", and asleep in it for %s" % percent(asleep) if asleep >= MUCH else ""
+    return Cause("balanced", "the work: the threads were in code for %s of their time%s (%s)" % (
+        percent(shares.busy), slept, shares.how), ("factor",))
+
+
 def cause(answers, account=None):
     """None of a text that tells no time, or is of one thread."""
     head = answers.head
     if not head.elapsed or not answers.work or (head.threads or 1) == 1:
         return None
     shares = shares_of_account(account) if account and account.whole else shares_by_greedy(answers)
-    found = outside_regions(head) or lock(answers) or off_the_processor(answers) or of_idle_threads(answers, shares)
-    return found or Cause("balanced", "the work: the threads were in code for %s of their time (%s)" %
-                          (percent(shares.busy), shares.how), ("factor",))
+    return outside_regions(head) or lock(answers) or off_the_processor(answers, account) or \
+        of_idle_threads(answers, shares) or balanced(shares, account)

@@ -5,7 +5,8 @@ import subprocess
 import sys
 import webbrowser
 
-from record.account import lines_of
+from record.account import account_beside
+from record.account_words import lines_of
 from record.console import say, tell
 from record.fault import OWN_FAULT, Fault
 from record.large import answers, head_of, large_summary, unmeasured_summary
@@ -39,9 +40,9 @@ def print_summary(session, found, said, shown=()):
         show([other_region(one) for one in answered] + ["%s: %s" % (session.options.out, one) for one in news])
     else:
         of_what = "ranks" if are_ranks(found) else "regions"
-        times = found[heaviest].times
-        account, led = lines_of(answered[heaviest], times), lead(answered[heaviest], times)
-        show(summary(answered[heaviest], verdict(found[heaviest]), news, others, of_what, account, led))
+        account, why = account_beside(answered[heaviest])
+        led = lead(answered[heaviest], account)
+        show(summary(answered[heaviest], verdict(found[heaviest]), news, others, of_what, lines_of(account, why), led))
     return found[heaviest]
 
 

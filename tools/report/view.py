@@ -9,6 +9,7 @@ from report.figures import DECLARED, MEASURED, RECORDED, Figures, unit_name
 from report.places import places, task_places
 from report.recorded_run import NoRun, RecordedRun, recorded_run
 from report.source import Sources
+from record.account import account_beside
 from whatif.lead import lead
 
 COLOURS = 10
@@ -76,7 +77,13 @@ class View:
     def lead(self):
         """None where the text tells no time."""
         self.answers.tell("single changes of %s" % self.name)
-        return lead(self.answers)
+        return lead(self.answers, self.account)
+
+    @cached_property
+    def account(self):
+        """Of the recorded run; None without a timed document beside the text."""
+        self.answers.tell("the account of %s" % self.name)
+        return account_beside(self.answers)[0]
 
     @cached_property
     def reached(self):

@@ -4,13 +4,13 @@ import os
 import sys
 import tempfile
 
+from record.account import account_beside
 from record.cause import cause
 from record.fault import Fault
 from record.options import count
 from report.answers import Answers
 from whatif import advice
 from whatif.creating import costs_for
-from whatif.lead import run_account
 from whatif.listing import listing
 from whatif.numbers import measure
 from whatif.requests import Request, applied, changes
@@ -96,7 +96,7 @@ def advise(chosen, text, threads):
     try:
         answers = Answers(chosen.text)
         seen = survey(text.statements())
-        found = cause(answers, run_account(answers))
+        found = cause(answers, account_beside(answers)[0])
         tried = trials(text, seen, costs_for(text.head, seen, chosen.creating, chosen.least), threads)
     except SystemExit as refused:   # a word of spanprof's
         raise Fault("%s; --advise compares greedy runs, which only spanprof tells" % refused) from refused

@@ -1,8 +1,6 @@
 """The lead of a summary or a page: the one cause, and the change that comes first by it."""
-import os
 from typing import NamedTuple
 
-from record.account import NoAccount, account_of
 from record.cause import cause
 from record.fault import Fault
 from whatif.advice import first_change, then_change
@@ -20,18 +18,10 @@ class Lead(NamedTuple):
     then: str = ""      # of the program, where the first is none of it
 
 
-def run_account(answers, times=""):
-    """The account of the run whose table of times is named, or lies beside the text; None where there is none."""
-    beside = os.path.splitext(answers.path)[0] + ".times"
-    try:
-        return account_of(answers, times or (beside if os.path.exists(beside) else ""))
-    except NoAccount:
-        return None
-
-
-def lead(answers, times=""):
-    """None where the text tells no time, or is of one thread or of version 2."""
-    found = cause(answers, run_account(answers, times))
+def lead(answers, account=None):
+    """By the account of the run, where there is one. None where the text tells no time, or is of one thread or of
+    version 2."""
+    found = cause(answers, account)
     version = version_of(answers.path)
     if not found or version == 2:
         return None

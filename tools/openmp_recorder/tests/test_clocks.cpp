@@ -98,13 +98,14 @@ TEST(a_twentieth_is_the_difference_that_counts) {
   EXPECT((Passed{false, 1000, 1001}.off()), 0);
 }
 
-// By the wall clock what the thread was preempted for; a task that slept took that time.
+// By the wall clock what the thread was preempted for; a task that slept took that time, which is told apart.
 TEST(code_off_the_processor_counts_for_its_region) {
   for (bool slept : {false, true}) {
     Made made(2);
     made.create(0, 1, 3).barrier(0, 1).barrier(1, 2).go(1, 2, 3).after(1000).passed(1, 1000, 400, slept);
     Run run = made.go(1, 3, 2, ompt_task_complete).read();
     const Differing &differing = run.regions.begin()->second->differing;
+    EXPECT(run.regions.begin()->second->asleep.off, slept ? 600 : 0);
     EXPECT(differing.cost, slept ? 0 : 1000);
     EXPECT(differing.off, slept ? 0 : 600);
     EXPECT(differing.longest, slept ? 0 : 600);

@@ -58,6 +58,8 @@ class Head:
     one_thread: bool = False
     most_held: int = None
     clocks_differ: dict = field(default_factory=dict)
+    slept: dict = field(default_factory=dict)
+    untimed: int = 0
     runs: int = None
     is_median: bool = False
     spread: dict = field(default_factory=dict)

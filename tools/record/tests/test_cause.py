@@ -64,9 +64,17 @@ class BeforeTheAccount(unittest.TestCase):
 
     def test_a_busy_machine(self):
         differ = {"affected": 60, "work": 100, "by": 64, "times": 3}
-        found = cause(answers(clocks_differ=differ), account(90, 5, 5))
-        self.assertTrue(found.words.startswith("the machine: for 40 % of the threads' time"))
+        told = account(90, 5, 5)
+        told.held_up.preempted = 40
+        for found in (cause(answers(clocks_differ=differ)), cause(answers(), told), cause(answers(clock="cpu"), told)):
+            self.assertTrue(found.words.startswith("the machine: for 40 % of the threads' time"))
         self.assertEqual(cause(answers(clocks_differ=differ, clock="cpu"), account(90, 5, 5)).kind, "balanced")
+
+    def test_code_that_sleeps(self):
+        told = account(90, 5, 5)
+        told.held_up.asleep = 85
+        self.assertEqual(cause(answers(), told).words,
+                         "the work: the threads were in code for 90 % of their time, and asleep in it for 85 % (measured)")
 
 
 class WithoutAnAccount(unittest.TestCase):

@@ -3,12 +3,12 @@ import tempfile
 import unittest
 from unittest import mock
 
+from record.account import Account
 from record.tests.made_up import Answers, Head
 from whatif.lead import Lead, lead
 from whatif.tests.made_up import ROW
 
 CURVE = "threads,end,least,bound\n" + "".join("%d,%%d,9,30\n" % p for p in range(1, 17))
-TIMES = "segment,thread,start_ns,end_ns\n0,0,0,1000\n1,1,2000,3000\n"
 
 
 def spanprof(words, text):
@@ -30,13 +30,13 @@ class Led(unittest.TestCase):
         with open(path, "w", encoding="utf-8") as file:
             file.write(text)
 
-    def lead(self, times="", **told):
+    def lead(self, account=None, **told):
         answers = Answers(work=20, span=9, head=Head(**dict(dict(elapsed=20), **told)))
         answers.path, answers.predecessors = self.path, [[], [0]]
         for row in answers.curve.values():
             row["end"] = 20
         with mock.patch("program.ask", spanprof):
-            return lead(answers, times)
+            return lead(answers, account)
 
     def test_the_change_that_ends_soonest(self):
         self.assertEqual(self.lead(), Lead(
@@ -51,9 +51,8 @@ class Led(unittest.TestCase):
                          "none of the program: record it on a machine with less to do, or on another runtime")
         self.assertTrue(led.then.startswith("after that, of the program: without the taskwait at row.c:5, if"))
 
-    def test_by_the_account_beside_the_text(self):
-        self.write(self.path.replace(".tasks", ".times"), TIMES)
-        self.assertEqual(self.lead(elapsed=3).cause,
+    def test_by_the_account(self):
+        self.assertEqual(self.lead(Account(4, 100, 160, 40, 200, 0)).cause,
                          "too few tasks: for 50 % of the threads' time they idled with no segment ready (measured)")
 
     def test_nothing_to_say(self):
