@@ -36,9 +36,9 @@ for folder in killed_runs llvm mutants openmp_cases openmp_regions page true_wor
     tested "checks/$folder/tests" "checks/$folder"
 done
 tested tools/tests tools
-for folder in record path whatif report; do
-    tested "tools/$folder/tests" tools
+tested tools/spanprof/tests tools
+for folder in record path whatif report conformance; do
+    tested "tools/spanprof/$folder/tests" tools
 done
 tested tools/plots/tests tools/plots
-tested tools/conformance/tests tools/conformance
 exit "$failed"
