@@ -32,7 +32,8 @@ for test in checks/*_test.py checks/waiting/*_test.py checks/large_recordings/*_
     passes "$test" python3 -B "$test"
 done
 tested checks/believed/tests checks
-for folder in killed_runs llvm mutants openmp_cases openmp_regions page true_words runtime_calls whatif; do
+for folder in killed_runs llvm mutants openmp_cases openmp_regions page recorded_accounts true_words runtime_calls \
+    whatif; do
     tested "checks/$folder/tests" "checks/$folder"
 done
 tested tools/tests tools

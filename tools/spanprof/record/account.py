@@ -60,6 +60,13 @@ class Account:
     def code(self):
         return self.busy - self.held_up.all - self.recorder
 
+    @property
+    def parts(self):
+        """What the threads' time is made of; the parts add up to it."""
+        return {"code": self.code, "recorder": self.recorder, "preempted": self.held_up.preempted,
+                "asleep": self.held_up.asleep, "at locks": self.held_up.at_locks, "delayed": self.delayed,
+                "starved": self.starved, "outside": self.outside}
+
     @cached_property
     def idle(self):
         """Delayed and starved time by place: the parts add up to the sums."""

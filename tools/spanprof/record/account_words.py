@@ -54,9 +54,6 @@ def lines_of(found, why=""):
 
 def as_json(found):
     """Times in nanoseconds, over all threads."""
-    held_up = found.held_up
-    return {"threads": found.threads, "elapsed": found.elapsed, "busy": found.busy, "delayed": found.delayed,
-            "starved": found.starved, "outside": found.outside,
-            "held up": {"preempted": held_up.preempted, "asleep": held_up.asleep, "at locks": held_up.at_locks},
-            "recorder": found.recorder, "delayed beside": found.delayed_by, "starved while": found.starved_by, "left out": found.left_out,
+    return {"threads": found.threads, "elapsed": found.elapsed, "parts": found.parts,
+            "delayed beside": found.delayed_by, "starved while": found.starved_by, "left out": found.left_out,
             "unit": "ns", "measured": "all times", "proved": PROVED}

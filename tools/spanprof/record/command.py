@@ -16,6 +16,7 @@ from spanprof.record.ranks import are_ranks
 from spanprof.record.run import end_as
 from spanprof.record.session import TOOLS, Session
 from spanprof.record.summary import other_region, summary
+from spanprof.record.summary_json import led_json, write_json
 from spanprof.record.verdict import verdict
 from spanprof.report.answers import Answers
 from spanprof.whatif.lead import lead
@@ -43,6 +44,8 @@ def print_summary(session, found, said, shown=()):
         account, why = account_beside(answered[heaviest])
         led = lead(answered[heaviest], account)
         show(summary(answered[heaviest], verdict(found[heaviest]), news, others, of_what, lines_of(account, why), led))
+        if session.options.json:
+            write_json(session.options.json, led_json(answered[heaviest], account, why, led))
     return found[heaviest]
 
 

@@ -3,6 +3,7 @@ import json
 import os
 
 from spanprof.report.markup import Markup, join, markup, section, tag
+from spanprof.report.part_account import idle_part
 from spanprof.report.part_compare import compare_part
 from spanprof.report.part_curve import curve_part
 from spanprof.report.part_graph import graph_part
@@ -51,7 +52,9 @@ def parts(views, factors):
     view, trials = views[0], Trials(views[0])
     compared = [("compared", "Side by side", compare_part(views))] if len(views) > 1 else []
     of = " of " + view.name if len(views) > 1 else ""
+    idle = idle_part(view, of)
     return [("summary", "Summary", summary_part(view, trials, of)), *compared,
+            *([("idle", "Idle time", idle)] if idle else []),
             ("speed-up", "Speed-up", curve_part(views)), *timelines(views),
             ("path", "Critical path", path_part(view, of)),
             ("what-if", "What if", what_if_part(view, trials, factors, of)), ("tasks", "Tasks", tasks_part(view, of)),

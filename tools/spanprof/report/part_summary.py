@@ -3,6 +3,7 @@ from spanprof.report.claims import (against_parallelism, against_span, gain_may_
                                     least_end, lock_binds, share_covered, speaks_of, why_not_of_more_threads)
 from spanprof.report.figures import MEANINGS, MEASURED, PROVED, RECORDED, badge, grouped
 from spanprof.report.markup import join, note, section, tag
+from spanprof.report.part_account import account_picture
 
 NAMES = {"elapsed": "in this region"}   # where the head says it otherwise
 
@@ -253,5 +254,5 @@ def summary_part(view, trials, of=""):
     tiles = tag("div", work_tile(view), span_tile(view), parallelism_tile(view), tasks_tile(view), threads_tile(view),
                 busy_tile(view), class_="tiles")
     recorded = tag("p", recorded_words(view), class_="recording given")
-    return section("summary", "Summary" + of, recorded, covered(view), lead_words(view), tiles, on_the_threads(view), lock_words(view),
+    return section("summary", "Summary" + of, recorded, covered(view), lead_words(view), account_picture(view), tiles, on_the_threads(view), lock_words(view),
                    which_binds(view), what_pays(view, trials), remarks(view), division(view), kinds_explained(view))

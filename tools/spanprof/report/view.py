@@ -4,7 +4,7 @@ from dataclasses import dataclass
 from functools import cached_property
 from typing import Optional
 
-from spanprof.record.account import account_beside
+from spanprof.record.account import account_beside, timed_beside
 from spanprof.report.answers import Answers
 from spanprof.report.figures import DECLARED, MEASURED, RECORDED, Figures, unit_name
 from spanprof.report.places import places, task_places
@@ -82,8 +82,11 @@ class View:
     @cached_property
     def account(self):
         """Of the recorded run; None without a timed document beside the text."""
-        self.answers.tell("the account of %s" % self.name)
-        return account_beside(self.answers)[0]
+        found, _ = account_beside(self.answers)
+        if found:
+            self.answers.asked += ["spanprof_account%s < %s" % (words, os.path.basename(timed_beside(self.answers.path)))
+                                   for words in ("", " --rows")]
+        return found
 
     @cached_property
     def reached(self):

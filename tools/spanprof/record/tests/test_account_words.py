@@ -53,10 +53,9 @@ class Words(unittest.TestCase):
 
     def test_json(self):
         told = json.loads(json.dumps(as_json(account(held_up=HeldUp(1, 2, 3)))))
-        self.assertEqual(told["busy"] + told["delayed"] + told["starved"] + told["outside"],
-                         told["threads"] * told["elapsed"])
-        self.assertEqual(told["held up"], {"preempted": 1, "asleep": 2, "at locks": 3})
-        self.assertEqual(sum(told["delayed beside"].values()), told["delayed"])
+        self.assertEqual(sum(told["parts"].values()), told["threads"] * told["elapsed"])
+        self.assertEqual((told["parts"]["asleep"], told["parts"]["code"]), (2, 128 * MS - 6))
+        self.assertEqual(sum(told["delayed beside"].values()), told["parts"]["delayed"])
 
 
 if __name__ == "__main__":

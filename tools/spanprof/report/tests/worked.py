@@ -40,8 +40,37 @@ class Kept:
         return answer
 
 
+def document(file):
+    with open(file, encoding="utf-8") as opened:
+        return opened.read()
+
+
+class Patched:
+    """The kept answers in place of both programs."""
+
+    def __init__(self):
+        kept = Kept()
+        self.patches = [mock.patch("spanprof.client.ask", kept),
+                        mock.patch("spanprof.record.account.ask", lambda words, file: kept(["account", *words],
+                                                                                           document(file)))]
+
+    def start(self):
+        for patch in self.patches:
+            patch.start()
+
+    def stop(self):
+        for patch in self.patches:
+            patch.stop()
+
+    def __enter__(self):
+        self.start()
+
+    def __exit__(self, *_):
+        self.stop()
+
+
 def patched():
-    return mock.patch("spanprof.client.ask", Kept())
+    return Patched()
 
 
 def view(name="mesh", **more):
@@ -68,22 +97,28 @@ def page_text(names, factors=()):
     return page(views, read_factors(factors, views[0].places))
 
 
-def asked_now():
-    """All that the pages and their comparison ask of spanprof, with what it answers."""
-    from spanprof import client
-    from spanprof.report.tests.compare import differences
-    from spanprof.report.tests.recorded_runs import refused
-    out, ask = {}, client.ask
-
+def noting(out, ask, key_of):
+    """A program's answers, which are kept by words and text."""
     def asked(words, text):
         try:
-            out[key(words, text)] = answer = ask(words, text)
+            out[key_of(words, text)] = answer = ask(words, text)
         except SystemExit as told:
-            out[key(words, text)] = str(told).partition(": ")[2]
+            out[key_of(words, text)] = str(told).partition(": ")[2]
             raise
         return answer
+    return asked
 
-    with mock.patch("spanprof.client.ask", asked):
+
+def asked_now():
+    """All that the pages and their comparison ask of spanprof and spanprof_account, with what they answer."""
+    from spanprof import client
+    from spanprof.record import account
+    from spanprof.report.tests.compare import differences
+    from spanprof.report.tests.recorded_runs import refused
+    out = {}
+    asked = noting(out, client.ask, key)
+    times = noting(out, account.ask, lambda words, file: key(["account", *words], document(file)))
+    with mock.patch("spanprof.client.ask", asked), mock.patch("spanprof.record.account.ask", times):
         for names, factors in pages():
             wrong, _ = differences(page_text(names, factors), [path(name + ".tasks") for name in names], asked)
             if wrong:
