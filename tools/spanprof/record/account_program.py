@@ -43,15 +43,25 @@ def in_words(answer):
 
 def ask(words, path):
     """What the program prints for these words and the timed document in a file."""
+    try:
+        with open(path, encoding="utf-8", errors="surrogateescape", newline="") as file:
+            document = file.read()
+    except OSError as wrong:
+        raise NoAccount("%s: %s" % (path, wrong.strerror)) from wrong
+    return ask_of(words, document)
+
+
+def ask_of(words, document):
+    """The same of a document."""
     program = spanprof_account()
     if not program:
         raise NoAccount(HOW)
     try:
-        with open(path, "rb") as document:
-            done = subprocess.run(program + list(words), stdin=document, capture_output=True, text=True,
-                                  errors="replace", check=False)
+        done = subprocess.run(program + list(words), input=document.encode("utf-8", "surrogateescape"),
+                              capture_output=True, check=False)
     except OSError as wrong:
         raise NoAccount("spanprof_account: %s" % wrong) from wrong
+    answer = done.stdout.decode("utf-8", "replace")
     if done.returncode:
-        raise NoAccount(in_words(done.stdout.strip()))
-    return done.stdout
+        raise NoAccount(in_words(answer.strip()))
+    return answer

@@ -109,7 +109,13 @@ def is_small(answers):
     return answers.tasks > answers.head.threads and 0 < nanoseconds < SMALL
 
 
-def of_idle_threads(answers, shares):
+def most_of_it(parts, words):
+    """The place to which most of an idle time is laid, where it is known."""
+    place, part = next(iter(parts.items()), ("", 0))
+    return ", %s of it %s" % (percent(part / sum(parts.values())), words % place) if part else ""
+
+
+def of_idle_threads(answers, shares, account):
     """By the largest part of the time in which the threads were not in code; None where that is not much."""
     largest = max(("starved", "delayed", "outside"), key=lambda name: getattr(shares, name))
     if getattr(shares, largest) < MUCH:
@@ -118,14 +124,16 @@ def of_idle_threads(answers, shares):
         return Cause("ends", "%s of the threads' time was before the region's code began or after it ended (%s)" %
                      (percent(shares.outside), shares.how), instead="none in this text")
     if largest == "starved":
-        return Cause("shape", "too few tasks: for %s of the threads' time they idled with no segment ready (%s)" %
-                     (percent(shares.starved), shares.how), ALL)
+        return Cause("shape", "too few tasks: for %s of the threads' time they idled with no segment ready%s (%s)" %
+                     (percent(shares.starved), most_of_it(account.starved_by if account else {}, "while %s ran"),
+                      shares.how), ALL)
     if is_small(answers):
         return Cause("small", "tasks too small: %.1f us of code each on average, and for %s of the threads' time they "
                               "%s (%s)" % (answers.head.nanoseconds * answers.work / answers.tasks / 1000,
                                            percent(shares.delayed), shares.kept, shares.how), ("join", "cutoff"))
-    return Cause("kept", "the runtime or the machine: for %s of the threads' time they %s (%s)" %
-                 (percent(shares.delayed), shares.kept, shares.how),
+    beside = most_of_it(account.delayed_by if account else {}, "beside %s")
+    return Cause("kept", "the runtime or the machine: for %s of the threads' time they %s%s (%s)" %
+                 (percent(shares.delayed), shares.kept, beside, shares.how),
                  instead="none of the program: record it on a machine with less to do, or on another runtime",
                  later=after_that(answers))
 
@@ -144,4 +152,4 @@ def cause(answers, account=None):
         return None
     shares = shares_of_account(account) if account and account.whole else shares_by_greedy(answers)
     return outside_regions(head) or lock(answers) or off_the_processor(answers, account) or \
-        of_idle_threads(answers, shares) or balanced(shares, account)
+        of_idle_threads(answers, shares, account) or balanced(shares, account)

@@ -6,6 +6,7 @@ import tempfile
 
 from spanprof.errors import Fault
 from spanprof.record.account import account_beside
+from spanprof.record.account_words import as_json as as_json_of
 from spanprof.record.cause import cause
 from spanprof.record.options import count
 from spanprof.report.answers import Answers
@@ -96,11 +97,15 @@ def advise(chosen, text, threads):
     try:
         answers = Answers(chosen.text)
         seen = survey(text.statements())
-        found = cause(answers, account_beside(answers)[0])
+        account, _ = account_beside(answers)
+        found = cause(answers, account)
         tried = trials(text, seen, costs_for(text.head, seen, chosen.creating, chosen.least), threads)
     except SystemExit as refused:   # a word of spanprof's
         raise Fault("%s; --advise compares greedy runs, which only spanprof tells" % refused) from refused
-    print(advice.as_json(tried, found, text.head) if chosen.json else "\n".join(advice.lines(tried, found, text.head)))
+    if chosen.json:
+        print(advice.as_json(tried, found, text.head, as_json_of(account) if account else None))
+    else:
+        print("\n".join(advice.lines(tried, found, text.head)))
 
 
 def answer(chosen):

@@ -1,21 +1,13 @@
 """The lead of a summary or a page: the one cause, and the change that comes first by it."""
-from typing import NamedTuple
-
 from spanprof.errors import Fault
 from spanprof.record.cause import cause
-from spanprof.whatif.advice import first_change, then_change
+from spanprof.whatif.advice import Lead, lead_of
 from spanprof.whatif.creating import costs_for
 from spanprof.whatif.survey import survey
 from spanprof.whatif.texts import Text, version_of
 from spanprof.whatif.trials import trials
 
 MOST_PLACES = 5     # of each kind of change
-
-
-class Lead(NamedTuple):
-    cause: str
-    first: str
-    then: str = ""      # of the program, where the first is none of it
 
 
 def lead(answers, account=None):
@@ -34,4 +26,4 @@ def lead(answers, account=None):
         tried = trials(text, seen, costs_for(text.head, seen), answers.head.threads, kinds, MOST_PLACES)
     except (Fault, OSError) as wrong:
         return Lead(found.words, found.instead or "none is tried: %s" % wrong)
-    return Lead(found.words, first_change(found, tried, answers.head), then_change(found, tried, answers.head))
+    return lead_of(found, tried, answers.head)

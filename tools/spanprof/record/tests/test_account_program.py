@@ -3,7 +3,7 @@ import tempfile
 import unittest
 from unittest import mock
 
-from spanprof.record.account_program import HOW, NoAccount, ask, in_words
+from spanprof.record.account_program import HOW, NoAccount, ask, ask_of, in_words
 
 
 class Refused(unittest.TestCase):
@@ -39,8 +39,12 @@ class Asked(unittest.TestCase):
             self.asked("/none")
         with mock.patch("spanprof.record.account_program.spanprof_account", lambda: []):
             with self.assertRaises(NoAccount) as caught:
-                ask([], "mine.timed")
+                ask_of([], "a document")
         self.assertEqual(str(caught.exception), HOW)
+
+    def test_no_document(self):
+        with self.assertRaisesRegex(NoAccount, "^/no/mine.timed: No such file or directory$"):
+            ask([], "/no/mine.timed")
 
 
 if __name__ == "__main__":

@@ -13,7 +13,9 @@ def answers(work=100, end=30, tasks=8, **told):
 
 
 def account(busy, delayed, starved, outside=0):
-    return Account(4, (busy + delayed + starved + outside) // 4, busy, delayed, starved, outside)
+    made = Account(4, (busy + delayed + starved + outside) // 4, busy, delayed, starved, outside)
+    made.idle = ({}, {})
+    return made
 
 
 class ByTheAccount(unittest.TestCase):
@@ -28,6 +30,17 @@ class ByTheAccount(unittest.TestCase):
         self.assertEqual(found.words, "too few tasks: for 40 % of the threads' time they idled with no segment ready "
                                       "(measured)")
         self.assertIn("drop-wait", found.changes)
+
+    def test_what_ran_while_there_were_too_few(self):
+        told = account(40, 20, 40)
+        told.idle = ({}, {"task at a.c:3": 30, "the beginning": 10})
+        self.assertEqual(cause(answers(), told).words, "too few tasks: for 40 % of the threads' time they idled with no "
+                                                       "segment ready, 75 % of it while task at a.c:3 ran (measured)")
+
+    def test_beside_what_they_idled(self):
+        told = account(20, 76, 4)
+        told.idle = ({"task at a.c:3": 76}, {})
+        self.assertIn("a segment was ready, 100 % of it beside task at a.c:3 (measured)", cause(answers(), told).words)
 
     def test_the_runtime_or_the_machine(self):
         found = cause(answers(), account(20, 76, 4))

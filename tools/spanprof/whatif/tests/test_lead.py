@@ -52,7 +52,9 @@ class Led(unittest.TestCase):
         self.assertTrue(led.then.startswith("after that, of the program: without the taskwait at row.c:5, if"))
 
     def test_by_the_account(self):
-        self.assertEqual(self.lead(Account(4, 100, 160, 40, 200, 0)).cause,
+        account = Account(4, 100, 160, 40, 200, 0)
+        account.idle = ({}, {})
+        self.assertEqual(self.lead(account).cause,
                          "too few tasks: for 50 % of the threads' time they idled with no segment ready (measured)")
 
     def test_nothing_to_say(self):
