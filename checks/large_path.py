@@ -25,8 +25,8 @@ import any_size  # noqa: E402
 import whole_graph  # noqa: E402
 from spanprof.client import segments  # noqa: E402
 from spanprof.errors import Fault  # noqa: E402
+from spanprof.measure import HOW, measure, spanprof_large  # noqa: E402
 from spanprof.path.found import find_path, programs  # noqa: E402
-from spanprof.record.measure import HOW, measure, spanprof_large  # noqa: E402
 
 COMMAND = TOP / "tools" / "spanprof-path"
 RUN = """

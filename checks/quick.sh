@@ -27,7 +27,7 @@ done
 for script in crate_picture version signatures places clauses believed_lines left_edits sentences speed_numbers waiting/lines; do
     passes "$script.py" python3 -B "checks/$script.py"
 done
-for test in checks/*_test.py checks/waiting/*_test.py checks/large_recordings/*_test.py bench/*test*.py \
+for test in checks/test_*.py checks/waiting/test_*.py checks/large_recordings/test_*.py bench/test_*.py \
     bench/recording/test_*.py; do
     passes "$test" python3 -B "$test"
 done

@@ -37,7 +37,7 @@ tells() { # WHAT WORDS OPTION ..: that the summary of a recording of `small` has
     tools/spanprof-record --out "$folder/told" "${@:3}" -- "$folder/by_gcc" small 2> "$folder/said"
     grep -qF -- "$2" "$folder/said" || { echo "  $1: the summary lacks '$2'"; cat "$folder/said"; wrong=$((wrong + 1)); }
 }
-tells "a fold" 'account       not told: tasks are folded, and the times are not those of all of their code' --fold depth=1
+tells "a fold" 'account       not told: tasks are folded, and the times are not those of all of their code' --fold chunk=8
 tells "an account" 'the four sums are proved of the recorded text and these times'
 SPANPROF_ACCOUNT=/none tells "no program" 'account       not told: spanprof_account: '
 echo "$wrong wrong"

@@ -10,7 +10,7 @@ import re
 import unittest
 
 TOOLS = os.path.dirname(os.path.dirname(os.path.abspath(__file__)))
-COMMANDS = ("record", "report", "path", "whatif")
+PARTS = ("", "record", "report", "path", "whatif")
 OF_WHAT = re.compile(r"proved of (the recorded text|the text|this text|that text|it\b|them\b|%s)")
 OTHERS = ("proved", "a program that is proved correct", "nothing about which is proved", "proves and builds")
 ABOUT_THE_TEXT = re.compile(r"\btexts?\b|nothing (is|about them is) proved|about which nothing is proved|with its proofs|"
@@ -51,7 +51,7 @@ def read(path):
 
 class Words(unittest.TestCase):
     def test_of_the_commands(self):
-        paths = [path for name in COMMANDS for path in glob.glob(os.path.join(TOOLS, "spanprof", name, "*.py"))]
+        paths = [path for name in PARTS for path in glob.glob(os.path.join(TOOLS, "spanprof", name, "*.py"))]
         self.assertGreater(len(paths), 40)
         for path in paths:
             for words in strings(read(path)):

@@ -6,8 +6,8 @@ it has ended, so a wait is the runtime's: until it knows, and until a thread tak
 import collections
 from dataclasses import dataclass, field
 
+from spanprof.account_program import NoAccount, ask_of
 from spanprof.conformance.judge import Missing
-from spanprof.record.account_program import NoAccount, ask_of
 
 
 @dataclass

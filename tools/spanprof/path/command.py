@@ -6,9 +6,9 @@ import tempfile
 
 from spanprof.errors import Fault
 from spanprof.head import head_text, said
+from spanprof.measure import HOW, measure, spanprof_large
 from spanprof.path.found import find_path, programs
 from spanprof.path.table import lines, write_csv
-from spanprof.record.measure import HOW, measure, spanprof_large
 from spanprof.version import Version
 
 DESCRIPTION = """Finds a critical path of a program text of version 1 and of any size, and prints how much of the

@@ -4,11 +4,11 @@ import subprocess
 from dataclasses import dataclass, field
 from typing import List, NamedTuple
 
+from spanprof.built import Product, find_or_build
 from spanprof.errors import Fault
+from spanprof.measure import measure
 from spanprof.path.masked import first_other_line
 from spanprof.path.table import place
-from spanprof.record.built import Product, find_or_build
-from spanprof.record.measure import measure
 
 TOOLS = os.path.dirname(os.path.dirname(os.path.dirname(os.path.abspath(__file__))))
 FOLDERS = [os.path.join(TOOLS, "large_path"), os.path.join(TOOLS, "..", "..", "lib", "spanprof")]

@@ -5,12 +5,13 @@ import subprocess
 import sys
 import webbrowser
 
+from spanprof.account import account_beside
+from spanprof.account_words import lines_of
+from spanprof.answers import Answers
 from spanprof.errors import OWN_FAULT, Fault
-from spanprof.record.account import account_beside
-from spanprof.record.account_words import lines_of
+from spanprof.measure import spanprof_large
 from spanprof.record.console import say, tell
 from spanprof.record.large import answers, head_of, large_summary, unmeasured_summary
-from spanprof.record.measure import spanprof_large
 from spanprof.record.options import parse
 from spanprof.record.ranks import are_ranks
 from spanprof.record.run import end_as
@@ -18,7 +19,6 @@ from spanprof.record.session import TOOLS, Session
 from spanprof.record.summary import other_region, summary
 from spanprof.record.summary_json import led_json, write_json
 from spanprof.record.verdict import verdict
-from spanprof.report.answers import Answers
 from spanprof.whatif.lead import lead
 
 REPORTERS = [os.path.join(TOOLS, "spanprof-report"), os.path.join(TOOLS, "..", "..", "bin", "spanprof-report")]

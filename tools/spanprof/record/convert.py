@@ -1,11 +1,10 @@
 """Converts the logs of a run to texts."""
 import glob
-import os
 import re
 import subprocess
 
+from spanprof.built import Product, find_or_build
 from spanprof.errors import Fault
-from spanprof.record.built import Product, find_or_build
 from spanprof.record.told import Told, read_told
 
 CONVERTER = Product("convert_log", "the converter of logs", "clang-19 libomp-19-dev make")

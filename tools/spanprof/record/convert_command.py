@@ -2,9 +2,10 @@
 import os
 import sys
 
+from spanprof.command import count
 from spanprof.errors import OWN_FAULT, Fault
 from spanprof.record.convert import convert, converter
-from spanprof.record.options import FOLD_WORDS, Parser, count, fold, unit
+from spanprof.record.options import FOLD_WORDS, Parser, fold, unit
 from spanprof.record.session import RECORDERS
 from spanprof.record.told import in_words
 

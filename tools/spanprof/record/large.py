@@ -6,10 +6,10 @@ from itertools import islice
 
 from spanprof.errors import Fault
 from spanprof.head import Head, head_text, read_head
+from spanprof.measure import HOW, measure
 from spanprof.path.found import find_path, programs
 from spanprof.path.table import share
 from spanprof.record.console import tell
-from spanprof.record.measure import HOW, measure
 from spanprof.record.summary import MOST_PLACES, first_lines, grouped, lock_lines, named, remark_lines, title
 
 

@@ -4,6 +4,7 @@ import os
 import re
 import sys
 
+from spanprof.command import count
 from spanprof.errors import OWN_FAULT, Fault
 from spanprof.record.ranks import is_launcher
 from spanprof.record.target import launched
@@ -31,14 +32,6 @@ def unit(word):
     if word not in ("ns", "us", "ms") and not 1 <= number <= 1000000000:
         raise argparse.ArgumentTypeError("a unit is ns, us, ms, or nanoseconds up to 1000000000")
     return word
-
-
-def count(least, most):
-    def read(word):
-        if not re.fullmatch(r"[0-9]{1,16}", word) or not least <= int(word) <= most:
-            raise argparse.ArgumentTypeError("%s is no whole number from %d to %d" % (word, least, most))
-        return int(word)
-    return read
 
 
 def fold(word):

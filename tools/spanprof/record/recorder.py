@@ -1,5 +1,5 @@
 """The recorder's library: found beside these tools, or built there."""
-from spanprof.record.built import Product, find_or_build
+from spanprof.built import Product, find_or_build
 
 LIBRARY = Product("librecorder.so", "the recorder", "clang-19 libomp-19-dev make")
 

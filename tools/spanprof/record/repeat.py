@@ -8,8 +8,8 @@ import subprocess
 import sys
 
 from spanprof import client
+from spanprof.account import timed_beside
 from spanprof.errors import Fault
-from spanprof.record.account import timed_beside
 from spanprof.record.files import recordings, stem_of
 
 BARE_PART = re.compile(r"task \{  # one of the region's threads\n *(work \d+ *(#.*)?\n *)?\}")

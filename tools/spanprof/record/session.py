@@ -2,8 +2,8 @@
 import os
 
 from spanprof import client
+from spanprof.account_program import spanprof_account
 from spanprof.errors import Fault
-from spanprof.record.account_program import spanprof_account
 from spanprof.record.console import say, tell
 from spanprof.record.convert import convert_all, converter
 from spanprof.record.files import check_folder, large_recordings, recordings, remove_old

@@ -3,9 +3,9 @@
 A person reads it to decide about a program, and what is proved is proved of the text. So each line that says `proved`
 says of what, and where the head tells that the text is not the program the line says that in its place.
 """
-from spanprof.report.claims import (OTHERWISE, against_parallelism, against_span, gain_may_be_less, gain_may_be_more,
-                                    is_divided, is_of_one_thread, is_partial, least_end, lock_binds, share_covered,
-                                    tenths, why_not_of_more_threads)
+from spanprof.claims import (OTHERWISE, against_parallelism, against_span, gain_may_be_less, gain_may_be_more,
+                             is_divided, is_of_one_thread, is_partial, least_end, lock_binds, share_covered, tenths,
+                             why_not_of_more_threads)
 from spanprof.report.figures import rounded_down, rounded_up
 from spanprof.report.places import places
 

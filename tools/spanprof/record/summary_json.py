@@ -1,8 +1,8 @@
 """What the summary of a recording leads with, as JSON: the account of the run, the cause, the first change."""
 import json
 
+from spanprof.account_words import as_json
 from spanprof.errors import Fault
-from spanprof.record.account_words import as_json
 
 
 def led_json(answers, account, why, led):

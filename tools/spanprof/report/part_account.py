@@ -1,5 +1,5 @@
 """Where the time of the recorded run's threads went: one bar, and the idle time by place."""
-from spanprof.record.account_words import PROVED as PROVED_OF
+from spanprof.account_words import PROVED as PROVED_OF
 from spanprof.report.figures import MEASURED, badge, percent
 from spanprof.report.markup import join, note, section, tag
 from spanprof.report.tables import bar, place_cell, table

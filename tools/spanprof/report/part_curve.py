@@ -1,5 +1,5 @@
 """The speed-up on more and more threads, between `least` and `bound`, with the point that the run reached."""
-from spanprof.report.claims import gain_may_be_less, gain_may_be_more, least_end, why_not_of_more_threads
+from spanprof.claims import gain_may_be_less, gain_may_be_more, least_end, why_not_of_more_threads
 from spanprof.report.figures import MEASURED, PROVED, badges, grouped
 from spanprof.report.markup import details, join, note, section, tag
 from spanprof.report.tables import table

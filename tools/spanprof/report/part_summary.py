@@ -1,6 +1,6 @@
 """The summary: the program's numbers, what they mean for a run on so many threads, and what the recording lacks."""
-from spanprof.report.claims import (against_parallelism, against_span, gain_may_be_less, gain_may_be_more, is_partial,
-                                    least_end, lock_binds, share_covered, speaks_of, why_not_of_more_threads)
+from spanprof.claims import (against_parallelism, against_span, gain_may_be_less, gain_may_be_more, is_partial,
+                             least_end, lock_binds, share_covered, speaks_of, why_not_of_more_threads)
 from spanprof.report.figures import MEANINGS, MEASURED, PROVED, RECORDED, badge, grouped
 from spanprof.report.markup import join, note, section, tag
 from spanprof.report.part_account import account_picture

@@ -1,5 +1,5 @@
 """What other costs would do: each place's halved and made nothing, and lines to run for any other factors."""
-from spanprof.report.claims import speaks_of
+from spanprof.claims import speaks_of
 from spanprof.report.figures import PROVED, badges
 from spanprof.report.markup import note, section, tag
 from spanprof.report.tables import place_cell, table

@@ -10,7 +10,7 @@ from dataclasses import dataclass
 from typing import List, Optional
 
 from spanprof import client
-from spanprof.report.claims import is_folded
+from spanprof.claims import is_folded
 
 
 @dataclass

@@ -4,8 +4,8 @@ from dataclasses import dataclass
 from functools import cached_property
 from typing import Optional
 
-from spanprof.record.account import account_beside, timed_beside
-from spanprof.report.answers import Answers
+from spanprof.account import account_beside, timed_beside
+from spanprof.answers import Answers
 from spanprof.report.figures import DECLARED, MEASURED, RECORDED, Figures, unit_name
 from spanprof.report.places import places, task_places
 from spanprof.report.recorded_run import NoRun, RecordedRun, recorded_run

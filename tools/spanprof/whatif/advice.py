@@ -2,7 +2,7 @@
 import json
 from typing import NamedTuple
 
-from spanprof.report.claims import gain_may_be_less, gain_may_be_more, is_partial, speaks_of, why_not_of_more_threads
+from spanprof.claims import gain_may_be_less, gain_may_be_more, is_partial, speaks_of, why_not_of_more_threads
 from spanprof.whatif.tell import grouped, numbers_json, yours_to_know
 
 LEAST_GAIN = 0.01       # of the end, from which on a change is put first

@@ -4,12 +4,12 @@ import os
 import sys
 import tempfile
 
+from spanprof.account import account_beside
+from spanprof.account_words import as_json as as_json_of
+from spanprof.answers import Answers
+from spanprof.cause import cause
+from spanprof.command import count
 from spanprof.errors import Fault
-from spanprof.record.account import account_beside
-from spanprof.record.account_words import as_json as as_json_of
-from spanprof.record.cause import cause
-from spanprof.record.options import count
-from spanprof.report.answers import Answers
 from spanprof.whatif import advice
 from spanprof.whatif.creating import costs_for
 from spanprof.whatif.listing import listing

@@ -1,6 +1,6 @@
 """The lead of a summary or a page: the one cause, and the change that comes first by it."""
+from spanprof.cause import cause
 from spanprof.errors import Fault
-from spanprof.record.cause import cause
 from spanprof.whatif.advice import Lead, lead_of
 from spanprof.whatif.creating import costs_for
 from spanprof.whatif.survey import survey

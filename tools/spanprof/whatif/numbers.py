@@ -5,9 +5,9 @@ import subprocess
 from typing import Dict, NamedTuple, Optional
 
 from spanprof import client
+from spanprof.answers import named_numbers
 from spanprof.errors import Fault
-from spanprof.record.measure import HOW, measure as measure_large, spanprof_large
-from spanprof.report.answers import named_numbers
+from spanprof.measure import HOW, measure as measure_large, spanprof_large
 
 LIMITS = re.compile("TooLong|TooDeep|TooManyTasks|TooManySegments|input too long")
 LONGEST = 8388608   # bytes that spanprof reads

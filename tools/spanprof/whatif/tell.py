@@ -1,7 +1,7 @@
 """What is told of a text and its changed text, in lines and as JSON."""
 import json
 
-from spanprof.report.claims import speaks_of, why_not_of_more_threads
+from spanprof.claims import speaks_of, why_not_of_more_threads
 
 RIGHT = (("drop-wait drop-depend drop-name",
           "whether the program stays right without it is yours to know: no text tells what its tasks read and write"),

@@ -4,13 +4,13 @@ import unittest
 from types import SimpleNamespace
 from unittest import mock
 
+from spanprof.account_program import NoAccount
 from spanprof.conformance.delays import as_json, in_microseconds, measured_case, tables_of
 from spanprof.conformance.judge import Missing, Verdict
 from spanprof.conformance.launch import Log
 from spanprof.conformance.segments import Table
 from spanprof.conformance.tests.helpers import body_of, case_of
 from spanprof.conformance.timed import Waits, of_run, timed_lines
-from spanprof.record.account_program import NoAccount
 
 # of `task { work 1 } taskwait`: segment 1 is the child's, 2 and 3 are the root's after its creation and after the wait
 LOG = Log(0, "plain", ["start 0 0", "finish 0 0", "start 0 2", "start 1 1", "finish 0 2", "finish 1 1", "start 0 3",

@@ -3,8 +3,9 @@ import tempfile
 import unittest
 from unittest import mock
 
+from spanprof import built
 from spanprof.errors import Fault
-from spanprof.record import built, files, recorder, repeat
+from spanprof.record import files, recorder, repeat
 
 
 class InAFolder(unittest.TestCase):
@@ -85,7 +86,7 @@ class Recorder(InAFolder):
         library, source = self.write("r/librecorder.so"), self.write("r/life.cpp")
         self.write("r/Makefile")
         told = []
-        with mock.patch("spanprof.record.built.build") as build:
+        with mock.patch("spanprof.built.build") as build:
             os.utime(library, (2e9, 2e9))
             recorder.recorder_library([os.path.dirname(library)], told.append)
             build.assert_not_called()

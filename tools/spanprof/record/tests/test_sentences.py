@@ -2,10 +2,10 @@
 import itertools
 import unittest
 
+from spanprof.claims import is_divided
 from spanprof.record.large import LargeAnswers, large_summary
 from spanprof.record.summary import summary
 from spanprof.record.tests.made_up import Answers, Head
-from spanprof.report.claims import is_divided
 
 OF_WHAT = ("proved of the recorded text", "proved of this text")
 HEADS = {

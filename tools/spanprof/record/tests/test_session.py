@@ -6,9 +6,10 @@ import tempfile
 import unittest
 from unittest import mock
 
+from spanprof import measure
 from spanprof.errors import Fault
 from spanprof.path.table import Place
-from spanprof.record import command, measure, session
+from spanprof.record import command, session
 from spanprof.record.files import Recording
 from spanprof.record.tests.made_up import Answers, Head
 from spanprof.record.told import Told
@@ -234,7 +235,7 @@ remarks       spanprof_large, which measures it, is not found; tools/prove_progr
         with mock.patch.dict(os.environ, {"SPANPROF_LARGE": "nice large"}):
             self.assertEqual(measure.spanprof_large(), ["nice", "large"])
         with mock.patch.dict(os.environ), mock.patch("shutil.which", return_value=None), \
-                mock.patch("spanprof.record.measure.PLACES", (self.out,)):
+                mock.patch("spanprof.measure.PLACES", (self.out,)):
             os.environ.pop("SPANPROF_LARGE", None)
             self.assertEqual(measure.spanprof_large(), [])
         with mock.patch.dict(os.environ), mock.patch("shutil.which", return_value="/bin/large"):

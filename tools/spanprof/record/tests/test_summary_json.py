@@ -3,8 +3,8 @@ import os
 import tempfile
 import unittest
 
+from spanprof.account import Account, Row
 from spanprof.errors import Fault
-from spanprof.record.account import Account, Row
 from spanprof.record.summary_json import led_json, write_json
 from spanprof.record.tests.made_up import Answers
 from spanprof.whatif.lead import Lead

@@ -4,10 +4,10 @@ import re
 from functools import cached_property
 from types import SimpleNamespace
 
+from spanprof.account import account_of
+from spanprof.changed_text import with_costs, without_costs
 from spanprof.client import segments
 from spanprof.head import read_head
-from spanprof.record.account import account_of
-from spanprof.report.changed_text import with_costs, without_costs
 
 ROWS_OF_A_CURVE = 64
 

@@ -7,7 +7,7 @@ from spanprof.report.tests.worked import path
 
 def refusal(name, change):
     """What is told of a replay document after a change of its text."""
-    from spanprof.report.answers import Answers
+    from spanprof.answers import Answers
     from spanprof.report.recorded_run import NoRun, recorded_run
     with tempfile.TemporaryDirectory() as folder:
         copy = os.path.join(folder, name + ".replay")

@@ -1,7 +1,7 @@
 import unittest
 from unittest import mock
 
-from spanprof.report.answers import Answers, named_numbers
+from spanprof.answers import Answers, named_numbers
 from spanprof.report.tests import worked
 
 

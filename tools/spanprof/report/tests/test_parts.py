@@ -3,7 +3,7 @@ import re
 import unittest
 from html import unescape
 
-from spanprof.report.answers import Row
+from spanprof.answers import Row
 from spanprof.report.part_compare import change, compare_part, partners
 from spanprof.report.part_curve import curve_part, shown_threads, step_of
 from spanprof.report.part_graph import graph_part

@@ -3,7 +3,7 @@ import shutil
 import tempfile
 import unittest
 
-from spanprof.report.answers import Answers, Row
+from spanprof.answers import Answers, Row
 from spanprof.report.recorded_run import NoRun, events, place_in_time, recorded_run
 from spanprof.report.tests import worked
 from spanprof.report.tests.recorded_runs import refused

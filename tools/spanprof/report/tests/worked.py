@@ -51,7 +51,7 @@ class Patched:
     def __init__(self):
         kept = Kept()
         self.patches = [mock.patch("spanprof.client.ask", kept),
-                        mock.patch("spanprof.record.account.ask", lambda words, file: kept(["account", *words],
+                        mock.patch("spanprof.account.ask", lambda words, file: kept(["account", *words],
                                                                                            document(file)))]
 
     def start(self):
@@ -112,13 +112,13 @@ def noting(out, ask, key_of):
 def asked_now():
     """All that the pages and their comparison ask of spanprof and spanprof_account, with what they answer."""
     from spanprof import client
-    from spanprof.record import account
+    from spanprof import account
     from spanprof.report.tests.compare import differences
     from spanprof.report.tests.recorded_runs import refused
     out = {}
     asked = noting(out, client.ask, key)
     times = noting(out, account.ask, lambda words, file: key(["account", *words], document(file)))
-    with mock.patch("spanprof.client.ask", asked), mock.patch("spanprof.record.account.ask", times):
+    with mock.patch("spanprof.client.ask", asked), mock.patch("spanprof.account.ask", times):
         for names, factors in pages():
             wrong, _ = differences(page_text(names, factors), [path(name + ".tasks") for name in names], asked)
             if wrong:
@@ -129,8 +129,9 @@ def asked_now():
 
 def main(words):
     if words == ["record"]:
+        now = asked_now()
         with open(KEPT, "w", encoding="utf-8") as file:
-            json.dump(asked_now(), file, indent=1, sort_keys=True)
+            json.dump(now, file, indent=1, sort_keys=True)
             file.write("\n")
     elif words == ["check"]:
         kept, now = kept_answers(), asked_now()

@@ -1,8 +1,8 @@
 import json
 import unittest
 
+from spanprof.cause import Cause
 from spanprof.head import Head
-from spanprof.record.cause import Cause
 from spanprof.whatif import advice
 from spanprof.whatif.candidates import candidates
 from spanprof.whatif.numbers import Numbers, OnThreads

@@ -3,7 +3,7 @@ import tempfile
 import unittest
 from unittest import mock
 
-from spanprof.record.account import Account
+from spanprof.account import Account
 from spanprof.record.tests.made_up import Answers, Head
 from spanprof.whatif.lead import Lead, lead
 from spanprof.whatif.tests.made_up import ROW

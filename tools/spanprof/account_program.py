@@ -5,7 +5,7 @@ import shlex
 import shutil
 import subprocess
 
-TOP = os.path.dirname(os.path.dirname(os.path.dirname(os.path.dirname(os.path.abspath(__file__)))))
+TOP = os.path.dirname(os.path.dirname(os.path.dirname(os.path.abspath(__file__))))
 PLACES = (os.path.join(TOP, "crates", "spanprof_account", "out", "spanprof_account"),
           os.path.join(TOP, "..", "bin", "spanprof_account"))  # where this file is in PREFIX/share/spanprof/record
 HOW = "spanprof_account, which tells it, is not found; tools/prove_program.sh spanprof_account proves and builds it"

@@ -1,4 +1,4 @@
-"""Tests of any_size.py that need no program: python3 -m unittest any_size_test in checks/."""
+"""Tests of any_size.py that need no program: python3 -m unittest test_any_size in checks/."""
 import unittest
 
 import any_size

@@ -1,4 +1,4 @@
-"""Tests of lines.py: python3 -m unittest checks/waiting/lines_test.py"""
+"""Tests of lines.py: python3 -m unittest checks/waiting/test_lines.py"""
 import unittest
 
 from lines import changed_functions, functions, missing_steps, renoted

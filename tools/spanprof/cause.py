@@ -7,7 +7,7 @@ was kept by the runtime or the machine.
 from dataclasses import dataclass
 from typing import Tuple
 
-from spanprof.report.claims import lock_binds
+from spanprof.claims import lock_binds
 
 MUCH = 0.25             # of the threads' time, from which on it is a cause
 SOME = 0.1              # of the greedy run's, from which on another shape may help

@@ -1,4 +1,4 @@
-"""Tests of speed_numbers.py: python3 -m unittest checks/speed_numbers_test.py"""
+"""Tests of speed_numbers.py: python3 -m unittest checks/test_speed_numbers.py"""
 import pathlib
 import sys
 import unittest

@@ -1,4 +1,4 @@
-"""Tests of recorded_runs.py: python3 -m unittest bench/recorded_runs_test.py"""
+"""Tests of recorded_runs.py: python3 -m unittest bench/test_recorded_runs.py"""
 import contextlib
 import io
 import os

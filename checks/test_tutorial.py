@@ -1,4 +1,4 @@
-"""Tests of tutorial.py: python3 -m unittest checks/tutorial_test.py"""
+"""Tests of tutorial.py: python3 -m unittest checks/test_tutorial.py"""
 import os
 import pathlib
 import sys

@@ -1,4 +1,4 @@
-"""Tests of proof_map.py: python3 -m unittest checks/proof_map_test.py"""
+"""Tests of proof_map.py: python3 -m unittest checks/test_proof_map.py"""
 import pathlib
 import sys
 import unittest

@@ -4,11 +4,11 @@ import shlex
 import shutil
 import subprocess
 
+from spanprof.answers import named_numbers
 from spanprof.errors import Fault
 from spanprof.refusal import without_text
-from spanprof.report.answers import named_numbers
 
-TOP = os.path.dirname(os.path.dirname(os.path.dirname(os.path.dirname(os.path.abspath(__file__)))))
+TOP = os.path.dirname(os.path.dirname(os.path.dirname(os.path.abspath(__file__))))
 PLACES = (os.path.join(TOP, "crates", "spanprof_large", "out", "spanprof_large"),
           os.path.join(TOP, "..", "bin", "spanprof_large"))  # of PREFIX, where it is installed
 LIMITS = {

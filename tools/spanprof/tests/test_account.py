@@ -3,8 +3,8 @@ import tempfile
 import unittest
 from unittest import mock
 
-from spanprof.record.account import Account, HeldUp, Row, account_beside, account_of, divide_busy, timed_beside
-from spanprof.record.account_program import HOW, NoAccount
+from spanprof.account import Account, HeldUp, Row, account_beside, account_of, divide_busy, timed_beside
+from spanprof.account_program import HOW, NoAccount
 from spanprof.record.tests.made_up import Answers, Head
 
 SUMS = "threads 2\nelapsed 14\nbusy 11\ndelayed 7\nstarved 8\noutside 2\n"
@@ -28,7 +28,7 @@ def divided(busy=100, work=60, **of_head):
 
 class Asked(unittest.TestCase):
     def account(self, made):
-        with mock.patch("spanprof.record.account.ask", told):
+        with mock.patch("spanprof.account.ask", told):
             return account_of(made, "mine.timed")
 
     def test_the_sums_and_the_rows(self):
@@ -52,6 +52,10 @@ class Asked(unittest.TestCase):
         made.code.pop()
         with self.assertRaisesRegex(NoAccount, "there are times of 4 segments, and not of 3"):
             self.account(made)
+
+    def test_lines_that_are_rounded_down(self):
+        self.assertEqual(self.account(answers(work=1, covered=1)).recorder, 10)
+        self.assertEqual(self.account(answers(work=1, covered=9)).recorder, 2)
 
     def test_what_the_text_leaves_out(self):
         self.assertEqual(self.account(answers(not_covered={"of this region": 3}, untimed=2)).left_out, 5)
@@ -89,7 +93,7 @@ class Beside(unittest.TestCase):
         self.made.path = os.path.join(kept.name, "mine.tasks")
 
     def beside(self, program=("told",)):
-        with mock.patch("spanprof.record.account.ask", told), mock.patch("spanprof.record.account.spanprof_account", lambda: program):
+        with mock.patch("spanprof.account.ask", told), mock.patch("spanprof.account.spanprof_account", lambda: program):
             found, why = account_beside(self.made)
         return found and found.busy, why
 

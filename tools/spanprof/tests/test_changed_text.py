@@ -1,7 +1,7 @@
 import unittest
 
+from spanprof.changed_text import with_costs, without_costs
 from spanprof.client import segments
-from spanprof.report.changed_text import with_costs, without_costs
 
 TEXT = """\
 omptasks 1

@@ -7,10 +7,10 @@ from functools import cached_property
 from typing import List
 
 from spanprof import client
-from spanprof.record.account_program import HOW, NoAccount, ask, spanprof_account
-from spanprof.record.idle import idle_by_place
-from spanprof.report.answers import named_numbers
-from spanprof.report.claims import is_folded
+from spanprof.account_program import HOW, NoAccount, ask, spanprof_account
+from spanprof.answers import named_numbers
+from spanprof.claims import is_folded
+from spanprof.idle import idle_by_place
 
 UNFINISHED = "task that did not end|the program ended inside|the records were full inside"
 
@@ -106,7 +106,7 @@ def divide_busy(found, head, work):
     waiting for locks is the recorder's. By the processor's clock it is held up for as long as it lasted beyond its costs,
     the recorder's time included."""
     unit, by = head.nanoseconds, head.clocks_differ.get("by", 0)
-    beyond = max(found.busy - work * unit + head.untimed * unit, 0)
+    beyond = min(max(found.busy - (work - head.untimed) * unit, 0), found.busy)
     waiting = at_locks(head) * unit
     if head.clock == "cpu":
         asleep, waiting = within((by * unit, waiting), beyond)
@@ -122,7 +122,8 @@ def account_of(answers, path):
     if len(rows) != len(answers.code):
         raise NoAccount("there are times of %d segments, and not of %d" % (len(rows), len(answers.code)))
     found = Account(**sums, rows=rows, places=[segment.place() for segment in answers.code])
-    found.held_up, found.recorder = divide_busy(found, head, answers.work)
+    # lines that are rounded to whole units may have less than the text covers
+    found.held_up, found.recorder = divide_busy(found, head, max(answers.work, head.covered or 0))
     found.of_runs = (head.runs or 1) > 1
     found.left_out = (head.not_covered.get("of this region", 0) + head.untimed) * head.nanoseconds
     return found

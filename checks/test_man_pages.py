@@ -1,4 +1,4 @@
-"""Tests of man_pages.py: python3 -m unittest checks/man_pages_test.py"""
+"""Tests of man_pages.py: python3 -m unittest checks/test_man_pages.py"""
 import pathlib
 import sys
 import unittest

@@ -4,8 +4,8 @@ from dataclasses import dataclass
 from functools import cached_property
 
 from spanprof import client
+from spanprof.changed_text import with_costs, without_costs
 from spanprof.head import read_head
-from spanprof.report.changed_text import with_costs, without_costs
 
 THREADS_WITHOUT_RECORDING = 4
 LONGEST_CURVE = 64

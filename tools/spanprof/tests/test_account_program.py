@@ -3,7 +3,7 @@ import tempfile
 import unittest
 from unittest import mock
 
-from spanprof.record.account_program import HOW, NoAccount, ask, ask_of, in_words
+from spanprof.account_program import HOW, NoAccount, ask, ask_of, in_words
 
 
 class Refused(unittest.TestCase):
@@ -37,7 +37,7 @@ class Asked(unittest.TestCase):
     def test_no_program(self):
         with self.assertRaisesRegex(NoAccount, "^spanprof_account: .*No such file"):
             self.asked("/none")
-        with mock.patch("spanprof.record.account_program.spanprof_account", lambda: []):
+        with mock.patch("spanprof.account_program.spanprof_account", lambda: []):
             with self.assertRaises(NoAccount) as caught:
                 ask_of([], "a document")
         self.assertEqual(str(caught.exception), HOW)

@@ -1,4 +1,4 @@
-"""Tests of sentences.py: python3 -m unittest checks/sentences_test.py"""
+"""Tests of sentences.py: python3 -m unittest checks/test_sentences.py"""
 import pathlib
 import sys
 import unittest

@@ -1,7 +1,7 @@
 import unittest
 
-from spanprof.record.account import Account
-from spanprof.record.cause import cause
+from spanprof.account import Account
+from spanprof.cause import cause
 from spanprof.record.tests.made_up import Answers, Head
 
 

@@ -1,4 +1,4 @@
-"""Tests of clauses.py: python3 -m unittest checks/clauses_test.py"""
+"""Tests of clauses.py: python3 -m unittest checks/test_clauses.py"""
 import pathlib
 import sys
 import unittest

@@ -1,4 +1,4 @@
-"""In checks/large_recordings: python3 -m unittest whole_graph_test. Compares the graph with the pairs of the model."""
+"""In checks/large_recordings: python3 -m unittest test_whole_graph. Compares the graph with the pairs of the model."""
 import os
 import sys
 import unittest

@@ -1,4 +1,4 @@
-"""Tests of may_wait.py: python3 -m unittest checks/may_wait_test.py"""
+"""Tests of may_wait.py: python3 -m unittest checks/test_may_wait.py"""
 import pathlib
 import sys
 import unittest

@@ -1,8 +1,8 @@
 import json
 import unittest
 
-from spanprof.record.account import Account, HeldUp, Row
-from spanprof.record.account_words import PROVED, account_lines, as_json, lasting, lines_of
+from spanprof.account import Account, HeldUp, Row
+from spanprof.account_words import PROVED, account_lines, as_json, lasting, lines_of
 
 MS = 10 ** 6
 
