@@ -4,6 +4,7 @@ import re
 import shlex
 import shutil
 import subprocess
+import tempfile
 
 TOP = os.path.dirname(os.path.dirname(os.path.dirname(os.path.abspath(__file__))))
 PLACES = (os.path.join(TOP, "crates", "spanprof_account", "out", "spanprof_account"),
@@ -32,36 +33,42 @@ def spanprof_account():
     return words or ([found] if found else [])
 
 
-def in_words(answer):
+def in_words(line):
     """An error line of the program, for people."""
-    name, *numbers = re.sub("^error: ", "", answer).split() or [""]
+    name, *numbers = re.sub("^error: ", "", line).split() or [""]
     fault = FAULTS.get(name)
     if not fault or fault.count("%s") != len(numbers):
-        return "spanprof_account: " + (answer or "it ended without a word")
+        return "spanprof_account: " + (line or "it ended without a word")
     return fault % tuple(numbers)
 
 
 def ask(words, path):
     """What the program prints for these words and the timed document in a file."""
     try:
-        with open(path, encoding="utf-8", errors="surrogateescape", newline="") as file:
-            document = file.read()
+        with open(path, "rb") as document:
+            return answer(words, document)
     except OSError as wrong:
         raise NoAccount("%s: %s" % (path, wrong.strerror)) from wrong
-    return ask_of(words, document)
 
 
 def ask_of(words, document):
-    """The same of a document."""
+    """The same of a document's words."""
+    with tempfile.TemporaryFile() as file:  # no pipe, which a program that reads nothing would break
+        file.write(document.encode())
+        file.seek(0)
+        return answer(words, file)
+
+
+def answer(words, document):
+    """The same of an open file."""
     program = spanprof_account()
     if not program:
         raise NoAccount(HOW)
     try:
-        done = subprocess.run(program + list(words), input=document.encode("utf-8", "surrogateescape"),
-                              capture_output=True, check=False)
+        done = subprocess.run(program + list(words), stdin=document, capture_output=True, text=True, errors="replace",
+                              check=False)
     except OSError as wrong:
         raise NoAccount("spanprof_account: %s" % wrong) from wrong
-    answer = done.stdout.decode("utf-8", "replace")
     if done.returncode:
-        raise NoAccount(in_words(answer.strip()))
-    return answer
+        raise NoAccount(in_words(done.stdout.strip()))
+    return done.stdout
