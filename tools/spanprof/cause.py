@@ -43,8 +43,8 @@ class Shares:
     @property
     def kept(self):
         """What `delayed` is."""
-        return "idled though a segment was ready" if self.is_measured else \
-            "were off the processor, or idled though a segment was ready"
+        return "idled though a task was ready" if self.is_measured else \
+            "were off the processor, or idled though a task was ready"
 
 
 def shares_of_account(found):
@@ -124,7 +124,7 @@ def of_idle_threads(answers, shares, account):
         return Cause("ends", "%s of the threads' time was before the region's code began or after it ended (%s)" %
                      (percent(shares.outside), shares.how), instead="none in this text")
     if largest == "starved":
-        return Cause("shape", "too few tasks: for %s of the threads' time they idled with no segment ready%s (%s)" %
+        return Cause("shape", "too few tasks: for %s of the threads' time they idled with nothing ready%s (%s)" %
                      (percent(shares.starved), most_of_it(account.starved_by if account else {}, "while %s ran"),
                       shares.how), ALL)
     if is_small(answers):

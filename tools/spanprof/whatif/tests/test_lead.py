@@ -40,7 +40,7 @@ class Led(unittest.TestCase):
 
     def test_the_change_that_ends_soonest(self):
         self.assertEqual(self.lead(), Lead(
-            "too few tasks: for 75 % of the threads' time they idled with no segment ready (measured, beside the greedy "
+            "too few tasks: for 75 % of the threads' time they idled with nothing ready (measured, beside the greedy "
             "run of the recorded text)",
             "without the taskwait at row.c:5, if the program stays right: the greedy run on 4 threads ends 20.0 % "
             "sooner (proved of the recorded text and of each changed one)"))
@@ -55,7 +55,7 @@ class Led(unittest.TestCase):
         account = Account(4, 100, 160, 40, 200, 0)
         account.idle = ({}, {})
         self.assertEqual(self.lead(account).cause,
-                         "too few tasks: for 50 % of the threads' time they idled with no segment ready (measured)")
+                         "too few tasks: for 50 % of the threads' time they idled with nothing ready (measured)")
 
     def test_nothing_to_say(self):
         self.assertIsNone(self.lead(elapsed=None))
