@@ -40,5 +40,4 @@ tested tools/spanprof/tests tools
 for folder in record path whatif report conformance; do
     tested "tools/spanprof/$folder/tests" tools
 done
-tested tools/plots/tests tools/plots
 exit "$failed"

@@ -1,4 +1,4 @@
-"""python3 -m unittest discover -s tools/plots/tests -t tools/plots"""
+"""Heads and segments of texts, and where spanprof is looked for."""
 import os
 import unittest
 from unittest import mock
