@@ -9,13 +9,11 @@ import shlex
 import shutil
 import signal
 import subprocess
-import sys
 from dataclasses import dataclass
 from itertools import islice
 
+from spanprof.errors import Fault
 from spanprof.refusal import explained, of_event, of_whole
-
-signal.signal(signal.SIGPIPE, signal.SIG_DFL)  # so that `| head` ends it quietly
 
 TOP = os.path.dirname(os.path.dirname(os.path.dirname(os.path.abspath(__file__))))
 IN_REPOSITORY = os.path.join(TOP, "crates", "spanprof", "out", "spanprof")
@@ -28,8 +26,8 @@ def spanprof():
     return shlex.split(os.environ.get("SPANPROF", "")) or [shutil.which("spanprof") or here]
 
 
-class Refused(SystemExit):
-    """spanprof's error line, and what it was asked; where nobody catches it, it ends the process with these words."""
+class Refused(Fault):
+    """spanprof's error line, and what it was asked."""
 
     def __init__(self, words, text, answer):
         more = of_whole(list(words), text, answer, asked)
@@ -67,7 +65,8 @@ def ask(words, text):
         done = run(words, text)
     except OSError as error:
         where = "SPANPROF" if os.environ.get("SPANPROF") else "spanprof is neither on the PATH nor built here"
-        sys.exit("%s: %s: %s; README.md tells how it is built" % (where, spanprof()[0], error.strerror))
+        raise Fault("%s: %s: %s; README.md tells how it is built" % (
+            where, spanprof()[0], error.strerror)) from error
     if done.returncode:
         raise Refused(words, text, done.stdout.strip())
     return done.stdout
@@ -180,9 +179,9 @@ def read(path):
         with open(path, encoding="utf-8", errors="replace", newline="") as file:
             text = re.split(r"(?m)^---\r?$", file.read())[0]
     except OSError as error:
-        sys.exit("%s: %s" % (path, error.strerror))
+        raise Fault("%s: %s" % (path, error.strerror)) from error
     try:
         ask(["span"], text)
     except Refused as refused:
-        sys.exit(refused.of(path))
+        raise Fault(refused.of(path)) from refused
     return text

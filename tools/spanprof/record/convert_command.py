@@ -1,20 +1,16 @@
 """spanprof-convert: the log of a recorded run as texts, as often and in whichever way is asked for."""
 import os
-import sys
 
-from spanprof.command import count
+from spanprof.command import Console, count, end_at_a_closed_pipe
 from spanprof.errors import OWN_FAULT, Fault
 from spanprof.record.convert import convert, converter
 from spanprof.record.options import FOLD_WORDS, Parser, fold, unit
 from spanprof.record.session import RECORDERS
 from spanprof.record.told import in_words
 
+say = Console("spanprof-convert").say
 DESCRIPTION = """Writes the texts of a log that the recorder has left: NAME.tasks, NAME.replay and so on, in the place of those
 that are there. The log stays, and can be converted again in another way."""
-
-
-def say(words):
-    print("spanprof-convert: " + words, file=sys.stderr, flush=True)
 
 
 def parser():
@@ -40,6 +36,7 @@ def variables(base, chosen):
 
 
 def main(words):
+    end_at_a_closed_pipe()
     reader = parser()
     chosen = reader.parse_args(words)
     if chosen.out and len(chosen.logs) > 1:

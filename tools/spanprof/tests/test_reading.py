@@ -4,6 +4,7 @@ import unittest
 from unittest import mock
 
 from spanprof import client
+from spanprof.errors import Fault
 from spanprof.head import read_head, said
 
 TEXT = """\
@@ -126,7 +127,7 @@ class Finding(unittest.TestCase):
 
     def test_no_program_is_told_without_a_traceback(self):
         with mock.patch.dict(os.environ, {"SPANPROF": "/no/such/program"}):
-            with self.assertRaisesRegex(SystemExit, "/no/such/program: No such file"):
+            with self.assertRaisesRegex(Fault, "/no/such/program: No such file"):
                 client.ask(["span"], "omptasks 1\n")
 
 

@@ -3,7 +3,7 @@ import unittest
 from unittest import mock
 
 from spanprof import client
-
+from spanprof.errors import Fault
 from spanprof.record.files import Recording
 from spanprof.record.summary import other_region, summary
 from spanprof.record.tests.made_up import Answers, Head
@@ -193,7 +193,7 @@ class Verdicts(unittest.TestCase):
     def test_all_three(self):
         self.assertEqual(verdict(Recording("mine.tasks")), "")
         self.assertEqual(self.verdict(return_value="events 2\nfinished 1\n"), LEGAL)
-        self.assertEqual(self.verdict(side_effect=SystemExit("spanprof replay: error: event 4: NotReady 1")),
+        self.assertEqual(self.verdict(side_effect=Fault("spanprof replay: error: event 4: NotReady 1")),
                          "its run is refused: spanprof replay: error: event 4: NotReady 1")
 
     def test_the_refused_event_is_shown(self):
