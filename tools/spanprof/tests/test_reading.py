@@ -6,6 +6,7 @@ from unittest import mock
 from spanprof import client
 from spanprof.errors import Fault
 from spanprof.head import read_head, said
+from spanprof.text import has_loops
 
 TEXT = """\
 # recorded: from sort, 2026-11-24T00:31:07Z, threads 4, clock cpu, unit 250 ns
@@ -112,7 +113,7 @@ class Segments(unittest.TestCase):
 
     def test_which_texts_have_loops(self):
         texts = ("# omptasks 2\nomptasks 1", "omptasks\n02 work 1", "omptasks")
-        self.assertEqual([client.has_loops(text) for text in texts],
+        self.assertEqual([has_loops(text) for text in texts],
                          [False, True, False])
 
 

@@ -7,6 +7,7 @@ from spanprof.answers import Answers
 from spanprof.cause import cause
 from spanprof.command import Console, check_files, count, end_with
 from spanprof.errors import Fault
+from spanprof.version import Version
 from spanprof.whatif import advice
 from spanprof.whatif.creating import costs_for
 from spanprof.whatif.lead import run_account
@@ -55,6 +56,7 @@ def parse(words):
     add("--advise", action="store_true",
         help="try each single change, and list what each brings on P threads and on 4 P")
     add("--json", action="store_true", help="print JSON")
+    add("--version", action=Version)
     chosen = parser.parse_args(words)
     if not (chosen.requests or chosen.places or chosen.advise):
         parser.error("nothing to change; --places lists what there is, and --advise tries each")
