@@ -8,6 +8,7 @@ import webbrowser
 from spanprof.account import account_beside
 from spanprof.account_words import lines_of
 from spanprof.answers import Answers
+from spanprof.command import end_at_a_closed_pipe
 from spanprof.errors import OWN_FAULT, Fault
 from spanprof.measure import spanprof_large
 from spanprof.record.console import say, tell
@@ -94,10 +95,7 @@ def print_summaries(session, found, said):
 
 
 def report(session, found, said):
-    try:
-        recording = print_summaries(session, found, said)
-    except SystemExit as refused:  # a word of spanprof's
-        raise Fault(str(refused)) from refused
+    recording = print_summaries(session, found, said)
     if session.options.html:
         try_page(session.options, recording)
 
@@ -119,4 +117,5 @@ def record_and_report(options):
 
 
 def main(words):
+    end_at_a_closed_pipe()
     end_as(record_and_report(parse(words)))

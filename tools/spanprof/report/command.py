@@ -1,8 +1,9 @@
 """spanprof-report: one page on a program text and its recorded run."""
 import argparse
-import os
 import sys
 
+from spanprof.command import Console, check_files, end_with
+from spanprof.errors import Fault
 from spanprof.head import said
 from spanprof.report.page import page
 from spanprof.report.speedscope import speedscope_text
@@ -38,18 +39,9 @@ def arguments(words):
     return chosen
 
 
-def check_files(paths):
-    for path in paths:
-        if path and not os.path.isfile(path):
-            sys.exit("spanprof-report: %s: no such file" % path)
-
-
 def write(path, text):
-    try:
-        with open(path, "w", encoding="utf-8", errors="replace") as file:   # a file's name may be no UTF-8
-            file.write(text)
-    except OSError as wrong:
-        sys.exit("spanprof-report: %s: %s" % (path, wrong.strerror))
+    with open(path, "w", encoding="utf-8", errors="replace") as file:   # a file's name may be no UTF-8
+        file.write(text)
 
 
 class Progress:
@@ -95,15 +87,20 @@ def write_all(chosen, views, factors):
     return [path for path, _ in written if path]
 
 
-def main(words):
-    chosen, progress = arguments(words), Progress(sys.stderr)
-    check_files([chosen.program, chosen.replay, chosen.other])
+def answer(chosen):
+    progress = Progress(sys.stderr)
+    for path in filter(None, (chosen.program, chosen.replay, chosen.other)):
+        check_files(path)
     views = views_of(chosen, progress)
     try:
         factors = read_factors(chosen.factor, views[0].places)
     except UnknownPlace as unknown:
-        sys.exit("spanprof-report: --factor %s" % unknown)
+        raise Fault("--factor %s" % unknown) from unknown
     if factors and not chosen.output:
         print_factors(views[0], factors)
     written = write_all(chosen, views, factors)
     progress.end("%d commands of spanprof; written: %s" % (progress.count, ", ".join(written) or "nothing"))
+
+
+def main(words):
+    end_with(Console("spanprof-report"), answer, arguments(words))

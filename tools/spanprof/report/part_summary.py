@@ -245,8 +245,8 @@ def kinds_explained(view):
                           [RECORDED] * bool(view.run) + [PROVED])
     items = [piece for kind in kinds for piece in (tag("dt", badge(kind)), tag("dd", MEANINGS[kind]))]
     return tag("div", tag("h3", "What the words beside the numbers mean"), tag("dl", *items, class_="kinds-explained"),
-               note("A number's tooltip names the answer of spanprof or the line of the text's head that it is, or those "
-                    "of which it is a sum, a difference or a quotient."))
+               note("A number's tooltip names the answer of spanprof or the line of the text's head that it is, or "
+                    "those of which it is a sum, a difference or a quotient."))
 
 
 def summary_part(view, trials, of=""):
@@ -254,5 +254,6 @@ def summary_part(view, trials, of=""):
     tiles = tag("div", work_tile(view), span_tile(view), parallelism_tile(view), tasks_tile(view), threads_tile(view),
                 busy_tile(view), class_="tiles")
     recorded = tag("p", recorded_words(view), class_="recording given")
-    return section("summary", "Summary" + of, recorded, covered(view), lead_words(view), account_picture(view), tiles, on_the_threads(view), lock_words(view),
-                   which_binds(view), what_pays(view, trials), remarks(view), division(view), kinds_explained(view))
+    return section("summary", "Summary" + of, recorded, covered(view), lead_words(view), account_picture(view), tiles,
+                   on_the_threads(view), lock_words(view), which_binds(view), what_pays(view, trials),
+                   remarks(view), division(view), kinds_explained(view))

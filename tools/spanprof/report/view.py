@@ -6,6 +6,7 @@ from typing import Optional
 
 from spanprof.account import account_beside, timed_beside
 from spanprof.answers import Answers
+from spanprof.errors import Fault
 from spanprof.report.figures import DECLARED, MEASURED, RECORDED, Figures, unit_name
 from spanprof.report.places import places, task_places
 from spanprof.report.recorded_run import NoRun, RecordedRun, recorded_run
@@ -51,7 +52,7 @@ class View:
             return recorded_run(path, self.answers)
         except NoRun as reason:
             if replay:
-                raise SystemExit("spanprof-report: %s" % reason) from reason
+                raise Fault(str(reason)) from reason
             self.without_run = str(reason)
             return None
 

@@ -1,13 +1,15 @@
 """Worked programs with spanprof's answers, so that the tests need no spanprof.
 
-    python3 -m report.tests.worked record    in tools/: asks spanprof, and keeps its answers
-    python3 -m report.tests.worked check     ends with status 1 where it answers otherwise than is kept
+    python3 -m spanprof.report.tests.worked record    in tools/: asks spanprof, and keeps its answers
+    python3 -m spanprof.report.tests.worked check     ends with status 1 where it answers otherwise than is kept
 """
 import hashlib
 import json
 import os
 import sys
 from unittest import mock
+
+from spanprof.errors import Fault
 
 FOLDER = os.path.join(os.path.dirname(os.path.abspath(__file__)), "worked")
 KEPT = os.path.join(FOLDER, "answers.json")
@@ -27,6 +29,11 @@ def kept_answers():
         return json.load(file)
 
 
+def document(file):
+    with open(file, encoding="utf-8") as opened:
+        return opened.read()
+
+
 class Kept:
     """Answers as spanprof gave them; an error line where that is what is kept."""
 
@@ -36,13 +43,12 @@ class Kept:
     def __call__(self, words, text):
         answer = self.answers[key(words, text)]
         if answer.startswith("error"):
-            sys.exit("spanprof %s: %s" % (words[0], answer))
+            raise Fault("spanprof %s: %s" % (words[0], answer))
         return answer
 
-
-def document(file):
-    with open(file, encoding="utf-8") as opened:
-        return opened.read()
+    def of_times(self, words, file):
+        """What spanprof_account answers on a timed document."""
+        return self(["account", *words], document(file))
 
 
 class Patched:
@@ -50,9 +56,7 @@ class Patched:
 
     def __init__(self):
         kept = Kept()
-        self.patches = [mock.patch("spanprof.client.ask", kept),
-                        mock.patch("spanprof.account.ask", lambda words, file: kept(["account", *words],
-                                                                                           document(file)))]
+        self.patches = [mock.patch("spanprof.client.ask", kept), mock.patch("spanprof.account.ask", kept.of_times)]
 
     def start(self):
         for patch in self.patches:
@@ -102,7 +106,7 @@ def noting(out, ask, key_of):
     def asked(words, text):
         try:
             out[key_of(words, text)] = answer = ask(words, text)
-        except SystemExit as told:
+        except Fault as told:
             out[key_of(words, text)] = str(told).partition(": ")[2]
             raise
         return answer
@@ -111,13 +115,14 @@ def noting(out, ask, key_of):
 
 def asked_now():
     """All that the pages and their comparison ask of spanprof and spanprof_account, with what they answer."""
-    from spanprof import client
-    from spanprof import account
+    from spanprof import account, client
+    from spanprof.account_program import spanprof_account
     from spanprof.report.tests.compare import differences
     from spanprof.report.tests.recorded_runs import refused
     out = {}
     asked = noting(out, client.ask, key)
-    times = noting(out, account.ask, lambda words, file: key(["account", *words], document(file)))
+    of_times = account.ask if spanprof_account() else Kept().of_times     # that program need not be there
+    times = noting(out, of_times, lambda words, file: key(["account", *words], document(file)))
     with mock.patch("spanprof.client.ask", asked), mock.patch("spanprof.account.ask", times):
         for names, factors in pages():
             wrong, _ = differences(page_text(names, factors), [path(name + ".tasks") for name in names], asked)
