@@ -158,5 +158,6 @@ def as_json(tried, found, head, account=None):
     led = found and lead_of(found, tried, head)
     out = {"cause": led and {"kind": found.kind, "words": led.cause, "first": led.first, "then": led.then},
            "account": account, "text": numbers_json(tried.before),
-           "changes": [trial_json(tried, trial) for trial in tried.ranked], "left out": tried.left_out, "proved": PROVED}
+           "changes": [trial_json(tried, trial) for trial in tried.ranked], "left out": tried.left_out,
+           "proved": PROVED}
     return json.dumps(out, indent=2)
