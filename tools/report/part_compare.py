@@ -4,7 +4,8 @@ from typing import Optional
 
 from report.figures import MEASURED, PROVED, RECORDED, badge, badges, percent
 from report.markup import breakable, join, note, section, tag
-from report.part_summary import recorded_words, remarks
+from report.summary_rest import remarks
+from report.summary_words import recorded_words
 from report.tables import place_cell, table
 
 MOST_PLACES = 30
@@ -66,7 +67,7 @@ def row_of(views, line):
     """A line's cells. Times of different units are not compared."""
     values, kinds = (line.first, line.second), [line.kind or view.shape_kind for view in views]
     cells = ["" if value is None else
-             view.figures.number(value, line.source, kind, unit=view.unit if line.is_time else "")
+             (view.figures.time if line.is_time else view.figures.number)(value, line.source, kind)
              for view, value, kind in zip(views, values, kinds)]
     is_compared = None not in values and (have_one_unit(views) or not line.is_time)
     changed = change(views, *values, line.source, kinds[0]) if is_compared else ""
@@ -121,7 +122,7 @@ def place_cells(view, place):
     if not place:
         return ["", ""]
     show, named = view.figures, "place %d " % place.number
-    return [show.number(place.cost, named + "cost", view.cost_kind),
+    return [show.time(place.cost, named + "cost", view.cost_kind),
             show.share(place.critical_cost, view.answers.span, named + "path / span span", view.cost_kind)]
 
 
@@ -140,8 +141,7 @@ def by_place(views):
 
 
 def cost_head(view):
-    unit = tag("span", ", in " + view.unit.replace("× ", ""), class_="given") if view.unit else ""
-    return join(["cost: ", breakable(view.name), unit])
+    return join(["cost: ", breakable(view.name)])
 
 
 def compare_part(views):

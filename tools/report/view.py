@@ -5,10 +5,13 @@ from functools import cached_property
 from typing import Optional
 
 from report.answers import Answers
-from report.figures import DECLARED, MEASURED, RECORDED, Figures, unit_name
+from report.figures import DECLARED, MEASURED, RECORDED, Figures
 from report.places import places, task_places
 from report.recorded_run import NoRun, RecordedRun, recorded_run
 from report.source import Sources
+from report.source_lines import stretches
+from report.tried import tried
+from report.units import Units
 from whatif.lead import lead
 
 COLOURS = 10
@@ -29,10 +32,46 @@ class Reached:
             "the order of the replay with the costs of the text"
 
 
-class View:
+class Kinds:
+    """What the numbers of a text are, by its head."""
+
+    @property
+    def name(self):
+        return self.answers.name
+
+    @property
+    def unit(self):
+        return self.units.name
+
+    @property
+    def cost_kind(self):
+        return MEASURED if self.answers.head.is_measured else DECLARED
+
+    @property
+    def shape_kind(self):
+        """Of tasks, segments and what waits for what."""
+        head = self.answers.head
+        return RECORDED if head.program or head.threads or head.unit else DECLARED
+
+    def colour_of(self, task_place):
+        """The number of a colour: one for each of the first places of tasks, and one for all others."""
+        return min(task_place.number, COLOURS - 1)
+
+    @cached_property
+    def reached(self):
+        work, head = self.answers.work, self.answers.head
+        if head.elapsed and head.threads:
+            return Reached(head.threads, head.elapsed, work / head.elapsed, True, "elapsed")
+        if self.run and self.run.end and not self.run.is_timed:
+            return Reached(self.run.count, self.run.end, work / self.run.end, False, "run end")
+        return None
+
+
+class View(Kinds):
     def __init__(self, path, replay=None, threads=None, source=None, prefix="", tell=None):
         self.answers = Answers(path, threads, tell)
-        self.figures = Figures(prefix)
+        self.units = Units(self.answers.head)
+        self.figures = Figures(prefix, self.units)
         here = [os.path.dirname(os.path.abspath(path)), os.getcwd()]
         self.sources = Sources(source or here)
         self.places = places(self.answers)
@@ -54,42 +93,22 @@ class View:
             self.without_run = str(reason)
             return None
 
-    @property
-    def name(self):
-        return self.answers.name
-
-    @property
-    def unit(self):
-        return unit_name(self.answers.head.unit)
-
-    @property
-    def cost_kind(self):
-        return MEASURED if self.answers.head.is_measured else DECLARED
-
-    @property
-    def shape_kind(self):
-        """Of tasks, segments and what waits for what."""
-        head = self.answers.head
-        return RECORDED if head.program or head.threads or head.unit else DECLARED
+    @cached_property
+    def tried(self):
+        """Single changes of the text; None where it is not of a kind that is tried."""
+        self.answers.tell("single changes of %s" % self.name)
+        return tried(self.answers)
 
     @cached_property
     def lead(self):
         """None where the text tells no time."""
-        self.answers.tell("single changes of %s" % self.name)
-        return lead(self.answers)
+        is_asked = self.tried and self.answers.threads == self.answers.head.threads
+        return lead(self.answers, tried=self.tried.trials if is_asked else None)
 
     @cached_property
-    def reached(self):
-        work, head = self.answers.work, self.answers.head
-        if head.elapsed and head.threads:
-            return Reached(head.threads, head.elapsed, work / head.elapsed, True, "elapsed")
-        if self.run and self.run.end and not self.run.is_timed:
-            return Reached(self.run.count, self.run.end, work / self.run.end, False, "run end")
-        return None
-
-    def colour_of(self, task_place):
-        """The number of a colour: one for each of the first places of tasks, and one for all others."""
-        return min(task_place.number, COLOURS - 1)
+    def stretches(self):
+        """Of each place, by its number, the lines that its segments run, where its name tells one."""
+        return stretches(self.answers, self.places)
 
     @cached_property
     def place_of(self):

@@ -5,6 +5,7 @@
 import json
 import math
 import sys
+from itertools import zip_longest
 
 from report.tests.expected import Program, table, unpacked
 from report.tests.page_reader import read_page
@@ -40,7 +41,7 @@ def faults_of(figure, programs):
         return ["%s: the page has %r" % ("; ".join(figure.sources), figure.words)]
     wrong = ["%s: the page shows %s, and not %s" % (source, words, value)
              for source, words, value in zip(figure.sources, figure.shown, values)
-             if not is_seen(words, value, figure.rounded)]
+             if not is_seen(words, value / figure.scale, figure.rounded)]
     if figure.exact and not is_same(figure.exact, values[0]):
         wrong.append("%s: the page has %s, and not %s" % (figure.sources[0], figure.exact, values[0]))
     return wrong
@@ -81,7 +82,8 @@ def drawn_differences(program, data):
 def differences(page, paths, ask):
     """All numbers of the page that are not what they have to be, and how many there are."""
     reader = read_page(page)
-    data = json.loads(reader.data)["programs"]
+    found = json.loads(reader.data)
+    data = [dict(own, tried=tried) for own, tried in zip_longest(found["programs"], found["tried"])]
     programs = [Program(path, own, ask) for path, own in zip(paths, data)]
     wrong = [fault for figure in reader.figures for fault in faults_of(figure, programs)]
     wrong += ["%r: a number without a source" % words for words in reader.without_source]

@@ -3,7 +3,13 @@ import os
 import re
 from functools import cached_property
 
+from head import read_head
+from program import has_loops
 from report.changed_text import with_costs, without_costs
+from whatif.creating import costs_for
+from whatif.requests import Request, applied, changes
+from whatif.statements import statements, text_lines
+from whatif.survey import survey
 
 ROWS_OF_A_CURVE = 64
 
@@ -142,6 +148,22 @@ class Program:
     @cached_property
     def without_costs(self):
         return without_costs(self.answer("show"))
+
+    def trial(self, number, what, threads=None):
+        """Of the text with one change, which is made here again."""
+        tried = self.data["tried"]
+        text = self.changed_text(Request(*tried["requests"][int(number)]))
+        if threads is None:
+            return int(re.search(r"(?m)^%s (\d+)$" % what, self.ask(["span"], text))[1])
+        rows = table(self.ask(["curve", "--upto", str(max(tried["threads"]))], text))
+        return int(rows[int(threads) - 1][what])
+
+    def changed_text(self, request):
+        text = self.answer("show") if has_loops(self.text) else self.text
+        kept = list(statements(line + "\n" for line in text.split("\n")))
+        seen = survey(kept)
+        made = changes([request], seen, costs_for(read_head(self.text), seen))
+        return "".join(text_lines(applied(kept, made), 1))
 
     def count(self, number):
         """Of threads, as the page names them."""

@@ -40,7 +40,7 @@ class Pages(unittest.TestCase):
     def test_words_of_a_text_are_words_on_the_page(self):
         text = worked.page_text(["odd"])
         self.assertNotIn("<img", text)
-        self.assertEqual(text.count("</script>"), 2)
+        self.assertEqual(text.count("</script>"), 3)
         self.assertIn("odd &lt;/script&gt; thing: span too low", text)
 
     def test_names_cannot_end_the_data(self):
