@@ -1,8 +1,8 @@
 """The parts of a page on a text of any size."""
 import shlex
 
-from spanprof.report.figures import PROVED, badges
-from spanprof.report.markup import join, note, section, tag
+from spanprof.report.figures import MEASURED, PROVED, badges
+from spanprof.report.markup import details, join, note, section, tag
 from spanprof.report.part_path import by_place
 from spanprof.report.part_tasks import MOST_PLACES, costs, creation
 from spanprof.report.part_timeline import colour_legend, controls
@@ -71,11 +71,19 @@ TIMES = "Each bin of time is as high as the share of it that its thread was in c
     "that it was in most."
 
 
-def timeline_part(view):
-    drawing = tag("div", class_="lanes", tabindex="0", role="application", data_program=0, data_run="recorded",
+def lane(title, run):
+    drawing = tag("div", class_="lanes", tabindex="0", role="application", data_program=0, data_run=run,
                   aria_label="Timeline; arrow keys move, plus and minus zoom")
-    title = tag("figcaption", tag("b", "The run as it was"), " ", badges("measured"))
-    return section("timeline", "Timeline", tag("figure", title, controls(has_search=False), drawing,
-                                               tag("p", class_="note stretch", role="status"), class_="timeline"),
-                   colour_legend(view, has_segments=False), note(TIMES),
+    return tag("figure", tag("figcaption", title), controls(has_search=False), drawing,
+               tag("p", class_="note stretch", role="status"), class_="timeline")
+
+
+def timeline_part(view):
+    greedy = join([tag("b", "The greedy run"), ", ", tag("span", "%d threads" % view.answers.threads, class_="given"),
+                   " ", badges(PROVED)])
+    lanes = [lane(join([tag("b", "The run as it was"), " ", badges(MEASURED)]), "recorded")] if view.levels else []
+    if view.greedy_levels:
+        made = lane(greedy, "greedy")
+        lanes.append(details("The greedy run of the text on as many threads", made, class_="greedy") if lanes else made)
+    return section("timeline", "Timeline", *lanes, colour_legend(view, has_segments=False), note(TIMES),
                    tag("div", class_="tip", role="status", aria_live="polite"))

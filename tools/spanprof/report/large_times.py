@@ -1,4 +1,7 @@
-"""The recorder's table of times of a large text, as a timeline in bins."""
+"""The recorder's table of times of a large text, and its greedy run, as timelines in bins."""
+import subprocess
+from array import array
+
 from spanprof.report.large_levels import Levels
 from spanprof.report.view import COLOURS
 
@@ -42,4 +45,36 @@ def levels_in(path, answers):
             out.add(thread, start, end, colour[s])
     except (IndexError, ValueError) as wrong:
         raise NoTimes("%s is no table of times of %s" % (path, answers.name)) from wrong
+    return out
+
+
+GREEDY = "segment,start,end,thread"
+
+
+def greedy_rows(answers):
+    """Starts, ends and threads of the segments that take a thread; nothing where spanprof_large has no such command."""
+    words = answers.program + ["greedy", "--threads", str(answers.threads)]
+    segments, starts, ends, threads = (array("q") for _ in range(4))
+    with open(answers.path, "rb") as text, subprocess.Popen(words, stdin=text, stdout=subprocess.PIPE,
+                                                            stderr=subprocess.DEVNULL, text=True) as run:
+        if run.stdout.readline().rstrip() == GREEDY:
+            for line in run.stdout:
+                s, start, end, thread = line.rstrip("\n").split(",")
+                if thread:
+                    for column, word in ((segments, s), (starts, start), (ends, end), (threads, thread)):
+                        column.append(int(word))
+        else:
+            run.stdout.read()
+    return segments, starts, ends, threads
+
+
+def levels_of_greedy(answers):
+    """In the unit of the costs; None where there is no greedy run."""
+    segments, starts, ends, threads = greedy_rows(answers)
+    if not segments:
+        return None
+    answers.note("greedy", "--threads", str(answers.threads))
+    colour, out = colours(answers.sums), Levels(answers.threads, max(ends))
+    for s, start, end, thread in zip(segments, starts, ends, threads):
+        out.add(thread, start, end, colour[s])
     return out

@@ -5,7 +5,7 @@ from functools import cached_property
 from spanprof.cause import cause
 from spanprof.report.figures import Figures
 from spanprof.report.large_answers import LargeAnswers
-from spanprof.report.large_times import NoTimes, levels_in
+from spanprof.report.large_times import NoTimes, levels_in, levels_of_greedy
 from spanprof.report.places import Place
 from spanprof.report.source import Sources
 from spanprof.report.units import Units
@@ -46,6 +46,9 @@ class LargeView(Kinds):
             place.number = number
         return out
 
+    def snippet(self, place):
+        return self.sources.snippet(place)
+
     @cached_property
     def lead(self):
         found = cause(Bounded(self.answers))
@@ -64,3 +67,8 @@ class LargeView(Kinds):
         except NoTimes as reason:
             self.without_run = str(reason)
             return None
+
+    @cached_property
+    def greedy_levels(self):
+        self.answers.tell("the greedy run of " + self.name)
+        return levels_of_greedy(self.answers)

@@ -84,7 +84,7 @@ def numbers(views):
 
 def kind_and_lines(view, place):
     """What a place is, whatever its file and number: the construct, and the lines of the source that stand there."""
-    lines = view.sources.snippet(place.name)
+    lines = view.snippet(place.name)
     return (place.name.rpartition(" at ")[0], *lines) if lines else None
 
 
@@ -129,7 +129,7 @@ def place_cells(view, place):
 def pair_name(views, pair):
     """The place, or both where they have different names."""
     names = list(dict.fromkeys(place.name for place in pair if place))
-    lines = next(view.sources.snippet(place.name) for view, place in zip(views, pair) if place)
+    lines = next(view.snippet(place.name) for view, place in zip(views, pair) if place)
     return place_cell(" / ".join(names), lines)
 
 

@@ -10,7 +10,7 @@ MOST_STEPS = 400
 def place_row(view, place):
     answers, show, kind, named = view.answers, view.figures, view.cost_kind, "place %d " % place.number
     part = percent(place.critical_cost, answers.span)
-    return [place_cell(place.name, view.sources.snippet(place.name)),
+    return [place_cell(place.name, view.snippet(place.name)),
             show.time(place.critical_cost, named + "path", kind),
             join([show.share(place.critical_cost, answers.span, named + "path / span span", kind), bar(part)]),
             show.share(place.cost, answers.work, named + "cost / span work", kind),
@@ -57,7 +57,7 @@ def piece_cells(view, piece):
                 tag("span", "%d cheaper segments" % len(piece), class_="given")]
     place = view.answers.code[first].place()
     numbers = [tag("span", number, class_="given") for number in (first, view.answers.rows[first].task)]
-    return [*numbers, place_cell(place, view.sources.snippet(place)[-1:])]
+    return [*numbers, place_cell(place, view.snippet(place)[-1:])]
 
 
 def step_row(view, piece):

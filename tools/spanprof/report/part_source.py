@@ -10,7 +10,7 @@ def of_files(view):
     """By file the numbers of the places with costs that begin there, the file with the most work first."""
     out = {}
     for place in view.places:
-        stretch = view.stretches.get(place.number)
+        stretch = view.stretches.get(place.name)
         if stretch and place.cost:
             out.setdefault(stretch.file, []).append(place)
     return sorted(out.items(), key=lambda item: -sum(place.cost for place in item[1]))
@@ -20,7 +20,7 @@ def shown_lines(view, places, lines):
     """Those that segments run, and some around them."""
     near = set()
     for place in places:
-        stretch = view.stretches[place.number]
+        stretch = view.stretches[place.name]
         near.update(range(stretch.first - AROUND, stretch.last + AROUND + 1))
     return sorted(number for number in near if 0 < number <= len(lines))[:MOST_LINES]
 
@@ -28,12 +28,12 @@ def shown_lines(view, places, lines):
 def heat(view, places, number):
     """The greatest part of the work that a place is whose segments run the line."""
     return max((percent(place.cost, view.answers.work) for place in places
-                if view.stretches[place.number].first <= number <= view.stretches[place.number].last), default=0)
+                if view.stretches[place.name].first <= number <= view.stretches[place.name].last), default=0)
 
 
 def words_of(view, place):
     show, kind, named = view.figures, view.cost_kind, "place %d " % place.number
-    stretch = view.stretches[place.number]
+    stretch = view.stretches[place.name]
     return tag("span", tag("span", place.name.partition(" at ")[0] + ", " + stretch.words, class_="given"), " ",
                show.share(place.cost, view.answers.work, named + "cost / span work", kind), " of the work, ",
                show.share(place.critical_cost, view.answers.span, named + "path / span span", kind), " of the span",
@@ -41,7 +41,7 @@ def words_of(view, place):
 
 
 def line_row(view, places, lines, number):
-    here = [place for place in places if view.stretches[place.number].first == number]
+    here = [place for place in places if view.stretches[place.name].first == number]
     warm = heat(view, places, number)
     cells = [tag("td", number, class_="n given"), tag("td", tag("code", lines[number - 1] or " ")),
              tag("td", *[words_of(view, place) for place in here])]
@@ -70,6 +70,6 @@ def source_part(view, of=""):
     pieces = [details(tag("span", name, class_="place"), file_table(view, places, lines), is_open=i == 0)
               for i, (name, places, lines) in enumerate(found)]
     return section("source", "Source" + of, note(
-        "The darker a line, the more of the work a place is whose segments run it: from the construct after which they "
-        "begin to the one that ends them, or from its first line alone where a task ends them. Shares ",
+        "The darker a line, the more of the work a place is whose segments run it: from where they begin to the construct "
+        "that ends them. Where the statement of a directive ends, this page reads off the file's braces. Shares ",
         badges(view.cost_kind), "."), join(pieces))

@@ -34,7 +34,7 @@ def factor_box(place):
 
 def row(view, trials, place):
     path = "place %d path / span span" % place.number
-    cells = [place_cell(place.name, view.sources.snippet(place.name)),
+    cells = [place_cell(place.name, view.snippet(place.name)),
              view.figures.share(place.critical_cost, view.answers.span, path, view.cost_kind)]
     cells += end_cells(view, trials, place) if is_on_threads(view) else []
     for factor in FACTORS:

@@ -107,8 +107,16 @@ class View(Kinds):
 
     @cached_property
     def stretches(self):
-        """Of each place, by its number, the lines that its segments run, where its name tells one."""
-        return stretches(self.answers, self.places)
+        """Of each place, by its name, the lines that its segments run, where its name tells one."""
+        return stretches(self.answers, self.places, self.sources)
+
+    def snippet(self, place):
+        """Lines of the source: of a task its directive and statement, else where the code begins."""
+        stretch = self.stretches.get(place)
+        if not stretch or not place.startswith("after "):
+            return self.sources.snippet(place)
+        lines = self.sources.lines_of(stretch.file)
+        return [lines[stretch.first - 1].strip()] if 0 < stretch.first <= len(lines) else []
 
     @cached_property
     def place_of(self):

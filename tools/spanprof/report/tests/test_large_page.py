@@ -43,14 +43,22 @@ class Fake:
 
 class OfAnySize(unittest.TestCase):
     def setUp(self):
-        self.small = worked.view("mesh")
+        self.small, self.has_greedy = worked.view("mesh"), False
         fake, here = Fake(self.small), "spanprof.report.large_answers."
         patches = [worked.patched(), mock.patch(here + "spanprof_large", return_value=["large"]),
                    mock.patch(here + "measure", fake.measure), mock.patch(here + "ask_large", fake.bounds),
-                   mock.patch(here + "LargeAnswers.path_of", fake.path), mock.patch(here + "programs")]
+                   mock.patch(here + "LargeAnswers.path_of", fake.path), mock.patch(here + "programs"),
+                   mock.patch("spanprof.report.large_times.greedy_rows", self.greedy_rows)]
         for patch in patches:
             patch.start()
             self.addCleanup(patch.stop)
+
+    def greedy_rows(self, answers):
+        if not self.has_greedy:
+            return [], [], [], []
+        rows = [(s, start, start + row.cost, thread) for s, ((start, thread), row) in
+                enumerate(zip(self.small.answers.greedy, self.small.answers.rows)) if thread is not None]
+        return tuple(zip(*rows))
 
     def view(self):
         return LargeView(worked.path("mesh.tasks"), source=[worked.FOLDER])
@@ -77,6 +85,12 @@ class OfAnySize(unittest.TestCase):
             self.assertEqual(view.levels.threads, 2)
             self.assertIn('data-run="recorded"', page(view))
         self.assertNotIn('data-run="recorded"', page(self.view()))
+
+    def test_a_greedy_run_where_spanprof_large_makes_one(self):
+        self.has_greedy = True
+        view = self.view()
+        self.assertEqual((view.greedy_levels.end, sum(view.greedy_levels.busy)), (31, 41 * view.greedy_levels.bins))
+        self.assertIn('data-run="greedy"', page(view))
 
     def test_without_spanprof_large(self):
         with mock.patch("spanprof.report.large_answers.spanprof_large", return_value=[]), self.assertRaisesRegex(

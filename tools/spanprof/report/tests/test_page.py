@@ -32,8 +32,8 @@ class Pages(unittest.TestCase):
     def test_parts_and_what_leads_to_them(self):
         text = worked.page_text(["mesh", "split"])
         names = re.findall(r'<section id="(\S+)"', text)
-        self.assertEqual(names, ["summary", "compared", "speed-up", "timeline", "timeline-other", "path", "what-if",
-                                 "tasks", "graph", "sources"])
+        self.assertEqual(names, ["summary", "compared", "speed-up", "timeline", "timeline-other", "path", "changes",
+                                 "what-if", "tasks", "source", "graph", "sources"])
         for name in names:
             self.assertIn('<a href="#%s">' % name, text)
 
