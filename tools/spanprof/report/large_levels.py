@@ -18,13 +18,20 @@ class Levels:
         self.threads, self.end, self.bins = threads, max(end, 1), bins or bins_for(threads)
         self.busy = [0] * (threads * self.bins * COLOURS)
 
+    def add_all(self, threads, starts, ends, colours):
+        """Segments; most of them lie in one bin."""
+        busy, bins, whole, row = self.busy, self.bins, self.end, self.bins * COLOURS
+        for thread, start, end, colour in zip(threads, starts, ends, colours):
+            first = start * bins // whole
+            if end * bins < (first + 1) * whole:
+                busy[thread * row + first * COLOURS + colour] += (end - start) * bins
+            else:
+                self.add(thread, start, end, colour)
+
     def add(self, thread, start, end, colour):
-        """A segment lies in one bin, or in several."""
-        first, last = start * self.bins // self.end, min(end * self.bins // self.end, self.bins - 1)
+        """A segment that may lie in several bins."""
+        first, last = min(start, self.end - 1) * self.bins // self.end, min(end * self.bins // self.end, self.bins - 1)
         base = thread * self.bins * COLOURS + colour
-        if first == last:
-            self.busy[base + first * COLOURS] += (end - start) * self.bins
-            return
         for i in range(first, last + 1):    # in parts of a bin's length, which may be no whole number
             low, high = max(start * self.bins, i * self.end), min(end * self.bins, (i + 1) * self.end)
             self.busy[base + i * COLOURS] += high - low

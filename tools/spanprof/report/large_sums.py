@@ -9,6 +9,7 @@ from spanprof.report.places import TaskPlace
 from spanprof.whatif.statements import Naming, statements
 
 ENCODING = {"encoding": "utf-8", "errors": "replace", "newline": "\n"}
+MOST_KNOWN = 100000  # lines whose marks are kept
 BLOCK = re.compile(r"(taskgroup|task)(?: [\w(): ,]*)?\{(?: *#(.*))?")
 
 
@@ -31,26 +32,37 @@ class Unusual(Exception):
     """A line is not one statement, as the recorder writes it."""
 
 
+def mark_of(line):
+    """Kind, cost and comment of a line that is one statement; nothing of an empty line."""
+    code = line.strip()
+    if code.startswith("work "):
+        return "work", int(code[5:]), ""
+    if code == "}":
+        return "end", 0, ""
+    if code.startswith("taskwait"):
+        return "taskwait", 0, code.partition("#")[2].strip()
+    block = BLOCK.fullmatch(code)
+    if code and not block:
+        raise Unusual(line)
+    return (block[1], 0, (block[2] or "").strip()) if block else ()
+
+
 def usual_marks(lines):
-    """Kind, cost and comment of each statement of a text of the recorder's."""
+    """The marks of a text of the recorder's, in which most lines stand many times."""
     for line in lines:
         if line.strip() == "omptasks 1":
             break
         if not line.startswith("#"):
             raise Unusual(line)
+    known = {}
     for line in lines:
-        code = line.strip()
-        if code.startswith("work "):
-            yield "work", int(code[5:]), ""
-        elif code == "}":
-            yield "end", 0, ""
-        elif code.startswith("taskwait"):
-            yield "taskwait", 0, code.partition("#")[2].strip()
-        elif code:
-            block = BLOCK.fullmatch(code)
-            if not block:
-                raise Unusual(line)
-            yield block[1], 0, (block[2] or "").strip()
+        mark = known.get(line)
+        if mark is None:
+            mark = mark_of(line)
+            if len(known) < MOST_KNOWN:
+                known[line] = mark
+        if mark:
+            yield mark
 
 
 def any_marks(lines):

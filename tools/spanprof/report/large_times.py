@@ -1,30 +1,34 @@
 """The recorder's table of times of a large text, and its greedy run, as timelines in bins."""
 import subprocess
 from array import array
+from operator import sub
 
 from spanprof.report.large_levels import Levels
 from spanprof.report.view import COLOURS
 
 HEADS = "segment,thread,start_ns,end_ns"
+PIECE = 1 << 20     # bytes of the file that are read at a time
 
 
 class NoTimes(Exception):
     """Why there is no timeline."""
 
 
-def numbers_of(line):
-    s, thread, start, end = map(int, line.split(","))
-    if min(s, thread, start, end - start) < 0:
-        raise ValueError("below zero")
-    return s, thread, start, end
-
-
-def rows(path):
+def columns(path):
+    """Segments, threads, begins and ends."""
+    out = [array("q") for _ in range(4)]
     with open(path, encoding="utf-8", errors="replace") as file:
         if file.readline().rstrip() != HEADS:
             raise NoTimes("%s is no table of times" % path)
-        for line in file:
-            yield numbers_of(line)
+        while True:
+            lines = file.readlines(PIECE)
+            if not lines:
+                return out
+            words = "".join(lines).rstrip().replace("\n", ",").split(",")
+            if len(words) != 4 * len(lines):
+                raise ValueError("a line has not four numbers")
+            for i, column in enumerate(out):
+                column.extend(map(int, words[i::4]))
 
 
 def colours(sums):
@@ -33,19 +37,21 @@ def colours(sums):
     return bytes(of_name[number] for number in sums.of_segment)
 
 
+def levels_of(colour, threads, segments, lanes, starts, ends):
+    """The timeline of columns of numbers; each has to be one of a run."""
+    if min(min(segments), min(lanes), min(starts), min(map(sub, ends, starts))) < 0:
+        raise ValueError("below zero")
+    out = Levels(max(threads, max(lanes) + 1), max(ends))
+    out.add_all(lanes, starts, ends, bytes(colour[s] for s in segments))
+    return out
+
+
 def levels_in(path, answers):
-    """In nanoseconds. The file is read twice: a table of all rows may be as long as memory."""
-    colour = colours(answers.sums)
+    """In nanoseconds."""
     try:
-        threads = last = 0
-        for _, thread, _, end in rows(path):
-            threads, last = max(threads, thread + 1), max(last, end)
-        out = Levels(max(threads, answers.head.threads or 1), last)
-        for s, thread, start, end in rows(path):
-            out.add(thread, start, end, colour[s])
+        return levels_of(colours(answers.sums), answers.head.threads or 1, *columns(path))
     except (IndexError, ValueError) as wrong:
         raise NoTimes("%s is no table of times of %s" % (path, answers.name)) from wrong
-    return out
 
 
 GREEDY = "segment,start,end,thread"
@@ -74,7 +80,4 @@ def levels_of_greedy(answers):
     if not segments:
         return None
     answers.note("greedy", "--threads", str(answers.threads))
-    colour, out = colours(answers.sums), Levels(answers.threads, max(ends))
-    for s, start, end, thread in zip(segments, starts, ends, threads):
-        out.add(thread, start, end, colour[s])
-    return out
+    return levels_of(colours(answers.sums), answers.threads, segments, threads, starts, ends)
