@@ -13,9 +13,13 @@ function neighbours(lanes, of, segment) {
   return [...found];
 }
 
-// Enough digits to tell two moments apart.
+// Two moments in the unit of the later one, with enough digits to tell them apart.
 function between(program, start, end) {
-  const written = inUnit(10 ** Math.floor(Math.log10(Math.max((end - start) / 20, 1e-3))), program.unit);
+  const { nanoseconds, unit } = program, step = Math.max((end - start) / 20, 1e-3);
+  const whole = end * (nanoseconds || 0);
+  const [name, size] = STEPS.find(([, least]) => whole >= least) || [unit, nanoseconds];
+  const scale = size / nanoseconds || 1, digits = Math.max(0, Math.ceil(Math.log10(scale / step) - 1e-9));
+  const written = (time) => `${grouped(time / scale, Math.min(digits, 9))} ${name}`.trim();
   return `from ${written(start)} to ${written(end)}`;
 }
 
@@ -78,7 +82,8 @@ function inside(lanes, from, to) {
 
 function wordsOfStretch(lanes, from, to) {
   const { program } = lanes, bars = inside(lanes, from, to), busy = bars.reduce((sum, bar) => sum + bar.part, 0);
-  const most = sumsBy(bars, (bar) => program.place[bar.segment], (bar) => bar.part).slice(0, MOST_TOLD);
+  const most = sumsBy(bars, (bar) => program.place[bar.segment], (bar) => bar.part).slice(0, MOST_TOLD)
+    .filter(([, sum]) => sum > busy / 1000);
   const places = most.map(([place, sum]) => `${program.places[place]} ${percent(sum, busy)}`);
   return `${between(program, from, to)} (${human(program, to - from)}): threads busy ` +
     `${percent(busy, (to - from) * lanes.rows.length)}, ${grouped(bars.length)} segments` +

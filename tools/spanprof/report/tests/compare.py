@@ -1,6 +1,6 @@
 """Compares each number of a page with what it has to be.
 
-    python3 -m spanprof.report.tests.compare PAGE.html MINE.tasks [OTHER.tasks]    in tools/; status 1 where one is wrong
+    python3 -m spanprof.report.tests.compare PAGE.html MINE.tasks [OTHER.tasks]    in tools/; status 1 if one is wrong
 """
 import json
 import math

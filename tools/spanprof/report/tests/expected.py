@@ -151,19 +151,26 @@ class Program:
 
     def trial(self, number, what, threads=None):
         """Of the text with one change, which is made here again."""
-        tried = self.data["tried"]
-        text = self.changed_text(Request(*tried["requests"][int(number)]))
-        if threads is None:
-            return int(re.search(r"(?m)^%s (\d+)$" % what, self.ask(["span"], text))[1])
-        rows = table(self.ask(["curve", "--upto", str(max(tried["threads"]))], text))
-        return int(rows[int(threads) - 1][what])
+        if ("trial", number) not in self.kept:
+            self.kept["trial", number] = self.tried(Request(*self.data["tried"]["requests"][int(number)]))
+        span, curve = self.kept["trial", number]
+        return int(re.search(r"(?m)^%s (\d+)$" % what, span)[1]) if threads is None else \
+            int(curve[int(threads) - 1][what])
 
-    def changed_text(self, request):
+    def tried(self, request):
+        made = changes([request], *self.surveyed)
+        text, upto = "".join(text_lines(applied(self.statements, made), 1)), max(self.data["tried"]["threads"])
+        return self.ask(["span"], text), table(self.ask(["curve", "--upto", str(upto)], text))
+
+    @cached_property
+    def statements(self):
         text = self.answer("show") if has_loops(self.text) else self.text
-        kept = list(statements(line + "\n" for line in text.split("\n")))
-        seen = survey(kept)
-        made = changes([request], seen, costs_for(read_head(self.text), seen))
-        return "".join(text_lines(applied(kept, made), 1))
+        return list(statements(line + "\n" for line in text.split("\n")))
+
+    @cached_property
+    def surveyed(self):
+        seen = survey(self.statements)
+        return seen, costs_for(read_head(self.text), seen)
 
     def count(self, number):
         """Of threads, as the page names them."""

@@ -7,8 +7,8 @@ from spanprof.report.source_lines import (Stretch, after_directive, ends_by_segm
 CODE = [Segment(0, "", "", ""), Segment(1, "a.c:5", "", ""), Segment(0, "", "creating a task", "a.c:5"),
         Segment(0, "", "taskwait", "a.c:9")]
 
-FILE = ["void f() {", "#pragma omp taskgroup", "    {", "        g();", "#pragma omp task", "        h(1);", "        i();",
-        "    }", "#pragma omp taskwait", "    j();", "}"]
+FILE = ["void f() {", "#pragma omp taskgroup", "    {", "        g();", "#pragma omp task", "        h(1);",
+        "        i();", "    }", "#pragma omp taskwait", "    j();", "}"]
 
 
 class Lines(unittest.TestCase):
