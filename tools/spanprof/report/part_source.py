@@ -45,7 +45,7 @@ def line_row(view, places, lines, number):
     warm = heat(view, places, number)
     cells = [tag("td", number, class_="n given"), tag("td", tag("code", lines[number - 1] or " ")),
              tag("td", *[words_of(view, place) for place in here])]
-    return tag("tr", *cells, style="--heat:%.1f%%" % (0.6 * warm) if warm else None)
+    return tag("tr", *cells, style="--heat:%.1f%%" % (0.45 * warm) if warm else None)
 
 
 def gap_row():

@@ -79,16 +79,21 @@ def drawn_differences(program, data):
     return ["%s: %s" % (data["name"], words) for words in wrong]
 
 
+def programs_of(reader, paths, ask):
+    """The programs of a page, with what its script knows of them."""
+    found = json.loads(reader.data)
+    data = [dict(own, tried=tried) for own, tried in zip_longest(found["programs"], found["tried"])]
+    return [Program(path, own, ask) for path, own in zip(paths, data)]
+
+
 def differences(page, paths, ask):
     """All numbers of the page that are not what they have to be, and how many there are."""
     reader = read_page(page)
-    found = json.loads(reader.data)
-    data = [dict(own, tried=tried) for own, tried in zip_longest(found["programs"], found["tried"])]
-    programs = [Program(path, own, ask) for path, own in zip(paths, data)]
+    programs = programs_of(reader, paths, ask)
     wrong = [fault for figure in reader.figures for fault in faults_of(figure, programs)]
     wrong += ["%r: a number without a source" % words for words in reader.without_source]
-    for program, own in zip(programs, data):
-        wrong += drawn_differences(program, own)
+    for program in programs:
+        wrong += drawn_differences(program, program.data)
     return wrong, sum(len(figure.sources) for figure in reader.figures)
 
 
