@@ -28,6 +28,7 @@ class Pages(unittest.TestCase):
 
     def test_no_other_file_is_needed(self):
         text = worked.page_text(["mesh", "split"])
+        self.assertNotIn("light-dark(", text)   # which older browsers do not take
         self.assertIsNone(re.search(r'(src|href)="(?!#)|@import|url\((?!#)|https?://', text))
 
     def test_parts_and_what_leads_to_them(self):
