@@ -60,7 +60,8 @@ def main(folder):
     size = os.path.getsize(page)
     print("a page of %d bytes in %.1f seconds of processor time" % (size, seconds))
     faults = ["%d bytes, and not %d" % (size, MOST_BYTES)] if size > MOST_BYTES else []
-    faults += ["made in %.0f seconds of processor time, and not in %d" % (seconds, MOST_SECONDS)] if seconds > MOST_SECONDS else []
+    if seconds > MOST_SECONDS:
+        faults.append("made in %.0f seconds of processor time, and not in %d" % (seconds, MOST_SECONDS))
     if find_browser():
         faults += faults_in_the_browser(page)
     print("\n".join(faults or ["a million tasks: right"]))

@@ -114,8 +114,8 @@ def account_lines(found, unit="ns", nanoseconds=1):
     lasted = "{:,} {}{}".format(found.lasted // nanoseconds, "x " if unit[:1].isdigit() else "", unit)
     return ["of %d x %s: %s in code, with what waits inside it and what the recorder does there (measured)" % (
                 found.threads, lasted, share(found.busy)),
-            "%s idle though a segment was ready: the runtime, the machine or a tied task's own thread kept it (measured)"
-            % share(found.delayed),
+            "%s idle though a segment was ready: the runtime, the machine or a tied task's own thread kept it "
+            "(measured)" % share(found.delayed),
             "%s idle with no segment ready: too few tasks there (measured)" % share(found.starved),
             "%s before the region's code began and after it ended (measured)" % share(found.outside)]
 

@@ -6,17 +6,18 @@ import sys
 import webbrowser
 
 from spanprof.account import lines_of
-from spanprof.record.console import say, tell
+from spanprof.answers import Answers
+from spanprof.command import end_at_a_closed_pipe
 from spanprof.errors import OWN_FAULT, Fault
-from spanprof.record.large import answers, head_of, large_summary, unmeasured_summary
 from spanprof.measure import HOW, spanprof_large
+from spanprof.record.console import say, tell
+from spanprof.record.large import answers, head_of, large_summary, unmeasured_summary
 from spanprof.record.options import parse
 from spanprof.record.ranks import are_ranks
 from spanprof.record.run import end_as
 from spanprof.record.session import TOOLS, Session
 from spanprof.record.summary import other_region, summary
 from spanprof.record.verdict import verdict
-from spanprof.answers import Answers
 from spanprof.whatif.lead import lead
 
 REPORTERS = [os.path.join(TOOLS, "spanprof-report"), os.path.join(TOOLS, "..", "..", "bin", "spanprof-report")]
@@ -91,10 +92,7 @@ def print_summaries(session, found, said):
 
 
 def report(session, found, said):
-    try:
-        recording = print_summaries(session, found, said)
-    except SystemExit as refused:  # a word of spanprof's
-        raise Fault(str(refused)) from refused
+    recording = print_summaries(session, found, said)
     if session.options.html:
         try_page(session.options, recording)
 
@@ -116,4 +114,5 @@ def record_and_report(options):
 
 
 def main(words):
+    end_at_a_closed_pipe()
     end_as(record_and_report(parse(words)))

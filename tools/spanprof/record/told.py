@@ -1,4 +1,4 @@
-"""What the converter of logs tells, in words: each thing is a dictionary, read from a line of JSON, that `told` names."""
+"""What the converter of logs tells, in words: each thing is a dictionary of a line of JSON, and `told` names it."""
 import json
 import os
 from dataclasses import dataclass
@@ -66,8 +66,8 @@ WORDS = {
     "remark": lambda told: "%(name)s: %(remark)s" % told,
     "too large": too_large,
     "no exact fold": lambda told: "--fold exact: no exact fold fits",
-    "more regions": lambda told: "%(regions)d more regions with tasks, the lightest, are not written: work %(work)d %(unit)s; "
-                                 "SPANPROF_REGIONS says how many are" % told,
+    "more regions": lambda told: "%(regions)d more regions with tasks, the lightest, are not written: work %(work)d "
+                                 "%(unit)s; SPANPROF_REGIONS says how many are" % told,
     "outside": lambda told: "task outside of a parallel region, not recorded, %(seen)s" % told,
     "no tasks": lambda told: "no parallel region with tasks" +
                              (", and the program ended inside a region" if told["inside"] else ""),

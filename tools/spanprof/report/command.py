@@ -4,8 +4,9 @@ import json
 import os
 import sys
 
-from spanprof.head import said
+from spanprof.command import Console, check_files, end_with
 from spanprof.errors import Fault
+from spanprof.head import said
 from spanprof.report.large_answers import is_large
 from spanprof.report.large_page import page as page_of_any_size
 from spanprof.report.large_view import LargeView
@@ -54,18 +55,9 @@ def arguments(words):
     return chosen
 
 
-def check_files(paths):
-    for path in paths:
-        if path and not os.path.isfile(path):
-            sys.exit("spanprof-report: %s: no such file" % path)
-
-
 def write(path, text):
-    try:
-        with open(path, "w", encoding="utf-8", errors="replace") as file:   # a file's name may be no UTF-8
-            file.write(text)
-    except OSError as wrong:
-        sys.exit("spanprof-report: %s: %s" % (path, wrong.strerror))
+    with open(path, "w", encoding="utf-8", errors="replace") as file:   # a file's name may be no UTF-8
+        file.write(text)
 
 
 class Progress:
@@ -113,30 +105,32 @@ def write_all(chosen, views, factors):
     return [path for path, _ in written if path]
 
 
-def large_page(chosen, progress):
+def write_large_page(chosen, progress):
     """Of a text beyond the limits of spanprof: what needs no table of its segments."""
     if any(getattr(chosen, option) for option in ("other", "trace", "speedscope", "factor", "json", "replay")):
-        sys.exit("spanprof-report: %s: beyond the limits of spanprof, where there is only a page (-o)" % chosen.program)
-    try:
-        text = page_of_any_size(LargeView(chosen.program, chosen.threads, chosen.source, progress))
-    except (Fault, ValueError) as wrong:
-        sys.exit("spanprof-report: %s: %s" % (chosen.program, wrong))
-    write(chosen.output, text)
+        raise Fault("%s: beyond the limits of spanprof, where there is only a page (-o)" % chosen.program)
+    write(chosen.output, page_of_any_size(LargeView(chosen.program, chosen.threads, chosen.source, progress)))
     progress.end([chosen.output])
 
 
-def main(words):
-    chosen, progress = arguments(words), Progress(sys.stderr)
-    check_files([chosen.program, chosen.replay, chosen.other])
-    if is_large(chosen.program):
-        return large_page(chosen, progress)
+def write_the_rest(chosen, progress):
     views = views_of(chosen, progress)
     try:
         factors = read_factors(chosen.factor, views[0].places)
     except UnknownPlace as unknown:
-        sys.exit("spanprof-report: --factor %s" % unknown)
+        raise Fault("--factor %s" % unknown) from unknown
     if factors and not chosen.output:
         print_factors(views[0], factors)
     if chosen.json:
         print(json.dumps(summary_json(views[0]), indent=2))
     progress.end(write_all(chosen, views, factors))
+
+
+def answer(chosen):
+    for path in filter(None, (chosen.program, chosen.replay, chosen.other)):
+        check_files(path)
+    (write_large_page if is_large(chosen.program) else write_the_rest)(chosen, Progress(sys.stderr))
+
+
+def main(words):
+    end_with(Console("spanprof-report"), answer, arguments(words))

@@ -22,7 +22,7 @@ def is_large(path):
         text = re.split(r"(?m)^---\r?$", file.read())[0]
     try:
         client.ask(["span"], text)
-    except SystemExit as refused:   # a word of spanprof's
+    except Fault as refused:
         return bool(LIMITS.search(str(refused)))
     return False
 

@@ -5,8 +5,9 @@ from dataclasses import dataclass, field
 from typing import Dict
 
 from spanprof.answers import OF_A_THREAD
+from spanprof.errors import Fault
 from spanprof.report.places import TaskPlace
-from spanprof.whatif.statements import Naming, statements
+from spanprof.text import Naming, statements
 
 ENCODING = {"encoding": "utf-8", "errors": "replace", "newline": "\n"}
 MOST_KNOWN = 100000  # lines whose marks are kept
@@ -136,4 +137,4 @@ def sums_in(path):
                 return sums_of(marks(lines))
         except (Unusual, ValueError):
             continue
-    raise ValueError("%s is no text of version 1" % path)
+    raise Fault("%s is no text of version 1" % path)

@@ -4,7 +4,7 @@ import shlex
 
 from spanprof.claims import speaks_of, why_not_of_more_threads
 from spanprof.report.figures import PROVED, badges
-from spanprof.report.markup import details, join, note, section, tag
+from spanprof.report.markup import details, note, section, tag
 from spanprof.report.tables import table
 from spanprof.whatif.advice import in_words
 from spanprof.whatif.tell import yours_to_know

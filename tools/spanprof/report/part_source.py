@@ -1,7 +1,6 @@
 """The source with heat: which lines the work and the span are of."""
 from spanprof.report.figures import badges, percent
 from spanprof.report.markup import details, join, note, section, tag
-from spanprof.report.source_lines import stretches
 
 MOST_FILES, MOST_LINES, AROUND = 6, 800, 3
 
@@ -70,6 +69,7 @@ def source_part(view, of=""):
     pieces = [details(tag("span", name, class_="place"), file_table(view, places, lines), is_open=i == 0)
               for i, (name, places, lines) in enumerate(found)]
     return section("source", "Source" + of, note(
-        "The darker a line, the more of the work a place is whose segments run it: from where they begin to the construct "
-        "that ends them. Where the statement of a directive ends, this page reads off the file's braces. Shares ",
+        "The darker a line, the more of the work a place is whose segments run it: from where they begin to the "
+        "construct that ends them. Where the statement of a directive ends, this page reads off the file's braces. "
+        "Shares ",
         badges(view.cost_kind), "."), join(pieces))

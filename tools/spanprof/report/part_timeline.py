@@ -94,8 +94,8 @@ def lanes_of(view, program):
 TIMED = "Each bar stands where the recorder's clock saw it. A gap is a thread that waited, slept, or was in the " \
     "runtime."
 IN_ORDER = "The recorded run is drawn by the order of the replay and the costs of the text, and not by times. So " \
-    "each segment stands as early as its thread, in the recorded order, and the segments that it waits for allow. A gap " \
-    "is a wait for another segment; the runtime's own time is not shown, nor that a thread slept while something " \
+    "each segment stands as early as its thread, in the recorded order, and the segments that it waits for allow. A " \
+    "gap is a wait for another segment; the runtime's own time is not shown, nor that a thread slept while something " \
     "was ready."
 
 

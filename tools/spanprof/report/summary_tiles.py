@@ -1,6 +1,6 @@
 """The tiles of the summary: work, span, parallelism, tasks, what the threads can give, and how many were busy."""
-from spanprof.claims import (against_parallelism, against_span, gain_may_be_less, gain_may_be_more, least_end, lock_binds,
-                           speaks_of)
+from spanprof.claims import (against_parallelism, against_span, gain_may_be_less, gain_may_be_more, least_end,
+                             lock_binds, speaks_of)
 from spanprof.report.figures import MEASURED, PROVED, badge
 from spanprof.report.markup import join, tag
 

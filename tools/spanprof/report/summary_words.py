@@ -1,6 +1,6 @@
 """The sentences of the summary: the cause, what the text is, what bounds its end, and which place pays most."""
 from spanprof.claims import (gain_may_be_less, gain_may_be_more, is_partial, lock_binds, share_covered, speaks_of,
-                           why_not_of_more_threads)
+                             why_not_of_more_threads)
 from spanprof.report.figures import MEASURED, PROVED, badge
 from spanprof.report.markup import join, tag
 

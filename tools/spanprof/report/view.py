@@ -5,6 +5,7 @@ from functools import cached_property
 from typing import Optional
 
 from spanprof.answers import Answers
+from spanprof.errors import Fault
 from spanprof.report.figures import DECLARED, MEASURED, RECORDED, Figures
 from spanprof.report.places import places, task_places
 from spanprof.report.recorded_run import NoRun, RecordedRun, recorded_run
@@ -89,7 +90,7 @@ class View(Kinds):
             return recorded_run(path, self.answers)
         except NoRun as reason:
             if replay:
-                raise SystemExit("spanprof-report: %s" % reason) from reason
+                raise Fault(str(reason)) from reason
             self.without_run = str(reason)
             return None
 

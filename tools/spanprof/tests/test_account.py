@@ -48,7 +48,8 @@ class Refused(unittest.TestCase):
         self.refuses("segment 1 is on thread 2 of 2", [(0, 0, 5), (2, 5, 6), (0, 5, 7), (0, 8, 9)])
 
     def test_a_segment_that_is_not_within(self):
-        self.refuses("segment 1 is from 7 to 6, and the region from 0 to 12", [(0, 0, 5), (0, 7, 6), (0, 5, 7), (0, 8, 9)])
+        self.refuses("segment 1 is from 7 to 6, and the region from 0 to 12",
+                     [(0, 0, 5), (0, 7, 6), (0, 5, 7), (0, 8, 9)])
 
     def test_the_least_that_begins_too_soon(self):
         self.refuses("segment 3 begins before segment 1 has ended", [(0, 0, 5), (0, 5, 9), (1, 5, 11), (1, 8, 12)])
@@ -98,8 +99,8 @@ class Lines(unittest.TestCase):
     def test_four_lines(self):
         self.assertEqual(account_lines(Account(4, 68000000, 128000000, 111520000, 24480000, 8000000), "us", 1000),
                          ["of 4 x 68,000 us: 47.1 % " + IN_CODE,
-                          "41.0 % idle though a segment was ready: the runtime, the machine or a tied task's own thread "
-                          "kept it (measured)",
+                          "41.0 % idle though a segment was ready: the runtime, the machine or a tied task's own "
+                          "thread kept it (measured)",
                           "9.0 % idle with no segment ready: too few tasks there (measured)",
                           "2.9 % before the region's code began and after it ended (measured)"])
 

@@ -1,10 +1,12 @@
-"""python3 -m unittest discover -s tools/plots/tests -t tools/plots"""
+"""Heads and segments of texts, and where spanprof is looked for."""
 import os
 import unittest
 from unittest import mock
 
 from spanprof import client
+from spanprof.errors import Fault
 from spanprof.head import read_head, said
+from spanprof.text import has_loops
 
 TEXT = """\
 # recorded: from sort, 2026-11-24T00:31:07Z, threads 4, clock cpu, unit 250 ns
@@ -111,7 +113,7 @@ class Segments(unittest.TestCase):
 
     def test_which_texts_have_loops(self):
         texts = ("# omptasks 2\nomptasks 1", "omptasks\n02 work 1", "omptasks")
-        self.assertEqual([client.has_loops(text) for text in texts],
+        self.assertEqual([has_loops(text) for text in texts],
                          [False, True, False])
 
 
@@ -126,7 +128,7 @@ class Finding(unittest.TestCase):
 
     def test_no_program_is_told_without_a_traceback(self):
         with mock.patch.dict(os.environ, {"SPANPROF": "/no/such/program"}):
-            with self.assertRaisesRegex(SystemExit, "/no/such/program: No such file"):
+            with self.assertRaisesRegex(Fault, "/no/such/program: No such file"):
                 client.ask(["span"], "omptasks 1\n")
 
 

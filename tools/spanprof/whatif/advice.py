@@ -27,7 +27,8 @@ def in_words(request):
 
 def preferred(tried, trial, most):
     """How much speaks for a change: 0 the most. A wait for tasks that depend items order too may not be needed, and
-    comes first where it brings half of the most that one change does; other waits mostly are. Halved costs come last."""
+    comes first where it brings half of the most that one change does; other waits mostly are. Halved costs come
+    last."""
     option, place = trial.request
     if option == "drop-wait" and place in tried.ordered:
         return 0 if 2 * tried.gain(trial) >= most else 1

@@ -36,7 +36,8 @@ class Reasons(unittest.TestCase):
     def test_target_tasks_of_gcc_are_refused(self):
         with mock.patch("spanprof.record.session.what_it_lacks", return_value=["GOMP_target_ext"]), \
                 mock.patch("spanprof.record.runtime.llvm_runtime", return_value="/llvm.so"):
-            with self.assertRaisesRegex(Fault, "GOMP_target_ext, which LLVM's runtime does not have.*--runtime /llvm.so"):
+            with self.assertRaisesRegex(Fault, "GOMP_target_ext, which LLVM's runtime does not have.*"
+                                               "--runtime /llvm.so"):
                 session.notes_on("/llvm.so", {"GOMP_target_ext"})
             self.assertIn("GOMP_target_ext", session.notes_on("/llvm.so", {"GOMP_target_ext"}, True)[0])
 
@@ -153,9 +154,11 @@ class Large(unittest.TestCase):
             file.write("# recorded: from mine, 2026-11-24T00:10:02Z, threads 4, clock wall, unit us\n"
                        "# region: at mine.c:9, 1 of 1\n# elapsed: 40\n"
                        "# covers: 95.1 % of the program's thread-time (951 of 1000 us)\n"
-                       "# not covered: 49 outside regions, 0 in other regions, 0 of this region\nomptasks 1\n# remark: none\nwork 1\n")
+                       "# not covered: 49 outside regions, 0 in other regions, 0 of this region\n"
+                       "omptasks 1\n# remark: none\nwork 1\n")
         self.things = [
-            {"told": "text", "file": self.out + ".large.tasks", "tasks": 9000, "segments": 20001, "work": 100, "unit": "us"},
+            {"told": "text", "file": self.out + ".large.tasks", "tasks": 9000, "segments": 20001, "work": 100,
+             "unit": "us"},
             {"told": "too large", "file": self.out + ".tasks", "what": "tasks", "program": "spanprof", "has": 9000,
              "takes": 4096}]
 

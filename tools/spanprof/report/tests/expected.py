@@ -3,12 +3,11 @@ import os
 import re
 from functools import cached_property
 
-from spanprof.head import read_head
-from spanprof.client import has_loops
 from spanprof.changed_text import with_costs, without_costs
+from spanprof.head import read_head
+from spanprof.text import has_loops, statements, text_lines
 from spanprof.whatif.creating import costs_for
 from spanprof.whatif.requests import Request, applied, changes
-from spanprof.whatif.statements import statements, text_lines
 from spanprof.whatif.survey import survey
 
 ROWS_OF_A_CURVE = 64

@@ -25,7 +25,8 @@ class Command(unittest.TestCase):
         told = io.StringIO()
         with contextlib.redirect_stderr(told), self.assertRaises(SystemExit) as ended:
             main(list(words))
-        return str(ended.exception) if isinstance(ended.exception.code, str) else told.getvalue()
+        self.assertIn(ended.exception.code, (1, 2))
+        return told.getvalue()
 
     def test_all_that_can_be_written(self):
         main([worked.path("mesh.tasks"), "-o", self.out("m.html"), "--trace", self.out("m.json"), "--speedscope",
@@ -78,7 +79,7 @@ class Command(unittest.TestCase):
         mesh = worked.path("mesh.tasks")
         self.assertIn("ask for one of them", self.refused(mesh, "--json", "--factor", "a=1"))
         self.assertIn("--threads is from 1 to 1024", self.refused(mesh, "-o", "x", "--threads", "0"))
-        self.assertEqual(self.refused("no.tasks", "-o", "x"), "spanprof-report: no.tasks: no such file")
+        self.assertEqual(self.refused("no.tasks", "-o", "x"), "spanprof-report: no.tasks: no such file\n")
         self.assertIn("no place of this name", self.refused(mesh, "--factor", "nowhere=2"))
         self.assertIn("No such file or directory", self.refused(mesh, "-o", self.out("none/x.html")))
 

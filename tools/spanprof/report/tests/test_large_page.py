@@ -102,7 +102,8 @@ class OfAnySize(unittest.TestCase):
         with mock.patch("spanprof.report.command.is_large", return_value=True), contextlib.redirect_stderr(told), \
                 tempfile.TemporaryDirectory() as folder:
             page_file = os.path.join(folder, "m.html")
-            with self.assertRaisesRegex(SystemExit, "where there is only a page"):
+            with self.assertRaises(SystemExit):
                 main([worked.path("mesh.tasks"), "--json"])
+            self.assertIn("mesh.tasks: beyond the limits of spanprof, where there is only a page", told.getvalue())
             main([worked.path("mesh.tasks"), "-o", page_file])
             self.assertTrue(os.path.exists(page_file))

@@ -1,6 +1,6 @@
 import unittest
 
-from spanprof.client import Segment
+from spanprof.text import Segment
 from spanprof.report.source_lines import (Stretch, after_directive, ends_by_segment, line_of, statement_end,
                                           stretch_of)
 

@@ -9,6 +9,8 @@ import os
 import sys
 from unittest import mock
 
+from spanprof.errors import Fault
+
 FOLDER = os.path.join(os.path.dirname(os.path.abspath(__file__)), "worked")
 KEPT = os.path.join(FOLDER, "answers.json")
 
@@ -36,7 +38,7 @@ class Kept:
     def __call__(self, words, text):
         answer = self.answers[key(words, text)]
         if answer.startswith("error"):
-            sys.exit("spanprof %s: %s" % (words[0], answer))
+            raise Fault("spanprof %s: %s" % (words[0], answer))
         return answer
 
 
@@ -78,7 +80,7 @@ def asked_now():
     def asked(words, text):
         try:
             out[key(words, text)] = answer = ask(words, text)
-        except SystemExit as told:
+        except Fault as told:
             out[key(words, text)] = str(told).partition(": ")[2]
             raise
         return answer

@@ -44,8 +44,8 @@ class Led(unittest.TestCase):
 
     def test_the_change_that_ends_soonest(self):
         self.assertEqual(self.lead(), Lead(
-            "too few tasks: for 75 % of the threads' time they idled with no segment ready (measured, beside the greedy "
-            "run of the recorded text)",
+            "too few tasks: for 75 % of the threads' time they idled with no segment ready (measured, beside the "
+            "greedy run of the recorded text)",
             "without the taskwait at row.c:5, if the program stays right: the greedy run on 4 threads ends 20.0 % "
             "sooner (proved of the recorded text and of each changed one)"))
 
