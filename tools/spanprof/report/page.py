@@ -4,6 +4,7 @@ import os
 
 from spanprof.report.colours import colour_rules
 from spanprof.report.markup import Markup, join, markup, section, tag
+from spanprof.report.part_account import idle_part
 from spanprof.report.part_changes import changes_part
 from spanprof.report.part_compare import compare_part
 from spanprof.report.part_curve import curve_part
@@ -55,6 +56,7 @@ def parts(views, factors):
     of = " of " + view.name if len(views) > 1 else ""
     made = [("summary", "Summary", summary_part(view, trials, of)),
             ("compared", "Side by side", compare_part(views) if len(views) > 1 else ""),
+            ("idle", "Idle time", idle_part(view, of)),
             ("speed-up", "Speed-up", curve_part(views)), *timelines(views),
             ("path", "Critical path", path_part(view, of)), ("changes", "Changes", changes_part(view, of)),
             ("what-if", "What if", what_if_part(view, trials, factors, of)), ("tasks", "Tasks", tasks_part(view, of)),

@@ -2,8 +2,11 @@
 import os
 import re
 from functools import cached_property
+from types import SimpleNamespace
 
+from spanprof.account import account_of
 from spanprof.changed_text import with_costs, without_costs
+from spanprof.client import segments
 from spanprof.head import read_head
 from spanprof.text import has_loops, statements, text_lines
 from spanprof.whatif.creating import costs_for
@@ -122,6 +125,19 @@ class Program:
         if what == "end":
             return int(self.slack[last]["start"]) + self.cost[last]
         return self.total(s for s in path if first <= s <= last)
+
+    @cached_property
+    def found(self):
+        """The account of the run beside the text, asked anew."""
+        answers = SimpleNamespace(head=read_head(self.text), code=segments(self.text), work=self.line("work", "span"))
+        return account_of(answers, self.base + ".timed")
+
+    def account(self, what, number=None):
+        if number is None:
+            parts = {name.replace(" ", "-"): value for name, value in self.found.parts.items()}
+            return {**parts, "whole": self.found.whole, "elapsed": self.found.elapsed}[what]
+        name = self.found.places[self.segments({int(number)})[0]]
+        return {"delayed-at": self.found.delayed_by, "starved-at": self.found.starved_by}[what][name]
 
     def changed(self, factors):
         costs = {s: round(self.cost[s] * factor) for place, factor in factors for s in self.segments({place})
