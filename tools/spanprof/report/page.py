@@ -59,8 +59,8 @@ def parts(views, factors):
             ("speed-up", "Speed-up", curve_part(views)), *timelines(views),
             ("path", "Critical path", path_part(view, of)), ("changes", "Changes", changes_part(view, of)),
             ("what-if", "What if", what_if_part(view, trials, factors, of)), ("tasks", "Tasks", tasks_part(view, of)),
-            ("nesting", "Nesting", nesting_part(view, of)), ("source", "Source", source_part(view, of)), ("graph", "Graph", graph_part(view, of)),
-            ("sources", "Sources", asked_part(views))]
+            ("nesting", "Nesting", nesting_part(view, of)), ("source", "Source", source_part(view, of)),
+            ("graph", "Graph", graph_part(view, of)), ("sources", "Sources", asked_part(views))]
     return [part for part in made if part[2]]
 
 

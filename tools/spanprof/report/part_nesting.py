@@ -13,7 +13,8 @@ def bar(view, node, value, whole, left, level, source):
     place, wide = view.task_places[node.place], percent(value, whole)
     count = "%d task%s" % (node.tasks, "" if node.tasks == 1 else "s")
     share = view.figures.share(value, whole, source, view.cost_kind)
-    words = [tag("span", place.name, class_="given"), " ", share] if wide >= LETTER * len(place.name + " 99.9 %") else []
+    has_room = wide >= LETTER * len(place.name + " 99.9 %")
+    words = [tag("span", place.name, class_="given"), " ", share] if has_room else []
     colour = view.colour_of(place)
     title = "%s, %s, %s with all below: %.1f %%" % (place.name, count, view.units.words(value), wide)
     style = "left:%.3f%%;width:%.3f%%;top:%dpx;background:var(--c%d);color:var(--t%d)" % (
