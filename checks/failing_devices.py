@@ -101,7 +101,8 @@ def account(program):
     yield from (([program, *words], WORKED + TIMES) for words in ([], ["--rows"], ["--path"]))
 
 
-KINDS = {"commands": (commands, "spanprof"), "large": (large, "spanprof_large"), "account": (account, "spanprof_account")}
+KINDS = {"commands": (commands, "spanprof"), "large": (large, "spanprof_large"),
+         "account": (account, "spanprof_account")}
 
 
 def main(words):

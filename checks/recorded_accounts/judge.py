@@ -2,7 +2,8 @@
 """Records programs that are slow for a known cause, by both clocks, and holds the account of each run against it.
 
     judge.py CAUSES [NAME ..]      the program of checks/whatif/causes/causes.c
-Each is recorded again, three times at most, where its account is not as it has to be. The status is 0 where none is wrong.
+Each is recorded again, three times at most, where its account is not as it has to be. The status is 0 where none is
+wrong.
 """
 import json
 import os

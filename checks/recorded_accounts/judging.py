@@ -1,5 +1,5 @@
-"""What the account of a run has to tell of each program of checks/whatif/causes/causes.c: where the time went by how it is
-made. Shares are of the threads' time."""
+"""What the account of a run has to tell of each program of checks/whatif/causes/causes.c: where the time went by how it
+is made. Shares are of the threads' time."""
 import re
 
 EXPECTED = {
@@ -10,8 +10,9 @@ EXPECTED = {
     "machine": {"preempted": 0.4},
     "balanced": {"asleep": 0.6},
 }
-# Idle time is laid to these places first; gcc tells the line of the pragma, and clang that of the statement or the pragma.
-PLACES = {"small": ("delayed beside", "task at causes.c:2[0-2]"), "serial": ("starved while", "task at causes.c:2[7-9]"),
+# Idle time is laid to these places first; compilers tell another line of the construct.
+PLACES = {"small": ("delayed beside", "task at causes.c:2[0-2]"),
+          "serial": ("starved while", "task at causes.c:2[7-9]"),
           "wait": ("starved while", "task at causes.c:3[6-8]")}
 SUMS = {"delayed beside": "delayed", "starved while": "starved"}
 

@@ -103,8 +103,8 @@ def within(parts, whole):
 
 def divide_busy(found, head, work):
     """By the wall clock both clocks tell what held code up, and what segments lasted beyond their costs and their
-    waiting for locks is the recorder's. By the processor's clock it is held up for as long as it lasted beyond its costs,
-    the recorder's time included."""
+    waiting for locks is the recorder's. By the processor's clock it is held up for as long as it lasted beyond its
+    costs, the recorder's time included."""
     unit, by = head.nanoseconds, head.clocks_differ.get("by", 0)
     beyond = min(max(found.busy - (work - head.untimed) * unit, 0), found.busy)
     waiting = at_locks(head) * unit

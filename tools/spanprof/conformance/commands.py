@@ -216,4 +216,5 @@ def command_list(_options, _folder):
 
 
 COMMANDS = {"run": command_run, "mutants": command_mutants, "shrink": command_shrink, "merge": command_merge,
-            "bisect": command_bisect, "delays": command_delays, "emit": command_emit, "judge": command_judge, "list": command_list}
+            "bisect": command_bisect, "delays": command_delays, "emit": command_emit,
+            "judge": command_judge, "list": command_list}

@@ -66,8 +66,8 @@ def wait_rows(found, threads):
 
 def tables_of(found):
     """Lines of Markdown, the runtimes side by side."""
-    yield from ("Shares of the threads' time, from the first begin to the last end (measured; the sums are proved of each",
-                "text and its times):", "", *table(ACCOUNT_HEADS, account_rows(found)), "")
+    yield from ("Shares of the threads' time, from the first begin to the last end (measured; the sums are proved of",
+                "each text and its times):", "", *table(ACCOUNT_HEADS, account_rows(found)), "")
     for threads in next(iter(found.values())):
         yield f"On {threads} threads, from ready to begin: how many segments, median and ninth tenth in us (measured):"
         yield from ("", *table(("rule", "construct", *found), wait_rows(found, threads)), "")

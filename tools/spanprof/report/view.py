@@ -112,8 +112,8 @@ class View(Kinds):
         """Of the recorded run; None without a timed document beside the text."""
         found, _ = account_beside(self.answers)
         if found:
-            self.answers.asked += ["spanprof_account%s < %s" % (words, os.path.basename(timed_beside(self.answers.path)))
-                                   for words in ("", " --rows")]
+            name = os.path.basename(timed_beside(self.answers.path))
+            self.answers.asked += ["spanprof_account%s < %s" % (words, name) for words in ("", " --rows")]
         return found
 
     @cached_property

@@ -26,8 +26,8 @@ class Lines(unittest.TestCase):
     def test_code_that_was_held_up(self):
         found = account(held_up=HeldUp(13600000, 27200000, 1000), recorder=2720000)
         self.assertEqual(account_lines(found)[0],
-                         "of 4 x 68.0 ms: 31.1 % in your code, 1.0 % the recorder's; 15.0 % held up in it: 5.0 % off the "
-                         "processor, 10.0 % asleep (measured)")
+                         "of 4 x 68.0 ms: 31.1 % in your code, 1.0 % the recorder's; 15.0 % held up in it: 5.0 % off "
+                         "the processor, 10.0 % asleep (measured)")
 
     def test_one_of_several_runs(self):
         self.assertTrue(account_lines(account(of_runs=True))[0].startswith(

@@ -87,7 +87,8 @@ class BeforeTheAccount(unittest.TestCase):
         told = account(90, 5, 5)
         told.held_up.asleep = 85
         self.assertEqual(cause(answers(), told).words,
-                         "the work: the threads were in code for 90 % of their time, and asleep in it for 85 % (measured)")
+                         "the work: the threads were in code for 90 % of their time, and asleep in it for 85 % "
+                         "(measured)")
 
 
 class WithoutAnAccount(unittest.TestCase):

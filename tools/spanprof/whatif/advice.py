@@ -158,6 +158,7 @@ def as_json(tried, found, head, account=None):
     """`account` is that of the run as JSON, where there is one."""
     led = found and lead_of(found, tried, head)
     out = {"cause": led and {"kind": found.kind, "words": led.cause, "first": led.first, "then": led.then},
-           "account": account, "text": numbers_json(tried.before), "changes": [trial_json(tried, trial) for trial in tried.ranked],
-           "left out": tried.left_out, "proved": PROVED}
+           "account": account, "text": numbers_json(tried.before),
+           "changes": [trial_json(tried, trial) for trial in tried.ranked], "left out": tried.left_out,
+           "proved": PROVED}
     return json.dumps(out, indent=2)
