@@ -98,7 +98,7 @@ def gap(folder):
 def recorded(setting, folder):
     """The regions, the remarks, the exit status, and what was said."""
     for path in glob.glob(os.path.join(folder, "out*")):
-        os.remove(path)
+        shutil.rmtree(path) if os.path.isdir(path) else os.remove(path)
     status, said = run([setting.recorder, "--out", "out", "--runtime", setting.library, "--", "./program"], folder,
                        setting.seconds)
     return texts(folder) + (status, said)
