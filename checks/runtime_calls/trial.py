@@ -1,6 +1,7 @@
 """One program: built, run as it is, run under the oracle, recorded, and what the two tell compared."""
 import glob
 import os
+import shutil
 import subprocess
 from dataclasses import dataclass
 
