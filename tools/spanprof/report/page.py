@@ -9,6 +9,7 @@ from spanprof.report.part_changes import changes_part
 from spanprof.report.part_compare import compare_part
 from spanprof.report.part_curve import curve_part
 from spanprof.report.part_graph import graph_part
+from spanprof.report.part_nesting import nesting_part
 from spanprof.report.part_path import path_part
 from spanprof.report.part_source import source_part
 from spanprof.report.part_summary import summary_part
@@ -54,13 +55,14 @@ def parts(views, factors):
     """Of each part the name, the words that lead to it, and the part. Some texts have not all of them."""
     view, trials = views[0], Trials(views[0])
     of = " of " + view.name if len(views) > 1 else ""
-    made = [("summary", "Summary", summary_part(view, trials, of)), ("idle", "Idle time", idle_part(view, of)),
+    made = [("summary", "Summary", summary_part(view, trials, of)),
             ("compared", "Side by side", compare_part(views) if len(views) > 1 else ""),
+            ("idle", "Idle time", idle_part(view, of)),
             ("speed-up", "Speed-up", curve_part(views)), *timelines(views),
             ("path", "Critical path", path_part(view, of)), ("changes", "Changes", changes_part(view, of)),
             ("what-if", "What if", what_if_part(view, trials, factors, of)), ("tasks", "Tasks", tasks_part(view, of)),
-            ("source", "Source", source_part(view, of)), ("graph", "Graph", graph_part(view, of)),
-            ("sources", "Sources", asked_part(views))]
+            ("nesting", "Nesting", nesting_part(view, of)), ("source", "Source", source_part(view, of)),
+            ("graph", "Graph", graph_part(view, of)), ("sources", "Sources", asked_part(views))]
     return [part for part in made if part[2]]
 
 

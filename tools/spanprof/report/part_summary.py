@@ -6,7 +6,6 @@ from spanprof.report.summary_tiles import tiles
 from spanprof.report.summary_words import (covered, lead_words, lock_words, on_the_threads, recorded, what_pays,
                                            which_binds)
 
-# each of a view
 OF_THE_RUN = (recorded, covered, lead_words, account_picture, tiles, on_the_threads, lock_words, which_binds)
 AFTER = (remarks, division, kinds_explained)
 

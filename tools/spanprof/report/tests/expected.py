@@ -14,6 +14,7 @@ from spanprof.whatif.requests import Request, applied, changes
 from spanprof.whatif.survey import survey
 
 ROWS_OF_A_CURVE = 64
+LEVELS = 12
 
 
 def unpacked(words):
@@ -108,6 +109,25 @@ class Program:
                 "slack": min(int(self.slack[s]["slack"]) for s in own),
                 "critical": len({self.task_of[s] for s in path if self.cost[s]}),
                 "creating": sum(self.cost[s - 1] for s in firsts.values() if s)}[what]
+
+    @cached_property
+    def nested_sums(self):
+        """Of each chain of places the costs of its tasks and of all below them, and what of these is on the path."""
+        firsts, paths, out = {}, {}, {}
+        for s, task in enumerate(self.task_of):
+            firsts.setdefault(task, s)
+        for task in sorted(firsts):
+            above = paths[self.task_of[firsts[task] - 1]] if task else ()
+            paths[task] = above + (self.task_place_of[task],) if len(above) < LEVELS else above
+        for s, task in enumerate(self.task_of):
+            for i in range(len(paths[task])):
+                sums = out.setdefault("-".join(map(str, paths[task][:i + 1])), [0, 0])
+                sums[0] += self.cost[s]
+                sums[1] += self.cost[s] * (self.slack[s]["chain"] == "1")
+        return out
+
+    def nested(self, path, what):
+        return self.nested_sums[path][what == "path"]
 
     def task(self, number, what):
         own = [s for s, task in enumerate(self.task_of) if task == int(number)]
