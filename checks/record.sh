@@ -140,7 +140,10 @@ echo "a log once more"
 cat > large <<'SH'
 #!/bin/sh
 cat > /dev/null
-printf 'tasks 8190\nsegments 20476\nwork 90\nspan 30\n'
+case $1 in
+    --upto) echo threads,least,bound; for i in $(seq "$2"); do echo "$i,30,90"; done ;;
+    *) printf 'tasks 8190\nsegments 20476\nwork 90\nspan 30\n' ;;
+esac
 SH
 chmod +x large
 # By the processor's clock and without parts, since a busy machine would move the numbers or add to the tasks.
@@ -149,7 +152,8 @@ SPANPROF_LARGE=$folder/large expect "a large recording" 0 spanprof-record --cloc
 expect_word "a large recording" 'many.large.tasks, region at program.c:'
 expect_word "a large recording" '30 ns: it ends no sooner on any number of threads (proved of the recorded text'
 SPANPROF_LARGE=$folder/large expect "a page of it" 0 spanprof-record --clock cpu --html large.html -- ./many tree 13
-expect_word "a page of it" 'spanprof-record: no page is written: the recording is beyond the limits of the ten commands'
+expect_word "a page of it" 'written: large.html'
+grep -q 'span by place is left out: ' large.html || fail "a page of a large recording"
 expect_word "a large recording" 'many.tasks is not written: 8190 tasks, and spanprof takes 4096; parallelism is'
 [ -e many.large.tasks ] && [ ! -e many.tasks ] || fail "a large recording: other files"
 SPANPROF_LARGE=/none expect "no spanprof_large" 125 spanprof-record -- ./many tree 13

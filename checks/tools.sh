@@ -34,17 +34,18 @@ install_packages() { # without a word where all are there, and none where they c
         echo "not installed: $missing"
 }
 
-# one SECONDS NAME WORD..: runs the words, and once more where they fail, since runs of real programs differ. The last
-# line tells whether it was skipped. The seconds end what hangs: a busy machine takes ten times as long as a quiet one.
+# one SECONDS NAME WORD..: runs the words, and up to twice more where they fail, since runs of real programs differ. The
+# last line tells whether it was skipped. The seconds end what hangs: a busy machine takes ten times as long as a quiet
+# one.
 one() {
     local limit=$1 name=$2 told status tries began
     shift 2
     began=$SECONDS
-    for tries in '' ' (at the second try)'; do
+    for tries in '' ' (at the second try)' ' (at the third try)'; do
         status=0
         told=$(timeout "$limit" "$@" 2>&1) || status=$?
         [ $status -ne 0 ] || break
-        printf '%s\n' "$told" | tail -n 20
+        printf '%s\n' "$told" | tail -n 30
     done
     if [ $status -ne 0 ]; then
         printf 'FAILED  %s (status %s)\n' "$name" "$status"

@@ -13,6 +13,7 @@ MUCH = 0.25             # of the threads' time, from which on it is a cause
 SOME = 0.1              # of the greedy run's, from which on another shape may help
 MOST = 0.5              # of the program's time, from which on it is told before all else
 SMALL = 5000            # nanoseconds: what creating and starting a task costs is no longer little beside such a task
+GREEDY = "the greedy run of the recorded text"
 ALL = ("drop-wait", "drop-depend", "drop-name", "split", "task", "join", "cutoff", "factor")
 
 
@@ -34,11 +35,15 @@ class Shares:
     delayed: float
     starved: float
     outside: float
-    is_measured: bool = True    # or else told by the greedy run
+    beside: str = ""    # by what else it is told than by measured times
+
+    @property
+    def is_measured(self):
+        return not self.beside
 
     @property
     def how(self):
-        return "measured" if self.is_measured else "measured, beside the greedy run of the recorded text"
+        return "measured, beside " + self.beside if self.beside else "measured"
 
     @property
     def kept(self):
@@ -55,7 +60,7 @@ def shares_by_greedy(answers):
     head, elapsed = answers.head, answers.head.elapsed
     busy = min(1.0, answers.work / (head.threads * elapsed))
     starved = min(1 - busy, (head.threads * answers.curve[head.threads]["end"] - answers.work) / head.threads / elapsed)
-    return Shares(busy, 1 - busy - starved, starved, 0.0, False)
+    return Shares(busy, 1 - busy - starved, starved, 0.0, getattr(answers, "beside", GREEDY))
 
 
 def percent(share):

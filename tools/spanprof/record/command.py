@@ -9,7 +9,7 @@ from spanprof.account import lines_of
 from spanprof.answers import Answers
 from spanprof.command import end_at_a_closed_pipe
 from spanprof.errors import OWN_FAULT, Fault
-from spanprof.measure import spanprof_large
+from spanprof.measure import HOW, spanprof_large
 from spanprof.record.console import say, tell
 from spanprof.record.large import answers, head_of, large_summary, unmeasured_summary
 from spanprof.record.options import parse
@@ -57,9 +57,9 @@ def print_large(found, program, news):
 
 
 def write_page(options, recording):
-    """Of a recording that a page can show; there is none where all are beyond the limits of the ten commands."""
+    """Of a recording that a page can show; there is none where all are for spanprof_large, and that is not there."""
     if not recording:
-        raise Fault("no page is written: the recording is beyond the limits of the ten commands")
+        raise Fault("no page is written: the recording is beyond the limits of the ten commands; " + HOW)
     reporter = next((path for path in REPORTERS if os.path.exists(path)), REPORTERS[0])
     words = [sys.executable, reporter, recording.text, "-o", options.html]
     if recording.replay:
@@ -80,14 +80,15 @@ def try_page(options, recording):
 
 
 def print_summaries(session, found, said):
-    """Answers the recording that a page can show: the heaviest within the limits of the ten commands."""
+    """Answers the recording that a page can show: the heaviest within the limits of the ten commands, or else the
+    longest text, where spanprof_large is there."""
     small, large = [[one for one in found if one.is_large == is_large] for is_large in (False, True)]
     program = spanprof_large() if large else []
     shown = [one.text for one in large] if program else []
     recording = print_summary(session, small, said, shown) if small else None
     remarks = {remark for one in large for remark in head_of(one.text).remarks}
     print_large(large, program, [] if small else session.notes + said.news(session.out, shown, remarks))
-    return recording
+    return recording or (max(large, key=lambda one: os.path.getsize(one.text)) if program else None)
 
 
 def report(session, found, said):

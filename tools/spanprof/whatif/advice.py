@@ -2,7 +2,7 @@
 import json
 
 from spanprof.claims import gain_may_be_less, gain_may_be_more, is_partial, speaks_of, why_not_of_more_threads
-from spanprof.whatif.tell import grouped, numbers_json, yours_to_know
+from spanprof.whatif.tell import grouped, in_unit, numbers_json, yours_to_know
 
 LEAST_GAIN = 0.01       # of the end, from which on a change is put first
 MOST_ROWS, MOST_OTHERS = 15, 5
@@ -106,10 +106,11 @@ def rows(tried, found, most):
         yield "%31s of %d more changes" % ("", len(found) - most)
 
 
-def table(tried):
+def table(tried, unit=""):
     p, more = tried.threads
-    yield "the greedy run of the text ends at %s on %d threads, at %s on %d; with one change:" % (
-        grouped(tried.before.on[p].end), p, grouped(tried.before.on[more].end), more)
+    yield "the greedy run of the text ends at %s on %d threads, at %s on %d%s; with one change:" % (
+        grouped(tried.before.on[p].end), p, grouped(tried.before.on[more].end), more,
+        ", " + in_unit(unit) if unit else "")
     yield ROW % ("end on %d" % p, "on %d" % more, "work", "change")
     yield from rows(tried, tried.sooner, MOST_ROWS)
     if tried.later:
@@ -130,7 +131,7 @@ def lines(tried, found, head):
     for p in tried.threads:
         if not speaks_of(head, p):
             yield "on %d threads: %s" % (p, why_not_of_more_threads(head))
-    yield from table(tried)
+    yield from table(tried, head.unit)
     yield from yours_to_know([trial.request for trial in tried.made])
     yield PROVED
 

@@ -77,7 +77,7 @@ def compare(chosen, text, before, path):
         raise Fault("nothing is changed by it: %s" % idle[0].words())
     after = measure(path, threads)
     told = list(notes(chosen.requests, made, costs, text.head, threads))
-    print(as_json(told, before, after) if chosen.json else "\n".join([*told, *lines(before, after)]))
+    print(as_json(told, before, after) if chosen.json else "\n".join([*told, *lines(before, after, text.head.unit)]))
 
 
 def advise(chosen, text, threads):

@@ -4,6 +4,11 @@ import re
 from functools import cached_property
 
 from spanprof.changed_text import with_costs, without_costs
+from spanprof.head import read_head
+from spanprof.text import has_loops, statements, text_lines
+from spanprof.whatif.creating import costs_for
+from spanprof.whatif.requests import Request, applied, changes
+from spanprof.whatif.survey import survey
 
 ROWS_OF_A_CURVE = 64
 
@@ -142,6 +147,29 @@ class Program:
     @cached_property
     def without_costs(self):
         return without_costs(self.answer("show"))
+
+    def trial(self, number, what, threads=None):
+        """Of the text with one change, which is made here again."""
+        if ("trial", number) not in self.kept:
+            self.kept["trial", number] = self.tried(Request(*self.data["tried"]["requests"][int(number)]))
+        span, curve = self.kept["trial", number]
+        return int(re.search(r"(?m)^%s (\d+)$" % what, span)[1]) if threads is None else \
+            int(curve[int(threads) - 1][what])
+
+    def tried(self, request):
+        made = changes([request], *self.surveyed)
+        text, upto = "".join(text_lines(applied(self.statements, made), 1)), max(self.data["tried"]["threads"])
+        return self.ask(["span"], text), table(self.ask(["curve", "--upto", str(upto)], text))
+
+    @cached_property
+    def statements(self):
+        text = self.answer("show") if has_loops(self.text) else self.text
+        return list(statements(line + "\n" for line in text.split("\n")))
+
+    @cached_property
+    def surveyed(self):
+        seen = survey(self.statements)
+        return seen, costs_for(read_head(self.text), seen)
 
     def count(self, number):
         """Of threads, as the page names them."""

@@ -43,7 +43,7 @@ class Commands(InFolder):
         self.assertEqual(self.told("--drop-wait", "taskwait"), (0, """\
 changed: 1 wait dropped: taskwait at sort.c:10
 whether the program stays right without it is yours to know: no text tells what its tasks read and write
-                                     text       changed text
+in us                                text       changed text
 segments                                8                  8    +0.0 %
 work                                    5                  4   -20.0 %
 span                                   60                 60    +0.0 %
@@ -112,7 +112,7 @@ proved of the text, and of the changed text: spanprof has read both
     def test_advice(self):
         status, out, errors = self.told("--advise", "--threads", "4")
         self.assertEqual((status, errors), (0, ""))
-        self.assertIn("the greedy run of the text ends at 65 on 4 threads, at 65 on 16; with one change:", out)
+        self.assertIn("the greedy run of the text ends at 65 on 4 threads, at 65 on 16, in us; with one change:", out)
         self.assertIn("as soon on 4 threads, to a thousandth:", out)
         self.assertIn("proved of the text, and of each changed text", out)
         told = json.loads(self.told("--advise", "--json")[1])

@@ -4,8 +4,12 @@ import unittest
 from unittest import mock
 
 from spanprof.record.tests.made_up import Answers, Head
+from spanprof.whatif.creating import costs_for
 from spanprof.whatif.lead import Lead, lead
+from spanprof.whatif.survey import survey
 from spanprof.whatif.tests.made_up import ROW
+from spanprof.whatif.texts import Text
+from spanprof.whatif.trials import trials
 
 CURVE = "threads,end,least,bound\n" + "".join("%d,%%d,9,30\n" % p for p in range(1, 17))
 TIMES = "segment,thread,start_ns,end_ns\n0,0,0,1000\n1,1,2000,3000\n"
@@ -30,13 +34,13 @@ class Led(unittest.TestCase):
         with open(path, "w", encoding="utf-8") as file:
             file.write(text)
 
-    def lead(self, times="", **told):
+    def lead(self, times="", tried=None, **told):
         answers = Answers(work=20, span=9, head=Head(**dict(dict(elapsed=20), **told)))
         answers.path, answers.predecessors = self.path, [[], [0]]
         for row in answers.curve.values():
             row["end"] = 20
         with mock.patch("spanprof.client.ask", spanprof):
-            return lead(answers, times)
+            return lead(answers, times, tried)
 
     def test_the_change_that_ends_soonest(self):
         self.assertEqual(self.lead(), Lead(
@@ -44,6 +48,15 @@ class Led(unittest.TestCase):
             "greedy run of the recorded text)",
             "without the taskwait at row.c:5, if the program stays right: the greedy run on 4 threads ends 20.0 % "
             "sooner (proved of the recorded text and of each changed one)"))
+
+    def test_of_changes_that_were_tried_already(self):
+        text = Text(self.path, 1)
+        seen = survey(text.statements())
+        with mock.patch("spanprof.client.ask", spanprof):
+            made = trials(text, seen, costs_for(text.head, seen), 4)
+        with mock.patch("spanprof.whatif.lead.trials", side_effect=AssertionError):
+            self.assertEqual(self.lead(tried=made), self.lead(tried=made))
+            self.assertIn("without the taskwait at row.c:5", self.lead(tried=made).first)
 
     def test_no_change_where_the_runtime_or_the_machine_is_the_cause(self):
         led = self.lead(elapsed=90, unit="ms")
