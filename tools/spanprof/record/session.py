@@ -16,7 +16,6 @@ from spanprof.record.target import find, launched
 
 TOOLS = os.path.dirname(os.path.dirname(os.path.dirname(os.path.abspath(__file__))))
 RECORDERS = [os.path.join(TOOLS, "openmp_recorder"), os.path.join(TOOLS, "..", "..", "lib", "spanprof")]
-MEDIAN = os.path.join(TOOLS, "median_recording.py")
 
 
 def check_spanprof():
@@ -106,7 +105,7 @@ class Session:
                 return status, [], said
             parts = parts_of_the_next([one.text for one in recordings(name)]) if parts == FIRST_PARTS else parts
         tell("taking medians")
-        self.notes += combine_all(MEDIAN, self.out, names)
+        self.notes += combine_all(self.out, names)
         return 0, recordings(self.out), said.without([recording.text for recording in recordings(names[-1])])
 
     def record(self):

@@ -115,10 +115,10 @@ class Repeated(OfARecording):
         return [files.recording(text[:-len(".tasks")]) for text in texts]
 
     def test_runs_of_different_shapes_leave_the_one_in_the_middle(self):
-        tool = self.write("tool.py", "import sys; sys.exit('they differ')\n")
         numbers = iter(((30, 7), (10, 9), (20, 8)))
-        with mock.patch("spanprof.record.repeat.work_and_span", side_effect=lambda text: next(numbers)):
-            remarks = repeat.combine(tool, self.out, self.three())
+        with mock.patch("spanprof.record.repeat.work_and_span", side_effect=lambda text: next(numbers)), \
+                mock.patch("spanprof.record.repeat.write_median", side_effect=Fault("they differ")):
+            remarks = repeat.combine(self.out, self.three())
         self.assertIn("they differ", remarks[0])
         with open(self.out + ".tasks", encoding="utf-8") as file:
             self.assertEqual(file.read(),
@@ -147,16 +147,17 @@ class Repeated(OfARecording):
             self.write(name)
         names = [os.path.join(self.folder, name) for name in ("run1", "run2")]
         with mock.patch("spanprof.record.repeat.combine", return_value=["combined"]) as combine:
-            remarks = repeat.combine_all("tool", self.out, names)
-        self.assertEqual(combine.call_args.args[1], self.out + ".2")
+            remarks = repeat.combine_all(self.out, names)
+        self.assertEqual(combine.call_args.args[0], self.out + ".2")
         self.assertEqual(remarks, ["combined", "regions that not all runs wrote, left out: 1"])
 
-    def test_the_tool_gets_all_runs(self):
-        tool = self.write("tool.py", "import sys; open(sys.argv[1], 'w').write(str(len(sys.argv) - 2))\n")
+    def test_the_median_is_of_all_runs(self):
         with mock.patch("spanprof.record.repeat.work_and_span", return_value=(1, 1)):
-            self.assertEqual(repeat.combine(tool, self.out, self.three()), [])
+            self.assertEqual(repeat.combine(self.out, self.three()), [])
         with open(self.out + ".tasks", encoding="utf-8") as file:
-            self.assertEqual(file.read().split("\n")[0], "3# runs: 3, and each cost is the median of theirs")
+            text = file.read()
+        self.assertIn("# runs: 3, and each cost is the median of theirs\n", text)
+        self.assertIn("# remark: each cost is the median of 3 recordings", text)
 
 
 if __name__ == "__main__":

@@ -91,7 +91,7 @@ class Runs(unittest.TestCase):
         self.assertEqual(told, "spanprof-record: nothing is recorded: no parallel region with tasks\n")
 
     def test_often(self):
-        def combine(tool, out, names):
+        def combine(out, names):
             self.assertEqual(len(names), 3)
             return ["the runs have no median"]
         with mock.patch("spanprof.record.session.combine_all", side_effect=combine):
