@@ -33,6 +33,11 @@ if command -v pyflakes3 > /dev/null; then
 else
     echo "skipped pyflakes3: it is missing (package pyflakes3)"
 fi
+if command -v pycodestyle > /dev/null; then  # E402 is an import below sys.path, and style.py looks at long lines
+    passes pycodestyle pycodestyle --ignore=E126,E402,E501,W291,W503,W504 tools checks bench examples
+else
+    echo "skipped pycodestyle: it is missing (package pycodestyle)"
+fi
 passes cpp_format.sh checks/cpp_format.sh
 for test in checks/test_*.py checks/waiting/test_*.py checks/large_recordings/test_*.py bench/test_*.py \
     bench/recording/test_*.py; do

@@ -5,6 +5,7 @@ import os
 import unittest
 
 import install
+from spanprof.errors import Fault
 from spanprof.tests.in_folder import InFolder
 
 
@@ -86,7 +87,7 @@ class Prefix(InFolder):
         for path, words in (("bin/spanprof", "none: no such program; README.md tells"),
                             ("lib/x.so", "none: no such file")):
             self.pairs[1] = (missing, path)
-            with self.assertRaisesRegex(SystemExit, words):
+            with self.assertRaisesRegex(Fault, words):
                 self.install()
             self.assertFalse(os.path.exists(self.root))
 

@@ -60,7 +60,7 @@ class Heads(unittest.TestCase):
         self.assertEqual(head.division, {"outside regions": 20, "in other regions": 30, "in parts without tasks": 4,
                                          "in tasks": 3000})
         self.assertEqual(said(TEXT), ["remark: mutexinoutset, 12 times at sort.c:40: span too low",
-                                     "lock critical at sort.c:9: 32 times, 77 inside, 5 waiting"])
+                                      "lock critical at sort.c:9: 32 times, 77 inside, 5 waiting"])
 
     def test_what_it_says_of_the_program(self):
         head = read_head(OF_THE_PROGRAM)

@@ -144,7 +144,7 @@ def trial_json(tried, trial):
 
 def as_json(tried, found, head):
     out = {"cause": found and {"kind": found.kind, "words": found.words, "first": first_change(found, tried, head),
-                                "then": then_change(found, tried, head)},
+                               "then": then_change(found, tried, head)},
            "text": numbers_json(tried.before), "changes": [trial_json(tried, trial) for trial in tried.ranked],
            "left out": tried.left_out, "proved": PROVED}
     return json.dumps(out, indent=2)

@@ -132,7 +132,6 @@ class Summaries(unittest.TestCase):
             command.print_summary(mock.Mock(notes=[], rank=None, out="/tmp/mine"), [Recording("mine.tasks")], said)
         self.assertEqual(told.getvalue().count("folded task"), 1)
 
-
     def test_each_process_of_mpi_tells_a_line(self):
         by_path = {"a.tasks": Answers(name="a.tasks", work=10, span=5), "b.tasks": Answers(name="b.tasks")}
         made = mock.Mock(notes=["a note"], rank=1, out="/tmp/mine.rank1", options=argparse.Namespace(out="mine"))
