@@ -44,7 +44,8 @@ for test in checks/test_*.py checks/waiting/test_*.py checks/large_recordings/te
     passes "$test" python3 -B "$test"
 done
 tested checks/believed/tests checks
-for folder in killed_runs llvm mutants openmp_cases openmp_regions page true_words runtime_calls whatif; do
+for folder in killed_runs llvm mutants openmp_cases openmp_regions page recorded_accounts true_words runtime_calls \
+    whatif; do
     tested "checks/$folder/tests" "checks/$folder"
 done
 tested tools/tests tools

@@ -98,6 +98,8 @@ echo "a signal"
 expect "a fold" 0 spanprof-record --out folded --fold depth=1 --clock cpu --unit 100 -- ./llvm
 expect_word "a fold" 'folded task'
 expect_word "a fold" 'costs in 100 ns of processor time'
+expect "JSON" 0 spanprof-record --json told.json -- ./llvm
+grep -q '"text": "llvm.tasks"' told.json || fail "no JSON"
 expect "a page" 0 spanprof-record --html page.html -- ./llvm
 grep -q '</html>' page.html || fail "no page"
 cat > browser <<'SH'
@@ -132,6 +134,12 @@ echo "several runs"
 expect "another fold of a log" 0 spanprof-convert --fold depth=1 --unit us --out again llvm.log
 expect_word "another fold of a log" 'spanprof-convert: again.tasks and again.replay: 8 tasks, '
 expect_recording again
+expect "the times of a log" 0 spanprof-convert --times --out timed llvm.log
+expect_word "the times of a log" 'timed.tasks and timed.replay and timed.timed: '
+grep -q '^times 2 0 [0-9]*$' timed.timed || fail "no times"
+expect "the times of a fold" 0 spanprof-convert --times --fold depth=1 --out timed llvm.log
+expect_word "the times of a fold" '; no times, since tasks are folded: '
+[ ! -e timed.timed ] || fail "a fold has times"
 expect "no log" 125 spanprof-convert none.log
 expect_word "no log" 'spanprof-convert: none.log cannot be converted: no log of the recorder'
 echo "a log once more"

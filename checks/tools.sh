@@ -66,6 +66,7 @@ one 600 documents.py checks/documents.py
 one 600 'accounts.py 300' checks/accounts.py 300
 one 1800 openmp_cases.sh checks/openmp_cases.sh
 one 900 record.sh checks/record.sh
+one 900 recorded_accounts.sh checks/recorded_accounts.sh
 one 900 killed_runs.sh checks/killed_runs.sh
 one 1200 demo.sh checks/demo.sh
 one 600 release.sh checks/release.sh

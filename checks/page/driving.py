@@ -9,6 +9,7 @@ from timelines import (fingers_zoom, names_stand_in_bars, runs_zoom_by_themselve
 
 TOP = os.path.dirname(os.path.dirname(os.path.dirname(os.path.abspath(__file__))))
 WHATIF = os.path.join(TOP, "tools", "spanprof-whatif")
+FIRST_SCREEN = 800  # pixels
 CTRL = 2    # the bit of the key in an event of the mouse
 
 
@@ -168,6 +169,12 @@ def factors_give_a_line(page, text, program):
         yield "the table has %s, and the line %r prints %r" % (row["half"], row["exact"][:60], told)
 
 
+def the_lead_is_seen_first(page):
+    bottom = page.evaluate("(e => e ? e.getBoundingClientRect().bottom + scrollY : 0)(document.querySelector('.lead'))")
+    if bottom > FIRST_SCREEN:
+        yield "the cause ends %d pixels below the top of the page" % bottom
+
+
 def colours_change(page):
     before = page.evaluate("getComputedStyle(document.body).backgroundColor")
     page.evaluate("document.getElementById('theme').click()")
@@ -213,7 +220,7 @@ def focus_goes_through(page):
 
 def drive(page, text, program):
     """All trials. Those of the timelines are left out where nothing takes time."""
-    trials = [tables_sort, colours_change]
+    trials = [the_lead_is_seen_first, tables_sort, colours_change]
     if has_timeline(page):
         trials += [focus_goes_through, keys_zoom_and_move, letters_zoom_and_move, keys_go_from_segment_to_segment,
                    mouse_tells, mouse_zooms_and_moves, names_stand_in_bars, segments_are_chosen, search_finds,

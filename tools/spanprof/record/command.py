@@ -5,7 +5,8 @@ import subprocess
 import sys
 import webbrowser
 
-from spanprof.account import lines_of
+from spanprof.account import account_beside
+from spanprof.account_words import lines_of
 from spanprof.answers import Answers
 from spanprof.command import end_at_a_closed_pipe
 from spanprof.errors import OWN_FAULT, Fault
@@ -17,6 +18,7 @@ from spanprof.record.ranks import are_ranks
 from spanprof.record.run import end_as
 from spanprof.record.session import TOOLS, Session
 from spanprof.record.summary import other_region, summary
+from spanprof.record.summary_json import led_json, write_json
 from spanprof.record.verdict import verdict
 from spanprof.whatif.lead import lead
 
@@ -40,9 +42,11 @@ def print_summary(session, found, said, shown=()):
         show([other_region(one) for one in answered] + ["%s: %s" % (session.options.out, one) for one in news])
     else:
         of_what = "ranks" if are_ranks(found) else "regions"
-        times = found[heaviest].times
-        account, led = lines_of(answered[heaviest], times), lead(answered[heaviest], times)
-        show(summary(answered[heaviest], verdict(found[heaviest]), news, others, of_what, account, led))
+        account, why = account_beside(answered[heaviest])
+        led = lead(answered[heaviest], account)
+        show(summary(answered[heaviest], verdict(found[heaviest]), news, others, of_what, lines_of(account, why), led))
+        if session.options.json:
+            write_json(session.options.json, led_json(answered[heaviest], account, why, led))
     return found[heaviest]
 
 

@@ -26,6 +26,8 @@ def parser():
     add("--regions", type=count(1, 9999), metavar="N", help="how many regions with tasks: the heaviest, 10 without it")
     add("--parts", choices=("heavy", "all", "none", "all-or-none"),
         help="which parts without tasks: heavy (without it)")
+    add("--times", action="store_const", const=1,
+        help="write NAME.timed too, the document of the text and its times that spanprof_account reads")
     add("--version", action=Version)
     add("logs", nargs="+", metavar="NAME.log", help="the folder of a log")
     return out
@@ -33,7 +35,8 @@ def parser():
 
 def variables(base, chosen):
     """What the converter takes; what is not asked for stays as it is."""
-    asked = {"SPANPROF_UNIT": chosen.unit, "SPANPROF_REGIONS": chosen.regions, "SPANPROF_PARTS": chosen.parts}
+    asked = {"SPANPROF_UNIT": chosen.unit, "SPANPROF_REGIONS": chosen.regions, "SPANPROF_PARTS": chosen.parts,
+             "SPANPROF_TIMES": chosen.times}
     asked.update(("SPANPROF_FOLD_" + name.upper(), number) for name, number in chosen.fold)
     return dict(base, **{name: str(value) for name, value in asked.items() if value is not None})
 

@@ -60,6 +60,7 @@ def parser():
         "all below them as one cost; tasks cheaper than C as work of their parent; N neighbours as one task")
     add("--runtime", metavar="FILE", help="LLVM's runtime, to run the program on whatever it is linked with")
     add("--html", metavar="PAGE", help="write the page of spanprof-report too")
+    add("--json", metavar="FILE", help="write the account of the run, the cause and the first change as JSON too")
     add("--version", action=Version)
     add("--open", action="store_true", help="show that page in the browser; without --html it is NAME.html")
     add("command", nargs=argparse.REMAINDER, metavar="PROGRAM [WORD ..]", help="what to run")

@@ -2,6 +2,7 @@
 import os
 
 from spanprof import client
+from spanprof.account_program import spanprof_account
 from spanprof.errors import Fault
 from spanprof.record.console import say, tell
 from spanprof.record.convert import convert_all, converter
@@ -73,7 +74,10 @@ class Session:
     def run(self, out, others=None):
         """One run, with other variables too: how the program ended, and what is told of its logs."""
         remove_old(out)
-        variables = environment(dict(os.environ, **others or {}), self.options, self.library, self.preload, out)
+        asked = dict(os.environ, **others or {})
+        if spanprof_account():
+            asked["SPANPROF_TIMES"] = "1"
+        variables = environment(asked, self.options, self.library, self.preload, out)
         status = run(self.path, self.options.command, variables)
         tell("converting " + os.path.basename(out) + ".log")
         return status, convert_all(self.converter, out, variables)

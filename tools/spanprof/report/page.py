@@ -4,10 +4,12 @@ import os
 
 from spanprof.report.colours import colour_rules
 from spanprof.report.markup import Markup, join, markup, section, tag
+from spanprof.report.part_account import idle_part
 from spanprof.report.part_changes import changes_part
 from spanprof.report.part_compare import compare_part
 from spanprof.report.part_curve import curve_part
 from spanprof.report.part_graph import graph_part
+from spanprof.report.part_nesting import nesting_part
 from spanprof.report.part_path import path_part
 from spanprof.report.part_source import source_part
 from spanprof.report.part_summary import summary_part
@@ -55,11 +57,12 @@ def parts(views, factors):
     of = " of " + view.name if len(views) > 1 else ""
     made = [("summary", "Summary", summary_part(view, trials, of)),
             ("compared", "Side by side", compare_part(views) if len(views) > 1 else ""),
+            ("idle", "Idle time", idle_part(view, of)),
             ("speed-up", "Speed-up", curve_part(views)), *timelines(views),
             ("path", "Critical path", path_part(view, of)), ("changes", "Changes", changes_part(view, of)),
             ("what-if", "What if", what_if_part(view, trials, factors, of)), ("tasks", "Tasks", tasks_part(view, of)),
-            ("source", "Source", source_part(view, of)), ("graph", "Graph", graph_part(view, of)),
-            ("sources", "Sources", asked_part(views))]
+            ("nesting", "Nesting", nesting_part(view, of)), ("source", "Source", source_part(view, of)),
+            ("graph", "Graph", graph_part(view, of)), ("sources", "Sources", asked_part(views))]
     return [part for part in made if part[2]]
 
 

@@ -1,11 +1,12 @@
 """The summary, piece by piece, in the order in which one reads: the cause first."""
 from spanprof.report.markup import section
+from spanprof.report.part_account import account_picture
 from spanprof.report.summary_rest import division, kinds_explained, remarks
 from spanprof.report.summary_tiles import tiles
 from spanprof.report.summary_words import (covered, lead_words, lock_words, on_the_threads, recorded, what_pays,
                                            which_binds)
 
-OF_THE_RUN = (recorded, covered, lead_words, tiles, on_the_threads, lock_words, which_binds)     # each of a view
+OF_THE_RUN = (recorded, covered, lead_words, account_picture, tiles, on_the_threads, lock_words, which_binds)
 AFTER = (remarks, division, kinds_explained)
 
 

@@ -4,6 +4,7 @@ from dataclasses import dataclass
 from functools import cached_property
 from typing import Optional
 
+from spanprof.account import account_beside, timed_beside
 from spanprof.answers import Answers
 from spanprof.errors import Fault
 from spanprof.report.figures import DECLARED, MEASURED, RECORDED, Figures
@@ -104,7 +105,16 @@ class View(Kinds):
     def lead(self):
         """None where the text tells no time."""
         is_asked = self.tried and self.answers.threads == self.answers.head.threads
-        return lead(self.answers, tried=self.tried.trials if is_asked else None)
+        return lead(self.answers, self.account, self.tried.trials if is_asked else None)
+
+    @cached_property
+    def account(self):
+        """Of the recorded run; None without a timed document beside the text."""
+        found, _ = account_beside(self.answers)
+        if found:
+            name = os.path.basename(timed_beside(self.answers.path))
+            self.answers.asked += ["spanprof_account%s < %s" % (words, name) for words in ("", " --rows")]
+        return found
 
     @cached_property
     def stretches(self):

@@ -30,6 +30,8 @@ OF_THE_PROGRAM = """\
 # divided among 4 threads: code of the region, 480 parts, 715 x 250 ns beside the longest
 # clock reading: 217 ns, taken off at each record
 # clocks differ: in 424000 of 424576 x 250 ns of the work, by 384500 x 250 ns, 85 times
+# slept: in 300 of 424576 x 250 ns of the work, for 200 x 250 ns, 2 times
+# untimed: 77 x 250 ns before segments were left
 # runs: 7, and each cost is the median of theirs
 # work of the runs: 34000 least, 34770 median, 36010 most
 # span of the runs: 2125 least, 2157 median, 8484 most
@@ -70,6 +72,7 @@ class Heads(unittest.TestCase):
                                         "code of the region, 480 parts, 715 x 250 ns beside the longest"])
         self.assertEqual((head.beside, head.clock_reading, head.most_held, head.runs), (715, 217, 64482, 7))
         self.assertEqual(head.clocks_differ, {"affected": 424000, "work": 424576, "by": 384500, "times": 85})
+        self.assertEqual((head.slept["by"], head.slept["times"], head.untimed), (200, 2, 77))
         self.assertEqual(head.spread, {"work": (34000, 34770, 36010), "span": (2125, 2157, 8484)})
         self.assertTrue(head.is_median)
         self.assertFalse(head.one_thread)

@@ -1,5 +1,6 @@
 """Which change to make first, and what each would bring: by the cause, and by the greedy ends of the changed texts."""
 import json
+from typing import NamedTuple
 
 from spanprof.claims import gain_may_be_less, gain_may_be_more, is_partial, speaks_of, why_not_of_more_threads
 from spanprof.whatif.tell import grouped, in_unit, numbers_json, yours_to_know
@@ -90,6 +91,17 @@ def first_change(found, tried, head):
     return brings(trial, tried, found.changes, head)
 
 
+class Lead(NamedTuple):
+    """What a summary, a page and an advice lead with."""
+    cause: str
+    first: str
+    then: str = ""      # of the program, where the first is none of it
+
+
+def lead_of(found, tried, head):
+    return Lead(found.words, first_change(found, tried, head), then_change(found, tried, head))
+
+
 def signed(share):
     return "%+.1f %%" % (100 * share + 0.0)     # never -0 where nothing changes
 
@@ -125,9 +137,9 @@ def table(tried, unit=""):
 def lines(tried, found, head):
     """The cause and the first change, then what was tried."""
     if found:
-        yield "cause: " + found.words
-        yield "first: " + first_change(found, tried, head)
-        yield from filter(None, [then_change(found, tried, head)])
+        led = lead_of(found, tried, head)
+        yield from ("cause: " + led.cause, "first: " + led.first)
+        yield from filter(None, [led.then])
     for p in tried.threads:
         if not speaks_of(head, p):
             yield "on %d threads: %s" % (p, why_not_of_more_threads(head))
@@ -142,9 +154,11 @@ def trial_json(tried, trial):
             "numbers": numbers_json(trial.numbers)}
 
 
-def as_json(tried, found, head):
-    out = {"cause": found and {"kind": found.kind, "words": found.words, "first": first_change(found, tried, head),
-                               "then": then_change(found, tried, head)},
-           "text": numbers_json(tried.before), "changes": [trial_json(tried, trial) for trial in tried.ranked],
-           "left out": tried.left_out, "proved": PROVED}
+def as_json(tried, found, head, account=None):
+    """`account` is that of the run as JSON, where there is one."""
+    led = found and lead_of(found, tried, head)
+    out = {"cause": led and {"kind": found.kind, "words": led.cause, "first": led.first, "then": led.then},
+           "account": account, "text": numbers_json(tried.before),
+           "changes": [trial_json(tried, trial) for trial in tried.ranked], "left out": tried.left_out,
+           "proved": PROVED}
     return json.dumps(out, indent=2)

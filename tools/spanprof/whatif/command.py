@@ -3,6 +3,8 @@ import argparse
 import os
 import tempfile
 
+from spanprof.account import account_beside
+from spanprof.account_words import as_json as as_json_of
 from spanprof.answers import Answers
 from spanprof.cause import cause
 from spanprof.command import Console, check_files, count, end_with
@@ -10,7 +12,6 @@ from spanprof.errors import Fault
 from spanprof.version import Version
 from spanprof.whatif import advice
 from spanprof.whatif.creating import costs_for
-from spanprof.whatif.lead import run_account
 from spanprof.whatif.listing import listing
 from spanprof.whatif.numbers import measure
 from spanprof.whatif.requests import Request, applied, changes
@@ -88,9 +89,13 @@ def advise(chosen, text, threads):
     except Fault as refused:
         raise Fault("%s; --advise compares greedy runs, which only spanprof tells" % refused) from refused
     seen = survey(text.statements())
-    found = cause(answers, run_account(answers))
+    account, _ = account_beside(answers)
+    found = cause(answers, account)
     tried = trials(text, seen, costs_for(text.head, seen, chosen.creating, chosen.least), threads)
-    print(advice.as_json(tried, found, text.head) if chosen.json else "\n".join(advice.lines(tried, found, text.head)))
+    if chosen.json:
+        print(advice.as_json(tried, found, text.head, as_json_of(account) if account else None))
+    else:
+        print("\n".join(advice.lines(tried, found, text.head)))
 
 
 def answer(chosen):

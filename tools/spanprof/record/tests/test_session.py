@@ -116,7 +116,7 @@ def setUpModule():
 class Summaries(unittest.TestCase):
     def test_the_heaviest_region_is_the_one_that_is_told(self):
         by_path = {"a.tasks": Answers(name="a.tasks", work=10, span=5), "b.tasks": Answers(name="b.tasks")}
-        made = mock.Mock(notes=["a note"], rank=None, out="/tmp/mine")
+        made = mock.Mock(notes=["a note"], rank=None, out="/tmp/mine", options=argparse.Namespace(json=None))
         told = io.StringIO()
         with mock.patch("spanprof.record.command.Answers", side_effect=by_path.get), contextlib.redirect_stderr(told):
             found = command.print_summary(made, [Recording("a.tasks"), Recording("b.tasks")], Told(True, []))
@@ -129,7 +129,8 @@ class Summaries(unittest.TestCase):
         said = Told(True, [{"told": "remark", "name": "/tmp/mine", "remark": "folded task: span too high"}])
         told = io.StringIO()
         with mock.patch("spanprof.record.command.Answers", return_value=answers), contextlib.redirect_stderr(told):
-            command.print_summary(mock.Mock(notes=[], rank=None, out="/tmp/mine"), [Recording("mine.tasks")], said)
+            made = mock.Mock(notes=[], rank=None, out="/tmp/mine", options=argparse.Namespace(json=None))
+            command.print_summary(made, [Recording("mine.tasks")], said)
         self.assertEqual(told.getvalue().count("folded task"), 1)
 
     def test_each_process_of_mpi_tells_a_line(self):
@@ -170,7 +171,7 @@ class Large(unittest.TestCase):
 
     def told(self, program, small=(), **places):
         found = list(small) + [Recording(self.out + ".large.tasks", is_large=True)]
-        made = mock.Mock(notes=["a note"], rank=None, out=self.out, options=argparse.Namespace(html=None))
+        made = mock.Mock(notes=["a note"], rank=None, out=self.out, options=argparse.Namespace(html=None, json=None))
         told = io.StringIO()
         with mock.patch("spanprof.record.command.spanprof_large", return_value=program), \
                 contextlib.redirect_stderr(told), \
@@ -226,7 +227,7 @@ remarks       spanprof_large, which measures it, is not found; tools/prove_progr
             self.told(["/no/such/program"])
 
     def test_no_page(self):
-        made = mock.Mock(notes=[], rank=None, out=self.out, options=argparse.Namespace(html="p.html"))
+        made = mock.Mock(notes=[], rank=None, out=self.out, options=argparse.Namespace(html="p.html", json=None))
         with mock.patch("spanprof.record.command.spanprof_large", return_value=[]), \
                 contextlib.redirect_stderr(io.StringIO()) as told:
             command.report(made, [Recording(self.out + ".large.tasks", is_large=True)], Told(True, []))

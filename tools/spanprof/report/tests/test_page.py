@@ -35,7 +35,7 @@ class Pages(unittest.TestCase):
         text = worked.page_text(["mesh", "split"])
         names = re.findall(r'<section id="(\S+)"', text)
         self.assertEqual(names, ["summary", "compared", "speed-up", "timeline", "timeline-other", "path", "changes",
-                                 "what-if", "tasks", "source", "graph", "sources"])
+                                 "what-if", "tasks", "nesting", "source", "graph", "sources"])
         for name in names:
             self.assertIn('<a href="#%s">' % name, text)
 
