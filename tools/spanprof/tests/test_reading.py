@@ -127,7 +127,7 @@ class Finding(unittest.TestCase):
         with mock.patch.dict(os.environ, {"SPANPROF": ""}), mock.patch("shutil.which", return_value="/bin/spanprof"):
             self.assertEqual(client.spanprof(), ["/bin/spanprof"])
         with mock.patch.dict(os.environ, {"SPANPROF": ""}), mock.patch("shutil.which", return_value=None):
-            self.assertEqual(client.spanprof(), [client.IN_REPOSITORY])
+            self.assertEqual(client.spanprof(), [client.PLACES[0]])
 
     def test_no_program_is_told_without_a_traceback(self):
         with mock.patch.dict(os.environ, {"SPANPROF": "/no/such/program"}):
