@@ -1,11 +1,12 @@
 """The commands of the tester. Each takes the options and a folder for what it builds, and answers an exit status."""
+import argparse
 import contextlib
 import json
 import pathlib
 import sys
 from dataclasses import replace
 
-from spanprof.conformance import gcov, store, tables
+from spanprof.conformance import delays, gcov, store, tables
 from spanprof.conformance.bisect import UNTESTABLE, sample
 from spanprof.conformance.built import built_in, try_mutant
 from spanprof.conformance.campaign import cases_of, directed_cases, random_cases, run_cases
@@ -47,7 +48,8 @@ def command_run(options, folder):
             keep_part(options, what, results)
     found = shrink_failures(options, bench, results)
     sources = list(gcov.rows(gcov.reached(options.gcov))) if options.gcov else []
-    publish(options.report, Report(facts_of(what, results), bench.toolchain.kinds, results, found, sources))
+    waits = list(delays.tables_of(measured_delays(options, bench, []))) if options.delays else []
+    publish(options.report, Report(facts_of(what, results), bench.toolchain.kinds, results, found, sources, waits))
     return 1 if results.groups else 0
 
 
@@ -113,6 +115,28 @@ def try_built(options, bench):
             pathlib.Path(options.report).write_text(json.dumps(seen, indent=1) + "\n")
         wrong |= mutant.is_wrong != caught.surely(options.campaigns)
     return 1 if wrong else 0
+
+
+def command_delays(options, folder):
+    """Tells how much of the threads' time runtimes delay, and how long ready segments wait, by construct."""
+    found = {}
+    for cc in options.cc.split(","):
+        own = argparse.Namespace(**{**vars(options), "cc": cc})
+        seeds = range(options.seed, options.seed + options.programs)
+        found.update(measured_delays(own, open_bench(own, folder), seeds))
+    print("\n".join(delays.tables_of(found)))
+    if options.report:
+        is_json = options.report.endswith(".json")
+        pathlib.Path(options.report).write_text(
+            delays.as_json(found) if is_json else "\n".join(delays.tables_of(found)) + "\n")
+    return 0
+
+
+def measured_delays(options, bench, seeds):
+    """Of the bench's runtime, by its name, what timed runs of the directed programs and some random ones tell."""
+    kinds = bench.toolchain.kinds
+    cases = directed_cases(kinds, ["tied"], options.match)[0] + random_cases(seeds, kinds, ["tied"], [])
+    return {f"{options.cc}: {bench.toolchain.runtime(bench.environment)}": delays.measured(bench, cases, options)}
 
 
 def command_shrink(options, folder):
@@ -193,4 +217,5 @@ def command_list(_options, _folder):
 
 
 COMMANDS = {"run": command_run, "mutants": command_mutants, "shrink": command_shrink, "merge": command_merge,
-            "bisect": command_bisect, "emit": command_emit, "judge": command_judge, "list": command_list}
+            "bisect": command_bisect, "delays": command_delays, "emit": command_emit,
+            "judge": command_judge, "list": command_list}

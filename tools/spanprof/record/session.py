@@ -2,7 +2,9 @@
 import os
 
 from spanprof import client
+from spanprof.account_program import spanprof_account
 from spanprof.errors import Fault
+from spanprof.folders import builds_in
 from spanprof.record.console import say, tell
 from spanprof.record.convert import convert_all, converter
 from spanprof.record.files import check_folder, large_recordings, recordings, remove_old
@@ -14,17 +16,12 @@ from spanprof.record.run import environment, run, signal_name
 from spanprof.record.runtime import refuse_targets, to_preload, what_it_lacks
 from spanprof.record.target import find, launched
 
-TOOLS = os.path.dirname(os.path.dirname(os.path.dirname(os.path.abspath(__file__))))
-RECORDERS = [os.path.join(TOOLS, "openmp_recorder"), os.path.join(TOOLS, "..", "..", "lib", "spanprof")]
-MEDIAN = os.path.join(TOOLS, "median_recording.py")
+RECORDERS = builds_in("openmp_recorder")
 
 
 def check_spanprof():
-    """Ends before the run where there is nothing to read its recording with."""
-    try:
-        client.ask(["span"], "omptasks 1\n")
-    except SystemExit as missing:
-        raise Fault(str(missing)) from missing
+    """A fault before the run where there is nothing to read its recording with."""
+    client.ask(["span"], "omptasks 1\n")
 
 
 def notes_on(preload, called, is_asked=False):
@@ -77,7 +74,10 @@ class Session:
     def run(self, out, others=None):
         """One run, with other variables too: how the program ended, and what is told of its logs."""
         remove_old(out)
-        variables = environment(dict(os.environ, **others or {}), self.options, self.library, self.preload, out)
+        asked = dict(os.environ, **others or {})
+        if spanprof_account():
+            asked["SPANPROF_TIMES"] = "1"
+        variables = environment(asked, self.options, self.library, self.preload, out)
         status = run(self.path, self.options.command, variables)
         tell("converting " + os.path.basename(out) + ".log")
         return status, convert_all(self.converter, out, variables)
@@ -109,7 +109,7 @@ class Session:
                 return status, [], said
             parts = parts_of_the_next([one.text for one in recordings(name)]) if parts == FIRST_PARTS else parts
         tell("taking medians")
-        self.notes += combine_all(MEDIAN, self.out, names)
+        self.notes += combine_all(self.out, names)
         return 0, recordings(self.out), said.without([recording.text for recording in recordings(names[-1])])
 
     def record(self):

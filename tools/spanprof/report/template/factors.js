@@ -1,4 +1,4 @@
-// The lines to run for chosen factors; copying; light and dark.
+// The lines to run for chosen factors; copying; the button of light and dark.
 
 const quoted = (words) => "'" + words.replaceAll("'", "'\\''") + "'";
 
@@ -22,12 +22,16 @@ function changes(program, boxes) {
 
 function showLines() {
   const boxes = chosenFactors(), line = byId("factors-line"), exact = byId("changes-line");
+  if (!line) return;
   const words = boxes.map((box) => "--factor " + quoted(box.dataset.place + "=" + box.value));
   line.textContent = ["spanprof-report", quoted(line.dataset.file), ...words].join(" ");
   const changed = changes(programs[0], boxes);
   const command = changed.length ? ["spanprof whatif", ...changed] : ["spanprof span"];
   exact.textContent = [...command, "<", quoted(exact.dataset.file)].join(" ");
-  for (const one of [line, exact]) one.closest("pre").hidden = !boxes.length;
+  for (const one of [line, exact].map((code) => code.closest("pre"))) {
+    one.hidden = one.previousElementSibling.hidden = !boxes.length;
+  }
+  document.querySelector(".to-run .hint").hidden = boxes.length > 0;
 }
 document.querySelectorAll("input.factor").forEach((box) => box.addEventListener("input", showLines));
 showLines();
@@ -43,7 +47,6 @@ document.querySelectorAll("[data-copy]").forEach((button) => button.addEventList
 }));
 
 byId("theme").addEventListener("click", () => {
-  const root = document.documentElement, now = root.dataset.theme;
-  const dark = now ? now === "dark" : matchMedia("(prefers-color-scheme: dark)").matches;
-  root.dataset.theme = dark ? "light" : "dark";
+  theme.set(theme.now() === "dark" ? "light" : "dark");
+  theme.keep(theme.now());
 });

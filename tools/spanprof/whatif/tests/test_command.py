@@ -1,11 +1,9 @@
-import contextlib
-import io
 import json
 import os
-import tempfile
 import unittest
 from unittest import mock
 
+from spanprof.tests.in_folder import InFolder, answered
 from spanprof.whatif import command
 from spanprof.whatif.tests.made_up import SORT
 
@@ -28,44 +26,24 @@ else printf 'tasks 3\\nsegments 9\\nwork 76\\nspan 60\\n'; fi
 """
 
 
-class Commands(unittest.TestCase):
+class Commands(InFolder):
     """spanprof counts lines with the word task, and spanprof_large tells always the same."""
 
     def setUp(self):
-        kept = tempfile.TemporaryDirectory()
-        self.addCleanup(kept.cleanup)
-        self.folder = kept.name
+        super().setUp()
         self.text = self.write("mine.tasks", SORT)
         self.variables = {"SPANPROF": self.program("spanprof", SPANPROF),
                           "SPANPROF_LARGE": self.program("large", LARGE)}
 
-    def write(self, name, text):
-        path = os.path.join(self.folder, name)
-        with open(path, "w", encoding="utf-8") as file:
-            file.write(text)
-        return path
-
-    def program(self, name, script):
-        path = self.write(name, script)
-        os.chmod(path, 0o755)
-        return path
-
     def told(self, *words):
         """The exit status, and what stands on standard output and standard error."""
-        out, errors, ended = io.StringIO(), io.StringIO(), 0
-        with mock.patch.dict(os.environ, self.variables), contextlib.redirect_stdout(out), \
-                contextlib.redirect_stderr(errors):
-            try:
-                command.main([self.text, *words])
-            except SystemExit as end:
-                ended = end.code
-        return ended, out.getvalue(), errors.getvalue()
+        return answered(command.main, [self.text, *words], **self.variables)
 
     def test_a_change(self):
         self.assertEqual(self.told("--drop-wait", "taskwait"), (0, """\
 changed: 1 wait dropped: taskwait at sort.c:10
 whether the program stays right without it is yours to know: no text tells what its tasks read and write
-                                     text       changed text
+in us                                text       changed text
 segments                                8                  8    +0.0 %
 work                                    5                  4   -20.0 %
 span                                   60                 60    +0.0 %
@@ -87,8 +65,9 @@ proved of the text, and of the changed text: spanprof has read both
         self.assertEqual(self.told("--drop-wait", "taskgroup", "-o", kept)[0], 0)
         with open(kept, encoding="utf-8") as file:
             text = file.read()
-        self.assertTrue(text.startswith("# recorded: from sort, threads 2, clock cpu, unit us\n# remark: a changed "
-                                        "text, 1 wait dropped, taskgroup at sort.c:7: work and span too low or too high\n"
+        self.assertTrue(text.startswith("# recorded: from sort, threads 2, clock cpu, unit us\n"
+                                        "# remark: a changed text, 1 wait dropped, taskgroup at sort.c:7: "
+                                        "work and span too low or too high\n"
                                         "omptasks 1\nwork 4\ntask {  # sort.c:8\n"))
         self.assertEqual(sorted(os.listdir(self.folder)), ["kept.tasks", "large", "mine.tasks", "spanprof"])
 
@@ -133,7 +112,7 @@ proved of the text, and of the changed text: spanprof has read both
     def test_advice(self):
         status, out, errors = self.told("--advise", "--threads", "4")
         self.assertEqual((status, errors), (0, ""))
-        self.assertIn("the greedy run of the text ends at 65 on 4 threads, at 65 on 16; with one change:", out)
+        self.assertIn("the greedy run of the text ends at 65 on 4 threads, at 65 on 16, in us; with one change:", out)
         self.assertIn("as soon on 4 threads, to a thousandth:", out)
         self.assertIn("proved of the text, and of each changed text", out)
         told = json.loads(self.told("--advise", "--json")[1])
