@@ -35,7 +35,8 @@ class Expected:
                   "tasks": failure.case.variant, "program": failure.case.name, "setting": failure.conditions.setting,
                   "threads": str(failure.conditions.threads)}
         traits = {**{name: [trait] for name, trait in traits.items()}, "has": constructs(failure.case.body)}
-        return all(any(fnmatch.fnmatchcase(trait, pattern) for trait in traits[name]) for name, pattern in self.patterns)
+        return all(any(fnmatch.fnmatchcase(trait, pattern) for trait in traits[name])
+                   for name, pattern in self.patterns)
 
 
 def read_line(line):
