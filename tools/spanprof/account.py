@@ -154,5 +154,3 @@ def account_beside(answers):
         return account_of(answers, path), ""
     except NoAccount as fault:
         return None, str(fault)
-
-

@@ -91,7 +91,7 @@ class Runs(unittest.TestCase):
         self.assertEqual(told, "spanprof-record: nothing is recorded: no parallel region with tasks\n")
 
     def test_often(self):
-        def combine(tool, out, names):
+        def combine(out, names):
             self.assertEqual(len(names), 3)
             return ["the runs have no median"]
         with mock.patch("spanprof.record.session.combine_all", side_effect=combine):
@@ -132,7 +132,6 @@ class Summaries(unittest.TestCase):
             made = mock.Mock(notes=[], rank=None, out="/tmp/mine", options=argparse.Namespace(json=None))
             command.print_summary(made, [Recording("mine.tasks")], said)
         self.assertEqual(told.getvalue().count("folded task"), 1)
-
 
     def test_each_process_of_mpi_tells_a_line(self):
         by_path = {"a.tasks": Answers(name="a.tasks", work=10, span=5), "b.tasks": Answers(name="b.tasks")}
