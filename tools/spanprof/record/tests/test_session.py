@@ -191,6 +191,7 @@ work          100 us: code on 4 threads, added up (measured)
 span          30 us: it ends no sooner on any number of threads (proved of the recorded text)
 parallelism   3.34: work / span; it gains no more on any number of threads (proved of the recorded text)
 elapsed       40 us on 4 threads: 2.50 of them busy in this code on average (measured)
+account       not told: the text is beyond the limits of spanprof_account
 span by place 66.7 % of the span, 50.0 % of the work: task at mine.c:12 (measured)
               33.3 % of the span, 10.0 % of the work: the beginning (measured)
 remarks       a note
