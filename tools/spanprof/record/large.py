@@ -14,6 +14,7 @@ from spanprof.record.summary import MOST_PLACES, first_lines, grouped, lock_line
 
 TOO_LARGE = "the text is beyond the limits of spanprof_account"
 
+
 @dataclass
 class LargeAnswers:
     """The head of a text, and what spanprof_large tells of it; the heaviest places by spanprof_path."""
