@@ -1,18 +1,18 @@
 #include "events.hpp"
 
+#include <algorithm>
 #include <map>
 
 namespace {
-bool has_number(const Event &event) {
-  const std::vector<uint32_t> &numbers = event.task->numbers;
-  return !event.taken_back && event.segment < numbers.size() && numbers[event.segment] != none;
+// Of the segment in the text; none where it is not there by itself.
+uint32_t number_of(const Event &event, const Region &region) {
+  const Task &t = *event.task;
+  bool is_written = !event.taken_back && t.first_number != none && event.segment <= t.segment;
+  return is_written ? region.numbers[t.first_number + event.segment] : none;
 }
 
 size_t segments_of(const Region &region) {
-  size_t count = 0;
-  for (const Task &t : region.tasks)
-    for (uint32_t number : t.numbers) count += number != none;
-  return count;
+  return region.numbers.size() - static_cast<size_t>(std::count(region.numbers.begin(), region.numbers.end(), none));
 }
 }  // namespace
 
@@ -23,9 +23,9 @@ Events event_lines(const Region &region) {
   std::map<uint32_t, int64_t> started;
   size_t finished = 0;
   for (auto &event : region.events) {
-    if (!has_number(event)) continue;
+    uint32_t number = number_of(event, region);
+    if (number == none) continue;
     std::string worker = std::to_string(workers.emplace(event.worker, workers.size()).first->second);
-    uint32_t number = event.task->numbers[event.segment];
     int64_t at = event.at - region.time.begin;
     out.words += (event.start ? "start " : "finish ") + worker + " " + std::to_string(number) + "\n";
     if (event.start) started[number] = at;

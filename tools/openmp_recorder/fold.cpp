@@ -26,7 +26,7 @@ int64_t largest_piece(const Task &t, const Folds &folds) {
 }
 
 bool can_be_joined(const Task &t) {
-  return !t.part && !t.undeferred && t.items.empty() && !t.children && !t.segment;
+  return !t.part && !t.undeferred && t.items.empty() && !t.children && !t.segment && t.pieces < 2;
 }
 
 void join(Task &earlier, Task &later) {
@@ -59,8 +59,8 @@ void separate(Region &region) {
 // All but the largest piece.
 void count(const Task &t, Size &size) {
   if (t.parent) {
-    size.tasks++;
-    size.segments += 2;
+    size.tasks += tasks_for(t);
+    size.segments += 2 * tasks_for(t);
     size.items = std::max<uint64_t>(size.items, t.items.size());
   }
   bool steps = t.fold == Fold::No;
@@ -69,7 +69,8 @@ void count(const Task &t, Size &size) {
 }
 
 void count_piece(const Task &t, const Folds &folds, Size &size) {
-  size.largest = std::max(size.largest, t.fold == Fold::No ? largest_piece(t, folds) : t.total);
+  int64_t largest = t.fold == Fold::No ? largest_piece(t, folds) : t.total;
+  size.largest = std::max(size.largest, in_pieces(largest, t));
 }
 
 void separate_children(const Task &maker) {
@@ -107,7 +108,7 @@ void add_up_steps(Task &t) {
   unsigned groups = 0;
   t.depth = t.part || !t.parent ? 0 : t.parent->depth + 1;
   t.total = t.largest = 0;
-  t.size = 1;
+  t.size = tasks_for(t);
   t.waits = t.inner_groups = 0;
   for (const Step &step : t.steps) {
     if (step.kind == Kind::Work) t.total += step.cost(), t.largest = std::max(t.largest, step.cost());

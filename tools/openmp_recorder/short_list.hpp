@@ -29,6 +29,7 @@ class ShortList {
   const T &operator[](std::size_t at) const { return begin()[at]; }
   T &back() { return end()[-1]; }
   void clear() { count = 0; }
+  void pop_back() { count--; }
   void reserve(uint32_t entries) {
     if (entries > room) grow(entries);
   }

@@ -1,0 +1,76 @@
+#!/usr/bin/env python3
+"""Records each shape on 1 to 8 threads as one text, and judges its work, its span, and what the summary says.
+
+    judge.py PROGRAM [SHAPE ..]    the program of shapes.c
+The status is 0 where nothing is wrong.
+"""
+import os
+import re
+import subprocess
+import sys
+import tempfile
+
+from built import SHAPES, faults_of_numbers
+from judging import faults, refuted
+from sentences import read
+
+TOP = os.path.dirname(os.path.dirname(os.path.dirname(os.path.abspath(__file__))))
+RECORD = os.path.join(TOP, "tools", "spanprof-record")
+SPANPROF = os.environ.get("SPANPROF", os.path.join(TOP, "crates/spanprof/out/spanprof"))
+THREADS = (1, 2, 4, 8)
+COVERED = 95.0
+
+
+def ended(words, variables=None):
+    done = subprocess.run(words, capture_output=True, text=True, errors="replace", check=False,
+                          env=dict(os.environ, **variables or {}))
+    if done.returncode:
+        sys.exit("%s: status %d\n%s" % (" ".join(words), done.returncode, done.stderr))
+    return done
+
+
+def numbers(text):
+    """Work and span in milliseconds, by spanprof, of a text in microseconds."""
+    with open(text, encoding="utf-8") as file:
+        words = subprocess.run([SPANPROF, "span"], stdin=file, capture_output=True, text=True, check=True).stdout
+    found = dict(re.findall(r"(\w+) (\d+)", words))
+    return int(found["work"]) / 1000, int(found["span"]) / 1000
+
+
+def covered(text):
+    with open(text, encoding="utf-8") as file:
+        found = re.search(r"# covers: ([\d.]+) %", file.read())
+    return float(found[1]) if found else 0.0
+
+
+def judge(program, shape, threads, folder, runs):
+    out = os.path.join(folder, "%s_%d" % (shape.name, threads))
+    options = ["--whole", "--out", out, "--unit", "us", "--clock", "cpu", "--threads", str(threads)]
+    lines = ended([RECORD, *options, "--", program, shape.name]).stderr.splitlines()
+    summary = read(lines)
+    found = list(faults_of_numbers(shape, *numbers(out + ".tasks"))) + faults(summary, shape, threads)
+    for others, took in runs.items():
+        found += refuted(summary, shape, others, took)
+    if covered(out + ".tasks") < COVERED:
+        found.append("covers %.1f %% of the program" % covered(out + ".tasks"))
+    print("%-6s %s on %d threads" % ("WRONG" if found else "ok", shape.name, threads), flush=True)
+    if found:
+        print("\n".join(["  " + fault for fault in found] + ["  | " + line for line in lines]), flush=True)
+    return bool(found)
+
+
+def main(words):
+    program, wrong = os.path.abspath(words[0]), 0
+    with tempfile.TemporaryDirectory() as folder:
+        for shape in SHAPES:
+            if words[1:] and shape.name not in words[1:]:
+                continue
+            runs = {threads: float(ended([program, shape.name], {"OMP_NUM_THREADS": str(threads)}).stdout)
+                    for threads in THREADS}
+            wrong += sum(judge(program, shape, threads, folder, runs) for threads in THREADS)
+    print("%d wrong" % wrong)
+    sys.exit(bool(wrong))
+
+
+if __name__ == "__main__":
+    main(sys.argv[1:])
