@@ -208,9 +208,12 @@ void remark_locks(Region &region) {
   if (seen.times && inside * 100 >= region.in_parts + region.in_tasks) region.remarks[Remark::HeldLock] = seen;
 }
 
+// All that was off the processor may lie on one chain.
 void remark_clocks(Region &region) {
   const Differing &differing = region.differing;
-  bool moves_span = differing.longest >= least_difference && differing.longest * 20 > region.span;
-  if (differing.off * 20 <= region.work && !moves_span) return;
-  region.remarks[record_clock().of_processor ? Remark::Slept : Remark::Preempted] = differing.at;
+  int64_t off = differing.off + differing.slightly;
+  bool moves_span = off >= least_difference && off * 20 > region.span;
+  if (off * 20 <= region.work && !moves_span) return;
+  region.remarks[record_clock().of_processor ? Remark::Slept : Remark::Preempted] =
+      differing.at.times ? differing.at : differing.slightly_at;
 }

@@ -135,15 +135,20 @@ inline void Task::begin_writing() {
   shown = true;
 }
 
-// Code of a region in which the wall clock and the processor's differ by more than a twentieth, as the clock that
-// costs are read on must not.
+// Code of a region in which the wall clock and the processor's differ, as the clock that costs are read on must not.
 struct Differing {
-  int64_t cost = 0, off = 0, longest = 0;  // of the code; off the processor there, all and at once
+  int64_t cost = 0, off = 0;  // of the code where they do by more than a twentieth; off the processor there
   Seen at;
-  void add(int64_t code_cost, int64_t off_there, const void *code) {
+  int64_t slightly = 0;       // off the processor in other code
+  Seen slightly_at;
+  void add(const Passed &passed, int64_t code_cost, int64_t off_there, const void *code) {
+    if (!passed.differ()) {
+      slightly += off_there;
+      if (off_there) slightly_at.add(code);
+      return;
+    }
     cost += code_cost;
     off += off_there;
-    longest = std::max(longest, off_there);
     at.add(code);
   }
 };

@@ -122,7 +122,8 @@ const Record &ThreadReader::tell() {
   record.kind = static_cast<uint8_t>(raw.told());
   record.detail = raw.detail();
   if (raw.told() == Told::Passed) {
-    record.passed = {raw.detail() != 0, static_cast<int64_t>(raw.code()), static_cast<int64_t>(raw.wide())};
+    record.passed = {(raw.detail() & log_form::slept) != 0, static_cast<int64_t>(raw.code()),
+                     static_cast<int64_t>(raw.wide()), (raw.detail() & log_form::taken) != 0};
     return record;
   }
   if (is_of_a_lock(raw.told())) return record;

@@ -15,8 +15,9 @@ int64_t own_cost(const Task &t) {
 void add_differing(Differing &all, const Differing &more) {
   all.cost += more.cost;
   all.off += more.off;
-  all.longest = std::max(all.longest, more.longest);
+  all.slightly += more.slightly;
   all.at.add(more.at);
+  all.slightly_at.add(more.slightly_at);
 }
 
 // Phases of different regions have different numbers.

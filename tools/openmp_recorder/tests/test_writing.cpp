@@ -122,8 +122,8 @@ TEST(the_head_tells_the_recording) {
   region.place = 2;
   region.locks[7] = {ompt_mutex_critical, nullptr, 3, 400, 90, 300};
   region.divided[Divided::Loops].times = 4;
-  region.differing.add(2000, 49000, nullptr);
-  region.differing.add(1000, 1000, nullptr);
+  region.differing.add({false, 2, 1}, 2000, 49000, nullptr);
+  region.differing.add({false, 2, 1}, 1000, 1000, nullptr);
   region.remarks[Remark::Detach].add(nullptr);
   Options options;
   options.unit_name = "ns";
@@ -206,20 +206,21 @@ TEST(a_module_calls_what_its_relocations_name) {
   EXPECT(unseen_of_gcc(), 0u);
 }
 
-// Of the work by all together, of the span by one.
-TEST(clocks_are_remarked_where_they_move_a_number_by_a_twentieth) {
-  auto remarked = [](int64_t work, int64_t span, int64_t off) {
+TEST(clocks_are_remarked_where_they_may_move_a_number_by_a_twentieth) {
+  auto remarked = [](int64_t work, int64_t span, int64_t off, int64_t slightly) {
     Region region;
     region.work = work, region.span = span;
-    region.differing.add(off, off, nullptr);
-    region.differing.add(off, off, nullptr);
+    if (off) region.differing.add({false, 2, 1}, off, off, nullptr);
+    region.differing.add({false, 100, 99}, slightly, slightly, nullptr);
     remark_clocks(region);
-    return region.remarks.count(Remark::Preempted) == 1;
+    auto remark = region.remarks.find(Remark::Preempted);
+    return remark == region.remarks.end() ? 0 : remark->second.times;
   };
-  EXPECT(remarked(2000000, 1000000, 50000), false);
-  EXPECT(remarked(1999999, 1000000, 50000), true);
-  EXPECT(remarked(2000000, 999999, 50000), true);
-  EXPECT(remarked(2000000, 900000, 49999), false);  // a few microseconds of a short region are not worth a word
+  EXPECT(remarked(2000000, 2000000, 50000, 50000), 0u);
+  EXPECT(remarked(1999999, 1999999, 50000, 50000), 1u);
+  EXPECT(remarked(2000000, 1999999, 50000, 50000), 1u);
+  EXPECT(remarked(2000000, 1999999, 0, 100000), 1u);
+  EXPECT(remarked(2000000, 900000, 25000, 24999), 0u);  // a few microseconds of a short region are not worth a word
 }
 
 TEST(a_remark_on_what_is_not_seen_has_no_number) {
