@@ -13,6 +13,7 @@ DIVISION = ("outside regions", "in other regions", "in parts without tasks", "in
 class Head:
     program: str = ""
     region: str = ""        # the place of the parallel region
+    whole: str = ""         # where the text is of the whole program: how many regions and loops
     number: str = ""        # its place in time among the regions with tasks: `2 of 5`
     date: str = ""
     threads: Optional[int] = None
@@ -152,6 +153,8 @@ def read_line(head, words):
     elif name == "region":
         place, _, head.number = value.rpartition(", ")
         head.region = place.removeprefix("at ")
+    elif name == "whole program":
+        head.whole = value
     elif name == "remark":
         head.remarks.append(value)
     elif name.startswith("lock "):

@@ -31,7 +31,7 @@ def costs(number, unit):
 def title(answers):
     head = answers.head
     only = "" if head.covers_at_most else "only "
-    parts = [answers.name, "region at %s" % head.region if head.region else "",
+    parts = [answers.name, "the whole program" if head.whole else "region at %s" % head.region if head.region else "",
              only + share_covered(head) if is_partial(head) else "", threads_of(head),
              "costs in %s%s" % (head.unit, CLOCKS.get(head.clock, ""))]
     return ", ".join(filter(None, parts))

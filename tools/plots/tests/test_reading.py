@@ -87,6 +87,12 @@ class Heads(unittest.TestCase):
         self.assertEqual((head.covered, head.thread_time, head.beside, head.most_held, head.runs), (None,) * 5)
         self.assertEqual((head.not_covered, head.divided, head.clocks_differ, head.spread), ({}, [], {}, {}))
 
+    def test_the_whole_program(self):
+        head = read_head("# whole program: 2 regions, 1 loop in 64 pieces; a chunk of k turns is k equal pieces\n"
+                         "# not covered: 19 of the program\nomptasks 1\n")
+        self.assertEqual((head.whole[:9], head.region), ("2 regions", ""))
+        self.assertEqual(head.not_covered, {"of the program": 19})
+
     def test_a_region_without_place(self):
         head = read_head("# region: 1 of 1\nomptasks 1\n")
         self.assertEqual((head.region, head.number), ("", "1 of 1"))

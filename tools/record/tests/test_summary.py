@@ -43,6 +43,10 @@ class Lines(unittest.TestCase):
     def test_a_recording(self):
         self.assertEqual("\n".join(summary(Answers(), LEGAL)), EXPECTED)
 
+    def test_the_whole_program(self):
+        heading, *_ = summary(Answers(head=Head(region="", whole="2 regions")))
+        self.assertEqual(heading, "sort.tasks, the whole program, 4 threads, costs in us of wall time")
+
     def test_remarks_locks_and_news(self):
         head = Head(remarks=["folded task: span too high"], locks=["critical at a.c:3: 2 times"], elapsed=None)
         lines = summary(Answers(head=head), news=["mine.2 is not written"])
