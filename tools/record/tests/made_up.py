@@ -63,6 +63,7 @@ class Head:
     spread: dict = field(default_factory=dict)
     remarks: list = field(default_factory=list)
     locks: list = field(default_factory=list)
+    whole: str = ""
 
     @property
     def nanoseconds(self):
