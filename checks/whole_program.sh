@@ -22,4 +22,6 @@ folder=$(mktemp -d)
 trap 'rm -rf "$folder"' EXIT
 "clang-$llvm" -O1 -g -fopenmp checks/whole_program/shapes.c -o "$folder/shapes" "${llvm_flags[@]}"
 echo "LLVM $llvm"
+make -s -C tools/openmp_recorder LLVM="$llvm"
 python3 -B checks/whole_program/judge.py "$folder/shapes" "$@"
+[ $# -gt 0 ] || python3 -B checks/whole_program/covering.py

@@ -65,6 +65,8 @@ struct Task {
   bool undeferred = false, untied = false;
   bool auxiliary = false;  // of a taskloop's, made by the runtime to make others
   bool of_loop = false;    // a taskloop's, or a chunk of a loop
+  bool shown = true;       // while it is written
+  Fold fold = Fold::No;
   uint32_t pieces = 0;     // of a loop's chunk: so many tasks that share its cost stand for it; 0 for what is none
   unsigned segment = 0;    // the one that is open, counted within the task
   unsigned children = 0;
@@ -87,19 +89,15 @@ struct Task {
     struct {  // while it is written
       int64_t total;           // `work` with everything below it
       int64_t end, end_below;  // of its code and of all below it, from its start on as many threads as can be used
-      int64_t largest;         // `work` of its own code
       int64_t joined;          // the cost of siblings that are `work` of it
       unsigned joined_tasks;
       unsigned depth;          // of tasks within each other; 0 for a part
       unsigned outer_groups;   // of the parent, open where the task is created
       unsigned inner_groups;   // the most that are open at once in its own code
       unsigned blocks;         // open in its own code outside its own groups
-      unsigned waits;          // and ends of groups in its own code
       unsigned size;           // tasks, with all below it
       unsigned stands_for;     // tasks, where it or the row that it begins is an exact fold
       uint32_t first_number;   // the place of its segments among the region's numbers; none where it is not written
-      Fold fold;
-      bool shown;
     };
   };
   Task() { begin_writing(); }
@@ -127,12 +125,10 @@ inline void Task::end_reading() {
 }
 
 inline void Task::begin_writing() {
-  total = end = end_below = largest = joined = 0;
-  joined_tasks = depth = outer_groups = inner_groups = blocks = waits = stands_for = 0;
+  total = end = end_below = joined = 0;
+  joined_tasks = depth = outer_groups = inner_groups = blocks = stands_for = 0;
   size = 1;
   first_number = none;
-  fold = Fold::No;
-  shown = true;
 }
 
 // Code of a region in which the wall clock and the processor's differ, as the clock that costs are read on must not.
@@ -159,6 +155,8 @@ struct Met {
   const Log *by = nullptr;
   int64_t since = 0, passed = 0;  // on that thread's clock; until the end of its code in the region
 };
+
+static_assert(sizeof(Task) == 136, "a million of them are to take 200 MB with their steps");
 
 // How many tasks of the text it is, without those below it, and what of its cost the longest of them has.
 inline uint32_t tasks_for(const Task &t) { return std::max<uint32_t>(t.pieces, 1); }

@@ -34,7 +34,7 @@ class ShortList {
     if (entries > room) grow(entries);
   }
   void push_back(T value) {
-    if (count == room) grow(room < 4 ? 4 : 2 * room);
+    if (count == room) grow(2 * room + 1);  // with the eight bytes of the heap these are powers of two
     begin()[count++] = value;
   }
 

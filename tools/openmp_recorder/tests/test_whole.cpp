@@ -1,6 +1,7 @@
 // The whole program as one text.
 #include "../exact.hpp"
 #include "../fold.hpp"
+#include "../head.hpp"
 #include "../span.hpp"
 #include "../whole_program.hpp"
 #include "check.hpp"
@@ -98,6 +99,20 @@ TEST(a_chunk_of_k_turns_is_k_pieces_of_its_cost) {
   EXPECT(made.run.whole->pieces, 4u);
   EXPECT(made.run.whole->remarks[Remark::EqualTurns].times, 1u);
   EXPECT(made.run.whole->remarks.count(Remark::TurnsTogether), 0u);
+}
+
+TEST(the_head_tells_what_a_whole_programs_text_has) {
+  Program made(2);
+  loop(made.after(4 * us), 0, 4, {{4, 8 * us}});
+  end_region(made, 2);
+  WholeProgram &whole = *made.whole().whole;
+  Recording recording{"sort", "2026-11-24T00:10:02Z", 0, {100, 12 * us}, {100, 24 * us + 100, true}, &whole};
+  std::string head = head_of(whole, recording, Options(), Places());
+  EXPECT_PART(head, "# whole program: 1 region, 1 loop in 4 pieces; a chunk of k turns is k equal pieces, none shorter "
+                    "than 1000 ns\n# covers: 99.5 % of the program's thread-time (24100 of 24200 ns)\n"
+                    "# not covered: 100 of the program\n");
+  EXPECT_PART(head, "# divided among 2 threads: code of the region, 2 parts, 4000 ns beside the longest\n");
+  EXPECT_PART(head, "# remark: chunk of several turns of a loop, written as equal pieces, 1 time: span too low\n");
 }
 
 TEST(what_is_left_over_of_a_chunk_goes_to_its_first_pieces) {
