@@ -1,8 +1,12 @@
 #include "head.hpp"
 
-#include <algorithm>
 #include <omp-tools.h>
+
+#include <algorithm>
+#include <set>
 #include <vector>
+
+#include "text.hpp"
 
 namespace {
 constexpr size_t most_locks = 10;
@@ -32,6 +36,7 @@ class Head {
   void times(const Region &region, const Recording &recording);
   void locks(const Region &region);
   void remarks(const Region &region);
+  void functions(const Region &region);
 
  private:
   const Options &options;
@@ -178,6 +183,20 @@ void Head::locks(const Region &region) {
   if (others.times) lock(std::to_string(uses.size() - most_locks) + " others together", others);
 }
 
+std::string words_of(const std::vector<Frame> &frames) {
+  std::string words = "in " + frames[0].function;
+  for (size_t i = 1; i < frames.size(); i++) words += ", inlined into " + frames[i].function + " at " + frames[i].at;
+  return words;
+}
+
+// Of each place; a place that stands in several functions has a line for each.
+void Head::functions(const Region &region) {
+  std::set<std::string> lines;
+  for (const void *code : codes_of(region))
+    if (!places.frames(code).empty()) lines.insert("place " + places.at(code) + ": " + words_of(places.frames(code)));
+  for (const std::string &one : lines) line(one);
+}
+
 void Head::remarks(const Region &region) {
   for (auto &[what, seen] : region.remarks) line("remark: " + remark_line(what, seen, places));
 }
@@ -193,6 +212,7 @@ std::string head_of(const Region &region, const Recording &recording, const Opti
   head.times(region, recording);
   head.locks(region);
   head.remarks(region);
+  head.functions(region);
   return head.words;
 }
 

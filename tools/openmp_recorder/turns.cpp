@@ -12,7 +12,7 @@ constexpr unsigned most_waited_for = 28;                  // turns by one piece:
 constexpr int64_t at_once = 1000;                         // nanoseconds between waits that are one
 constexpr int64_t woken = 20000;                          // that it takes to see that a wait is over
 
-int64_t own_cost(const Task &t) { return t.steps.empty() ? 0 : t.steps.back().cost(); }
+int64_t own_cost(const Task &t) { return t.steps.empty() ? 0 : t.steps[t.steps.size() - 1].cost(); }
 
 Item item_of(uint32_t location, ompt_dependence_type_t type) { return {location, static_cast<uint64_t>(type)}; }
 

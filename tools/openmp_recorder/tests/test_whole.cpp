@@ -16,16 +16,16 @@ class Program : public Made {
  public:
   using Made::Made;
   Run &whole(Ending ending = {}) {
-    run = read(ending, {UINT64_MAX, true, began, ending.wall ? 0 : now()});
-    finish_whole(run, {0, true, began, now()}, 1);
-    fold(*run.whole, {});
-    return run;
+    found = read(ending, {UINT64_MAX, true, began, ending.wall ? 0 : now()});
+    finish_whole(found, {0, true, began, now()}, 1);
+    fold(*found.whole, {});
+    return found;
   }
   std::string text() {
     whole();
-    return text_of(*run.whole);
+    return text_of(*found.whole);
   }
-  Run run;
+  Run found;
 
  private:
   static constexpr int64_t began = 900;
@@ -64,8 +64,8 @@ TEST(serial_code_is_work_of_the_root_and_a_region_a_group) {
   end_region(made.after(4), 2);
   made.after(7);
   EXPECT(made.text(), "work 100\n" + group(parts(4, 2)) + "work 7\n");
-  EXPECT(made.run.whole->root->total, 115);
-  EXPECT(made.run.whole->cost, 115);
+  EXPECT(made.found.whole->root->total, 115);
+  EXPECT(made.found.whole->cost, 115);
 }
 
 TEST(a_region_that_is_met_again_stands_apart) {
@@ -74,7 +74,7 @@ TEST(a_region_that_is_met_again_stands_apart) {
   made.after(7).add(0, Told::ParallelBegin, 0, 2).add(0, Told::ImplicitBegin, 9, 2, 0, 1).after(3);
   made.add(0, Told::ImplicitEnd, 9).add(0, Told::ParallelEnd, 0, 2);
   EXPECT(made.text(), "work 100\n" + group(parts(4)) + "work 7\n" + group(parts(3)));
-  EXPECT(made.run.whole->regions, 2u);
+  EXPECT(made.found.whole->regions, 2u);
 }
 
 TEST(a_barrier_is_the_end_of_a_group_and_what_costs_nothing_leaves_no_trace) {
@@ -94,11 +94,11 @@ TEST(a_chunk_of_k_turns_is_k_pieces_of_its_cost) {
   std::string words = made.text();
   EXPECT_PART(words, "  " + part + "    work 4\n    taskgroup {\n" + pieces(3, 2 * us) + pieces(1, 5 * us) +
                          "    }\n  }\n");
-  EXPECT(made.run.whole->root->total, 104 + 11 * us);
-  EXPECT(span_of(*made.run.whole), 104 + 5 * us);
-  EXPECT(made.run.whole->pieces, 4u);
-  EXPECT(made.run.whole->remarks[Remark::EqualTurns].times, 1u);
-  EXPECT(made.run.whole->remarks.count(Remark::TurnsTogether), 0u);
+  EXPECT(made.found.whole->root->total, 104 + 11 * us);
+  EXPECT(span_of(*made.found.whole), 104 + 5 * us);
+  EXPECT(made.found.whole->pieces, 4u);
+  EXPECT(made.found.whole->remarks[Remark::EqualTurns].times, 1u);
+  EXPECT(made.found.whole->remarks.count(Remark::TurnsTogether), 0u);
 }
 
 TEST(the_head_tells_what_a_whole_programs_text_has) {
@@ -127,7 +127,7 @@ TEST(turns_of_less_than_a_microsecond_are_written_together) {
   loop(made, 0, 1000, {{1000, 20 * us}});
   end_region(made);
   EXPECT_PART(made.text(), "taskgroup {\n" + pieces(20, us) + "    }\n");
-  EXPECT(made.run.whole->remarks[Remark::TurnsTogether].times, 1u);  // of a span of 120 ns
+  EXPECT(made.found.whole->remarks[Remark::TurnsTogether].times, 1u);  // of a span of 120 ns
 }
 
 // Of such a loop the compiler asks for the thread's first chunk alone.
@@ -137,7 +137,7 @@ TEST(turns_that_are_not_told_are_counted_by_the_loop) {
   end_region(made, 2);
   std::string words = made.text();
   EXPECT_PART(words, "taskgroup {\n" + pieces(4, 2 * us) + "    }\n");
-  EXPECT(made.run.whole->pieces, 8u);
+  EXPECT(made.found.whole->pieces, 8u);
 }
 
 TEST(a_chunk_that_makes_tasks_is_code_of_its_part) {
@@ -147,8 +147,8 @@ TEST(a_chunk_that_makes_tasks_is_code_of_its_part) {
   end_region(made.run(0, 1, 3, 5 * us));
   EXPECT_PART(made.text(), "    taskgroup {\n" + pieces(1, 2 * us) + "    }\n    work 3000\n" +
                                "    task {\n      work 5000\n    }\n    work 4000\n");
-  EXPECT(made.run.whole->divided[Divided::Loops].times, 1u);
-  EXPECT(made.run.whole->loops, 0u);
+  EXPECT(made.found.whole->divided[Divided::Loops].times, 1u);
+  EXPECT(made.found.whole->loops, 0u);
 }
 
 TEST(a_loop_whose_chunks_are_not_told_stays_as_it_was_divided) {
@@ -156,7 +156,7 @@ TEST(a_loop_whose_chunks_are_not_told_stays_as_it_was_divided) {
   loop(made.after(1), 0, 8, {});
   end_region(made.after(2));
   EXPECT_PART(made.text(), "  " + part + "    work 3\n  }\n");
-  EXPECT(made.run.whole->divided[Divided::Loops].times, 1u);
+  EXPECT(made.found.whole->divided[Divided::Loops].times, 1u);
 }
 
 TEST(a_region_in_a_task_stands_where_the_task_met_it) {
@@ -166,8 +166,8 @@ TEST(a_region_in_a_task_stands_where_the_task_met_it) {
   made.after(3).go(0, 3, 1, ompt_task_complete).add(0, Told::ParallelEnd, 0, 1);
   EXPECT_PART(made.text(), "    task {\n      work 2\n      taskgroup {\n        " + part +
                                "          work 5\n        }\n      }\n      work 3\n    }\n");
-  EXPECT(made.run.whole->root->total, 110);
-  EXPECT(made.run.whole->remarks.count(Remark::NestedRegion), 0u);
+  EXPECT(made.found.whole->root->total, 110);
+  EXPECT(made.found.whole->remarks.count(Remark::NestedRegion), 0u);
 }
 
 TEST(tasks_and_loops_outside_of_regions_are_code_of_the_root) {
@@ -176,14 +176,14 @@ TEST(tasks_and_loops_outside_of_regions_are_code_of_the_root) {
   made.add(0, Told::ImplicitBegin, 9, 0, is_initial).after(1).create(0, 9, 3, is_undeferred).run(0, 9, 3, 5).after(2);
   loop(made, 0, 2, {{2, 4 * us}}, 0);
   EXPECT_PART(made.text(), "work 1\ntask if(0) {\n  work 5\n}\nwork 4002\n");
-  EXPECT(made.run.outside.times, 0u);
+  EXPECT(made.found.outside.times, 0u);
 }
 
 TEST(a_program_that_was_killed_in_a_region_has_what_ran_until_then) {
   Program made(2);
   made.after(4).barrier(1, 2).after(3).add(0, Told::Cancel, 1);
   made.whole({0, 1, false, true});
-  EXPECT(text_of(*made.run.whole), "work 100\n" + group(parts(7) + parts(4)));
+  EXPECT(text_of(*made.found.whole), "work 100\n" + group(parts(7) + parts(4)));
 }
 
 TEST(a_thread_that_the_program_made_is_beside_the_first) {
@@ -194,7 +194,7 @@ TEST(a_thread_that_the_program_made_is_beside_the_first) {
   std::string words = made.text();
   EXPECT(words.substr(0, 5), "task ");
   EXPECT_PART(words, "  taskgroup {\n    " + part + "      work 6\n    }\n  }\n");
-  EXPECT(made.run.whole->remarks[Remark::OtherThread].times, 1u);
+  EXPECT(made.found.whole->remarks[Remark::OtherThread].times, 1u);
 }
 
 TEST(exact_folds_keep_work_and_span_of_pieces) {
@@ -235,10 +235,10 @@ TEST(turns_that_wait_for_each_other_are_tasks_with_depend) {
   for (unsigned thread : {0, 1}) made.add(thread, Told::DividedEnd, 0, 1);
   end_region(made, 2);
   std::string words = made.text();
-  EXPECT(span_of(*made.run.whole), 100 + 9 * us);
+  EXPECT(span_of(*made.found.whole), 100 + 9 * us);
   EXPECT_PART(words, "  task depend(in: a0) depend(inout: a2) depend(out: a3) {\n    work 5000\n");
-  EXPECT(made.run.whole->root->total, 100 + 9 * us + 1 * us + 4 * us);  // the last: what the first thread does then
-  EXPECT(made.run.whole->remarks[Remark::WaitsForTurns].times, 1u);
+  EXPECT(made.found.whole->root->total, 100 + 9 * us + 1 * us + 4 * us);  // the last: what the first thread does then
+  EXPECT(made.found.whole->remarks[Remark::WaitsForTurns].times, 1u);
 }
 
 TEST(turns_that_take_a_lock_in_order_are_a_chain_there) {
@@ -252,5 +252,5 @@ TEST(turns_that_take_a_lock_in_order_are_a_chain_there) {
   }
   made.add(0, Told::ParallelEnd, 0, 1);
   made.whole();
-  EXPECT(span_of(*made.run.whole), 100 + 5 * us + 2 * us);  // the second thread is told to come there after 5
+  EXPECT(span_of(*made.found.whole), 100 + 5 * us + 2 * us);  // the second thread is told to come there after 5
 }

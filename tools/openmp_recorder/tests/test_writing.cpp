@@ -38,7 +38,7 @@ TEST(a_large_text_is_told_piece_by_piece_and_not_indented) {
   std::string words;
   tell_program(region, {1, false, true}, Places(), [&](std::string_view piece) { words += piece; });
   EXPECT(words, "omptasks 1\ntask {\nwork 3\ntask {\nwork 4\n}\n}\n");
-  EXPECT(region.tasks.back().numbers.empty(), true);
+  EXPECT(region.numbers.empty(), true);
 }
 
 TEST(the_work_is_that_of_the_lines) {
