@@ -247,6 +247,7 @@ HowToRead how_to_read(const Job &job) {
 void report_whole(const Job &job, Run &run, Recording recording, int64_t end) {
   finish_whole(run, {0, true, job.start, end}, job.options.unit);
   recording.whole = run.whole.get();
+  recording.threads.outside -= std::min(run.whole->recorder, recording.threads.outside);
   for (Remark remark : job.unseen) run.whole->remarks[remark];
   Reporter(job.options, std::move(recording), job.modules).write(*run.whole, job.out);
 }

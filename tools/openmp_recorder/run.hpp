@@ -243,6 +243,7 @@ inline Region &home(Region &region) { return region.whole ? *region.whole : regi
 struct WholeProgram : Region {
   uint64_t regions = 0, loops = 0, pieces = 0;
   int64_t least_piece = 0;  // of loops, in nanoseconds
+  int64_t recorder = 0;     // its own time outside of regions, on the first thread
 };
 
 struct Run {

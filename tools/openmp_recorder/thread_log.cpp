@@ -136,11 +136,18 @@ void ThreadLog::wait_ends(const Moment &now) {
   both.wait_ends(times(now));
 }
 
+uint64_t time_since(const Moment &began) {
+  Moment now = moment_now();
+  return costs_by_processor ? static_cast<uint64_t>(now.processor - began.processor) : now.at - began.at;
+}
+
 void ThreadLog::tell_slow(const Moment &began) {
   is_slow = false;
-  Moment now = moment_now();
-  uint64_t took = costs_by_processor ? static_cast<uint64_t>(now.processor - began.processor) : now.at - began.at;
-  put(now, Told::StoodStill, static_cast<uint32_t>(took), static_cast<uint32_t>(took >> 32), 0, 0);
+  tell_stood_still(time_since(began));
+}
+
+void ThreadLog::tell_stood_still(uint64_t took) {
+  put(moment_now(), Told::StoodStill, static_cast<uint32_t>(took), static_cast<uint32_t>(took >> 32), 0, 0);
 }
 
 // The median of many, so that what else the machine does is in none of it.

@@ -50,6 +50,7 @@ class ThreadLog {
   void wait_begins(const Moment &now);
   void wait_ends(const Moment &now);
   void tell_slow(const Moment &began);  // how long until now
+  void tell_stood_still(uint64_t took);
 
  protected:
   char *next = nullptr, *end = nullptr;
@@ -66,6 +67,8 @@ class ThreadLog {
   bool write_block();
   Times times(const Moment &now) const;
 };
+
+uint64_t time_since(const Moment &began);  // on the clock of costs: in ticks, or nanoseconds of the processor
 
 // How long a call of the recorder takes that only makes a record, in nanoseconds of the clock of costs.
 int64_t time_of_record(void (*call)());
