@@ -23,9 +23,10 @@ wrong=0
 fail() { echo "  $1"; wrong=$((wrong + 1)); }
 
 unit_tests() {
-    python3 -m unittest discover -s tools/report/tests -t tools || fail "unit tests of the page"
+    python3 -m unittest discover -s tools/spanprof/report/tests -t tools || fail "unit tests of the page"
     python3 -m unittest discover -s checks/page/tests -t checks/page || fail "unit tests of the client"
-    (cd tools && python3 -m report.tests.worked check) || fail "spanprof answers otherwise than the unit tests have it"
+    (cd tools && python3 -m spanprof.report.tests.worked check) ||
+        fail "spanprof answers otherwise than the unit tests have it"
 }
 
 record() { # NAME CLOCK WORD ..: a program of examples/openmp, which `compile` has made
@@ -60,7 +61,7 @@ make_page() { # NAME OPTION ..: the page of a text of the folder, and its number
     [ "${1:-}" = --with ] && other=("$2")
     tools/spanprof-report "$folder/$name.tasks" -o "$folder/$name.html" --source examples/openmp "$@" ||
         { fail "$name has no page"; return; }
-    (cd tools && python3 -m report.tests.compare "$folder/$name.html" "$folder/$name.tasks" "${other[@]}") \
+    (cd tools && python3 -m spanprof.report.tests.compare "$folder/$name.html" "$folder/$name.tasks" "${other[@]}") \
         > "$folder/compared" || { fail "$name:"; head -20 "$folder/compared"; }
     echo "$name: $(tail -1 "$folder/compared"), $(wc -c < "$folder/$name.html") bytes"
 }

@@ -16,7 +16,7 @@ import sys
 TOP = pathlib.Path(__file__).resolve().parent.parent
 PLAIN_ENGLISH = {"check", "run", "show", "span", "task", "work"}
 NO_PLACES = re.compile(r"(^|/)(must-fail|edits|out)/")
-NO_CODE = re.compile(r"\.(md|tasks|csv|log)$|(^|/)tests?/|_tests/|(^|/)test_|_test\.py$|^examples/|^checks/openmp")
+NO_CODE = re.compile(r"\.(md|tasks|csv|log)$|(^|/)tests?/|_tests/|(^|/)test_|^examples/|^checks/openmp")
 
 
 def commands(source):

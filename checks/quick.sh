@@ -27,7 +27,7 @@ done
 for script in crate_picture version signatures places clauses believed_lines left_edits sentences speed_numbers waiting/lines; do
     passes "$script.py" python3 -B "checks/$script.py"
 done
-for test in checks/*_test.py checks/waiting/*_test.py checks/large_recordings/*_test.py bench/*test*.py \
+for test in checks/test_*.py checks/waiting/test_*.py checks/large_recordings/test_*.py bench/test_*.py \
     bench/recording/test_*.py; do
     passes "$test" python3 -B "$test"
 done
@@ -36,9 +36,9 @@ for folder in killed_runs llvm mutants openmp_cases openmp_regions page true_wor
     tested "checks/$folder/tests" "checks/$folder"
 done
 tested tools/tests tools
-for folder in record path whatif report; do
-    tested "tools/$folder/tests" tools
+tested tools/spanprof/tests tools
+for folder in record path whatif report conformance; do
+    tested "tools/spanprof/$folder/tests" tools
 done
 tested tools/plots/tests tools/plots
-tested tools/conformance/tests tools/conformance
 exit "$failed"

@@ -11,7 +11,7 @@ skip() { echo "skipped: $1"; exit 0; }
 find_llvm || skip "$no_llvm"
 [ -x "$spanprof" ] || { echo "no program $spanprof"; exit 1; }
 
-(cd tools && python3 -B -m unittest discover -s record/tests -t .)
+(cd tools && python3 -B -m unittest discover -s spanprof/record/tests -t .)
 export SPANPROF=$spanprof PATH=$PWD/tools:$PATH OMP_NUM_THREADS=2
 top=$PWD
 folder=$(mktemp -d)

@@ -12,7 +12,7 @@ import sys
 from collections import Counter
 from dataclasses import dataclass, field
 
-from spanprof_version import answer
+from spanprof.version import answer
 
 HEADER = "omptasks 1"
 NUMBER = re.compile(r"(?<=[ (])\d+(?=[ ,)]|$)")  # of a line of the head, without those of places

@@ -11,11 +11,11 @@ import sys
 
 sys.path.append(os.path.join(os.path.dirname(os.path.abspath(__file__)), ".."))
 
-from head import said  # noqa: E402
-from report.answers import Answers  # noqa: E402
-from report.graph import CREATES, critical_pairs, task_edges  # noqa: E402
-from report.places import tasks  # noqa: E402
-from spanprof_version import answer  # noqa: E402
+from spanprof.answers import Answers  # noqa: E402
+from spanprof.head import said  # noqa: E402
+from spanprof.report.graph import CREATES, critical_pairs, task_edges  # noqa: E402
+from spanprof.report.places import tasks  # noqa: E402
+from spanprof.version import answer  # noqa: E402
 
 
 def quoted(words):

@@ -10,14 +10,14 @@ import sys
 
 sys.path.append(os.path.join(os.path.dirname(os.path.abspath(__file__)), ".."))
 
-from spanprof_version import answer  # noqa: E402
+from spanprof.version import answer  # noqa: E402
 
 if __name__ == "__main__":
     answer(__doc__, sys.argv[1:])  # also where matplotlib is missing
 
-from head import read_head, said  # noqa: E402
+from spanprof.head import read_head, said  # noqa: E402
 from pictures import plot, save  # noqa: E402
-from program import ask, read, rows, segments  # noqa: E402
+from spanprof.client import ask, read, rows, segments  # noqa: E402
 
 MOST_COLOURS = 9
 THINNEST_WITH_RIM = 1 / 400  # of the run; a thinner bar would be its rim alone

@@ -3,10 +3,10 @@ import sys
 import unittest
 
 TOOLS = os.path.join(os.path.dirname(os.path.abspath(__file__)), "..", "..", "..", "tools")
-sys.path[:0] = [TOOLS, os.path.join(TOOLS, "plots")]
+sys.path.insert(0, TOOLS)
 
 from comparing import Ends, ends, first_difference, largest, least, shape, work
-from whatif.statements import statements
+from spanprof.whatif.statements import statements
 
 TEXT = "omptasks 1\nwork 3\ntask depend(in: b) depend(out: a) { # x.c:3\nwork 5\n}\ntaskwait\n"
 

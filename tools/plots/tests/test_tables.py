@@ -10,7 +10,7 @@ sys.path.append(os.path.join(os.path.dirname(os.path.abspath(__file__)), "..", "
 
 import critical_path  # noqa: E402
 import graph  # noqa: E402
-from report.tests import worked  # noqa: E402
+from spanprof.report.tests import worked  # noqa: E402
 
 MESH = worked.path("mesh.tasks")
 
