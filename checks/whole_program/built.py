@@ -58,6 +58,11 @@ TOLERANCE = 0.05
 SLACK = 0.5  # milliseconds: what the runtime does in code
 
 
+def beginning_with(shape, before):
+    """The shape with so much before the program's `main`."""
+    return Shape(shape.name, shape.work + before, lambda threads: shape.least(threads) + before)
+
+
 def faults_of_numbers(shape, work, span):
     """Of a text of the whole program, against what was built in."""
     for name, found, true in (("work", work, shape.work), ("span", span, shape.least(MANY))):

@@ -10,7 +10,7 @@ import subprocess
 import sys
 import tempfile
 
-from built import SHAPES, faults_of_numbers
+from built import SHAPES, beginning_with, faults_of_numbers
 from judging import faults, refuted
 from sentences import read
 
@@ -27,6 +27,11 @@ def ended(words, variables=None):
     if done.returncode:
         sys.exit("%s: status %d\n%s" % (" ".join(words), done.returncode, done.stderr))
     return done
+
+
+def numbers_printed(done):
+    """How long the program took, and how much of the processor's time was before its `main`."""
+    return [float(word) for word in done.stdout.split()]
 
 
 def numbers(text):
@@ -46,7 +51,8 @@ def covered(text):
 def judge(program, shape, threads, folder, runs):
     out = os.path.join(folder, "%s_%d" % (shape.name, threads))
     options = ["--whole", "--out", out, "--unit", "us", "--clock", "cpu", "--threads", str(threads)]
-    lines = ended([RECORD, *options, "--", program, shape.name]).stderr.splitlines()
+    done = ended([RECORD, *options, "--", program, shape.name])
+    lines, shape = done.stderr.splitlines(), beginning_with(shape, numbers_printed(done)[1])
     summary = read(lines)
     found = list(faults_of_numbers(shape, *numbers(out + ".tasks"))) + faults(summary, shape, threads)
     for others, took in runs.items():
@@ -65,7 +71,7 @@ def main(words):
         for shape in SHAPES:
             if words[1:] and shape.name not in words[1:]:
                 continue
-            runs = {threads: float(ended([program, shape.name], {"OMP_NUM_THREADS": str(threads)}).stdout)
+            runs = {threads: numbers_printed(ended([program, shape.name], {"OMP_NUM_THREADS": str(threads)}))[0]
                     for threads in THREADS}
             wrong += sum(judge(program, shape, threads, folder, runs) for threads in THREADS)
     print("%d wrong" % wrong)

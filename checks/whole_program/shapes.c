@@ -1,6 +1,6 @@
 // Whole programs whose work and span are known by how they are made: spins of known length by the thread's own processor
 // clock, in serial code, loops, sections, tasks and regions. The first word is the shape; built.py has what is true of
-// each. It prints how many milliseconds the program took.
+// each. It prints how many milliseconds the program took, and how many of the processor's before its `main`.
 #include <omp.h>
 #include <stdio.h>
 #include <string.h>
@@ -152,11 +152,11 @@ int main(int count, char **words) {
                   {"one_region", one_region}, {"all_kinds", all_kinds}, {"reduction", reduction}, {"nested", nested},
                   {"outside", outside}, {"doacross", doacross}, {"before_the_wait", before_the_wait},
                   {"wavefront", wavefront}, {"in_order", in_order}};
-    double begin = omp_get_wtime();
+    double before = own_milliseconds(), begin = omp_get_wtime();
     for (size_t i = 0; i < sizeof shapes / sizeof *shapes; i++)
         if (count == 2 && !strcmp(words[1], shapes[i].name)) {
             shapes[i].run();
-            printf("%.3f\n", 1e3 * (omp_get_wtime() - begin));
+            printf("%.3f %.3f\n", before + 1e3 * (omp_get_wtime() - begin), before);
             return 0;
         }
     return fprintf(stderr, "no such shape\n"), 2;

@@ -40,6 +40,7 @@ struct ImplicitTask {
   Loop *loop = nullptr;              // that it is in
   Task *chunk = nullptr;             // of it, that runs
   bool in_group = false;             // of the chunks
+  bool all_turns = false;            // are taken to be the chunk
   bool kept = false;                 // the rest of the loop is code of the part
   std::unique_ptr<Turns> turns;      // of the loop, where they wait for each other
 };
@@ -131,10 +132,12 @@ class Reader {
   ImplicitTask *in_loop();
   void divided_begin();
   void chunk_begin();
+  void begin_chunk(ImplicitTask &own, uint64_t turns);
   void end_chunk(ImplicitTask &own);
   void divided_end();
   bool is_construct_of_chunk(const ImplicitTask &own) const;
   void keep_divided();
+  void put_chunk_back(ImplicitTask &own);
   void take_chunk_out(ImplicitTask &own, Task &t);
   void end_root(int64_t end);
   void put_hosts_beside();

@@ -12,7 +12,12 @@ constexpr unsigned most_waited_for = 28;                  // turns by one piece:
 constexpr int64_t at_once = 1000;                         // nanoseconds between waits that are one
 constexpr int64_t woken = 20000;                          // that it takes to see that a wait is over
 
-int64_t own_cost(const Task &t) { return t.steps.empty() ? 0 : t.steps[t.steps.size() - 1].cost(); }
+Step *last_work(Task &t) { return t.steps.empty() || t.steps.back().kind != Kind::Work ? nullptr : &t.steps.back(); }
+
+int64_t last_cost(Task &t) {
+  const Step *work = last_work(t);
+  return work ? work->cost() : 0;
+}
 
 Item item_of(uint32_t location, ompt_dependence_type_t type) { return {location, static_cast<uint64_t>(type)}; }
 
@@ -50,13 +55,13 @@ bool Reader::has_turns_apart(ImplicitTask &own) {
   own.turns = std::make_unique<Turns>();
   own.turns->around = made_location();
   t->items.push_back(item_of(own.turns->around, ompt_dependence_type_out));
-  int64_t cost = own_cost(*chunk);
+  int64_t cost = last_cost(*chunk);
   chunk->steps.clear();
   chunk->parent = nullptr;
   chunk->pieces = 0;
   begin_piece(own, true);
   Task *piece = find(current().back());
-  piece->steps.push_back(Step::work(cost));
+  if (cost) piece->steps.push_back(Step::work(cost));
   own.turns->since = r->wall - cost;
   return true;
 }
@@ -89,7 +94,7 @@ bool Reader::turn_done() {
   piece->items.push_back(item_of(turn, ompt_dependence_type_out));
   charge(piece);
   int64_t &shortest = own->turns->waited ? own->loop->inside : own->loop->unwaited;
-  shortest = std::min(shortest, own_cost(*piece));
+  shortest = std::min(shortest, last_cost(*piece));
   done[turn] = r->wall;
   begin_piece(*own, true);
   return true;
@@ -102,7 +107,7 @@ bool Reader::turn_awaited() {
   uint32_t turn = location_of_turn(*own->loop);
   Task *piece = find(current().back());
   charge(piece);
-  int64_t cost = own_cost(*piece);
+  int64_t cost = last_cost(*piece);
   if (own->turns->after_a_wait && cost < at_once && piece->items.size() < most_waited_for) {
     piece->items.push_back(item_of(turn, ompt_dependence_type_in));
     return true;
@@ -146,8 +151,9 @@ void Reader::take_waits_off() {
     int64_t usual = usual_cost(loop);
     for (const TurnWait &wait : loop.waits) {
       int64_t cost = wait.is_none ? wait.most : std::clamp(usual, wait.least, wait.most);
-      if (cost == wait.most) continue;
-      wait.piece->steps.back().add_cost(cost - wait.most);
+      Step *work = last_work(*wait.piece);
+      if (cost == wait.most || !work) continue;
+      work->add_cost(cost - wait.most);
       wait.piece->region->cost -= wait.most - cost;
       run.whole->remarks[Remark::WaitsForTurns].add(loop.code);
     }

@@ -90,23 +90,33 @@ void Reader::divided_begin() {
   own.loop->what = static_cast<Divided>(r->detail);
   own.loop->code = r->place();
   own.loop->count = std::max<uint64_t>(own.loop->count, r->task);
+  if (t->region->threads > 1) return;
+  begin_chunk(own, r->task);  // all turns: for one thread no chunk may be told
+  own.all_turns = true;
 }
 
 void Reader::chunk_begin() {
   ImplicitTask *own = in_loop();
-  Task *t = own ? find(current().back()) : nullptr;
-  if (!t || own->kept) return;
+  if (!own || own->kept) return;
   if (own->turns) return begin_piece(*own, true);
-  end_chunk(*own);
+  if (own->chunk && std::exchange(own->all_turns, false)) {
+    own->loop->told = 0;
+    put_chunk_back(*own);
+  }
+  begin_chunk(*own, r->task | uint64_t{r->other} << 32);
+}
+
+void Reader::begin_chunk(ImplicitTask &own, uint64_t turns) {
+  Task *t = find(current().back());
+  end_chunk(own);
   charge(t);
-  if (!std::exchange(own->in_group, true)) begin_group(t, own->loop->code);
-  Task *chunk = own->chunk = create(t, false);
-  uint64_t turns = r->task | uint64_t{r->other} << 32;
-  own->loop->told += turns;
-  chunk->code = own->loop->code;
+  if (!std::exchange(own.in_group, true)) begin_group(t, own.loop->code);
+  Task *chunk = own.chunk = create(t, false);
+  own.loop->told += turns;
+  chunk->code = own.loop->code;
   chunk->of_loop = true;
   chunk->pieces = 1;
-  run.chunks.push_back({chunk, own->loop, turns});
+  run.chunks.push_back({chunk, own.loop, turns});
   begin(chunk);
 }
 
@@ -129,7 +139,7 @@ void Reader::divided_end() {
   if (own->turns) end_turns(*own);
   in_loops--;
   own->loop = nullptr;
-  own->in_group = own->kept = false;
+  own->in_group = own->kept = own->all_turns = false;
 }
 
 // Whether the record is of a task that is made, or of a wait, in the code of a chunk.
@@ -149,10 +159,15 @@ bool Reader::is_construct_of_chunk(const ImplicitTask &own) const {
 void Reader::keep_divided() {
   ImplicitTask *own = in_loop();
   if (!own || !is_construct_of_chunk(*own)) return;
-  Task *t = find(current().back()), *chunk = own->chunk;
-  end_chunk(*own);
   own->loop->kept = own->kept = true;
-  take_chunk_out(*own, *t);
+  put_chunk_back(*own);
+}
+
+// Its code is the part's.
+void Reader::put_chunk_back(ImplicitTask &own) {
+  Task *t = find(current().back()), *chunk = own.chunk;
+  end_chunk(own);
+  take_chunk_out(own, *t);
   take_over_steps(*t, *chunk);
   begin(t);
 }

@@ -151,10 +151,17 @@ TEST(a_chunk_that_makes_tasks_is_code_of_its_part) {
   EXPECT(made.found.whole->loops, 0u);
 }
 
-TEST(a_loop_whose_chunks_are_not_told_stays_as_it_was_divided) {
+TEST(of_one_thread_all_turns_are_one_chunk_where_none_is_told) {
   Program made;
+  made.add(0, Told::Divided, 4, 1, 0, 50).after(8 * us).add(0, Told::DividedEnd, 0, 1);
+  end_region(made);
+  EXPECT_PART(made.text(), "    taskgroup {\n" + pieces(4, 2 * us) + "    }\n");
+}
+
+TEST(a_loop_whose_chunks_are_not_told_stays_as_it_was_divided) {
+  Program made(2);
   loop(made.after(1), 0, 8, {});
-  end_region(made.after(2));
+  end_region(made.after(2), 2);
   EXPECT_PART(made.text(), "  " + part + "    work 3\n  }\n");
   EXPECT(made.found.whole->divided[Divided::Loops].times, 1u);
 }
