@@ -10,7 +10,7 @@ import subprocess
 import sys
 import tempfile
 
-from built import SHAPES, beginning_with, faults_of_numbers
+from built import SHAPES, WAITING, beginning_with, faults_of_numbers
 from judging import faults, refuted
 from sentences import read
 
@@ -29,9 +29,16 @@ def ended(words, variables=None):
     return done
 
 
-def numbers_printed(done):
-    """How long the program took, and how much of the processor's time was before its `main`."""
-    return [float(word) for word in done.stdout.split()]
+def elapsed(program, shape, threads):
+    """Of a run that nobody records, in milliseconds."""
+    return float(ended([program, shape], {"OMP_NUM_THREADS": str(threads)}).stdout)
+
+
+def record(program, shape, threads, folder):
+    """The text, and the lines of the summary."""
+    out = os.path.join(folder, "%s_%d" % (shape, threads))
+    options = ["--whole", "--out", out, "--unit", "us", "--clock", "cpu", "--threads", str(threads)]
+    return out + ".tasks", ended([RECORD, *options, "--", program, shape]).stderr.splitlines()
 
 
 def numbers(text):
@@ -48,17 +55,22 @@ def covered(text):
     return float(found[1]) if found else 0.0
 
 
+def told_threads(shape):
+    """What waits for a turn is told apart from what works only where each thread has a processor."""
+    return [threads for threads in THREADS if shape.name not in WAITING or threads <= os.cpu_count()]
+
+
 def judge(program, shape, threads, folder, runs):
-    out = os.path.join(folder, "%s_%d" % (shape.name, threads))
-    options = ["--whole", "--out", out, "--unit", "us", "--clock", "cpu", "--threads", str(threads)]
-    done = ended([RECORD, *options, "--", program, shape.name])
-    lines, shape = done.stderr.splitlines(), beginning_with(shape, numbers_printed(done)[1])
+    """What each program has, whatever its shape, is what a program of no code has that is recorded alike."""
+    before, _ = numbers(record(program, "nothing", threads, folder)[0])
+    shape = beginning_with(shape, before)
+    text, lines = record(program, shape.name, threads, folder)
     summary = read(lines)
-    found = list(faults_of_numbers(shape, *numbers(out + ".tasks"))) + faults(summary, shape, threads)
+    found = list(faults_of_numbers(shape, threads, *numbers(text))) + faults(summary, shape, threads)
     for others, took in runs.items():
-        found += refuted(summary, shape, others, took)
-    if covered(out + ".tasks") < COVERED:
-        found.append("covers %.1f %% of the program" % covered(out + ".tasks"))
+        found += refuted(summary, shape, others, took + before)
+    if covered(text) < COVERED:
+        found.append("covers %.1f %% of the program" % covered(text))
     print("%-6s %s on %d threads" % ("WRONG" if found else "ok", shape.name, threads), flush=True)
     if found:
         print("\n".join(["  " + fault for fault in found] + ["  | " + line for line in lines]), flush=True)
@@ -71,9 +83,8 @@ def main(words):
         for shape in SHAPES:
             if words[1:] and shape.name not in words[1:]:
                 continue
-            runs = {threads: numbers_printed(ended([program, shape.name], {"OMP_NUM_THREADS": str(threads)}))[0]
-                    for threads in THREADS}
-            wrong += sum(judge(program, shape, threads, folder, runs) for threads in THREADS)
+            runs = {threads: elapsed(program, shape.name, threads) for threads in THREADS}
+            wrong += sum(judge(program, shape, threads, folder, runs) for threads in told_threads(shape))
     print("%d wrong" % wrong)
     sys.exit(bool(wrong))
 

@@ -222,7 +222,7 @@ WhichParts parts_asked(const Options &options) {
 // Thread-time outside of regions. Where the thread that ended the program met no region, it is not the one whose
 // processor time that is.
 int64_t outside_regions(const Job &job, const ProgramTime &time) {
-  bool by_processor = job.options.processor_clock && job.last && job.last->regions.size();
+  bool by_processor = job.options.processor_clock && job.last && (job.options.whole || job.last->regions.size());
   return by_processor ? processor_time_outside(*job.last, job.end_processor) : time.outside;
 }
 

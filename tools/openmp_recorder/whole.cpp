@@ -20,6 +20,7 @@ void Reader::begin_root() {
   root->on = log;
   root->running = true;
   root->since = how.start;
+  run.whole->recorder = worker().stood_still;
 }
 
 // A thread meets the runtime. Of all but the first what is outside of regions does not count: it may be waiting.

@@ -1,7 +1,7 @@
 """What is true of whole programs."""
 import unittest
 
-from built import MANY, SHAPES, faults_of_numbers
+from built import MANY, SHAPES, beginning_with, faults_of_numbers
 
 BY_NAME = {shape.name: shape for shape in SHAPES}
 
@@ -27,8 +27,13 @@ class Built(unittest.TestCase):
 
     def test_a_few_per_cent_are_no_fault(self):
         shape = BY_NAME["loop"]
-        self.assertEqual(list(faults_of_numbers(shape, 106, 43)), [])
-        self.assertEqual(list(faults_of_numbers(shape, 104, 52)), ["span 52.00, and 42.00 was built in"])
+        self.assertEqual(list(faults_of_numbers(shape, 4, 106, 43)), [])
+        self.assertEqual(list(faults_of_numbers(shape, 4, 104, 52)), ["span 52.00, and 42.00 was built in"])
+        self.assertEqual(list(faults_of_numbers(shape, 1, 104, 104)), [])
+
+    def test_code_before(self):
+        shape = beginning_with(BY_NAME["loop"], 3)
+        self.assertEqual((shape.work, shape.least(4)), (107, 59))
 
 
 if __name__ == "__main__":
