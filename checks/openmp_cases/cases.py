@@ -28,7 +28,7 @@ TRIED = "19,16"
 
 def build(source, program, by_gcc, version):
     compiler = ["gcc"] if by_gcc else version.compiler()
-    subprocess.run(compiler + ["-O2", "-g", "-fopenmp", source, "-o", program], check=True)
+    subprocess.run(compiler + ["-O2", "-g", "-fopenmp", source, "-o", program, "-lm"], check=True)
 
 
 def spanprof(command, text):
