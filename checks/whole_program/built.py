@@ -46,7 +46,7 @@ SHAPES = (
     program("one_region", *((16, 1), (1, 1)) * 10),
     program("all_kinds", (1, 10), (8, 4), (8, 3), (2, 4), (1, 5)),
     program("reduction", (16, 2), (1, 4)),
-    Shape("nested", 38, lambda threads: 7 if threads >= 8 else 38 / threads),
+    Shape("nested", 76, lambda threads: 14 if threads >= 8 else 76 / threads),
     Shape("outside", 21, lambda threads: 21),
     Shape("doacross", 32, lambda threads: 32),
     Shape("before_the_wait", 80, turns_in_order(4, 1)),

@@ -93,9 +93,9 @@ static void nested(void) { // regions in tasks
     for (int i = 0; i < 2; i++) {
 #pragma omp task
         {
-            spin(3);
+            spin(6);
 #pragma omp parallel for num_threads(2)
-            for (int k = 0; k < 4; k++) spin(4);
+            for (int k = 0; k < 4; k++) spin(8);
         }
     }
 }
