@@ -153,9 +153,14 @@ void Head::clocks(const Region &region) {
 void Head::times(const Region &region, const Recording &recording) {
   int64_t elapsed = region.time.end - region.time.begin;
   line("elapsed: " + units(elapsed));
-  line("outside regions: " + units(recording.time.outside));
   int64_t others = recording.time.in_regions - (region.time.is_outermost ? elapsed : 0);
-  if (!recording.whole) line("in other regions: " + units(std::max<int64_t>(others, 0)));
+  if (recording.whole) {
+    line("in serial code: " + units(recording.whole->serial));
+    line("in loops: " + units(recording.whole->in_loops));
+  } else {
+    line("outside regions: " + units(recording.time.outside));
+    line("in other regions: " + units(std::max<int64_t>(others, 0)));
+  }
   line("in parts without tasks: " + units(region.in_parts));
   line("in tasks: " + units(region.in_tasks));
   if (region.remarks.count(Remark::Folded))

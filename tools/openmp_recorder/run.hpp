@@ -244,6 +244,7 @@ struct WholeProgram : Region {
   uint64_t regions = 0, loops = 0, pieces = 0;
   int64_t least_piece = 0;  // of loops, in nanoseconds
   int64_t recorder = 0;     // its own time outside of regions, on the first thread
+  int64_t serial = 0, in_loops = 0;  // of the cost: outside of regions; in chunks of loops
 };
 
 struct Run {

@@ -25,7 +25,8 @@ void take_over_parts(WholeProgram &whole, const Region &region) {
   unsigned first = whole.parts.empty() ? 0 : whole.parts.back().phase + 1;
   for (const Part &part : region.parts) {
     whole.parts.push_back({part.task, first + part.phase, 0});
-    if (!part.task->children && !part.task->pieces) whole.in_parts += own_cost(*part.task);
+    if (part.task->pieces) whole.in_loops += own_cost(*part.task);
+    else if (!part.task->children) whole.in_parts += own_cost(*part.task);
   }
 }
 
@@ -51,9 +52,12 @@ void count_loops(Run &run) {
 void finish_whole(Run &run, const RegionTime &time, int64_t unit) {
   WholeProgram &whole = *run.whole;
   whole.time = time;
+  whole.serial = whole.cost;
   for (auto &[number, region] : run.regions)
     if (region->whole) take_over(whole, *region);
-  whole.in_tasks -= whole.in_parts;
+  for (const Chunk &chunk : run.chunks)
+    if (chunk.task->pieces) whole.in_loops += own_cost(*chunk.task);
+  whole.in_tasks -= whole.in_parts + whole.in_loops;
   whole.threads = std::max(whole.threads, 1u);
   count_loops(run);
   add_up(whole);

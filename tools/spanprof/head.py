@@ -6,7 +6,8 @@ from typing import Dict, List, Optional, Tuple
 
 NANOSECONDS = {"ns": 1, "us": 1000, "ms": 1000000}
 NUMBERS = {"clock reading": "clock_reading", "most held lock": "most_held"}
-DIVISION = ("outside regions", "in other regions", "in parts without tasks", "in tasks")
+DIVISION = ("outside regions", "in other regions", "in serial code", "in loops", "in parts without tasks", "in tasks")
+COSTS = DIVISION[2:]  # of the text; the others are wall time of the program
 
 
 @dataclass

@@ -111,6 +111,7 @@ TEST(the_head_tells_what_a_whole_programs_text_has) {
   EXPECT_PART(head, "# whole program: 1 region, 1 loop in 4 pieces; a chunk of k turns is k equal pieces, none shorter "
                     "than 1000 ns\n# covers: 99.5 % of the program's thread-time (24100 of 24200 ns)\n"
                     "# not covered: 100 of the program\n");
+  EXPECT_PART(head, "# in serial code: 100\n# in loops: 8000\n# in parts without tasks: 12000\n# in tasks: 4000\n");
   EXPECT_PART(head, "# divided among 2 threads: code of the region, 2 parts, 4000 ns beside the longest\n");
   EXPECT_PART(head, "# remark: chunk of several turns of a loop, written as equal pieces, 1 time: span too low\n");
 }

@@ -1,6 +1,7 @@
 """The summary: the program's numbers, what they mean for a run on so many threads, and what the recording lacks."""
 from spanprof.claims import (against_parallelism, against_span, gain_may_be_less, gain_may_be_more, is_partial,
                              least_end, lock_binds, share_covered, speaks_of, why_not_of_more_threads)
+from spanprof.head import COSTS
 from spanprof.report.figures import MEANINGS, MEASURED, PROVED, RECORDED, badge, grouped
 from spanprof.report.markup import join, note, section, tag
 
@@ -229,14 +230,14 @@ def stack(view, title, parts):
 
 
 def division(view):
-    """How the whole program's time divides, and the region's costs, where the head tells it."""
+    """How the whole program's time divides, and the text's costs, where the head tells it."""
     head = view.answers.head
     wall = [(name, head.division[name]) for name in ("outside regions", "in other regions") if name in head.division]
-    costs = [(name, head.division[name]) for name in ("in parts without tasks", "in tasks") if name in head.division]
+    costs = [(name, head.division[name]) for name in COSTS if name in head.division]
     if head.elapsed and wall:
         wall.append(("elapsed", head.elapsed))
     return join([stack(view, "The whole program's time, by the clock", wall),
-                 stack(view, "This region's costs, all threads together", costs)])
+                 stack(view, "%s costs, all threads together" % ("The program's" if head.whole else "This region's"), costs)])
 
 
 def kinds_explained(view):
