@@ -35,6 +35,7 @@ class Head:
     runs: Optional[int] = None         # where the program was recorded several times
     is_median: bool = False            # each cost is the median of those runs; else it is one of them
     spread: Dict[str, Tuple[int, int, int]] = field(default_factory=dict)  # of work, span: least, median, most
+    functions: Dict[str, str] = field(default_factory=dict)  # by a place: `in merge, inlined into sort at sort.c:9`
     remarks: List[str] = field(default_factory=list)
     locks: List[str] = field(default_factory=list)
 
@@ -158,6 +159,8 @@ def read_line(head, words):
         head.whole = value
     elif name == "remark":
         head.remarks.append(value)
+    elif name.startswith("place "):
+        head.functions.setdefault(name[len("place "):], value)
     elif name.startswith("lock "):
         head.locks.append("%s: %s" % (name[len("lock "):], value))
     else:
@@ -169,6 +172,13 @@ def read_head(text):
     for words in comments(text):
         read_line(head, words)
     return head
+
+
+def with_function(head, name):
+    """A place's name, such as `task at sort.c:9`, with the function that it is in."""
+    found = re.search(r"(\S+:\d+)$", name)
+    function = head.functions.get(found[1]) if found else None
+    return "%s %s" % (name, function) if function else name
 
 
 def said(text):

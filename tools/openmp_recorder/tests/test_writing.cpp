@@ -116,6 +116,16 @@ TEST(a_run_that_is_not_whole_says_so) {
   EXPECT(event_lines(region).whole, false);
 }
 
+TEST(the_head_tells_the_functions_of_places) {
+  Run run = two_tasks();
+  Region &region = only_region(run);
+  const void *code = region.tasks.back().code;
+  Places places;
+  places.put(code, "sort.c:9");
+  places.put_frames(code, {{"merge", "sort.c:9"}, {"sort", "sort.c:30"}});
+  EXPECT_PART(head_of(region, {}, Options(), places), "# place sort.c:9: in merge, inlined into sort at sort.c:30\n");
+}
+
 TEST(the_head_tells_the_recording) {
   Run run = two_parts();
   Region &region = only_region(run);

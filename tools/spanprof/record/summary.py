@@ -6,6 +6,7 @@ says of what, and where the head tells that the text is not the program the line
 from spanprof.claims import (OTHERWISE, against_parallelism, against_span, gain_may_be_less, gain_may_be_more,
                              is_divided, is_of_one_thread, is_partial, least_end, lock_binds, share_covered, tenths,
                              why_not_of_more_threads)
+from spanprof.head import with_function
 from spanprof.report.figures import rounded_down, rounded_up
 from spanprof.report.places import places
 
@@ -165,7 +166,8 @@ def clock_lines(head):
 def place_lines(answers):
     heaviest = [place for place in places(answers) if place.critical_cost][:MOST_PLACES]
     return ["%.1f %% of the span, %.1f %% of the work: %s (measured)" % (
-        100 * place.critical_cost / answers.span, 100 * place.cost / answers.work, place.name) for place in heaviest]
+        100 * place.critical_cost / answers.span, 100 * place.cost / answers.work,
+        with_function(answers.head, place.name)) for place in heaviest]
 
 
 def remark_lines(answers, news):

@@ -4,7 +4,7 @@ import unittest
 from unittest import mock
 
 from spanprof import client
-from spanprof.head import read_head, said
+from spanprof.head import read_head, said, with_function
 
 TEXT = """\
 # recorded: from sort, 2026-11-24T00:31:07Z, threads 4, clock cpu, unit 250 ns
@@ -92,6 +92,13 @@ class Heads(unittest.TestCase):
                          "# not covered: 19 of the program\nomptasks 1\n")
         self.assertEqual((head.whole[:9], head.region), ("2 regions", ""))
         self.assertEqual(head.not_covered, {"of the program": 19})
+
+    def test_functions_of_places(self):
+        head = read_head("# place sort.c:9: in merge, inlined into sort at sort.c:30\nomptasks 1\n")
+        self.assertEqual(with_function(head, "task at sort.c:9"),
+                         "task at sort.c:9 in merge, inlined into sort at sort.c:30")
+        self.assertEqual(with_function(head, "task at sort.c:10"), "task at sort.c:10")
+        self.assertEqual(with_function(head, "the beginning"), "the beginning")
 
     def test_a_region_without_place(self):
         head = read_head("# region: 1 of 1\nomptasks 1\n")

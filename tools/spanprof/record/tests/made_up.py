@@ -64,6 +64,7 @@ class Head:
     remarks: list = field(default_factory=list)
     locks: list = field(default_factory=list)
     whole: str = ""
+    functions: dict = field(default_factory=dict)
 
     @property
     def nanoseconds(self):
