@@ -70,7 +70,8 @@ void Head::whole(const WholeProgram &program) {
   if (program.pieces) {
     words += ", " + counted(program.loops, "loop") + " in " + counted(program.pieces, "piece") +
              "; a chunk of k turns is k equal pieces";
-    if (program.least_piece < INT64_MAX) words += ", none shorter than " + std::to_string(program.least_piece) + " ns";
+    if (program.least_piece < INT64_MAX)
+      words += ", together where they are shorter than " + std::to_string(program.least_piece) + " ns";
   }
   line(words);
 }

@@ -2,7 +2,7 @@
 #pragma once
 #include "run.hpp"
 
-// Turns that together cost less than a microsecond, or than a unit, are one piece. Longer pieces are taken where the
-// text fits the ten commands then and its span is nearly the same, or where there would be more than a million. The
-// chunks' region is added up.
+// Turns and short chunks that together cost less than a microsecond, or than a unit, are one piece. Longer pieces are
+// taken where the text fits the ten commands then and its span is nearly the same, or where there would be more than a
+// million. The chunks' region is added up, and is so afterwards.
 void choose_pieces(Run &run, int64_t unit);

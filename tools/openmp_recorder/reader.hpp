@@ -39,6 +39,7 @@ struct ImplicitTask {
   unsigned loops = 0;                // that it met
   Loop *loop = nullptr;              // that it is in
   Task *chunk = nullptr;             // of it, that runs
+  size_t number = 0;                 // of the chunk
   bool in_group = false;             // of the chunks
   bool all_turns = false;            // are taken to be the chunk
   bool kept = false;                 // the rest of the loop is code of the part
@@ -133,6 +134,7 @@ class Reader {
   void divided_begin();
   void chunk_begin();
   void begin_chunk(ImplicitTask &own, uint64_t turns);
+  void join_turns(const ImplicitTask &own);
   void end_chunk(ImplicitTask &own);
   void divided_end();
   bool is_construct_of_chunk(const ImplicitTask &own) const;

@@ -14,6 +14,8 @@
 #include "log_head.hpp"
 
 namespace {
+constexpr int64_t chunks_together = 10000;  // nanoseconds: what begins sooner after a chunk is part of it
+
 class KeepErrno {  // which the program may be about to read
  public:
   ~KeepErrno() { errno = kept; }
@@ -81,7 +83,8 @@ class Scratch : public ThreadLog {
 
 ThreadLog::ThreadLog(unsigned of)
     : number(of), bytes(costs_by_processor ? log_form::bytes_by_processor : log_form::bytes_by_wall),
-      far_ticks(static_cast<uint64_t>(far_apart / nanoseconds_of_tick())), both(costs_by_processor) {}
+      far_ticks(static_cast<uint64_t>(far_apart / nanoseconds_of_tick())),
+      near_ticks(static_cast<uint64_t>(chunks_together / nanoseconds_of_tick())), both(costs_by_processor) {}
 
 // What was in the block is in the file before it is cleared: who converts the log after a kill finds it in one of both.
 bool ThreadLog::write_block() {

@@ -96,9 +96,17 @@ void Reader::divided_begin() {
   own.all_turns = true;
 }
 
+// Of chunks that began one soon after the other the first is told, and the turns of the others later.
+void Reader::join_turns(const ImplicitTask &own) {
+  if (!r->code || !own.chunk) return;
+  run.chunks[own.number].turns += r->code;
+  own.loop->told += r->code;
+}
+
 void Reader::chunk_begin() {
   ImplicitTask *own = in_loop();
   if (!own || own->kept) return;
+  join_turns(*own);
   if (own->turns) return begin_piece(*own, true);
   if (own->chunk && std::exchange(own->all_turns, false)) {
     own->loop->told = 0;
@@ -117,6 +125,7 @@ void Reader::begin_chunk(ImplicitTask &own, uint64_t turns) {
   chunk->code = own.loop->code;
   chunk->of_loop = true;
   chunk->pieces = 1;
+  own.number = run.chunks.size();
   run.chunks.push_back({chunk, own.loop, turns});
   begin(chunk);
 }
@@ -132,6 +141,7 @@ void Reader::divided_end() {
   ImplicitTask *own = in_loop();
   if (!own) return;
   Task *t = find(current().back());
+  if (r->told() == Told::DividedEnd) join_turns(*own);
   end_chunk(*own);
   if (own->in_group) {
     end_group(t, nullptr);

@@ -108,8 +108,8 @@ TEST(the_head_tells_what_a_whole_programs_text_has) {
   WholeProgram &whole = *made.whole().whole;
   Recording recording{"sort", "2026-11-24T00:10:02Z", 0, {100, 12 * us}, {100, 24 * us + 100, true}, &whole};
   std::string head = head_of(whole, recording, Options(), Places());
-  EXPECT_PART(head, "# whole program: 1 region, 1 loop in 4 pieces; a chunk of k turns is k equal pieces, none shorter "
-                    "than 1000 ns\n# covers: 99.5 % of the program's thread-time (24100 of 24200 ns)\n"
+  EXPECT_PART(head, "# whole program: 1 region, 1 loop in 4 pieces; a chunk of k turns is k equal pieces, together "
+                    "where they are shorter than 1000 ns\n# covers: 99.5 % of the program's thread-time (24100 of 24200 ns)\n"
                     "# not covered: 100 of the program\n");
   EXPECT_PART(head, "# in serial code: 100\n# in loops: 8000\n# in parts without tasks: 12000\n# in tasks: 4000\n");
   EXPECT_PART(head, "# divided among 2 threads: code of the region, 2 parts, 4000 ns beside the longest\n");
@@ -129,6 +129,13 @@ TEST(turns_of_less_than_a_microsecond_are_written_together) {
   end_region(made);
   EXPECT_PART(made.text(), "taskgroup {\n" + pieces(20, us) + "    }\n");
   EXPECT(made.found.whole->remarks[Remark::TurnsTogether].times, 1u);  // of a span of 120 ns
+}
+
+TEST(turns_that_joined_a_chunk_are_told_after_it) {
+  Program made;
+  made.add(0, Told::Divided, 5, 1, 0, 50).add(0, Told::Chunk, 1).after(6 * us).add(0, Told::Chunk, 1, 0, 0, 2);
+  end_region(made.after(2 * us).add(0, Told::DividedEnd, 0, 0, 0, 1));
+  EXPECT_PART(made.text(), "taskgroup {\n" + pieces(3, 2 * us) + pieces(2, us));
 }
 
 // Of such a loop the compiler asks for the thread's first chunk alone.
@@ -220,6 +227,16 @@ TEST(exact_folds_keep_work_and_span_of_pieces) {
     EXPECT(folded.root->total, whole.root->total);
     EXPECT(span_of(folded), span);
   }
+}
+
+TEST(chunks_that_are_shorter_than_a_piece_are_one_with_those_after_them) {
+  Program made;
+  loop(made, 0, 7, {{1, 400}, {1, 400}, {1, 400}, {1, 3 * us}, {1, 100}, {1, 200}, {1, 2 * us}});
+  end_region(made);
+  EXPECT_PART(made.text(), "taskgroup {\n" + pieces(1, 1200) + pieces(1, 3 * us) + pieces(1, 300) + pieces(1, 2 * us) +
+                               "    }\n");
+  EXPECT(made.found.whole->root->total, 100 + 6500);
+  EXPECT(made.found.whole->pieces, 4u);
 }
 
 TEST(what_does_not_fit_the_commands_has_longer_pieces_where_the_span_stays) {
