@@ -71,5 +71,6 @@ Options read_options() {
   parts(chosen.parts);
   flag("SPANPROF_WHOLE", "0", "1", chosen.whole);
   flag("SPANPROF_FOLD_EXACT", "0", "1", chosen.fold_exact);
+  flag("SPANPROF_TIMES", "0", "1", chosen.times);
   return chosen;
 }

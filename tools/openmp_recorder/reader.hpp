@@ -13,7 +13,7 @@
 struct Resumed {
   Task *task = nullptr;
   const Task *left = nullptr;
-  int64_t since = 0, at = 0;  // on the thread's clock, and on that of the records
+  int64_t since = 0, at = 0;  // on the thread's clock, and on the wall clock
 };
 
 struct Worker {

@@ -31,7 +31,7 @@ void Reader::end_group(Task *t, const void *code) {
 void Reader::tell_empty_segment(Task *t) {
   if (!t->region->has_events) return;
   auto worker = static_cast<uint16_t>(t->on->worker);
-  for (bool start : {true, false}) t->region->events.push_back({t, r->at, t->segment, worker, start});
+  for (bool start : {true, false}) t->region->events.push_back({t, r->wall, t->segment, worker, start});
 }
 
 // `ordered depend` tells of the turn that the thread's code is in, and of no task.

@@ -39,6 +39,7 @@ void take_over(WholeProgram &whole, const Region &region) {
   for (auto &[name, use] : region.locks) whole.locks[name].add(use);
   for (auto &[what, seen] : region.remarks) whole.remarks[what].add(seen);
   add_differing(whole.differing, region.differing);
+  add_differing(whole.asleep, region.asleep);
 }
 
 // What stays as this run divided it: where chunks are not told, or make tasks.

@@ -1,4 +1,5 @@
 """What make leaves in a folder of these tools: found there, or built."""
+import fcntl
 import glob
 import os
 import re
@@ -36,8 +37,11 @@ def why_not_built(complaint):
 def build(folder, product):
     if not shutil.which("make"):
         raise Fault("%s is not built, and make is missing (package make)" % product.name)
-    done = subprocess.run(["make", "-s", "-C", folder, product.file], stdout=subprocess.PIPE, stderr=subprocess.STDOUT,
-                          text=True, errors="replace", stdin=subprocess.DEVNULL, check=False)
+    with open(os.path.join(folder, "Makefile"), encoding="utf-8") as lock:  # of processes that need it at once, one
+        fcntl.flock(lock, fcntl.LOCK_EX)
+        done = subprocess.run(["make", "-s", "-C", folder, product.file], stdout=subprocess.PIPE,
+                              stderr=subprocess.STDOUT, text=True, errors="replace", stdin=subprocess.DEVNULL,
+                              check=False)
     if done.returncode:
         raise Fault("%s cannot be built: %s (packages %s); `make -C %s` tells more"
                     % (product.name, why_not_built(done.stdout), product.packages, folder))
