@@ -65,7 +65,7 @@ def beginning_with(shape, before):
 
 
 def faults_of_numbers(shape, threads, work, span):
-    """Of a text of the whole program, against what was built in. On one thread tasks are undeferred, and no turn waits."""
+    """Of a whole program's text, against what was built in. On one thread tasks are undeferred, and no turn waits."""
     for name, found, true in (("work", work, shape.work), ("span", span, shape.least(MANY)))[:1 + (threads > 1)]:
         if abs(found - true) > true * TOLERANCE + SLACK:
             yield "%s %.2f, and %.2f was built in" % (name, found, true)
