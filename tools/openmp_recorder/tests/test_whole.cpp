@@ -2,6 +2,7 @@
 #include "../exact.hpp"
 #include "../fold.hpp"
 #include "../head.hpp"
+#include "../program_time.hpp"
 #include "../span.hpp"
 #include "../whole_program.hpp"
 #include "check.hpp"
@@ -183,6 +184,15 @@ TEST(a_region_in_a_task_stands_where_the_task_met_it) {
                                "          work 5\n        }\n      }\n      work 3\n    }\n");
   EXPECT(made.found.whole->root->total, 110);
   EXPECT(made.found.whole->remarks.count(Remark::NestedRegion), 0u);
+}
+
+TEST(a_region_without_a_place_in_another_is_the_programs) {
+  Program made;
+  made.after(2).add(0, Told::ParallelBegin, 1, 2, is_runtimes).add(0, Told::ImplicitBegin, 9, 2, 0, 1).after(5);
+  made.add(0, Told::ImplicitEnd, 9).add(0, Told::ParallelEnd, 0, 2);
+  end_region(made.after(3));
+  EXPECT_PART(made.text(), "    work 2\n    taskgroup {\n      " + part + "        work 5\n      }\n    }\n    work 3\n");
+  EXPECT(in_code(made.found), 10);
 }
 
 TEST(tasks_and_loops_outside_of_regions_are_code_of_the_root) {
