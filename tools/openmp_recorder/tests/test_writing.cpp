@@ -110,6 +110,19 @@ TEST(times_of_segments_are_since_the_region_began) {
   EXPECT(events.workers, 2u);
 }
 
+// LLVM 14 may tell of a thread's last code after the region's end.
+TEST(the_root_ends_behind_all_that_is_told) {
+  Run run = two_parts();
+  run.regions.begin()->second->time.end -= 1000;
+  Region &region = only_region(run);
+  text_of(region);
+  std::vector<SegmentTime> times = event_lines(region).times;
+  int64_t last = 0;
+  for (const SegmentTime &time : times) last = std::max(last, time.end);
+  EXPECT(times.back().begin, last);
+  EXPECT(last > region.time.end - region.time.begin, true);
+}
+
 TEST(a_run_that_is_not_whole_says_so) {
   Run run = Made().create(0, 1, 2).barrier(0, 1).read();
   Region &region = only_region(run);
