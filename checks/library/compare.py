@@ -7,6 +7,7 @@ The last line counts the comparisons and those that differ; the status is 0 wher
 import random
 import sys
 import tempfile
+from concurrent.futures import ThreadPoolExecutor
 
 import answers
 import texts
@@ -79,10 +80,23 @@ def refusals():
     return 0
 
 
+def side_by_side():
+    """Many threads call at once, and are answered as one is. Tells how many answers were wrong."""
+    def told(text):
+        program = spanprof.parse(text)
+        return answers.slack(program), answers.greedy(program, 3, spanprof.NO_THREAD)
+
+    some = [text for name, text in texts.examples() if len(text) < 200_000] * 3
+    with ThreadPoolExecutor(8) as pool:
+        wrong = sum(one != other for one, other in zip(pool.map(told, some), map(told, some)))
+    print("%d texts on 8 threads, %d wrong" % (len(some), wrong), flush=True)
+    return wrong
+
+
 def main(words):
     dice = random.Random(7)
     comparison = Comparison(*words)
-    wrong = refusals()
+    wrong = refusals() + side_by_side()
     for name, text in texts.examples():
         comparison.all_of(name, text, FEW + REFUSED + MANY)
         comparison.changed(name, text, dice)

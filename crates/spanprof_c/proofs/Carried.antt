@@ -1,21 +1,25 @@
 -- What is told of a program's graph holds under all pairs of segments of which the first must
 -- precede the second, whatever the costs are.
-use Rattle.std.proofs.Common.{ℕ, ◌<◌, ◌≡◌, ◌↔◌, ◌∙◌, List, [], length, refl, sym, ap, subst}
+use Rattle.std.proofs.Common.{ℕ, ◌+◌, ◌<◌, ◌≡◌, ◌↔◌, ◌∙◌, Bool, List, [], Option, Result, Ok, Err}
+use Rattle.std.proofs.Common.{length, refl, sym, ap, subst}
+use Rattle.std.specs.Prelude.{IfOk, MatchResult}
 use Rattle.dispatch_core.specs.Graph.{IsGraphOf}
 use Rattle.dispatch_core.specs.RecordedGraph.{IsGraph, Precedes, RecordedGraph}
 use Rattle.dispatch_core.proofs.Carried.{graph_within, graph_ways}
-use Rattle.greedy_sim.specs.Greedy.{IsCurve, IsGreedyRun}
+use Rattle.greedy_sim.specs.Greedy.{IsGreedyRun}
 use Rattle.greedy_sim.proofs.SameGreedy.{same_run}
 use Rattle.open_segments.specs.Facts.{IsSoundTable}
 use Rattle.span_analysis.specs.Findings.{AreFindings, Findings}
 use Rattle.task_segments.specs.Precedence.{MustPrecede}
-use Rattle.task_segments.specs.Schedule.{IsLegal, at, end_of}
+use Rattle.task_segments.specs.Schedule.{IsLegal, at}
 use Rattle.task_segments.specs.Table.{Table, costs_of, table_of}
 use Rattle.task_segments.proofs.Reaches.{Reaches}
 use Rattle.task_segments.proofs.SameSchedules.{same_legal, same_least_end, same_least_start}
 use Rattle.task_segments.proofs.SameSchedules.{same_slack, same_span}
 use Rattle.task_segments.proofs.Schedules.{chain_within}
-use Rattle.spanprof_c.specs.Programs.{HasCosts, IsPriced, IsUnder, OfText, OnCosts, costs_under}
+use Rattle.spanprof_c.specs.Programs.{HasCosts, IsPriced, OfText, OnCosts, costs_under}
+use Rattle.spanprof_c.specs.Refusals.{RefusesCosts}
+use Rattle.spanprof_c.specs.declared.refusal.Refusal.{Refusal}
 use Rattle.spanprof_c.specs.Told.{Analyses, Curves, Judges, Measures, RunsGreedily}
 use Rattle.spanprof_c.specs.declared.told.Analysed.{Analysed}
 use Rattle.spanprof_c.specs.declared.told.Measured.{Measured}
@@ -169,3 +173,11 @@ other_costs text given before after priced has =
         costs = has.costs ∙ ap (λ costs. costs_under costs given) is.costs;
       };
     }
+
+-- as far as costs are put
+pub priced : (text given : List ℕ) (graph : RecordedGraph) (made : Result RecordedGraph Refusal)
+    → OfText text (IsPriced [] graph)
+    → MatchResult made (HasCosts given graph) (RefusesCosts given (length graph.costs))
+    → IfOk made (λ after. OfText text (IsPriced given after))
+priced text given graph (Ok after) found has = other_costs text given graph after found has
+priced text given graph (Err why) found has = tt

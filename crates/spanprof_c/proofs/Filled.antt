@@ -1,8 +1,9 @@
 -- Lists that are filled place by place.
 use Rattle.std.proofs.Common.{ℕ, ◌+◌, ◌<◌, ◌≤◌, ◌≡◌, ◌∙◌, List, [], ◌∷◌, length, get_or, map, suc}
-use Rattle.std.proofs.Common.{refl, sym, arith}
+use Rattle.std.proofs.Common.{◌≢◌, below_more, get_or-set_other, get_or-set_same, refl, set, sym, arith}
 use Rattle.std.specs.Prelude.{Contains}
 use Rattle.std.proofs.lemmas.List.{get_or-map, get_or_default, length-map, same_lists}
+use Rattle.greedy_sim.specs.Greedy.{IsGreedyEnd}
 use Rattle.task_segments.specs.Schedule.{AreSegments, IsChain}
 
 -- two lists of numbers with the same number at each place
@@ -41,3 +42,13 @@ pub few_in_chain : (costs : List ℕ) (R : ℕ → ℕ → Type 0) (chain : List
 few_in_chain costs R [] up inside linked = absurd linked
 few_in_chain costs R (s ∷ rest) up inside linked =
     let few = few_from (length costs) R up s rest inside linked in omega arith
+
+-- the end on one thread more
+pub one_more_end : (costs : List ℕ) (R : ℕ → ℕ → Type 0) (ends : List ℕ) (n end : ℕ)
+    → n < length ends
+    → ((k : ℕ) → k < n → IsGreedyEnd costs R (k + 1) (get_or ends k 0))
+    → IsGreedyEnd costs R (n + 1) end
+    → (k : ℕ) → k < n + 1 → IsGreedyEnd costs R (k + 1) (get_or (set ends n end) k 0)
+one_more_end costs R ends n end inside before here = below_more _ _
+    (λ k h. let ne : k ≢ n = omega arith in rw get_or-set_other (before k h))
+    (rw get_or-set_same here)

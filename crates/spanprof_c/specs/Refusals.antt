@@ -7,7 +7,6 @@ use Rattle.program_text.specs.declared.fault.ReadKind.{ReadKind}
 use Rattle.program_text.specs.declared.fault.ReadKind.TheVariants as kind
 use Rattle.program_text.specs.declared.limits.TheConstants.{MOST_WORK}
 use Rattle.task_program.specs.Readings.{HasFirstFault}
-use Rattle.task_segments.specs.Table.{Table}
 use Rattle.spanprof_c.specs.declared.refusal.Refusal.{Refusal}
 use Rattle.spanprof_c.specs.declared.refusal.Refusal.TheVariants as refusal
 use Rattle.spanprof_c.specs.Programs.{OfText}

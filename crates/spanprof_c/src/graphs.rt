@@ -1,6 +1,6 @@
 //! The graph of a text's program, under its own costs or under others.
 ghost use Rattle.std.specs.Prelude.{ℕ, ◌≡◌, ◌≢◌, ◌<◌, ◌≤◌, List, IfErr, IfOk, MatchOption, MatchResult};
-ghost use Rattle.std.specs.Prelude.{length, sum};
+ghost use Rattle.std.specs.Prelude.{[], length, sum};
 ghost use Rattle.dispatch_core.specs.Graph.{IsGraphOf};
 ghost use Rattle.dispatch_core.specs.RecordedGraph.{RecordedGraph};
 ghost use Rattle.open_segments.specs.Facts.{IsSoundTable};

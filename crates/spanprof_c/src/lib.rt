@@ -114,10 +114,7 @@ pub extern "C" fn spanprof_greedy(
         (length starts.old ∷ length threads.old ∷ [])) result line.new }
 {
     match graph_under(alloc, text, costs) {
-        Ok(graph) => tell(
-            tell_run(alloc, &graph, count, starts, threads, end),
-            line,
-        ),
+        Ok(graph) => tell(tell_run(alloc, &graph, count, starts, threads, end), line),
         Err(why) => tell(Err(why), line),
     }
 }
