@@ -47,9 +47,9 @@ static _Noreturn void refuse(uint32_t number, uint32_t line) {
     exit(1);
 }
 
-static void need(uint32_t number, uint32_t line) {
-    if (number != SPANPROF_DONE) refuse(number, line);
-    if (line != 0) give_up("a line without a fault");
+static void need(uint32_t number, const uint32_t *line) {
+    if (number != SPANPROF_DONE) refuse(number, *line);
+    if (*line != 0) give_up("a line without a fault");
 }
 
 static const uint8_t *read_input(size_t *length) {
@@ -68,7 +68,7 @@ static text_of_tasks read_text(void) {
     uint32_t line = 77;
     text.bytes = read_input(&text.length);
     spanprof_measured *told = room(sizeof *told);
-    need(spanprof_measure(text.bytes, text.length, SPANPROF_OWN_COSTS, told, &line), line);
+    need(spanprof_measure(text.bytes, text.length, SPANPROF_OWN_COSTS, told, &line), &line);
     text.told = *told;
     text.own = NULL;
     return text;
@@ -80,7 +80,7 @@ static uint32_t *tell_segments(text_of_tasks *text) {
     uint32_t *tasks = room(list_bytes(text, sizeof *tasks)), line = 77;
     uint64_t *costs = room(list_bytes(text, sizeof *costs));
     need(spanprof_segments(text->bytes, text->length, tasks, text->told.segments, costs, text->told.segments, &line),
-         line);
+         &line);
     text->own = costs;
     return tasks;
 }
@@ -99,7 +99,7 @@ static void slack(void) {
     uint32_t *path = room(many * 4), line = 77;
     spanprof_analysed *told = room(sizeof *told);
     need(spanprof_analyse(text.bytes, text.length, SPANPROF_OWN_COSTS, starts, many, slacks, many, path, many, told,
-                          &line), line);
+                          &line), &line);
     if (told->work != text.told.work || told->span != text.told.span) give_up("another work or span");
     size_t place = 0;
     puts("segment,task,cost,start,slack,chain");
@@ -120,8 +120,8 @@ static void greedy(uint32_t count) {
     uint32_t *threads = room(many * 4), line = 77;
     bool *legal = room(1);
     need(spanprof_greedy(text.bytes, text.length, SPANPROF_OWN_COSTS, count, starts, many, threads, many, end, &line),
-         line);
-    need(spanprof_is_legal(text.bytes, text.length, SPANPROF_OWN_COSTS, starts, many, legal, &line), line);
+         &line);
+    need(spanprof_is_legal(text.bytes, text.length, SPANPROF_OWN_COSTS, starts, many, legal, &line), &line);
     puts("segment,start,end,thread");
     for (size_t s = 0; s < many; s++) {
         printf("%zu,%" PRIu64 ",%" PRIu64 ",", s, starts[s], starts[s] + text.own[s]);
@@ -136,11 +136,11 @@ static void curve(uint32_t upto) {
     const text_of_tasks text = read_text();
     uint64_t *ends = room((size_t)upto * 8);
     uint32_t line = 77;
-    need(spanprof_curve(text.bytes, text.length, SPANPROF_OWN_COSTS, ends, upto, &line), line);
+    need(spanprof_curve(text.bytes, text.length, SPANPROF_OWN_COSTS, ends, upto, &line), &line);
     spanprof_bounded *told = room(sizeof *told);
     puts("threads,end,least,bound");
     for (uint32_t p = 1; p <= upto; p++) {
-        need(spanprof_bounds(text.told.work, text.told.span, p, told), 0);
+        need(spanprof_bounds(text.told.work, text.told.span, p, told), &line);
         printf("%" PRIu32 ",%" PRIu64 ",%" PRIu64 ",%" PRIu64 "\n", p, ends[p - 1], told->least, told->greatest);
     }
 }
@@ -158,7 +158,7 @@ static void whatif(char **changes) {
     }
     uint32_t line = 77;
     spanprof_measured *told = room(sizeof *told);
-    need(spanprof_measure(text.bytes, text.length, costs, many, told, &line), line);
+    need(spanprof_measure(text.bytes, text.length, costs, many, told, &line), &line);
     printf("work %" PRIu64 "\nspan %" PRIu64 "\nwas %" PRIu64 "\n", told->work, told->span, text.told.span);
 }
 

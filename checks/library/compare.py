@@ -1,7 +1,8 @@
 #!/usr/bin/env python3
 """Compares what spanprof answers with what the library does, called from C and from Python.
 
-    checks/library/compare.py SPANPROF ASK      ASK is the program of ask.c; SPANPROF_LIBRARY names the library
+    checks/library/compare.py SPANPROF ASK SANITIZED    the last two are the program of ask.c, plain and under the
+                                                        sanitizers; SPANPROF_LIBRARY names the library
 The last line counts the comparisons and those that differ; the status is 0 where none did.
 """
 import random
@@ -25,8 +26,8 @@ MOST_WORK = 10 ** 15
 class Comparison:
     """Counts what was compared."""
 
-    def __init__(self, spanprof_program, ask):
-        self.programs = [spanprof_program, ask]
+    def __init__(self, spanprof_program):
+        self.programs = [spanprof_program, None]
         self.made = self.wrong = 0
 
     def compare(self, name, words, text):
@@ -45,7 +46,8 @@ class Comparison:
                 print("WRONG: %s of %s from %s: %r, and not %r" % (" ".join(words), name, caller, told, wanted)[:400],
                       flush=True)
 
-    def all_of(self, name, text, words):
+    def all_of(self, ask, name, text, words):
+        self.programs[1] = ask
         for one in words:
             self.compare(name, one, text)
 
@@ -93,24 +95,24 @@ def side_by_side():
     return wrong
 
 
-def main(words):
+def main(spanprof_program, ask, sanitized):
     dice = random.Random(7)
-    comparison = Comparison(*words)
+    comparison = Comparison(spanprof_program)
     wrong = refusals() + side_by_side()
     for name, text in texts.examples():
-        comparison.all_of(name, text, FEW + REFUSED + MANY)
+        comparison.all_of(sanitized, name, text, FEW + REFUSED + MANY)
         comparison.changed(name, text, dice)
     print("examples: %d compared" % comparison.made, flush=True)
     with tempfile.TemporaryDirectory() as folder:
         for name, text in texts.at_limits(folder):
-            comparison.all_of(name, text, FEW)
+            comparison.all_of(ask, name, text, FEW)
     print("and at the limits: %d compared" % comparison.made, flush=True)
     for name, text in texts.hostile():
-        comparison.all_of(name, text, FEW[:2])
+        comparison.all_of(ask, name, text, FEW[:1])
     wrong += comparison.wrong
     print("%d compared, %d wrong" % (comparison.made, wrong))
     return 1 if wrong else 0
 
 
 if __name__ == "__main__":
-    sys.exit(main(sys.argv[1:]))
+    sys.exit(main(*sys.argv[1:]))
