@@ -9,7 +9,7 @@ import os
 import shutil
 import sys
 
-from spanprof_version import commit_of
+from spanprof.version import commit_of
 
 TOOLS = os.path.dirname(os.path.abspath(__file__))
 SPANPROF = os.path.join(TOOLS, "..", "crates", "spanprof", "out", "spanprof")
@@ -20,9 +20,8 @@ LIST = os.path.join("share", "spanprof", "installed")
 COMMANDS = ("spanprof-record", "spanprof-convert", "spanprof-report", "spanprof-path", "spanprof-whatif",
             "spanprof-conformance")
 EXECUTABLE = ("bin/", "lib/spanprof/spanprof_path", "lib/spanprof/convert_log")
-SHARED = ("*.py", "record/*.py", "path/*.py", "whatif/*.py", "report/*.py", "report/template/*", "plots/*.py",
-          "conformance/*.py", "conformance/*.txt", "conformance/*.sh", "conformance/*/*.py",
-          "conformance/directed/*.tasks", "conformance/harness/*", "conformance/mutants/*")
+SHARED = ("*.py", "spanprof/*.py", "spanprof/*/*.py", "spanprof/report/template/*", "conformance/*.txt",
+          "conformance/*.sh", "conformance/directed/*.tasks", "conformance/harness/*", "conformance/mutants/*")
 LEFT_OUT = ("install.py", "/tests/")
 
 

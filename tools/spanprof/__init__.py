@@ -1,4 +1,12 @@
-"""spanprof from Python; `library` says what there is."""
-from spanprof.library import MOST_THREADS, NO_THREAD, Bounds, NoLibrary, Program, Refused, Run, parse, read
+"""The tools around spanprof: recordings, pages, changed programs, paths, tests of runtimes.
 
-__all__ = ["MOST_THREADS", "NO_THREAD", "Bounds", "NoLibrary", "Program", "Refused", "Run", "parse", "read"]
+What `library` has for callers is here too, and loaded when it is asked for: `spanprof.read("mine.tasks").span`.
+"""
+OF_LIBRARY = ("MOST_THREADS", "NO_THREAD", "Bounds", "NoLibrary", "Program", "Refused", "Run", "parse", "read")
+
+
+def __getattr__(name):
+    if name not in OF_LIBRARY:
+        raise AttributeError("module 'spanprof' has no attribute %r" % name)
+    from spanprof import library
+    return getattr(library, name)

@@ -13,13 +13,14 @@ class Plan(unittest.TestCase):
         places = [path for _, path in install.plan()]
         for path in ("bin/spanprof", "bin/spanprof-record", "lib/spanprof/librecorder.so", "bin/spanprof-path",
                      "bin/spanprof-convert", "lib/spanprof/convert_log",
-                     "lib/spanprof/spanprof_path", "share/spanprof/path/found.py", "share/spanprof/whatif/command.py",
+                     "lib/spanprof/spanprof_path", "share/spanprof/spanprof/path/found.py",
+                     "share/spanprof/spanprof/whatif/command.py",
                      "bin/spanprof-whatif", "share/man/man1/spanprof-path.1",
                      "share/man/man1/spanprof.1", "share/bash-completion/completions/spanprof-report",
-                     "share/zsh/site-functions/_spanprof", "share/spanprof/record/command.py",
-                     "share/spanprof/report/template/page.html", "share/spanprof/plots/program.py",
-                     "share/spanprof/conformance/tester/judge.py", "share/spanprof/conformance/harness/log.c",
-                     "share/spanprof/spanprof_version.py", "share/spanprof/VERSION"):
+                     "share/zsh/site-functions/_spanprof", "share/spanprof/spanprof/record/command.py",
+                     "share/spanprof/spanprof/report/template/page.html", "share/spanprof/spanprof/client.py",
+                     "share/spanprof/spanprof/conformance/judge.py", "share/spanprof/conformance/harness/log.c",
+                     "share/spanprof/spanprof/version.py", "share/spanprof/VERSION"):
             self.assertIn(path, places)
         self.assertEqual(len(places), len(set(places)))
 

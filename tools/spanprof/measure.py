@@ -1,0 +1,40 @@
+"""What spanprof_large tells of a text of any size, and where that program is."""
+import os
+import shlex
+import shutil
+import subprocess
+
+from spanprof.answers import named_numbers
+from spanprof.errors import Fault
+from spanprof.refusal import without_text
+
+TOP = os.path.dirname(os.path.dirname(os.path.dirname(os.path.abspath(__file__))))
+PLACES = (os.path.join(TOP, "crates", "spanprof_large", "out", "spanprof_large"),
+          os.path.join(TOP, "..", "bin", "spanprof_large"))  # of PREFIX, where it is installed
+LIMITS = {
+    "BadHeader": "spanprof_large reads texts that begin with `omptasks 1`",
+    "TooLong": "a text has at most 9,223,372,036,854,775,806 bytes",
+    "TooDeep": "at most 1,048,576 blocks are open at a time",
+    "TooManyItems": "a task has at most 32 depend items, and a text 4,294,967,294"}
+HOW = "spanprof_large, which measures it, is not found; tools/prove_program.sh spanprof_large proves and builds it"
+
+
+def spanprof_large():
+    """The words that start the program; none where it is not found."""
+    words = shlex.split(os.environ.get("SPANPROF_LARGE", ""))
+    found = shutil.which("spanprof_large") or next((path for path in PLACES if os.access(path, os.X_OK)), None)
+    return words or ([found] if found else [])
+
+
+def measure(program, path):
+    """Tasks, segments, work and span of the text in a file."""
+    try:
+        with open(path, "rb") as text:
+            done = subprocess.run(program, stdin=text, capture_output=True, text=True, errors="replace", check=False)
+    except OSError as wrong:
+        raise Fault("spanprof_large: %s" % wrong) from wrong
+    if done.returncode:
+        answer = done.stdout.strip() or "it ended with status %d" % done.returncode
+        more = without_text(path, answer, LIMITS)
+        raise Fault("%s\nspanprof_large: %s" % (more, answer) if more else "spanprof_large: %s" % answer)
+    return named_numbers(done.stdout)
