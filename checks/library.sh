@@ -23,18 +23,18 @@ nm -D --defined-only "$SPANPROF_LIBRARY" | awk '{ print $3 }' | sort > "$folder/
 cmp "$folder/declared" "$folder/exported" || fail "other functions than the header's"
 nm -D --undefined-only "$SPANPROF_LIBRARY" | awk '$1 == "U" { sub(/@.*/, "", $2); print $2 }' |
     grep -vxE 'malloc|realloc|free|mem(cpy|move|set|cmp)|bcmp' && fail "it takes more from outside"
-for word in 'cc -std=c99' 'c++ -std=c++11'; do
-    echo '#include "spanprof.h"' > "$folder/header.${word%%c* *}c"
-    $word -pedantic -Wall -Wextra -Werror -Iinclude -fsyntax-only -x "$([ "${word%% *}" = cc ] && echo c || echo c++)" \
-        include/spanprof.h 2> "$folder/told" || { fail "the header in $word"; cat "$folder/told"; }
+for words in 'c -std=c99' 'c++ -std=c++11'; do
+    # shellcheck disable=SC2086
+    cc -pedantic -Wall -Wextra -Werror -fsyntax-only -x $words include/spanprof.h || fail "the header in $words"
 done
 
 # `ask` answers commands by the library: plainly, and under the sanitizers.
 flags=(-std=c11 -O1 -g -Wall -Wextra -Wconversion -Werror -Iinclude checks/library/ask.c "$library/libspanprof.a")
 cc "${flags[@]}" -o "$folder/ask"
 cc "${flags[@]}" -fsanitize=address,undefined -fno-sanitize-recover=all -o "$folder/ask_sanitized"
-/usr/bin/env python3 -B checks/library/compare.py "$program" "$folder/ask_sanitized" || fail "it differs from the program"
-python3 -B checks/refused_growths.py library "$folder/ask" > "$folder/told" || { fail "with allocations refused"; cat "$folder/told"; }
+python3 -B checks/library/compare.py "$program" "$folder/ask" "$folder/ask_sanitized" || fail "it differs"
+python3 -B checks/refused_growths.py library "$folder/ask" > "$folder/told" ||
+    { fail "with allocations refused"; cat "$folder/told"; }
 tail -n 1 "$folder/told"
 (ulimit -s 256 && "$folder/ask" slack < examples/openmp/recorded/cholesky.tasks > /dev/null) || fail "with a stack of 256 KB"
 python3 -B checks/library/documented.py "$library" "$folder" || fail "the page's examples"

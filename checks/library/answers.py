@@ -30,8 +30,7 @@ def span(program):
 def slack(program):
     on_path = set(int(segment) for segment in program.path())
     rows = zip(program.tasks, program.costs, program.starts(), program.slack())
-    return table("segment,task,cost,start,slack,chain",
-                 ((s, task, cost, start, slack, int(s in on_path)) for s, (task, cost, start, slack) in enumerate(rows)))
+    return table("segment,task,cost,start,slack,chain", ((s, *row, int(s in on_path)) for s, row in enumerate(rows)))
 
 
 def greedy(program, threads, none):

@@ -4,22 +4,12 @@ import subprocess
 import sys
 
 TOP = pathlib.Path(__file__).resolve().parent.parent.parent
-OTHER_BYTES = (0, 10, 32, ord("0"), ord("9"), ord("a"), ord("}"), 255)
-PLAIN = b"omptasks 1\nwork 5 task if(0) depend(in: a, b) { work 3 } work 2 taskwait taskgroup { task { } } work 1\n"
-LOOPS = b"omptasks 2\nfor i 1 3 { task depend(in: x[i-1]) depend(out: x[i]) { work 2 } }\n"
+sys.path.insert(0, str(TOP / "checks"))
+from damaged_texts import LOOPS, PLAIN, damaged  # noqa: E402
+
 HOSTILE = (b"", b"\n", b"omptasks", b"omptasks 3\n", b"\0" * 64, b"omptasks 1\n" + b"{" * 100, b"omptasks 1 # \xff\xfe",
            b"omptasks 1\n" + b"task { " * 65, b"omptasks 1 work 1000000000001", b"omptasks 1\nwork " + b"9" * 4096,
            b"omptasks 2\nfor i 0 70000 { work 1 }", b"omptasks 1\n" + b"a" * 4_194_304)
-
-
-def damaged(text):
-    """The text cut at each byte, and with each byte replaced by some others."""
-    for length in range(len(text)):
-        yield text[:length]
-    for place, old in enumerate(text):
-        for byte in OTHER_BYTES:
-            if old != byte:
-                yield text[:place] + bytes([byte]) + text[place + 1:]
 
 
 def examples():

@@ -62,7 +62,7 @@ class Bounds(NamedTuple):
 
 
 def places():
-    """Where the library may be: below the repository, below the prefix that this file is installed on, on the system."""
+    """Where the library may be: in the repository, below the prefix that this file is installed on, on the system."""
     named = os.environ.get("SPANPROF_LIBRARY")
     if named:
         return [named]
