@@ -17,8 +17,9 @@ use Rattle.task_segments.proofs.Reaches.{Reaches}
 use Rattle.task_segments.proofs.SameSchedules.{same_legal, same_least_end, same_least_start}
 use Rattle.task_segments.proofs.SameSchedules.{same_slack, same_span}
 use Rattle.task_segments.proofs.Schedules.{chain_within}
-use Rattle.spanprof_c.specs.Programs.{HasCosts, IsPriced, OfText, OnCosts, costs_under}
-use Rattle.spanprof_c.specs.Refusals.{RefusesCosts}
+use Rattle.spanprof_c.specs.Programs.{OfText, OnCosts, costs_under}
+use Rattle.spanprof_c.specs.Steps.{HasCosts, IsPriced}
+use Rattle.spanprof_c.specs.Steps.{RefusesCosts}
 use Rattle.spanprof_c.specs.declared.refusal.Refusal.{Refusal}
 use Rattle.spanprof_c.specs.Told.{Analyses, Curves, Judges, Measures, RunsGreedily}
 use Rattle.spanprof_c.specs.declared.told.Analysed.{Analysed}

@@ -12,9 +12,12 @@ use Rattle.program_text.specs.declared.fault.ReadKind.TheVariants as kind
 use Rattle.task_program.specs.Readings.{HasFirstFault}
 use Rattle.task_segments.specs.Precedence.{MustPrecede}
 use Rattle.task_segments.specs.Table.{Table, costs_of, table_of}
-use Rattle.spanprof_c.specs.Programs.{IsPriced, OfText, OnCosts}
-use Rattle.spanprof_c.specs.Refusals.{Asked, IsRefused, IsWrongLength, RefusesCosts, RefusesGraph}
-use Rattle.spanprof_c.specs.Refusals.{TellsWhy, asked, line_of, number_of, refusal_of_text}
+use Rattle.spanprof_c.specs.Programs.{OfText, OnCosts}
+use Rattle.spanprof_c.specs.Steps.{IsPriced}
+use Rattle.spanprof_c.specs.Refusals.{Asked, IsRefused, IsWrongLength}
+use Rattle.spanprof_c.specs.Steps.{RefusesCosts, RefusesGraph}
+use Rattle.spanprof_c.specs.Refusals.{TellsWhy, asked, line_of, number_of}
+use Rattle.spanprof_c.specs.Steps.{refusal_of_text}
 use Rattle.spanprof_c.specs.declared.refusal.Refusal.{Refusal}
 use Rattle.spanprof_c.specs.declared.refusal.Refusal.TheVariants as refusal
 use Rattle.spanprof_c.proofs.Carried.{counted, on_costs}

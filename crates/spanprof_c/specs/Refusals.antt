@@ -1,8 +1,6 @@
 -- Why a call is not answered, and the number and the line that say so.
-use Rattle.std.specs.Prelude.{ℕ, ◌≡◌, ◌≢◌, ◌<◌, ◌⊎◌, List, Contains, if◌then◌else◌, length, sum}
+use Rattle.std.specs.Prelude.{ℕ, ◌≡◌, ◌≢◌, ◌<◌, ◌⊎◌, List, Contains, length, sum}
 use Rattle.greedy_sim.specs.declared.greedy.TheConstants.{MOST_THREADS}
-use Rattle.program_text.specs.Answers.{is_memory}
-use Rattle.program_text.specs.declared.fault.ReadFault.{ReadFault}
 use Rattle.program_text.specs.declared.fault.ReadKind.{ReadKind}
 use Rattle.program_text.specs.declared.fault.ReadKind.TheVariants as kind
 use Rattle.program_text.specs.declared.limits.TheConstants.{MOST_WORK}
@@ -48,23 +46,6 @@ IsRefused ask refusal.CostsTooLarge = MOST_WORK < sum ask.given
 IsRefused ask refusal.WrongLength =
     OfText ask.text (λ table. IsWrongLength ask.lengths (length table.segments))
 IsRefused ask refusal.OutOfMemory = Unit {0}
-
--- Carried out: why a call is not answered where its text is not read.
-abbrev pub refusal_of_text : ReadFault → Refusal
-refusal_of_text fault = if is_memory fault.kind then refusal.OutOfMemory else refusal.Text fault
-
--- Carried out: a reason not to take costs for a graph of so many segments.
-abbrev pub RefusesCosts : List ℕ → ℕ → Refusal → Type 0
-RefusesCosts given count refusal.CostCount = IsCostCount given count
-RefusesCosts given count refusal.CostsTooLarge = MOST_WORK < sum given
-RefusesCosts given count _ = ⊥
-
--- Carried out: a reason not to answer about a graph of so many segments.
-abbrev pub RefusesGraph : ℕ → List ℕ → ℕ → Refusal → Type 0
-RefusesGraph threads lengths count refusal.ThreadCount = IsOutOfRange threads
-RefusesGraph threads lengths count refusal.WrongLength = IsWrongLength lengths count
-RefusesGraph threads lengths count refusal.OutOfMemory = Unit {0}
-RefusesGraph threads lengths count _ = ⊥
 
 -- ---- numbers
 

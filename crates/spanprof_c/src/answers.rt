@@ -3,7 +3,7 @@ ghost use Rattle.std.specs.Prelude.{ℕ, ◌≡◌, ◌⊎◌, ◌<◌, IfErr, O
 ghost use Rattle.dispatch_core.specs.RecordedGraph.{Precedes};
 ghost use Rattle.greedy_sim.specs.declared.greedy.TheConstants.{MOST_THREADS};
 ghost use Rattle.span_analysis.specs.Findings.{AreFindings};
-ghost use Rattle.spanprof_c.specs.Refusals.{RefusesGraph};
+ghost use Rattle.spanprof_c.specs.Steps.{RefusesGraph};
 ghost use Rattle.spanprof_c.specs.Told.{Analyses, Curves, Judges, ListsSegments, Measures};
 ghost use Rattle.spanprof_c.specs.Told.{RunsGreedily};
 

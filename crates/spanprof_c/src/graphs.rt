@@ -7,8 +7,10 @@ ghost use Rattle.open_segments.specs.Facts.{IsSoundTable};
 ghost use Rattle.program_text.specs.declared.fault.ReadKind.TheVariants.{OutOfMemory};
 ghost use Rattle.program_text.specs.declared.limits.TheConstants.{MOST_WORK};
 ghost use Rattle.task_program.specs.Readings.{HasFirstFault};
-ghost use Rattle.spanprof_c.specs.Programs.{HasCosts, IsPriced, OfText};
-ghost use Rattle.spanprof_c.specs.Refusals.{asked, IsRefused, RefusesCosts};
+ghost use Rattle.spanprof_c.specs.Programs.{OfText};
+ghost use Rattle.spanprof_c.specs.Steps.{HasCosts, IsPriced};
+ghost use Rattle.spanprof_c.specs.Refusals.{asked, IsRefused};
+ghost use Rattle.spanprof_c.specs.Steps.{RefusesCosts};
 
 use crate::refusal::{Refusal, text_refusal};
 use dispatch_core::graph::{Graph, graph_of};

@@ -1,6 +1,7 @@
 //! Why a call is not answered, and the number that says so.
 ghost use Rattle.std.specs.Prelude.{◌≡◌, ◌≤◌, MatchResult};
-ghost use Rattle.spanprof_c.specs.Refusals.{kind_number, line_of, number_of, refusal_of_text};
+ghost use Rattle.spanprof_c.specs.Refusals.{kind_number, line_of, number_of};
+ghost use Rattle.spanprof_c.specs.Steps.{refusal_of_text};
 
 use task_program::fault::{ReadFault, ReadKind};
 use thiserror::Error;
