@@ -74,6 +74,7 @@ one 1800 'true_words.sh cpu' checks/true_words.sh cpu
 one 900 whole_program.sh checks/whole_program.sh
 one 600 'whatif.sh kept' checks/whatif.sh kept
 one 900 openmp.sh checks/openmp.sh
+one 2400 library.sh checks/library.sh
 one 900 'openmp_regions.sh 20' checks/openmp_regions.sh 20
 echo "$passed passed, $failed failed, $skipped skipped"
 [ "$failed" -eq 0 ]
