@@ -28,7 +28,8 @@ def read(*path):
 def shown(name, part=1):
     """A page as man shows it, on long lines."""
     done = subprocess.run(["groff", "-man", "-ww", "-Tascii", "-P-cbou", "-rLL=900n", "-rHY=0",
-                           os.path.join(TOOLS, "man", "%s.%d" % (name, part))], capture_output=True, text=True, check=False)
+                           os.path.join(TOOLS, "man", "%s.%d" % (name, part))],
+                          capture_output=True, text=True, check=False)
     return done.stdout, done.stderr
 
 
