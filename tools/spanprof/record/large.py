@@ -5,7 +5,7 @@ from dataclasses import dataclass, field
 from itertools import islice
 
 from spanprof.errors import Fault
-from spanprof.head import Head, head_text, read_head
+from spanprof.head import Head, head_text, read_head, with_function
 from spanprof.measure import HOW, measure
 from spanprof.path.found import find_path, programs
 from spanprof.path.table import share
@@ -16,6 +16,7 @@ from spanprof.whatif.large_lead import Bounded, large_lead
 
 TOO_LARGE = "the text is beyond the limits of spanprof_account"
 ASK = "spanprof-whatif tells what a change brings, and --places what can be changed"
+
 
 
 @dataclass
@@ -58,7 +59,8 @@ def answers(program, path):
 
 def place_lines(answered):
     return ["%.1f %% of the span, %.1f %% of the work: %s (measured)" % (
-        share(place.span, answered.span), share(place.work, answered.work), place.name) for place in answered.places]
+        share(place.span, answered.span), share(place.work, answered.work),
+        with_function(answered.head, place.name)) for place in answered.places]
 
 
 def large_summary(answered, news=()):
