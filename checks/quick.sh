@@ -24,7 +24,8 @@ tested() { passes "$1" python3 -B -m unittest discover -q -s "$1" -t "$2"; }
 for script in definitions proof_map; do
     passes "$script.py" python3 -B "checks/$script.py" --check
 done
-for script in crate_picture version signatures places clauses believed_lines left_edits sentences speed_numbers waiting/lines; do
+for script in crate_picture version signatures places clauses believed_lines left_edits repeated_lines \
+    sentences speed_numbers waiting/lines; do
     passes "$script.py" python3 -B "checks/$script.py"
 done
 for test in checks/test_*.py checks/waiting/test_*.py checks/large_recordings/test_*.py bench/test_*.py \
