@@ -104,6 +104,14 @@ keeps_more bytes tail more line reader meter h = record {
   so_far = h.so_far;
 }
 
+-- a text of which nothing is taken yet
+pub taken_none : (text : List ℕ) (reader : MarkReader) (meter : Tally)
+    → IsReadSoFar [] [] reader
+    → Tallies meter (Begins false [] ∷ [])
+    → HasTakenLines text text 1 reader meter
+taken_none text reader meter so_far measures =
+    keeps_more [] [] text 1 reader meter (taken_first reader meter so_far measures)
+
 -- and a fault stays the first
 pub stays_fault : (bytes more : List ℕ) (fault : ReadFault)
     → HasFault bytes fault
