@@ -18,7 +18,6 @@ use Rattle.task_segments.proofs.LastMoment.{last_of_nested, moment_after-append,
 use Rattle.task_segments.proofs.Walks.{grows}
 use Rattle.large_text.specs.declared.tally.Tally.{Tally}
 use Rattle.task_segments.specs.MarkCutting.{groups_ended}
-use Rattle.online_span.specs.Measuring.{Fits}
 use Rattle.large_text.specs.Tallied.{Tallies, FitsWork, CanTally}
 use Rattle.large_text.specs.declared.reader.MarkReader.{MarkReader}
 use Rattle.large_text.specs.LargeReading.{IsReadSoFar, state_of}

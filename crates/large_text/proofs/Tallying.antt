@@ -1,5 +1,5 @@
 -- What a tally holds after one more mark.
-use Rattle.std.proofs.Common.{ℕ, ◌≡◌, refl, arith, ◌≤◌, length, subst, List, Option, Some, None, sym, ◌∙◌, false, [], ◌∷◌}
+use Rattle.std.proofs.Common.{ℕ, ◌≡◌, arith, ◌≤◌, length, subst, List, Option, Some, None, ◌∙◌, false, [], ◌∷◌}
 use Rattle.std.specs.Option.{IfSome, is_some}
 use Rattle.task_program.specs.Nested.{IsNested}
 use Rattle.task_segments.specs.Moments.{last_moment}
@@ -8,7 +8,7 @@ use Rattle.program_text.specs.Tokens.{Token}
 use Rattle.large_text.specs.declared.tally.Tally.{Tally}
 use Rattle.large_text.specs.Measured.{FitsTable, MeasuresText, TalliesText, IsTableOfText}
 use Rattle.program_text.specs.Marks.{Mark}
-use Rattle.program_text.specs.Marks.Mark.{Begins, Ends, Works, Waits, GroupBegins, GroupEnds}
+use Rattle.program_text.specs.Marks.Mark.{Begins}
 use Rattle.task_segments.specs.MarkCutting.{AreWithin, CanTake, HasRoomForOne, Tables}
 use Rattle.task_segments.specs.declared.mark_cutter.MarkCutter.{MarkCutter}
 use Rattle.task_segments.proofs.MarkCutting.{room_for_one}
