@@ -1,8 +1,9 @@
 #!/usr/bin/env bash
 # Tries tools/spanprof-report: its unit tests; then for each example, each recorded text, a text at the limits and,
-# where clang and LLVM's OpenMP runtime are there, each program of docs/TUNING.md recorded anew: the page is made,
-# each of its numbers is compared with spanprof's answers, and it is opened in Chromium: errors, sizes, looks in light,
-# dark, narrow and print, keys and mouse. Build spanprof first.
+# where clang and LLVM's OpenMP runtime are there, each program of docs/TUNING.md recorded anew and programs that are
+# slow for a known cause: the page is made, each of its numbers is compared with spanprof's answers, its first words with
+# that cause, and it is opened in Chromium: errors, sizes, looks in light, dark, narrow, wide and print, keys, mouse and
+# fingers. Then the page of a million tasks, where spanprof_large is there. Build spanprof first.
 #
 #     checks/page.sh [PROGRAM [FOLDER]]    instead of crates/spanprof/out/spanprof; where pages and pictures go
 set -euo pipefail
@@ -55,6 +56,24 @@ cholesky 4
 PROGRAMS
 }
 
+record_causes() { # each program of checks/whatif/causes as its users would, with the page
+    "clang-$llvm" -O2 -g -fopenmp checks/whatif/causes/causes.c -o "$folder/causes" "${llvm_flags[@]}"
+    for cause in small serial wait lock machine dear balanced; do
+        tools/spanprof-record --out "$folder/cause_$cause" --unit us --threads 4 \
+            --html "$folder/cause_$cause.html" -- "$folder/causes" "$cause" > "$folder/said" 2>&1 ||
+            fail "$cause cannot be recorded: $(tail -1 "$folder/said")"
+    done
+    checks/page/first_screens.py "$folder" || fail "first screens"
+}
+
+large_page() { # where spanprof_large is built
+    local large=${SPANPROF_LARGE:-crates/spanprof_large/out/spanprof_large} status=0
+    [ -x "$large" ] || { echo "skipped: no page of a million tasks: no program $large"; return; }
+    SPANPROF_LARGE=$(realpath "$large") checks/page/large_page.py "$folder" || status=$?
+    if [ $status = 1 ]; then fail "the page of a million tasks"; fi
+    rm -f "$folder"/million.*
+}
+
 make_page() { # NAME OPTION ..: the page of a text of the folder, and its numbers; further texts by --with
     local name=$1 other=()
     shift
@@ -70,7 +89,8 @@ unit_tests
 cp examples/*.tasks "$folder"
 for text in examples/openmp/recorded/*.tasks; do cp "$text" "$folder/kept_$(basename "$text")"; done
 checks/page/large_text.py "$folder"
-if find_llvm; then record_all; else echo "skipped: no program is recorded: $no_llvm"; fi
+large_page
+if find_llvm; then record_all; record_causes; else echo "skipped: no program is recorded: $no_llvm"; fi
 
 names=()
 for text in "$folder"/*.tasks; do names+=("$(basename "$text" .tasks)"); done

@@ -1,7 +1,7 @@
 #!/usr/bin/env bash
-# Runs the checks of the documents, of the files of definitions and proofs, and of the model of waiting against the
-# sources, and the unit tests of the scripts and tools. It needs neither the program nor a compiler, and half a minute. It
-# prints a line for each, and what a check printed where it failed; the status is 0 where none did.
+# Runs the checks of the documents, of the files of definitions and proofs, of the Python, and of the model of waiting
+# against the sources, and the unit tests of the scripts and tools. It needs neither the program nor a compiler, and half
+# a minute. It prints a line for each, and what a check printed where it failed; the status is 0 where none did.
 set -uo pipefail
 cd "$(dirname "$0")/.."
 failed=0
@@ -24,16 +24,22 @@ tested() { passes "$1" python3 -B -m unittest discover -q -s "$1" -t "$2"; }
 for script in definitions proof_map; do
     passes "$script.py" python3 -B "checks/$script.py" --check
 done
-for script in crate_picture version signatures places clauses believed_lines left_edits repeated_lines \
-    sentences speed_numbers waiting/lines; do
+for script in crate_picture version signatures places clauses believed_lines left_edits repeated_lines sentences \
+    speed_numbers waiting/lines style; do
     passes "$script.py" python3 -B "checks/$script.py"
 done
+if command -v pyflakes3 > /dev/null; then
+    passes pyflakes3 pyflakes3 tools checks bench examples
+else
+    echo "skipped pyflakes3 (package pyflakes3)"
+fi
 for test in checks/test_*.py checks/waiting/test_*.py checks/large_recordings/test_*.py bench/test_*.py \
     bench/recording/test_*.py; do
     passes "$test" python3 -B "$test"
 done
 tested checks/believed/tests checks
-for folder in killed_runs llvm mutants openmp_cases openmp_regions page true_words runtime_calls whatif; do
+for folder in killed_runs llvm mutants openmp_cases openmp_regions page recorded_accounts true_words runtime_calls \
+    whatif; do
     tested "checks/$folder/tests" "checks/$folder"
 done
 tested tools/tests tools
@@ -41,5 +47,4 @@ tested tools/spanprof/tests tools
 for folder in record path whatif report conformance; do
     tested "tools/spanprof/$folder/tests" tools
 done
-tested tools/plots/tests tools/plots
 exit "$failed"

@@ -31,8 +31,9 @@ class Documents(unittest.TestCase):
 
     def test_what_is_left_out(self):
         with tempfile.TemporaryDirectory() as folder:
-            commands_of = ("spanprof-record -- ./mine", "clang-19 mine.c", "spanprof span < none.tasks", "spanprof --help")
-            self.assertEqual([can_run(command, folder) for command in commands_of], [False, False, False, True])
+            commands_of = ("spanprof-record -- ./mine", "clang-19 mine.c", "spanprof span < none.tasks",
+                           "spanprof-report -o mine.html", "spanprof --help")
+            self.assertEqual([can_run(command, folder) for command in commands_of], [False] * 4 + [True])
 
 
 if __name__ == "__main__":

@@ -65,7 +65,7 @@ class Places(unittest.TestCase):
     def test_what_is_code(self):
         for path in ("crates/large_text/src/place_tests.rt", "tools/large_path/reader.cpp", "bench/segments.sh"):
             self.assertIsNone(NO_CODE.search(path), path)
-        for path in ("docs/MODEL.md", "crates/text_tests/src/tests/a.rt", "tools/plots/tests/a.py", "checks/test_a.py",
+        for path in ("docs/MODEL.md", "crates/text_tests/src/tests/a.rt", "tools/tests/a.py", "checks/test_a.py",
                      "tools/openmp_recorder/tests/test_a.cpp", "examples/a.c", "checks/openmp_cases/a.c"):
             self.assertIsNotNone(NO_CODE.search(path), path)
 

@@ -20,7 +20,7 @@ LIST = os.path.join("share", "spanprof", "installed")
 COMMANDS = ("spanprof-record", "spanprof-convert", "spanprof-report", "spanprof-path", "spanprof-whatif",
             "spanprof-conformance")
 EXECUTABLE = ("bin/", "lib/spanprof/spanprof_path", "lib/spanprof/convert_log")
-SHARED = ("*.py", "spanprof/*.py", "spanprof/*/*.py", "spanprof/report/template/*", "plots/*.py", "conformance/*.txt",
+SHARED = ("*.py", "spanprof/*.py", "spanprof/*/*.py", "spanprof/report/template/*", "conformance/*.txt",
           "conformance/*.sh", "conformance/directed/*.tasks", "conformance/harness/*", "conformance/mutants/*")
 LEFT_OUT = ("install.py", "/tests/")
 

@@ -4,7 +4,8 @@
     median_recording.py OUT.tasks FIRST.tasks SECOND.tasks ..
 
 Each cost is the median of that cost in all of them, and so is each number of the head; lines and places are the first
-one's. What the text covers is that of the recording that covers a median share. Status 1: the shapes differ, and the first line that does is told. Status 2: a file is no recorded text.
+one's. What the text covers is that of the recording that covers a median share. Status 1: the shapes differ, and the
+first line that does is told. Status 2: a file is no recorded text.
 """
 import re
 import statistics

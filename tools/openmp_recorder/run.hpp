@@ -131,7 +131,7 @@ inline bool is_written(const Task &t) { return t.shown && t.fold != Fold::Whole 
 
 struct Event {
   Task *task;
-  int64_t at;  // the clock of the records
+  int64_t at;  // the wall clock
   unsigned segment;
   uint16_t worker;
   bool start;
@@ -167,6 +167,8 @@ struct Region {
   int64_t in_parts = 0, in_tasks = 0;  // the costs of parts without tasks, and of all else
   int64_t in_own_regions = 0;          // of the cost: what passed while a task was in a region of its own
   Differing differing;
+  Differing asleep;  // by the wall clock: code in which the thread gave its processor up
+  int64_t untimed = 0;  // the wall clock in segments that were left in their midst, until they were
   std::map<Divided, Seen> divided;  // of the thread that met the most
 };
 

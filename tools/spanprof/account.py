@@ -1,148 +1,156 @@
-"""Where the time of a recorded run's threads went: the four sums that docs/MODEL.md calls the account of a run.
-
-This is a plain program. `time_accounts` is proved to tell the same of a graph and its times; the tests compare the two
-on worked runs.
-"""
-import csv
+"""Where the time of a recorded run's threads went: the sums that spanprof_account tells of the timed document, and what
+the recording tells beside them. docs/MODEL.md has the words."""
 import os
-from dataclasses import dataclass
+import re
+from dataclasses import dataclass, field
+from functools import cached_property
+from typing import List
 
+from spanprof import client
+from spanprof.account_program import HOW, NoAccount, ask, spanprof_account
+from spanprof.answers import named_numbers
 from spanprof.claims import is_folded
+from spanprof.idle import idle_by_place
+
+UNFINISHED = "task that did not end|the program ended inside|the records were full inside"
 
 
-class NoAccount(Exception):
-    """The times are not those of a legal run; it says why."""
+@dataclass
+class Row:
+    """When a segment was ready, began and ended, in nanoseconds since the region began."""
+    thread: int
+    ready: int
+    begin: int
+    end: int
+
+
+@dataclass
+class HeldUp:
+    """Of the time in code, in nanoseconds: what was no code of the program."""
+    preempted: int = 0      # the system had put the thread off
+    asleep: int = 0         # the code slept, or waited by itself
+    at_locks: int = 0       # of OpenMP
+
+    @property
+    def all(self):
+        return self.preempted + self.asleep + self.at_locks
 
 
 @dataclass
 class Account:
-    """In the unit of the times, over all threads."""
+    """In nanoseconds, over all threads."""
     threads: int
-    lasted: int
+    elapsed: int
     busy: int
     delayed: int
     starved: int
     outside: int
+    held_up: HeldUp = field(default_factory=HeldUp)
+    recorder: int = 0       # of the time in code, where the clock of the costs tells it
+    of_runs: bool = False   # of the one of several runs that has the median work
+    left_out: int = 0       # code of the region that has no times here, and is idle
+    rows: List[Row] = field(default_factory=list)
+    places: List[str] = field(default_factory=list)     # of the segments
 
     @property
     def whole(self):
-        return self.threads * self.lasted
+        return self.threads * self.elapsed
+
+    @property
+    def code(self):
+        return self.busy - self.held_up.all - self.recorder
+
+    @property
+    def parts(self):
+        """What the threads' time is made of; the parts add up to it."""
+        return {"code": self.code, "recorder": self.recorder, "preempted": self.held_up.preempted,
+                "asleep": self.held_up.asleep, "at locks": self.held_up.at_locks, "delayed": self.delayed,
+                "starved": self.starved, "outside": self.outside}
+
+    @cached_property
+    def idle(self):
+        """Delayed and starved time by place: the parts add up to the sums."""
+        found = idle_by_place(self.rows, self.places, self.threads)
+        assert [sum(parts.values()) for parts in found] == [self.delayed, self.starved], "the rows have other sums"
+        return found
+
+    @property
+    def delayed_by(self):
+        return self.idle[0]
+
+    @property
+    def starved_by(self):
+        return self.idle[1]
 
 
-def read_rows(path, count):
-    """Of the recorder's table `segment,thread,start_ns,end_ns`: thread, begin and end, by segment."""
-    name, rows = os.path.basename(path), [None] * count
-    with open(path, encoding="utf-8", errors="replace", newline="") as file:
-        for row in csv.DictReader(file):
-            try:
-                s, *times = (int(row[column]) for column in ("segment", "thread", "start_ns", "end_ns"))
-            except (KeyError, TypeError, ValueError) as wrong:
-                raise NoAccount("%s is no table of times" % name) from wrong
-            if not 0 <= s < count or rows[s]:
-                raise NoAccount("%s has a segment %d twice, or too many" % (name, s))
-            rows[s] = tuple(times)
-    if None in rows:
-        raise NoAccount("%s has no times of segment %d" % (name, rows.index(None)))
-    return rows
+def read_rows(table):
+    names = ("thread", "ready", "begin", "end")
+    return [Row(*(int(row[name]) for name in names)) for row in client.rows(table)]
 
 
-def ready_moments(predecessors, ends):
-    """When each segment's last predecessor ends, 0 where it has none."""
-    return [max((ends[p] for p in before), default=0) for before in predecessors]
+def at_locks(head):
+    """How long threads waited for locks of OpenMP, in the text's unit."""
+    return sum(int(found[1]) for found in (re.search(r"(\d+) waiting\b", line) for line in head.locks) if found)
 
 
-def check(predecessors, rows, threads, first, last):
-    """Raises what is wrong with rows of thread, begin and end, by segment."""
-    if len(rows) != len(predecessors):
-        raise NoAccount("there are times of %d segments, and not of %d" % (len(rows), len(predecessors)))
-    for s, (thread, begin, end) in enumerate(rows):
-        if not 0 <= thread < threads:
-            raise NoAccount("segment %d is on thread %d of %d" % (s, thread, threads))
-        if not first <= begin <= end <= last:
-            raise NoAccount("segment %d is from %d to %d, and the region from %d to %d" % (s, begin, end, first, last))
-    for s, before in enumerate(predecessors):
-        for p in before:
-            if rows[p][2] > rows[s][1]:
-                raise NoAccount("segment %d begins before segment %d has ended" % (s, p))
-    check_apart(rows)
+def within(parts, whole):
+    """Each part is seen by itself; together they are no more than the whole."""
+    out = []
+    for part in parts:
+        out.append(max(0, min(part, whole - sum(out))))
+    return out
 
 
-def check_apart(rows):
-    """Raises the first segment, by begins and then by numbers, that begins while another one runs on its thread."""
-    taken = {}
-    for begin, s, thread, end in sorted((begin, s, thread, end) for s, (thread, begin, end) in enumerate(rows)):
-        if begin == end:
-            continue
-        if taken.get(thread, begin) > begin:
-            raise NoAccount("segment %d begins while another one runs on thread %d" % (s, thread))
-        taken[thread] = end
-
-
-def account(predecessors, rows, threads, first, last):
-    """The account of rows of thread, begin and end by segment, on so many threads, from one moment to another."""
-    check(predecessors, rows, threads, first, last)
-    ready = ready_moments(predecessors, [end for _, _, end in rows])
-    changes = []
-    for moment, (_, begin, end) in zip(ready, rows):
-        changes += [(moment, 1, 0), (begin, -1, 1), (end, 0, -1)]
-    begun, over = min(begin for _, begin, _ in rows), max(end for _, _, end in rows)
-    waiting = running = delayed = starved = 0
-    moment = 0
-    for then, more_waiting, more_running in sorted(changes):
-        idle = (threads - running) * (then - max(moment, begun))
-        if then > begun and waiting:
-            delayed += idle
-        elif then > begun:
-            starved += idle
-        moment, waiting, running = then, waiting + more_waiting, running + more_running
-    busy = sum(end - begin for _, begin, end in rows)
-    return Account(threads, last - first, busy, delayed, starved, threads * (begun - first + last - over))
-
-
-def recorded_account(predecessors, path, threads, elapsed):
-    """The account of a recording by its table of times, on a region of so many threads and nanoseconds."""
-    rows = read_rows(path, len(predecessors))
-    return account(predecessors, rows, threads, 0, max([elapsed] + [end for _, _, end in rows]))
-
-
-def account_lines(found, unit="ns", nanoseconds=1):
-    """The account in four lines of a user's words, in a unit of so many nanoseconds. Shares are of threads times
-    elapsed time. A thread that the system has put off in the midst of a task is in its code by the wall clock."""
-    def share(part):
-        return "%.1f %%" % (100 * part / found.whole if found.whole else 0)
-
-    lasted = "{:,} {}{}".format(found.lasted // nanoseconds, "x " if unit[:1].isdigit() else "", unit)
-    return ["of %d x %s: %s in code, with what waits inside it and what the recorder does there (measured)" % (
-                found.threads, lasted, share(found.busy)),
-            "%s idle though a segment was ready: the runtime, the machine or a tied task's own thread kept it (measured)"
-            % share(found.delayed),
-            "%s idle with no segment ready: too few tasks there (measured)" % share(found.starved),
-            "%s before the region's code began and after it ended (measured)" % share(found.outside)]
-
-
-def left_out_lines(head, found):
-    """Code of the region that has no segment in the text is none of the account's code."""
-    left_out = head.not_covered.get("of this region", 0) * head.nanoseconds
-    if 1000 * left_out < found.whole:
-        return []
-    return ["up to %.1f %% in code of the region that the text leaves out, which is idle here (measured)" % (
-        100 * left_out / found.whole)]
+def divide_busy(found, head, work):
+    """By the wall clock both clocks tell what held code up, and what segments lasted beyond their costs and their
+    waiting for locks is the recorder's. By the processor's clock it is held up for as long as it lasted beyond its
+    costs, the recorder's time included."""
+    unit, by = head.nanoseconds, head.clocks_differ.get("by", 0)
+    beyond = min(max(found.busy - (work - head.untimed) * unit, 0), found.busy)
+    waiting = at_locks(head) * unit
+    if head.clock == "cpu":
+        asleep, waiting = within((by * unit, waiting), beyond)
+        return HeldUp(beyond - asleep - waiting, asleep, waiting), 0
+    *parts, recorder = within((by * unit, head.slept.get("by", 0) * unit, waiting, beyond - waiting), found.busy)
+    return HeldUp(*parts), recorder
 
 
 def account_of(answers, path):
-    """That of a recording with a table of times, which the recorder writes by the wall clock; None without one."""
+    """That of the timed document in a file, which is a run of the text."""
     head = answers.head
-    if not path or not head.threads or not head.nanoseconds:
-        return None
+    sums, rows = named_numbers(ask([], path)), read_rows(ask(["--rows"], path))
+    if len(rows) != len(answers.code):
+        raise NoAccount("there are times of %d segments, and not of %d" % (len(rows), len(answers.code)))
+    found = Account(**sums, rows=rows, places=[segment.place() for segment in answers.code])
+    # lines that are rounded to whole units may have less than the text covers
+    found.held_up, found.recorder = divide_busy(found, head, max(answers.work, head.covered or 0))
+    found.of_runs = (head.runs or 1) > 1
+    found.left_out = (head.not_covered.get("of this region", 0) + head.untimed) * head.nanoseconds
+    return found
+
+
+def timed_beside(path):
+    """Where the timed document of a text lies, if it has one."""
+    return re.sub(r"\.tasks$", "", path) + ".timed"
+
+
+def why_none(head):
+    """Why the converter wrote no timed document; empty where nothing is known."""
     if is_folded(head):
-        raise NoAccount("tasks are folded, and the times are not those of all of their code")
-    return recorded_account(answers.predecessors, path, head.threads, (head.elapsed or 0) * head.nanoseconds)
+        return "tasks are folded, and the times are not those of all of their code"
+    if any(re.match(UNFINISHED, remark) for remark in head.remarks):
+        return "tasks did not run to their ends"
+    return "" if not head.elapsed or spanprof_account() else HOW
 
 
-def lines_of(answers, path):
-    head = answers.head
+def account_beside(answers):
+    """That of the timed document beside the text; or None, and why."""
+    path = timed_beside(answers.path)
+    if not os.path.exists(path) or not answers.head.nanoseconds:
+        return None, why_none(answers.head)
     try:
-        found = account_of(answers, path)
+        return account_of(answers, path), ""
     except NoAccount as fault:
-        return ["not told: %s" % fault]
-    return account_lines(found, head.unit, head.nanoseconds) + left_out_lines(head, found) if found else []
+        return None, str(fault)
+
+

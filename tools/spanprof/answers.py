@@ -6,6 +6,7 @@ from functools import cached_property
 from spanprof import client
 from spanprof.changed_text import with_costs, without_costs
 from spanprof.head import read_head
+from spanprof.text import has_loops
 
 THREADS_WITHOUT_RECORDING = 4
 LONGEST_CURVE = 64
@@ -106,7 +107,7 @@ class Answers:
 
     @cached_property
     def text_without_costs(self):
-        return without_costs(self.ask("show") if client.has_loops(self.text) else self.text)
+        return without_costs(self.ask("show") if has_loops(self.text) else self.text)
 
     def greedy_end(self, changes, threads):
         """Where the greedy run on so many threads ends, where `changes` gives segments other costs."""

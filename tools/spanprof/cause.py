@@ -13,6 +13,7 @@ MUCH = 0.25             # of the threads' time, from which on it is a cause
 SOME = 0.1              # of the greedy run's, from which on another shape may help
 MOST = 0.5              # of the program's time, from which on it is told before all else
 SMALL = 5000            # nanoseconds: what creating and starting a task costs is no longer little beside such a task
+GREEDY = "the greedy run of the recorded text"
 ALL = ("drop-wait", "drop-depend", "drop-name", "split", "task", "join", "cutoff", "factor")
 
 
@@ -34,17 +35,21 @@ class Shares:
     delayed: float
     starved: float
     outside: float
-    is_measured: bool = True    # or else told by the greedy run
+    beside: str = ""    # by what else it is told than by measured times
+
+    @property
+    def is_measured(self):
+        return not self.beside
 
     @property
     def how(self):
-        return "measured" if self.is_measured else "measured, beside the greedy run of the recorded text"
+        return "measured, beside " + self.beside if self.beside else "measured"
 
     @property
     def kept(self):
         """What `delayed` is."""
-        return "idled though a segment was ready" if self.is_measured else \
-            "were off the processor, or idled though a segment was ready"
+        return "idled though a task was ready" if self.is_measured else \
+            "were off the processor, or idled though a task was ready"
 
 
 def shares_of_account(found):
@@ -55,7 +60,7 @@ def shares_by_greedy(answers):
     head, elapsed = answers.head, answers.head.elapsed
     busy = min(1.0, answers.work / (head.threads * elapsed))
     starved = min(1 - busy, (head.threads * answers.curve[head.threads]["end"] - answers.work) / head.threads / elapsed)
-    return Shares(busy, 1 - busy - starved, starved, 0.0, False)
+    return Shares(busy, 1 - busy - starved, starved, 0.0, getattr(answers, "beside", GREEDY))
 
 
 def percent(share):
@@ -82,10 +87,16 @@ def lock(answers):
         (", " + head.locks[0].partition(": ")[0] if head.locks else ""))
 
 
-def off_the_processor(answers):
-    head = answers.head
-    share = head.clocks_differ.get("by", 0) / (head.threads * head.elapsed)
-    return head.clock == "wall" and share >= MUCH and Cause(
+def share_off(head, account):
+    """Of the threads' time, that which the system had put them off in code; the processor's clock alone tells none."""
+    if account and account.whole:
+        return account.held_up.preempted / account.whole
+    return head.clocks_differ.get("by", 0) / (head.threads * head.elapsed) if head.clock == "wall" else 0
+
+
+def off_the_processor(answers, account):
+    share = share_off(answers.head, account)
+    return share >= MUCH and Cause(
         "machine", "the machine: for %s of the threads' time they were off the processor in the midst of code "
                    "(measured)" % percent(share),
         instead="none of the program: record it on a machine with less to do, or with --clock cpu",
@@ -103,7 +114,13 @@ def is_small(answers):
     return answers.tasks > answers.head.threads and 0 < nanoseconds < SMALL
 
 
-def of_idle_threads(answers, shares):
+def most_of_it(parts, words):
+    """The place to which most of an idle time is laid, where it is known."""
+    place, part = next(iter(parts.items()), ("", 0))
+    return ", %s of it %s" % (percent(part / sum(parts.values())), words % place) if part else ""
+
+
+def of_idle_threads(answers, shares, account):
     """By the largest part of the time in which the threads were not in code; None where that is not much."""
     largest = max(("starved", "delayed", "outside"), key=lambda name: getattr(shares, name))
     if getattr(shares, largest) < MUCH:
@@ -112,16 +129,25 @@ def of_idle_threads(answers, shares):
         return Cause("ends", "%s of the threads' time was before the region's code began or after it ended (%s)" %
                      (percent(shares.outside), shares.how), instead="none in this text")
     if largest == "starved":
-        return Cause("shape", "too few tasks: for %s of the threads' time they idled with no segment ready (%s)" %
-                     (percent(shares.starved), shares.how), ALL)
+        return Cause("shape", "too few tasks: for %s of the threads' time they idled with nothing ready%s (%s)" %
+                     (percent(shares.starved), most_of_it(account.starved_by if account else {}, "while %s ran"),
+                      shares.how), ALL)
     if is_small(answers):
         return Cause("small", "tasks too small: %.1f us of code each on average, and for %s of the threads' time they "
                               "%s (%s)" % (answers.head.nanoseconds * answers.work / answers.tasks / 1000,
                                            percent(shares.delayed), shares.kept, shares.how), ("join", "cutoff"))
-    return Cause("kept", "the runtime or the machine: for %s of the threads' time they %s (%s)" %
-                 (percent(shares.delayed), shares.kept, shares.how),
+    beside = most_of_it(account.delayed_by if account else {}, "beside %s")
+    return Cause("kept", "the runtime or the machine: for %s of the threads' time they %s%s (%s)" %
+                 (percent(shares.delayed), shares.kept, beside, shares.how),
                  instead="none of the program: record it on a machine with less to do, or on another runtime",
                  later=after_that(answers))
+
+
+def balanced(shares, account):
+    asleep = account.held_up.asleep / account.whole if account and account.whole else 0
+    slept = ", and asleep in it for %s" % percent(asleep) if asleep >= MUCH else ""
+    return Cause("balanced", "the work: the threads were in code for %s of their time%s (%s)" % (
+        percent(shares.busy), slept, shares.how), ("factor",))
 
 
 def cause(answers, account=None):
@@ -130,6 +156,5 @@ def cause(answers, account=None):
     if not head.elapsed or not answers.work or (head.threads or 1) == 1:
         return None
     shares = shares_of_account(account) if account and account.whole else shares_by_greedy(answers)
-    found = outside_regions(head) or lock(answers) or off_the_processor(answers) or of_idle_threads(answers, shares)
-    return found or Cause("balanced", "the work: the threads were in code for %s of their time (%s)" %
-                          (percent(shares.busy), shares.how), ("factor",))
+    return outside_regions(head) or lock(answers) or off_the_processor(answers, account) or \
+        of_idle_threads(answers, shares, account) or balanced(shares, account)

@@ -1,33 +1,19 @@
 """A program's text with other costs of its segments."""
-from spanprof.client import Cutter, words_of
+from itertools import islice
 
-
-def step(cutter, word):
-    """Takes the cutter past a construct, or the end of one."""
-    if word == "task":
-        cutter.begin_task("")
-    elif word == "taskgroup":
-        cutter.begin_group("")
-    elif word == "taskwait":
-        cutter.go_on(word, "")
-    else:
-        cutter.end_block()
+from spanprof.text import Cutter, line, statements, words_of
 
 
 def without_costs(text):
-    """The words of a text that has no loops, and in place of costs the number of each segment where it ends."""
-    words = [word for word, _ in words_of(text)]
-    cutter, out, i = Cutter(), words[:2], 2     # the header is two words
-    while i < len(words):
-        first = i
-        i = words.index("{", i) + 1 if words[i] in ("task", "taskgroup") else i + 2 if words[i] == "work" else i + 1
-        if words[first] == "work":
-            continue
-        if words[first] != "taskgroup":
-            out.append(cutter.running[-1][2])
-        step(cutter, words[first])
-        out += words[first:i]
-    return out + [cutter.running[-1][2]]
+    """The pieces of a text that has no loops, and in place of costs the number of each segment where it ends."""
+    cutter, out = Cutter(), [" ".join(word for word, _ in islice(words_of(text), 2))]
+    for one in statements(text.split("\n")):
+        if one.kind not in ("work", "taskgroup"):
+            out.append(cutter.current)
+        if one.kind != "work":
+            out.append(line(one._replace(comment="")).strip())
+        cutter.take(one)
+    return out + [cutter.current]
 
 
 def with_costs(pieces, costs):

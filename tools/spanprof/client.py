@@ -1,4 +1,4 @@
-"""A program text as segments, each with the place in the source that its comments tell, and what spanprof answers.
+"""What spanprof answers.
 
 SPANPROF in the environment is the program, and may be several words. Without it the program is looked for on the PATH,
 and then in the repository, or where `make install` has put it.
@@ -9,13 +9,10 @@ import shlex
 import shutil
 import signal
 import subprocess
-import sys
-from dataclasses import dataclass
-from itertools import islice
 
+from spanprof.errors import Fault
 from spanprof.refusal import explained, of_event, of_whole
-
-signal.signal(signal.SIGPIPE, signal.SIG_DFL)  # so that `| head` ends it quietly
+from spanprof.text import has_loops, segments_of
 
 TOP = os.path.dirname(os.path.dirname(os.path.dirname(os.path.abspath(__file__))))
 IN_REPOSITORY = os.path.join(TOP, "crates", "spanprof", "out", "spanprof")
@@ -28,8 +25,8 @@ def spanprof():
     return shlex.split(os.environ.get("SPANPROF", "")) or [shutil.which("spanprof") or here]
 
 
-class Refused(SystemExit):
-    """spanprof's error line, and what it was asked; where nobody catches it, it ends the process with these words."""
+class Refused(Fault):
+    """spanprof's error line, and what it was asked."""
 
     def __init__(self, words, text, answer):
         more = of_whole(list(words), text, answer, asked)
@@ -67,7 +64,8 @@ def ask(words, text):
         done = run(words, text)
     except OSError as error:
         where = "SPANPROF" if os.environ.get("SPANPROF") else "spanprof is neither on the PATH nor built here"
-        sys.exit("%s: %s: %s; README.md tells how it is built" % (where, spanprof()[0], error.strerror))
+        raise Fault("%s: %s: %s; README.md tells how it is built" % (
+            where, spanprof()[0], error.strerror)) from error
     if done.returncode:
         raise Refused(words, text, done.stdout.strip())
     return done.stdout
@@ -80,91 +78,9 @@ def rows(table):
     return [dict(zip(heads, line.split(","))) for line in lines[1:] if line]
 
 
-@dataclass
-class Segment:
-    task: int
-    task_place: str
-    after: str          # the construct that it follows; empty for a task's first
-    after_place: str
-    cost: int = 0
-
-    def place(self):
-        """Where its code stands: the construct that it follows, or the task that it begins."""
-        if self.after:
-            after = "after " + self.after if self.after_place or " " in self.after else "after a " + self.after
-            return after + " at " + self.after_place if self.after_place else after
-        if self.task == 0:
-            return "the beginning"
-        return "task at %s" % self.task_place if self.task_place else "a task"
-
-
-def words_of(text):
-    """The tokens of a text, each with the comment of its line."""
-    for line in text.split("\n"):
-        code, _, comment = line.partition("#")
-        for word in re.findall(r"[A-Za-z0-9_]+|[{}]|[^\sA-Za-z0-9_{}]", code):
-            yield word, comment.strip()
-
-
-class Cutter:
-    """Cuts a program's words into segments. A comment belongs to the construct that stands on its line."""
-
-    def __init__(self):
-        self.out = [Segment(0, "", "", "")]
-        self.running = [(0, "", 0)]     # task, its place, its open segment
-        self.blocks = []                # of each open block: what it is, and its place
-        self.tasks = 0
-
-    def work(self, cost):
-        self.out[self.running[-1][2]].cost += cost
-
-    def begin_task(self, place):
-        self.tasks += 1
-        self.blocks.append(("task", place))
-        self.running.append((self.tasks, place, len(self.out)))
-        self.out.append(Segment(self.tasks, place, "", ""))
-
-    def begin_group(self, place):
-        self.blocks.append(("taskgroup", place))
-
-    def go_on(self, after, place):
-        """The running task's next segment."""
-        task, task_place, _ = self.running[-1]
-        self.running[-1] = (task, task_place, len(self.out))
-        self.out.append(Segment(task, task_place, after, place))
-
-    def end_block(self):
-        kind, place = self.blocks.pop()
-        if kind == "task":
-            self.running.pop()
-        self.go_on("creating a task" if kind == "task" else kind, place)
-
-
-def has_loops(text):
-    """Whether the text is of version 2; its canonical text is of version 1."""
-    words = [word for word, _ in islice(words_of(text), 2)]
-    return len(words) > 1 and words[1].lstrip("0") == "2"
-
-
 def segments(text):
-    """The segments in the order of their numbers."""
-    words = list(words_of(ask(["show"], text) if has_loops(text) else text))
-    cutter, i = Cutter(), 2     # the header is two words
-    while i < len(words):
-        word, comment = words[i]
-        if word == "work":
-            i += 1
-            cutter.work(int(words[i][0]))
-        elif word in ("task", "taskgroup"):
-            while words[i][0] != "{":
-                i += 1
-            (cutter.begin_task if word == "task" else cutter.begin_group)(words[i][1])
-        elif word == "taskwait":
-            cutter.go_on(word, comment)
-        else:
-            cutter.end_block()
-        i += 1
-    return cutter.out
+    """The segments in the order of their numbers; of a text with loops by its canonical text, which has none."""
+    return segments_of(ask(["show"], text) if has_loops(text) else text)
 
 
 def predecessors(text, count):
@@ -180,9 +96,9 @@ def read(path):
         with open(path, encoding="utf-8", errors="replace", newline="") as file:
             text = re.split(r"(?m)^---\r?$", file.read())[0]
     except OSError as error:
-        sys.exit("%s: %s" % (path, error.strerror))
+        raise Fault("%s: %s" % (path, error.strerror)) from error
     try:
         ask(["span"], text)
     except Refused as refused:
-        sys.exit(refused.of(path))
+        raise Fault(refused.of(path)) from refused
     return text

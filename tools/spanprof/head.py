@@ -5,7 +5,7 @@ from itertools import takewhile
 from typing import Dict, List, Optional, Tuple
 
 NANOSECONDS = {"ns": 1, "us": 1000, "ms": 1000000}
-NUMBERS = {"clock reading": "clock_reading", "most held lock": "most_held"}
+NUMBERS = {"clock reading": "clock_reading", "most held lock": "most_held", "untimed": "untimed"}
 DIVISION = ("outside regions", "in other regions", "in parts without tasks", "in tasks")
 
 
@@ -29,6 +29,8 @@ class Head:
     one_thread: bool = False
     clock_reading: Optional[int] = None  # in nanoseconds
     clocks_differ: Dict[str, int] = field(default_factory=dict)  # affected, work, by, times
+    slept: Dict[str, int] = field(default_factory=dict)          # the same of code that slept, by the wall clock
+    untimed: int = 0                   # of segments, before they were left in their midst
     most_held: Optional[int] = None    # inside one lock, one thread at a time
     runs: Optional[int] = None         # where the program was recorded several times
     is_median: bool = False            # each cost is the median of those runs; else it is one of them
@@ -98,11 +100,10 @@ def read_divided(head, value):
         head.beside = int(found[1])
 
 
-def read_differing(head, value):
-    """`in 4000 of 4200 us of the work, by 3000 us, 9 times`; a unit may be `x 250 ns`."""
-    found = re.match(r"in (\d+) of (\d+) .* of the work, by (\d+) .*, (\d+) times?$", value)
-    if found:
-        head.clocks_differ = dict(zip(("affected", "work", "by", "times"), map(int, found.groups())))
+def differing(value):
+    """`in 4000 of 4200 us of the work, by 3000 us, 9 times`, or `for 3000 us`; a unit may be `x 250 ns`."""
+    found = re.match(r"in (\d+) of (\d+) .* of the work, (?:by|for) (\d+) .*, (\d+) times?$", value)
+    return dict(zip(("affected", "work", "by", "times"), map(int, found.groups()))) if found else {}
 
 
 def read_spread(head, what, value):
@@ -131,7 +132,9 @@ def read_of_the_program(head, name, value):
     elif name == "one thread":
         head.one_thread = True
     elif name == "clocks differ":
-        read_differing(head, value)
+        head.clocks_differ = differing(value)
+    elif name == "slept":
+        head.slept = differing(value)
     elif name in ("work of the runs", "span of the runs"):
         read_spread(head, name.split()[0], value)
     elif name == "runs" and first:

@@ -13,8 +13,8 @@ TOOLS = os.path.dirname(os.path.dirname(os.path.abspath(__file__)))
 PARTS = ("", "record", "report", "path", "whatif")
 OF_WHAT = re.compile(r"proved of (the recorded text|the text|this text|that text|it\b|them\b|%s)")
 OTHERS = ("proved", "a program that is proved correct", "nothing about which is proved", "proves and builds")
-ABOUT_THE_TEXT = re.compile(r"\btexts?\b|nothing (is|about them is) proved|about which nothing is proved|with its proofs|"
-                            r"in place of a proof")
+ABOUT_THE_TEXT = re.compile(r"\btexts?\b|nothing (is|about them is) proved|about which nothing is proved|"
+                            r"with its proofs|in place of a proof")
 
 
 def docstrings(tree):

@@ -113,7 +113,7 @@ TEST(a_twentieth_is_the_difference_that_counts) {
 }
 
 // By the wall clock what the thread was preempted for; a task that slept, and was not preempted beside that, took that
-// time.
+// time, which is told apart.
 TEST(code_off_the_processor_counts_for_its_region) {
   for (auto [slept, taken] : {std::pair{false, false}, {false, true}, {true, true}, {true, false}}) {
     bool counts = taken || !slept;
@@ -124,6 +124,7 @@ TEST(code_off_the_processor_counts_for_its_region) {
     EXPECT(differing.cost, counts ? 1000 : 0);
     EXPECT(differing.off, counts ? 600 : 0);
     EXPECT(differing.slightly, 0);
+    EXPECT(run.regions.begin()->second->asleep.off, counts ? 0 : 600);
   }
 }
 

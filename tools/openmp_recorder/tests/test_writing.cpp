@@ -104,7 +104,8 @@ TEST(times_of_segments_are_since_the_region_began) {
   Region &region = only_region(run);
   text_of(region);
   Events events = event_lines(region);
-  EXPECT(events.times, "segment,thread,start_ns,end_ns\n0,0,0,1499\n2,0,1499,1499\n1,1,1499,3999\n");
+  EXPECT(times_table(events), "segment,thread,start_ns,end_ns\n0,0,0,1499\n1,1,1499,3999\n2,0,1499,1499\n");
+  EXPECT(timed_lines(region, events), "times 2 0 3999\n0 0 0 1499\n1 1 1499 3999\n2 0 1499 1499\n");
   EXPECT(events.whole, true);
   EXPECT(events.workers, 2u);
 }
@@ -124,6 +125,8 @@ TEST(the_head_tells_the_recording) {
   region.divided[Divided::Loops].times = 4;
   region.differing.add({false, 2, 1}, 2000, 49000, nullptr);
   region.differing.add({false, 2, 1}, 1000, 1000, nullptr);
+  region.asleep.add({true, 2, 1}, 500, 60000, nullptr);
+  region.untimed = 70000;
   region.remarks[Remark::Detach].add(nullptr);
   Options options;
   options.unit_name = "ns";
@@ -136,6 +139,8 @@ TEST(the_head_tells_the_recording) {
                "# divided among 2 threads: code of the region, 2 parts, 1499 ns beside the longest\n"
                "# clock reading: 0 ns, taken off at each record\n"
                "# clocks differ: in 3000 of 5498 ns of the work, by 50000 ns, 2 times\n"
+               "# slept: in 500 of 5498 ns of the work, for 60000 ns, 1 time\n"
+               "# untimed: 70000 ns before segments were left\n"
                "# elapsed: 3999\n# outside regions: 100\n# in other regions: 5001\n# in parts without tasks: 1499\n"
                "# in tasks: 3999\n# most held lock: 300 ns inside, one thread at a time\n"
                "# lock critical: 3 times, 400 inside, 90 waiting\n"
@@ -179,7 +184,7 @@ TEST(lengths_are_limited) {
 }
 
 TEST(files_of_a_run_are_known_by_their_names) {
-  for (const char *name : {"out.tasks", "out.replay", "out.times", "out.2.tasks", "out.inout.tasks",
+  for (const char *name : {"out.tasks", "out.replay", "out.times", "out.timed", "out.2.tasks", "out.inout.tasks",
                            "out.2.inout.tasks", "out.4711.tasks", "out.4711.2.replay", "out.large.tasks",
                            "out.2.large.tasks", "out.2.large.inout.tasks"})
     EXPECT(is_of_run(name, "out"), true);
@@ -244,20 +249,20 @@ TEST(records_come_in_their_common_order) {
 
 TEST(locks_count_times_inside_and_waiting) {
   Locks locks;
-  locks.ask(ompt_mutex_critical, 7, nullptr, 100);
-  EXPECT(locks.get(7, 130, 0, 5), 100);
+  locks.ask(ompt_mutex_critical, 7, nullptr, {100, 2000});
+  EXPECT(locks.get(7, {130, 2070}, 0, 5), 100);
   locks.leave(7, 1, 150, 5);  // on the thread's own clock, which stood still until 100
   const LockUse &use = locks.uses().at({1, 7});
   EXPECT(use.times, 1u);
-  EXPECT(use.waiting, 30);
+  EXPECT(use.waiting, 70);  // by the wall clock
   EXPECT(use.inside, 50);
   EXPECT(use.alone, 50);
 }
 
 TEST(where_records_came_meanwhile_a_lock_may_have_held_another_task) {
   Locks locks;
-  locks.ask(ompt_mutex_critical, 7, nullptr, 100);
-  locks.get(7, 100, 0, 5);
+  locks.ask(ompt_mutex_critical, 7, nullptr, {100, 100});
+  locks.get(7, {100, 100}, 0, 5);
   locks.leave(7, 1, 150, 6);
   EXPECT(locks.uses().at({1, 7}).inside, 50);
   EXPECT(locks.uses().at({1, 7}).alone, 0);

@@ -1,11 +1,12 @@
 """The commands of the tester. Each takes the options and a folder for what it builds, and answers an exit status."""
+import argparse
 import contextlib
 import json
 import pathlib
 import sys
 from dataclasses import replace
 
-from spanprof.conformance import gcov, store, tables
+from spanprof.conformance import delays, gcov, store, tables
 from spanprof.conformance.bisect import UNTESTABLE, sample
 from spanprof.conformance.built import built_in, try_mutant
 from spanprof.conformance.campaign import cases_of, directed_cases, random_cases, run_cases
@@ -115,6 +116,28 @@ def try_built(options, bench):
     return 1 if wrong else 0
 
 
+def command_delays(options, folder):
+    """Tells how much of the threads' time runtimes delay, and how long ready segments wait, by construct."""
+    found = {}
+    for cc in options.cc.split(","):
+        own = replace_words(options, cc=cc)
+        bench = open_bench(own, folder)
+        cases = directed_cases(bench.toolchain.kinds, ["tied"], options.match)[0]
+        cases += random_cases(range(options.seed, options.seed + options.programs), bench.toolchain.kinds, ["tied"], [])
+        found[f"{cc}: {bench.toolchain.runtime(bench.environment)}"] = delays.measured(bench, cases, own)
+    print("\n".join(delays.tables_of(found)))
+    if options.report:
+        is_json = options.report.endswith(".json")
+        pathlib.Path(options.report).write_text(
+            delays.as_json(found) if is_json else "\n".join(delays.tables_of(found)) + "\n")
+    return 0
+
+
+def replace_words(options, **others):
+    """The options with others in their place."""
+    return argparse.Namespace(**{**vars(options), **others})
+
+
 def command_shrink(options, folder):
     """Shrinks the failure of one program."""
     bench = open_bench(options, folder)
@@ -193,4 +216,5 @@ def command_list(_options, _folder):
 
 
 COMMANDS = {"run": command_run, "mutants": command_mutants, "shrink": command_shrink, "merge": command_merge,
-            "bisect": command_bisect, "emit": command_emit, "judge": command_judge, "list": command_list}
+            "bisect": command_bisect, "delays": command_delays, "emit": command_emit,
+            "judge": command_judge, "list": command_list}

@@ -13,12 +13,13 @@ from dataclasses import dataclass
 
 from spanprof.conformance.data import DATA
 from spanprof.conformance.mutants import family_of
+from spanprof.errors import Fault
 
 USUAL = DATA / "expected.txt"
 NAMES = ("family", "runtime", "kind", "rule", "tasks", "program", "setting", "threads")
 
 
-class WrongLine(Exception):
+class WrongLine(Fault):
     """A line that says nothing of failures."""
 
 

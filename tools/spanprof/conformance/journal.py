@@ -7,8 +7,10 @@ import json
 import os
 import pathlib
 
+from spanprof.errors import Fault
 
-class OtherCampaign(Exception):
+
+class OtherCampaign(Fault):
     """The file is of something else, or another process has it."""
 
 

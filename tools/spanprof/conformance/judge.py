@@ -5,6 +5,8 @@ import shutil
 import subprocess
 from dataclasses import dataclass
 
+from spanprof.errors import Fault
+
 BUILT = pathlib.Path(__file__).resolve().parents[3] / "crates" / "spanprof" / "out" / "spanprof"
 
 
@@ -19,11 +21,11 @@ class Verdict:
         return self.kind == "accepted"
 
 
-class Missing(Exception):
+class Missing(Fault):
     """Something that was asked for is not there."""
 
 
-class Refused(Exception):
+class Refused(Fault):
     """spanprof refuses the program's text."""
 
 

@@ -15,6 +15,7 @@ class Log:
     detail: str = ""      # the digest, or how it hung or broke down
     unlogged: bool = False  # whether the events are told apart from their order
     stacks: list = field(default_factory=list)  # of a run that hung, as a debugger's lines
+    moments: list = field(default_factory=list)  # of the events, in nanoseconds, where the run was timed
 
 
 @dataclass(frozen=True)
@@ -35,6 +36,12 @@ LONGEST = 11  # times as long as a run may log nothing: more than harness/watch.
 ENDS = {"done": "done", "hung": "hung", "signal": "crashed"}
 
 
+def cut_moment(line):
+    """The line of an event, and its moment where it has one."""
+    words = line.split()
+    return (" ".join(words[:3]), [int(words[3])]) if len(words) == 4 else (line, [])
+
+
 def read_logs(text):
     """The logs in what a program wrote. One without an end is that of a run in which the program broke down."""
     logs = []
@@ -48,7 +55,9 @@ def read_logs(text):
         elif word == "stack" and logs:
             logs[-1].stacks.append(rest)
         elif word in ("start", "finish", "overflow") and logs:
-            logs[-1].events.append(line)
+            event, moment = cut_moment(line)
+            logs[-1].events.append(event)
+            logs[-1].moments += moment
     return logs
 
 

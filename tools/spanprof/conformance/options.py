@@ -73,13 +73,13 @@ def add_options(name, parser):
             help="how tasks are written (all three; mixed: every other task is untied)")
     if name in ("shrink", "bisect", "emit"):
         add("--tasks", choices=VARIANTS, default="tied", help="how tasks are written (tied)")
-    if name in ("run", "mutants", "shrink", "bisect"):
+    if name in ("run", "mutants", "shrink", "bisect", "delays"):
         add_bench_options(name, parser)
 
 
 def add_bench_options(name, parser):
     add = parser.add_argument
-    add("--cc", required=True, help="the compiler")
+    add("--cc", required=True, help="the compiler" + (", or several with commas" if name == "delays" else ""))
     add("--cflags", default="", help="more flags for it")
     add("--preload", default="", help="a library to load first, such as another runtime with the same entry points")
     add("--threads", type=thread_counts, default=(2, 4) if name == "mutants" else (1, 2, 4, 16),
@@ -100,6 +100,8 @@ def add_bench_options(name, parser):
         add("--unit", type=natural, default=DIRECTED_UNIT, help="what a cost of 1 lasts, in nanoseconds")
     if name == "mutants":
         add_mutant_options(parser)
+    elif name == "delays":
+        add("--programs", type=natural, default=20, help="how many random programs (20)")
     elif name == "bisect":
         add("--fails", type=positive, default=1, help="runs that have to fail (1)")
     else:

@@ -3,22 +3,24 @@ import re
 
 from spanprof.conformance.forms import GROUP_FORMS, LOOP_FORMS
 from spanprof.conformance.program import KINDS, Group, Index, Item, Loop, Task, Wait, Work
+from spanprof.errors import Fault
+from spanprof.text import lines_of
 
-TOKEN = re.compile(r"\{[ \t]*#:[^\n]*|#[^\n]*|\w+|\S")  # a `{` and how its statement is written in C are one token
 CLAUSE = re.compile(r"untied|mergeable|taskwait|priority\([0-9]+\)")
 
 
-class Unreadable(Exception):
+class Unreadable(Fault):
     pass
 
 
 class Reader:
     def __init__(self, text):
-        self.tokens = [token for token in TOKEN.findall(text) if not token.startswith("#")]
-        self.at = 0
+        self.tokens, self.at = [], 0
+        for words, comment in lines_of(text):
+            self.tokens += [(word, "") for word in words[:-1]] + [(word, comment) for word in words[-1:]]
 
     def peek(self):
-        return self.tokens[self.at] if self.at < len(self.tokens) else ""
+        return self.tokens[self.at][0] if self.at < len(self.tokens) else ""
 
     def take(self, *wanted):
         """The next token, which has to be one of those that are wanted, if any are."""
@@ -52,13 +54,12 @@ class Reader:
         return tuple(body)
 
     def block(self):
-        """The words that tell how the statement is written in C, and its body."""
-        opening = self.take()
-        if not opening.startswith("{"):
-            raise Unreadable(f"{opening!r} in place of {{")
+        """How the statement is written in C, by a comment `#: WORD ..` behind its `{`, and its body."""
+        self.take("{")
+        comment = self.tokens[self.at - 1][1]
         body = self.statements()
         self.take("}")
-        return tuple(opening.partition("#:")[2].split()), body
+        return tuple(comment[1:].split()) if comment.startswith(":") else (), body
 
     def statement(self):
         word = self.take("work", "task", "taskwait", "taskgroup", "for")
@@ -78,7 +79,7 @@ class Reader:
     def task(self):
         undeferred = final = False
         items = []
-        while not self.peek().startswith("{"):
+        while self.peek() != "{":
             clause = self.take("if", "final", "depend")
             self.take("(")
             if clause == "if":

@@ -9,6 +9,7 @@ import subprocess
 
 from spanprof.conformance.data import DATA
 from spanprof.conformance.program import KINDS
+from spanprof.errors import Fault
 
 HARNESS = DATA / "harness"
 PROBE = """#include <omp.h>
@@ -34,7 +35,7 @@ int main(void) {
 """
 
 
-class BuildFailed(Exception):
+class BuildFailed(Fault):
     """What the compiler said."""
 
 

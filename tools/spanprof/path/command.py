@@ -4,6 +4,7 @@ import os
 import sys
 import tempfile
 
+from spanprof.command import Console, check_files, end_with
 from spanprof.errors import Fault
 from spanprof.head import head_text, said
 from spanprof.measure import HOW, measure, spanprof_large
@@ -11,6 +12,7 @@ from spanprof.path.found import find_path, programs
 from spanprof.path.table import lines, write_csv
 from spanprof.version import Version
 
+CONSOLE = Console("spanprof-path")
 DESCRIPTION = """Finds a critical path of a program text of version 1 and of any size, and prints how much of the
 span and of the work each place in the source is."""
 AFTER = """spanprof_large measures the text, and the text with all costs off the path set to 0: work and span of that
@@ -24,23 +26,6 @@ def parse(words):
     parser.add_argument("--csv", action="store_true", help="print a row for each place: span,work,segments,place")
     parser.add_argument("--version", action=Version)
     return parser.parse_args(words)
-
-
-def tell(words):
-    """Progress, where somebody looks on."""
-    if sys.stderr.isatty():
-        say(words)
-
-
-def say(words):
-    print("spanprof-path: " + words, file=sys.stderr, flush=True)
-
-
-def check_files(options):
-    if not os.path.isfile(options.text):
-        raise Fault("%s: no such file" % options.text)
-    if options.output and os.path.exists(options.output) and os.path.samefile(options.text, options.output):
-        raise Fault("%s: the masked text would be written over the text" % options.output)
 
 
 def title(path):
@@ -65,12 +50,12 @@ def show(options, path):
 
 
 def answer(options):
-    check_files(options)
+    check_files(options.text, options.output, "masked")
     large = spanprof_large()
     if not large:
         raise Fault(HOW)
     numbers = measure(large, options.text)
-    by = programs(large, tell)
+    by = programs(large, CONSOLE.tell)
     with tempfile.TemporaryDirectory(prefix="spanprof-path-") as folder:
         masked = options.output or os.path.join(folder, "masked.tasks")
         path = find_path(by, options.text, numbers, masked, os.path.join(folder, "table"))
@@ -80,13 +65,4 @@ def answer(options):
 
 
 def main(words):
-    try:
-        answer(parse(words))
-    except Fault as fault:
-        say(str(fault))
-        sys.exit(1)
-    except OSError as wrong:
-        say("%s: %s" % (wrong.filename, wrong.strerror))
-        sys.exit(1)
-    except KeyboardInterrupt:
-        sys.exit(130)
+    end_with(CONSOLE, answer, parse(words))

@@ -5,10 +5,12 @@ import subprocess
 import sys
 import webbrowser
 
-from spanprof.account import lines_of
+from spanprof.account import account_beside
+from spanprof.account_words import lines_of
 from spanprof.answers import Answers
+from spanprof.command import end_at_a_closed_pipe
 from spanprof.errors import OWN_FAULT, Fault
-from spanprof.measure import spanprof_large
+from spanprof.measure import HOW, spanprof_large
 from spanprof.record.console import say, tell
 from spanprof.record.large import answers, head_of, large_summary, unmeasured_summary
 from spanprof.record.options import parse
@@ -16,6 +18,7 @@ from spanprof.record.ranks import are_ranks
 from spanprof.record.run import end_as
 from spanprof.record.session import TOOLS, Session
 from spanprof.record.summary import other_region, summary
+from spanprof.record.summary_json import led_json, write_json
 from spanprof.record.verdict import verdict
 from spanprof.whatif.lead import lead
 
@@ -39,9 +42,11 @@ def print_summary(session, found, said, shown=()):
         show([other_region(one) for one in answered] + ["%s: %s" % (session.options.out, one) for one in news])
     else:
         of_what = "ranks" if are_ranks(found) else "regions"
-        times = found[heaviest].times
-        account, led = lines_of(answered[heaviest], times), lead(answered[heaviest], times)
-        show(summary(answered[heaviest], verdict(found[heaviest]), news, others, of_what, account, led))
+        account, why = account_beside(answered[heaviest])
+        led = lead(answered[heaviest], account)
+        show(summary(answered[heaviest], verdict(found[heaviest]), news, others, of_what, lines_of(account, why), led))
+        if session.options.json:
+            write_json(session.options.json, led_json(answered[heaviest], account, why, led))
     return found[heaviest]
 
 
@@ -56,9 +61,9 @@ def print_large(found, program, news):
 
 
 def write_page(options, recording):
-    """Of a recording that a page can show; there is none where all are beyond the limits of the ten commands."""
+    """Of a recording that a page can show; there is none where all are for spanprof_large, and that is not there."""
     if not recording:
-        raise Fault("no page is written: the recording is beyond the limits of the ten commands")
+        raise Fault("no page is written: the recording is beyond the limits of the ten commands; " + HOW)
     reporter = next((path for path in REPORTERS if os.path.exists(path)), REPORTERS[0])
     words = [sys.executable, reporter, recording.text, "-o", options.html]
     if recording.replay:
@@ -79,21 +84,19 @@ def try_page(options, recording):
 
 
 def print_summaries(session, found, said):
-    """Answers the recording that a page can show: the heaviest within the limits of the ten commands."""
+    """Answers the recording that a page can show: the heaviest within the limits of the ten commands, or else the
+    longest text, where spanprof_large is there."""
     small, large = [[one for one in found if one.is_large == is_large] for is_large in (False, True)]
     program = spanprof_large() if large else []
     shown = [one.text for one in large] if program else []
     recording = print_summary(session, small, said, shown) if small else None
     remarks = {remark for one in large for remark in head_of(one.text).remarks}
     print_large(large, program, [] if small else session.notes + said.news(session.out, shown, remarks))
-    return recording
+    return recording or (max(large, key=lambda one: os.path.getsize(one.text)) if program else None)
 
 
 def report(session, found, said):
-    try:
-        recording = print_summaries(session, found, said)
-    except SystemExit as refused:  # a word of spanprof's
-        raise Fault(str(refused)) from refused
+    recording = print_summaries(session, found, said)
     if session.options.html:
         try_page(session.options, recording)
 
@@ -115,4 +118,5 @@ def record_and_report(options):
 
 
 def main(words):
+    end_at_a_closed_pipe()
     end_as(record_and_report(parse(words)))

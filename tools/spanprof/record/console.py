@@ -1,12 +1,5 @@
-"""Words of spanprof-record itself, on standard error."""
-import sys
+"""Words of spanprof-record itself."""
+from spanprof.command import Console
 
-
-def say(words):
-    print("spanprof-record: " + words, file=sys.stderr, flush=True)
-
-
-def tell(words):
-    """Progress, where somebody looks on."""
-    if sys.stderr.isatty():
-        say(words)
+CONSOLE = Console("spanprof-record")
+say, tell = CONSOLE.say, CONSOLE.tell

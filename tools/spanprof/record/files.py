@@ -70,7 +70,7 @@ def remove_log(folder):
 def remove_old(out):
     """Takes away what an earlier run of this name left, as the recorder does where it is loaded."""
     for path in glob.glob(glob.escape(out) + ".*"):
-        if re.fullmatch(r"(\.rank[0-9]+)?(\.[0-9]+)?(\.large)?(\.inout)?\.(tasks|replay|times)", path[len(out):]):
+        if re.fullmatch(r"(\.rank[0-9]+)?(\.[0-9]+)?(\.large)?(\.inout)?\.(tasks|replay|times|timed)", path[len(out):]):
             os.remove(path)
         elif re.fullmatch(r"(\.rank[0-9]+)?(\.[0-9]+(-[0-9]+)?)?\.log", path[len(out):]) and os.path.isdir(path):
             remove_log(path)

@@ -48,8 +48,8 @@ def parser():
     out = Parser(prog="spanprof-record", description=DESCRIPTION, epilog=AFTER, allow_abbrev=False,
                  usage="spanprof-record [options] [--] PROGRAM [WORD ..]")
     add = out.add_argument
-    add("--out", metavar="NAME", help="the first name of the files: NAME.tasks, NAME.replay; without it the program's; of several processes of "
-        "MPI, NAME.rank0.tasks and so on")
+    add("--out", metavar="NAME", help="the first name of the files: NAME.tasks, NAME.replay; without it the program's; "
+        "of several processes of MPI, NAME.rank0.tasks and so on")
     add("--unit", type=unit, help="what a cost of 1 is: ns (without it), us, ms, or a number of nanoseconds")
     add("--clock", choices=("wall", "cpu"), help="wall time (without it), or processor time of each thread")
     add("--threads", type=count(1, 1024), metavar="P", help="OMP_NUM_THREADS of the run; spanprof judges 64 at most")
@@ -60,6 +60,7 @@ def parser():
         "all below them as one cost; tasks cheaper than C as work of their parent; N neighbours as one task")
     add("--runtime", metavar="FILE", help="LLVM's runtime, to run the program on whatever it is linked with")
     add("--html", metavar="PAGE", help="write the page of spanprof-report too")
+    add("--json", metavar="FILE", help="write the account of the run, the cause and the first change as JSON too")
     add("--version", action=Version)
     add("--open", action="store_true", help="show that page in the browser; without --html it is NAME.html")
     add("command", nargs=argparse.REMAINDER, metavar="PROGRAM [WORD ..]", help="what to run")

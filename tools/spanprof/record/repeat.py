@@ -8,6 +8,7 @@ import subprocess
 import sys
 
 from spanprof import client
+from spanprof.account import timed_beside
 from spanprof.errors import Fault
 from spanprof.record.files import recordings, stem_of
 
@@ -27,7 +28,7 @@ def make_folder(out, runs):
     except OSError as wrong:
         raise Fault("%s: %s" % (folder, wrong.strerror)) from wrong
     for entry in os.listdir(folder):
-        if re.fullmatch(r"run\d+(\.\d+)?(\.large)?(\.inout)?\.(tasks|replay|times)", entry):
+        if re.fullmatch(r"run\d+(\.\d+)?(\.large)?(\.inout)?\.(tasks|replay|times|timed)", entry):
             os.remove(os.path.join(folder, entry))
     return names(out, runs)
 
@@ -71,6 +72,12 @@ def add_to_head(path, lines):
         file.write(text[:at] + lines + text[at:])
 
 
+def take_times(recording, out):
+    """The timed document of one run."""
+    if os.path.exists(timed_beside(recording.text)):
+        shutil.copyfile(timed_beside(recording.text), out + ".timed")
+
+
 def take(recording, out):
     """The files of one run under the name of all."""
     shutil.copyfile(recording.text, out + ".tasks")
@@ -92,6 +99,7 @@ def combine(tool, out, same_region):
     """Makes OUT.tasks and OUT.replay of the recordings of one region; answers what is to be remarked."""
     works, spans = zip(*[work_and_span(recording.text) for recording in same_region])
     middle_run = middle(same_region, works)
+    take_times(middle_run, out)
     done = subprocess.run([sys.executable, tool, out + ".tasks"] + [recording.text for recording in same_region],
                           capture_output=True, text=True, errors="replace", check=False)
     if done.returncode:

@@ -41,9 +41,9 @@ def refuse_targets(lacking):
     """gcc's runtime waits for no task of LLVM's: a `target` with `nowait` or `depend` would begin too early."""
     found = sorted(TARGETS.intersection(lacking))
     if found:
-        raise Fault("the program calls %s, which LLVM's runtime does not have, and gcc's beside it knows none of LLVM's "
-                    "tasks: with nowait or depend its results may be wrong; compile it with clang (--runtime %s runs it "
-                    "all the same)" % (found[0], llvm_runtime()))
+        raise Fault("the program calls %s, which LLVM's runtime does not have, and gcc's beside it knows none of "
+                    "LLVM's tasks: with nowait or depend its results may be wrong; compile it with clang (--runtime %s "
+                    "runs it all the same)" % (found[0], llvm_runtime()))
 
 
 def to_preload(path, linkage, wanted=None):

@@ -2,6 +2,7 @@
 import os
 
 from spanprof import client
+from spanprof.account_program import spanprof_account
 from spanprof.errors import Fault
 from spanprof.record.console import say, tell
 from spanprof.record.convert import convert_all, converter
@@ -20,11 +21,8 @@ MEDIAN = os.path.join(TOOLS, "median_recording.py")
 
 
 def check_spanprof():
-    """Ends before the run where there is nothing to read its recording with."""
-    try:
-        client.ask(["span"], "omptasks 1\n")
-    except SystemExit as missing:
-        raise Fault(str(missing)) from missing
+    """A fault before the run where there is nothing to read its recording with."""
+    client.ask(["span"], "omptasks 1\n")
 
 
 def notes_on(preload, called, is_asked=False):
@@ -77,7 +75,10 @@ class Session:
     def run(self, out, others=None):
         """One run, with other variables too: how the program ended, and what is told of its logs."""
         remove_old(out)
-        variables = environment(dict(os.environ, **others or {}), self.options, self.library, self.preload, out)
+        asked = dict(os.environ, **others or {})
+        if spanprof_account():
+            asked["SPANPROF_TIMES"] = "1"
+        variables = environment(asked, self.options, self.library, self.preload, out)
         status = run(self.path, self.options.command, variables)
         tell("converting " + os.path.basename(out) + ".log")
         return status, convert_all(self.converter, out, variables)

@@ -55,8 +55,9 @@ def tasks_line(answers, verdict):
 def runs_line(head, takes_several=True):
     """`--runs` takes no recording that is beyond the limits of the ten commands."""
     if head.runs and head.runs > 1:
-        return "%d, and %s (measured)" % (head.runs, "each cost is the median of theirs" if head.is_median else
-                                          "each cost is that of the one with the median work, since they have no median")
+        return "%d, and each cost is %s (measured)" % (
+            head.runs, "the median of theirs" if head.is_median else
+            "that of the one with the median work, since they have no median")
     return "1: another run has other costs" + ("; --runs 9 tells how far they spread" if takes_several else "")
 
 

@@ -1,4 +1,4 @@
-"""What the converter of logs tells, in words: each thing is a dictionary, read from a line of JSON, that `told` names."""
+"""What the converter of logs tells, in words: each thing is a dictionary of a line of JSON, and `told` names it."""
 import json
 import os
 from dataclasses import dataclass
@@ -11,6 +11,8 @@ STOPPED = {"full": "the disk was full", "numbers": "there were more tasks than n
            "unwritable": "the log could not be written"}
 NO_REPLAY = {"exact folds": "since tasks are folded exactly", "unfinished": "since tasks did not run to their ends",
              "workers": "since it holds 64 workers and the run had %(workers)d"}
+NO_TIMES = {"folds": "since tasks are folded", "unfinished": "since tasks did not run to their ends",
+            "large": "since spanprof_account takes no text beyond the limits of spanprof"}
 
 
 def parallelism(work, span):
@@ -21,12 +23,18 @@ def milliseconds(nanoseconds):
     return "%.1f ms" % (nanoseconds / 1e6)
 
 
+def times_of(told):
+    """The timed document, where it was asked for."""
+    return " and " + told["times"] if "times" in told else \
+        "; no times, " + NO_TIMES[told["no times"]] if "no times" in told else ""
+
+
 def text(told):
     replay = " and " + told["replay"] if "replay" in told else ""
     if "no replay" in told:
         replay = "; no replay document, " + NO_REPLAY[told["no replay"]] % told
-    return "%s%s: %d tasks, %d segments, work %d %s" % (
-        told["file"], replay, told["tasks"], told["segments"], told["work"], told["unit"])
+    return "%s%s%s: %d tasks, %d segments, work %d %s" % (
+        told["file"], replay, times_of(told), told["tasks"], told["segments"], told["work"], told["unit"])
 
 
 def folds(told):
@@ -66,8 +74,8 @@ WORDS = {
     "remark": lambda told: "%(name)s: %(remark)s" % told,
     "too large": too_large,
     "no exact fold": lambda told: "--fold exact: no exact fold fits",
-    "more regions": lambda told: "%(regions)d more regions with tasks, the lightest, are not written: work %(work)d %(unit)s; "
-                                 "SPANPROF_REGIONS says how many are" % told,
+    "more regions": lambda told: "%(regions)d more regions with tasks, the lightest, are not written: work %(work)d "
+                                 "%(unit)s; SPANPROF_REGIONS says how many are" % told,
     "outside": lambda told: "task outside of a parallel region, not recorded, %(seen)s" % told,
     "no tasks": lambda told: "no parallel region with tasks" +
                              (", and the program ended inside a region" if told["inside"] else ""),

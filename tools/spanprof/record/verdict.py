@@ -1,5 +1,6 @@
 """What spanprof says of a recorded run."""
 from spanprof import client
+from spanprof.errors import Fault
 
 
 def verdict(recording):
@@ -12,6 +13,6 @@ def verdict(recording):
         client.ask(["replay"], document)
     except client.Refused as refused:
         return "its run is refused: %s" % refused.brief()
-    except SystemExit as missing:
+    except Fault as missing:
         return "its run is refused: %s" % missing
     return "its run was legal (proved of the recorded text and events)"

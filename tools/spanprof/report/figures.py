@@ -5,6 +5,7 @@ A source is written in a few words that the tests read again: `span work`, `curv
 all of it means the second program of the page, and `change A` how that differs from the first in per cent.
 """
 from spanprof.report.markup import join, tag
+from spanprof.report.units import grouped
 
 MEASURED, RECORDED, PROVED, DECLARED = "measured", "recorded", "proved", "declared"
 MEANINGS = {
@@ -15,11 +16,6 @@ MEANINGS = {
             "the program that was recorded it says as much as the text is that program",
 }
 LABELS = {PROVED: "proved of the text"}
-
-
-def grouped(value, digits=0):
-    """With a comma before each three digits."""
-    return "{:,.{}f}".format(value, digits).replace("-", "−")
 
 
 def percent(part, whole):
@@ -44,17 +40,25 @@ def label(kind):
 class Figures:
     """The numbers of one program of the page; `prefix` stands before the sources of the second."""
 
-    def __init__(self, prefix=""):
-        self.prefix = prefix
+    def __init__(self, prefix="", units=None):
+        self.prefix, self.units = prefix, units
 
-    def data(self, words, value, source, kind, rounded=None):
-        exact = value if isinstance(value, int) else "%.6g" % value
-        return tag("data", words, value=exact, title="%s (%s)" % (label(kind), self.prefix + source),
-                   data_from=self.prefix + source, data_rounded=rounded, class_=kind)
+    def data(self, words, value, source, kind, rounded=None, exact="", scale=1):
+        """`exact` is the number in full, and `scale` what it is divided by where it is seen."""
+        carried = value if isinstance(value, int) else "%.6g" % value
+        told = "%s (%s)" % (label(kind), self.prefix + source)
+        return tag("data", words, value=carried, title="%s: %s" % (exact, told) if exact else told,
+                   data_from=self.prefix + source, data_rounded=rounded,
+                   data_scale=None if scale == 1 else "%.12g" % scale, class_=kind)
 
-    def number(self, value, source, kind, digits=0, unit=""):
+    def number(self, value, source, kind, digits=0):
         """A number as HTML. Its title says whether it was measured, recorded or proved, and by which answer."""
-        return self.data(grouped(value, digits) + (" " + unit if unit else ""), value, source, kind)
+        return self.data(grouped(value, digits), value, source, kind)
+
+    def time(self, value, source, kind, rounded=None):
+        """A time in a human unit; in full it is the title's. What bounds is rounded `up` or `down`, its own way."""
+        words, scale = self.units.shown(value, rounded)
+        return self.data(words, value, source, kind, rounded, self.units.exact(value), scale)
 
     def share(self, part, whole, source, kind):
         """A part of a whole in per cent; the source is that of the quotient."""
@@ -78,6 +82,11 @@ class Figures:
         listed = "; ".join(self.prefix + source for source in sources)
         return tag(name, words, data_from=listed or None, **attributes)
 
+    def told_time(self, name, value, source, **attributes):
+        """The same of one time, in a human unit."""
+        words, scale = self.units.shown(value)
+        return self.told(name, words, [source], data_scale=None if scale == 1 else "%.12g" % scale, **attributes)
+
 
 def badge(kind):
     """The word itself, where a column or a tile holds numbers of one kind."""
@@ -86,10 +95,3 @@ def badge(kind):
 
 def badges(*kinds):
     return join([badge(kind) for kind in kinds], " ")
-
-
-def unit_name(unit):
-    """As it stands after a number: `250 ns` is a unit of its own, of which there are so many."""
-    if unit[:1].isdigit():
-        return "× " + unit
-    return {"us": "µs"}.get(unit, unit)

@@ -4,10 +4,10 @@ from html import unescape
 from typing import List
 import re
 
-from spanprof.report.figures import grouped
 from spanprof.report.graph import CREATES, DEPENDS, WAITS
 from spanprof.report.layout import lay_out
 from spanprof.report.markup import join, tag
+from spanprof.report.units import grouped
 
 WIDEST = 1700   # what is wider is not made to fit, but scrolls
 LETTER, LINE, PAD = 6.9, 16, 10
@@ -64,7 +64,7 @@ def lines_text(lines, x, y):
 
 def draw_box(box, width, height, x, y):
     rectangle = tag("rect", x="%.1f" % (x - width / 2), y="%.1f" % (y - height / 2), width="%.1f" % width,
-                    height=height, rx=6, style="--shade:%.0f%%" % (DARKEST * box.shade))
+                    height=height, rx=6, style="--dark:%.0f%%" % (DARKEST * box.shade))
     return tag("g", box.title, rectangle, lines_text(box.lines, x, y),
                class_="box critical" if box.is_critical else "box")
 

@@ -41,5 +41,5 @@ def note(*pieces):
     return tag("p", *pieces, class_="note")
 
 
-def details(summary, *pieces, is_open=False):
-    return tag("details", tag("summary", summary), *pieces, open="" if is_open else None)
+def details(summary, *pieces, is_open=False, class_=None):
+    return tag("details", tag("summary", summary), *pieces, open="" if is_open else None, class_=class_)

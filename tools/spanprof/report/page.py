@@ -2,11 +2,16 @@
 import json
 import os
 
+from spanprof.report.colours import colour_rules
 from spanprof.report.markup import Markup, join, markup, section, tag
+from spanprof.report.part_account import idle_part
+from spanprof.report.part_changes import changes_part
 from spanprof.report.part_compare import compare_part
 from spanprof.report.part_curve import curve_part
 from spanprof.report.part_graph import graph_part
+from spanprof.report.part_nesting import nesting_part
 from spanprof.report.part_path import path_part
+from spanprof.report.part_source import source_part
 from spanprof.report.part_summary import summary_part
 from spanprof.report.part_tasks import tasks_part
 from spanprof.report.part_timeline import timeline_part
@@ -47,25 +52,38 @@ def timelines(views):
 
 
 def parts(views, factors):
-    """Of each part the name, the words that lead to it, and the part."""
+    """Of each part the name, the words that lead to it, and the part. Some texts have not all of them."""
     view, trials = views[0], Trials(views[0])
-    compared = [("compared", "Side by side", compare_part(views))] if len(views) > 1 else []
     of = " of " + view.name if len(views) > 1 else ""
-    return [("summary", "Summary", summary_part(view, trials, of)), *compared,
+    made = [("summary", "Summary", summary_part(view, trials, of)),
+            ("compared", "Side by side", compare_part(views) if len(views) > 1 else ""),
+            ("idle", "Idle time", idle_part(view, of)),
             ("speed-up", "Speed-up", curve_part(views)), *timelines(views),
-            ("path", "Critical path", path_part(view, of)),
+            ("path", "Critical path", path_part(view, of)), ("changes", "Changes", changes_part(view, of)),
             ("what-if", "What if", what_if_part(view, trials, factors, of)), ("tasks", "Tasks", tasks_part(view, of)),
+            ("nesting", "Nesting", nesting_part(view, of)), ("source", "Source", source_part(view, of)),
             ("graph", "Graph", graph_part(view, of)), ("sources", "Sources", asked_part(views))]
+    return [part for part in made if part[2]]
+
+
+def tried_data(view):
+    """The changes whose answers stand on the page, in their order."""
+    return view.tried and {"threads": view.tried.trials.threads,
+                           "requests": [trial.request for trial in view.tried.trials.ranked]}
 
 
 def data(views):
+    return {"programs": [timeline_data(view) for view in views], "tried": [tried_data(view) for view in views[:1]]}
+
+
+def as_script(found):
     """For the script; no `<` in it can end the element."""
-    words = json.dumps({"programs": [timeline_data(view) for view in views]}, ensure_ascii=False,
-                       separators=(",", ":"))
+    words = json.dumps(found, ensure_ascii=False, separators=(",", ":"))
     return Markup(words.replace("<", "\\u003c"))
 
 
-SCRIPTS = ("data.js", "drawing.js", "lanes.js", "controls.js", "tables.js", "graph.js", "factors.js")
+SCRIPTS = ("data.js", "level_run.js", "stretch.js", "ready.js", "drawing.js", "words.js", "chosen.js", "lanes.js",
+           "levels.js", "controls.js", "tables.js", "graph.js", "factors.js")
 
 
 def filled(text, pieces):
@@ -78,11 +96,15 @@ def filled(text, pieces):
     return "".join(out)
 
 
+def whole(title, made, found):
+    """The page of parts, each with its name and the words that lead to it, and of what its script needs."""
+    return filled(kept("page.html"), {
+        "title": markup(title), "parts": join([tag("a", label, href="#" + name) for name, label, _ in made]),
+        "main": join([part for _, _, part in made], "\n"), "data": as_script(found),
+        "style": colour_rules() + kept("style.css"), "theme": kept("theme.js"),
+        "script": "\n".join(map(kept, SCRIPTS))})
+
+
 def page(views, factors=()):
     """The whole page as text."""
-    made = parts(views, list(factors))
-    return filled(kept("page.html"), {
-        "title": markup(" and ".join(view.name for view in views)),
-        "parts": join([tag("a", label, href="#" + name) for name, label, _ in made]),
-        "main": join([part for _, _, part in made], "\n"), "data": data(views), "style": kept("style.css"),
-        "script": "\n".join(map(kept, SCRIPTS))})
+    return whole(" and ".join(view.name for view in views), parts(views, list(factors)), data(views))

@@ -4,7 +4,8 @@ from typing import Optional
 
 from spanprof.report.figures import MEASURED, PROVED, RECORDED, badge, badges, percent
 from spanprof.report.markup import breakable, join, note, section, tag
-from spanprof.report.part_summary import recorded_words, remarks
+from spanprof.report.summary_rest import remarks
+from spanprof.report.summary_words import recorded_words
 from spanprof.report.tables import place_cell, table
 
 MOST_PLACES = 30
@@ -66,7 +67,7 @@ def row_of(views, line):
     """A line's cells. Times of different units are not compared."""
     values, kinds = (line.first, line.second), [line.kind or view.shape_kind for view in views]
     cells = ["" if value is None else
-             view.figures.number(value, line.source, kind, unit=view.unit if line.is_time else "")
+             (view.figures.time if line.is_time else view.figures.number)(value, line.source, kind)
              for view, value, kind in zip(views, values, kinds)]
     is_compared = None not in values and (have_one_unit(views) or not line.is_time)
     changed = change(views, *values, line.source, kinds[0]) if is_compared else ""
@@ -83,7 +84,7 @@ def numbers(views):
 
 def kind_and_lines(view, place):
     """What a place is, whatever its file and number: the construct, and the lines of the source that stand there."""
-    lines = view.sources.snippet(place.name)
+    lines = view.snippet(place.name)
     return (place.name.rpartition(" at ")[0], *lines) if lines else None
 
 
@@ -121,14 +122,14 @@ def place_cells(view, place):
     if not place:
         return ["", ""]
     show, named = view.figures, "place %d " % place.number
-    return [show.number(place.cost, named + "cost", view.cost_kind),
+    return [show.time(place.cost, named + "cost", view.cost_kind),
             show.share(place.critical_cost, view.answers.span, named + "path / span span", view.cost_kind)]
 
 
 def pair_name(views, pair):
     """The place, or both where they have different names."""
     names = list(dict.fromkeys(place.name for place in pair if place))
-    lines = next(view.sources.snippet(place.name) for view, place in zip(views, pair) if place)
+    lines = next(view.snippet(place.name) for view, place in zip(views, pair) if place)
     return place_cell(" / ".join(names), lines)
 
 
@@ -140,8 +141,7 @@ def by_place(views):
 
 
 def cost_head(view):
-    unit = tag("span", ", in " + view.unit.replace("× ", ""), class_="given") if view.unit else ""
-    return join(["cost: ", breakable(view.name), unit])
+    return join(["cost: ", breakable(view.name)])
 
 
 def compare_part(views):

@@ -1,6 +1,6 @@
 """The speed-up on more and more threads, between `least` and `bound`, with the point that the run reached."""
 from spanprof.claims import gain_may_be_less, gain_may_be_more, least_end, why_not_of_more_threads
-from spanprof.report.figures import MEASURED, PROVED, badges, grouped
+from spanprof.report.figures import MEASURED, PROVED, badges
 from spanprof.report.markup import details, join, note, section, tag
 from spanprof.report.tables import table
 
@@ -27,7 +27,9 @@ class Axes:
 
 
 def speed_ups(answers, column):
-    return [(threads, answers.work / row[column] if row[column] else 1) for threads, row in answers.curve.items()]
+    """Nothing where no greedy run was made."""
+    return [(threads, answers.work / row[column] if row[column] else 1) for threads, row in answers.curve.items()
+            if column in row]
 
 
 def most_speed_ups(answers):
@@ -67,7 +69,7 @@ def told(view, threads):
     words = "%d threads, %.2f times" % (threads, times)
     sources = [named + "threads", "span work / %send" % named]
     for column, name in COLUMNS:
-        words += "; %s %s" % (name, grouped(row[column]))
+        words += "; %s %s" % (name, view.units.plain(row[column]))
         sources.append(named + column)
     return view.figures.told("title", words, sources)
 
@@ -134,7 +136,8 @@ def picture(views):
 
 def keys(view, colour, name):
     """What line, band and diamond of a program mean."""
-    items = [tag("span", tag("i", class_="key line " + colour), name, "the greedy run"),
+    greedy = tag("span", tag("i", class_="key line " + colour), name, "the greedy run")
+    items = [greedy if speed_ups(view.answers, "end") else "",
              tag("span", tag("i", class_="key area " + colour), name,
                  "from what every greedy run of the text reaches to what none passes")]
     if lock_limit(view.answers):
@@ -163,15 +166,18 @@ def cells(view, threads):
     answers, show = view.answers, view.figures
     words = show.told("span", threads, ["curve %d threads" % threads])
     out = [tag("b", words) if threads == answers.threads else words]
-    for column, times in (("least", show.times_at_most), ("end", show.times), ("bound", show.times_at_least)):
+    columns = (("least", "down", show.times_at_most), ("end", None, show.times), ("bound", "up", show.times_at_least))
+    for column, way, times in columns:
+        if column not in answers.curve[threads]:
+            continue
         source, value = "curve %d %s" % (threads, column), answers.curve[threads][column]
-        out += [show.number(value, source, PROVED), times(answers.work, value, "span work / " + source, PROVED)]
+        out += [show.time(value, source, PROVED, way), times(answers.work, value, "span work / " + source, PROVED)]
     return out
 
 
 def numbers(view):
-    heads = ["threads", "no run ends before", "times", "the greedy run ends at", "times",
-             "no greedy run ends after", "times"]
+    greedy = ["the greedy run ends at", "times"] if speed_ups(view.answers, "end") else []
+    heads = ["threads", "no run ends before", "times", *greedy, "no greedy run ends after", "times"]
     return table(heads, [cells(view, threads) for threads in shown_threads(view.answers)], numeric=range(7))
 
 

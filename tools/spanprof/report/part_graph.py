@@ -1,10 +1,11 @@
 """The graph: a box for each task of a small program, for each place of tasks in a large one."""
-from spanprof.report.figures import PROVED, badges, grouped, percent
+from spanprof.report.figures import PROVED, badges, percent
 from spanprof.report.graph import CREATES, DEPENDS, WAITS, critical_pairs, place_edges, task_edges
 from spanprof.report.graph_picture import Box, Joined, picture
 from spanprof.report.markup import join, note, section, tag
 from spanprof.report.places import tasks
 from spanprof.report.tables import table
+from spanprof.report.units import grouped
 
 MOST_TASKS, MOST_EDGES = 60, 240
 MOST_PLACES, MOST_PLACE_EDGES, MOST_LINES = 16, 30, 40
@@ -33,8 +34,8 @@ def between_tasks(edges, critical):
 def task_box(view, number, task, most):
     show = view.figures
     name = tag("tspan", "%d  %s" % (number, task.place), class_="given")
-    cost = show.told("tspan", grouped(task.cost), ["task %d cost" % number])
-    title = show.told("title", "task %d: cost %s, least slack %s" % (number, grouped(task.cost), grouped(task.slack)),
+    cost, exact = show.told_time("tspan", task.cost, "task %d cost" % number), view.units.plain
+    title = show.told("title", "task %d: cost %s, least slack %s" % (number, exact(task.cost), exact(task.slack)),
                       ["task %d number" % number, "task %d cost" % number, "task %d slack" % number])
     return Box([[name], [cost]], task.cost / most if most else 0, task.is_critical, title)
 

@@ -10,8 +10,8 @@ MOST_STEPS = 400
 def place_row(view, place):
     answers, show, kind, named = view.answers, view.figures, view.cost_kind, "place %d " % place.number
     part = percent(place.critical_cost, answers.span)
-    return [place_cell(place.name, view.sources.snippet(place.name)),
-            show.number(place.critical_cost, named + "path", kind),
+    return [place_cell(place.name, view.snippet(place.name)),
+            show.time(place.critical_cost, named + "path", kind),
             join([show.share(place.critical_cost, answers.span, named + "path / span span", kind), bar(part)]),
             show.share(place.cost, answers.work, named + "cost / span work", kind),
             show.number(place.critical_segments, named + "path-segments", PROVED),
@@ -26,7 +26,7 @@ def left_out(view, places):
     words = " more places with together " if len(places) > 1 else " more place with "
     cost = sum(place.critical_cost for place in places)
     return note(show.number(len(places), named + "count", view.shape_kind), words,
-                show.number(cost, named + "path", view.cost_kind), " on the path.")
+                show.time(cost, named + "path", view.cost_kind), " on the path.")
 
 
 def by_place(view):
@@ -57,15 +57,15 @@ def piece_cells(view, piece):
                 tag("span", "%d cheaper segments" % len(piece), class_="given")]
     place = view.answers.code[first].place()
     numbers = [tag("span", number, class_="given") for number in (first, view.answers.rows[first].task)]
-    return [*numbers, place_cell(place, view.sources.snippet(place)[-1:])]
+    return [*numbers, place_cell(place, view.snippet(place)[-1:])]
 
 
 def step_row(view, piece):
     rows, show, first, last = view.answers.rows, view.figures, piece[0], piece[-1]
     cost, end = sum(rows[s].cost for s in piece), rows[last].start + rows[last].cost
-    return [show.number(rows[first].start, "segment %d start" % first, PROVED),
-            show.number(end, "path end %d" % last, PROVED),
-            show.number(cost, "path cost %d %d" % (first, last), view.cost_kind), *piece_cells(view, piece)]
+    return [show.time(rows[first].start, "segment %d start" % first, PROVED),
+            show.time(end, "path end %d" % last, PROVED),
+            show.time(cost, "path cost %d %d" % (first, last), view.cost_kind), *piece_cells(view, piece)]
 
 
 def step_by_step(view):
@@ -79,7 +79,7 @@ def first_words(view):
     return tag("p", "A longest chain of segments that wait for one another: ",
                show.number(len(answers.path_segments), "path segments", PROVED), " of ",
                show.number(answers.span_numbers["segments"], "span segments", view.shape_kind), " segments, ",
-               show.number(answers.span, "span span", PROVED, unit=view.unit),
+               show.time(answers.span, "span span", PROVED),
                ". With threads to spare, only a shorter chain lets the text end sooner.")
 
 

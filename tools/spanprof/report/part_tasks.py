@@ -12,16 +12,16 @@ HOW_TO_READ = ". A task's cost is that of its own segments; of an even number of
 
 def costs(view, place, named):
     show, kind = view.figures, view.cost_kind
-    return [show.number(min(place.costs), named + "least", kind), show.number(place.median, named + "median", kind),
-            show.number(max(place.costs), named + "greatest", kind)]
+    return [show.time(min(place.costs), named + "least", kind), show.time(place.median, named + "median", kind),
+            show.time(max(place.costs), named + "greatest", kind)]
 
 
 def creation(view, place, named):
     """What creating the tasks costs, and that beside their own cost; the root is created by none."""
-    if place.tasks == [0]:
+    if place.name == "the root":
         return ["", ""]
     show, kind = view.figures, view.cost_kind
-    return [show.number(place.creating, named + "creating", kind),
+    return [show.time(place.creating, named + "creating", kind),
             show.share(place.creating, place.cost, named + "creating / " + named + "cost", kind)]
 
 
@@ -32,7 +32,7 @@ def row(view, place):
             show.share(place.cost, answers.work, named + "cost / span work", kind),
             show.share(place.critical_cost, answers.span, named + "path / span span", kind),
             show.number(place.critical_tasks, named + "critical", PROVED),
-            show.number(place.slack, named + "slack", PROVED), *creation(view, place, named)]
+            show.time(place.slack, named + "slack", PROVED), *creation(view, place, named)]
 
 
 def tasks_part(view, of=""):

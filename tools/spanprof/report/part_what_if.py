@@ -16,14 +16,14 @@ def end_cells(view, trials, place):
     threads, show, after = view.answers.threads, view.figures, trials.halved_end(place)
     before, source = view.answers.curve[threads]["end"], "whatif %d 0.5 end %d" % (place.number, threads)
     ended = "curve %d end" % threads
-    return [show.number(after, source, PROVED),
+    return [show.time(after, source, PROVED),
             show.share(before - after, before, "%s - %s / %s" % (ended, source, ended), PROVED)]
 
 
 def answer_cells(view, trials, place, factor):
     answers, show, after = view.answers, view.figures, trials.at(place, factor)["span"]
     source = "whatif %d %g span" % (place.number, factor)
-    return [show.number(after, source, PROVED),
+    return [show.time(after, source, PROVED),
             show.share(answers.span - after, answers.span, "span span - %s / span span" % source, PROVED)]
 
 
@@ -34,7 +34,7 @@ def factor_box(place):
 
 def row(view, trials, place):
     path = "place %d path / span span" % place.number
-    cells = [place_cell(place.name, view.sources.snippet(place.name)),
+    cells = [place_cell(place.name, view.snippet(place.name)),
              view.figures.share(place.critical_cost, view.answers.span, path, view.cost_kind)]
     cells += end_cells(view, trials, place) if is_on_threads(view) else []
     for factor in FACTORS:
@@ -50,9 +50,9 @@ def asked_for(view, factors):
     words = ", ".join("%s times %g" % (place.name, factor) for place, factor in factors)
     source = "factors %s" % " ".join("%d=%g" % (place.number, factor) for place, factor in factors)
     return tag("p", tag("b", "As asked: "), tag("span", words, class_="given"), ". Work ",
-               show.number(after["work"], source + " work", PROVED), ", span ",
-               show.number(after["span"], source + " span", PROVED, unit=view.unit), ", which was ",
-               show.number(view.answers.span, "span span", PROVED), ".", class_="asked")
+               show.time(after["work"], source + " work", PROVED), ", span ",
+               show.time(after["span"], source + " span", PROVED), ", which was ",
+               show.time(view.answers.span, "span span", PROVED), ".", class_="asked")
 
 
 def line_to_run(name, file):

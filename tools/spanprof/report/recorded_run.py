@@ -11,6 +11,7 @@ from typing import List, Optional
 
 from spanprof import client
 from spanprof.claims import is_folded
+from spanprof.errors import Fault
 
 
 @dataclass
@@ -59,7 +60,7 @@ def read_replay(path, answers):
         client.ask(["replay"], document)
     except client.Refused as refused:
         raise NoRun("spanprof refuses %s: %s" % (name, refused.brief())) from refused
-    except SystemExit as missing:
+    except Fault as missing:
         raise NoRun("spanprof refuses %s: %s" % (name, missing)) from missing
     answers.asked.append("spanprof replay < %s" % name)
     return events(rest[0])

@@ -46,10 +46,13 @@ class Sources:
         named = re.search(r"([^\s:/]+):(\d+)(?:,|$|\s)", place)
         if not named:
             return []
-        name, number = named[1], int(named[2])
+        return snippet(self.lines_of(named[1]), int(named[2]))
+
+    def lines_of(self, name):
+        """Of a file; none where it is not found."""
         if name not in self.lines:
             self.lines[name] = self.read(name)
-        return snippet(self.lines[name], number)
+        return self.lines[name]
 
 
 def snippet(lines, number):

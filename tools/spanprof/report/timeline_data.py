@@ -36,10 +36,17 @@ def runs_data(view):
     return dict(runs, recorded=recorded_data(view.run)) if view.run else runs
 
 
+def waits_data(predecessors):
+    """Of each segment how many it waits for, and how far before it each of these is."""
+    return {"counts": packed(map(len, predecessors)),
+            "steps": packed(s - p for s, before in enumerate(predecessors) for p in before)}
+
+
 def timeline_data(view):
     """What the script needs: of each segment cost, task, place, slack; of each run starts and threads."""
     answers, rows = view.answers, view.answers.rows
-    return {"name": view.name, "unit": view.unit, "places": [place.name for place in view.places],
+    return {"name": view.name, "unit": view.unit, "nanoseconds": view.units.nanoseconds, "waits": waits_data(
+                answers.predecessors), "places": [place.name for place in view.places],
             "cost": packed(row.cost for row in rows), "task": packed(row.task for row in rows),
             "place": packed(view.place_of[s] for s in range(len(rows))),
             "slack": packed(row.slack for row in rows), "critical": packed(answers.path_segments),

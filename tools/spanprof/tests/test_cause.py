@@ -13,7 +13,9 @@ def answers(work=100, end=30, tasks=8, **told):
 
 
 def account(busy, delayed, starved, outside=0):
-    return Account(4, (busy + delayed + starved + outside) // 4, busy, delayed, starved, outside)
+    made = Account(4, (busy + delayed + starved + outside) // 4, busy, delayed, starved, outside)
+    made.idle = ({}, {})
+    return made
 
 
 class ByTheAccount(unittest.TestCase):
@@ -25,14 +27,25 @@ class ByTheAccount(unittest.TestCase):
 
     def test_too_few_tasks(self):
         found = cause(answers(), account(40, 20, 40))
-        self.assertEqual(found.words, "too few tasks: for 40 % of the threads' time they idled with no segment ready "
+        self.assertEqual(found.words, "too few tasks: for 40 % of the threads' time they idled with nothing ready "
                                       "(measured)")
         self.assertIn("drop-wait", found.changes)
+
+    def test_what_ran_while_there_were_too_few(self):
+        told = account(40, 20, 40)
+        told.idle = ({}, {"task at a.c:3": 30, "the beginning": 10})
+        self.assertEqual(cause(answers(), told).words, "too few tasks: for 40 % of the threads' time they idled with "
+                                                       "nothing ready, 75 % of it while task at a.c:3 ran (measured)")
+
+    def test_beside_what_they_idled(self):
+        told = account(20, 76, 4)
+        told.idle = ({"task at a.c:3": 76}, {})
+        self.assertIn("a task was ready, 100 % of it beside task at a.c:3 (measured)", cause(answers(), told).words)
 
     def test_the_runtime_or_the_machine(self):
         found = cause(answers(), account(20, 76, 4))
         self.assertEqual(found.words, "the runtime or the machine: for 76 % of the threads' time they idled though a "
-                                      "segment was ready (measured)")
+                                      "task was ready (measured)")
         self.assertFalse(found.changes)
         self.assertEqual(cause(answers(end=27), account(20, 76, 4)).later, ("factor",))
         self.assertIn("drop-wait", cause(answers(end=40), account(20, 76, 4)).later)
@@ -64,9 +77,18 @@ class BeforeTheAccount(unittest.TestCase):
 
     def test_a_busy_machine(self):
         differ = {"affected": 60, "work": 100, "by": 64, "times": 3}
-        found = cause(answers(clocks_differ=differ), account(90, 5, 5))
-        self.assertTrue(found.words.startswith("the machine: for 40 % of the threads' time"))
+        told = account(90, 5, 5)
+        told.held_up.preempted = 40
+        for found in (cause(answers(clocks_differ=differ)), cause(answers(), told), cause(answers(clock="cpu"), told)):
+            self.assertTrue(found.words.startswith("the machine: for 40 % of the threads' time"))
         self.assertEqual(cause(answers(clocks_differ=differ, clock="cpu"), account(90, 5, 5)).kind, "balanced")
+
+    def test_code_that_sleeps(self):
+        told = account(90, 5, 5)
+        told.held_up.asleep = 85
+        self.assertEqual(cause(answers(), told).words,
+                         "the work: the threads were in code for 90 % of their time, and asleep in it for 85 % "
+                         "(measured)")
 
 
 class WithoutAnAccount(unittest.TestCase):
@@ -75,7 +97,7 @@ class WithoutAnAccount(unittest.TestCase):
         self.assertEqual(cause(answers(elapsed=60, end=60)).kind, "shape")
         found = cause(answers(elapsed=100))
         self.assertEqual(found.words, "the runtime or the machine: for 70 % of the threads' time they were off the "
-                                      "processor, or idled though a segment was ready (measured, beside the greedy run "
+                                      "processor, or idled though a task was ready (measured, beside the greedy run "
                                       "of the recorded text)")
 
     def test_nothing_to_say(self):

@@ -1,7 +1,7 @@
 import unittest
 
 from spanprof.changed_text import with_costs, without_costs
-from spanprof.client import segments
+from spanprof.text import segments_of as segments
 
 TEXT = """\
 omptasks 1
@@ -18,7 +18,7 @@ taskgroup { }
 class Costs(unittest.TestCase):
     def test_what_is_left(self):
         self.assertEqual(without_costs("omptasks 1 work 5 task { work 3 } taskwait work 1"),
-                         ["omptasks", "1", 0, "task", "{", 1, "}", 2, "taskwait", 3])
+                         ["omptasks 1", 0, "task {", 1, "}", 2, "taskwait", 3])
 
     def test_the_same_costs(self):
         own = [segment.cost for segment in segments(TEXT)]

@@ -24,12 +24,13 @@ class Asking(unittest.TestCase):
             self.assertEqual(client.ask(["show"], "omptasks 1\n"), "omptasks 1\n")
 
     def test_one_that_ends_before_it_has_read_all(self):
+        before = signal.getsignal(signal.SIGPIPE)
         with self.answers("echo 'error: input too long'\nexit 1\n"):
-            with self.assertRaises(SystemExit) as ended:
+            with self.assertRaises(client.Refused) as ended:
                 client.ask(["span"], "work 1\n" * 100000)
         self.assertEqual(str(ended.exception),
                          "spanprof span: error: input too long: standard input has at most 8,388,608 bytes")
-        self.assertEqual(signal.getsignal(signal.SIGPIPE), signal.SIG_DFL)
+        self.assertEqual(signal.getsignal(signal.SIGPIPE), before)
 
 
 if __name__ == "__main__":

@@ -1,9 +1,10 @@
-"""Which part of the package imports which: none in a circle."""
+"""Which part of the package imports which: none in a circle. And only commands end the process."""
 import ast
 import os
 import unittest
 
 PACKAGE = os.path.dirname(os.path.dirname(os.path.abspath(__file__)))
+ENDS = {"command.py", "convert_command.py", "version.py", "run.py"}  # run.py ends as the recorded program did
 SHARED = ""     # the modules of the package itself
 LAYERS = (SHARED, "conformance", "path", "whatif", "report", "record")     # each may import those before it
 
@@ -33,6 +34,12 @@ class Layers(unittest.TestCase):
                 for other in imported(file.read()):
                     self.assertLessEqual(LAYERS.index(other), LAYERS.index(part), "%s imports %s" % (path, other))
         self.assertEqual(found - {os.path.join("report", "template")}, set(LAYERS))
+
+    def test_only_commands_end_the_process(self):
+        for _, path in modules():
+            with open(path, encoding="utf-8") as file:
+                if os.path.basename(path) not in ENDS:
+                    self.assertNotRegex(file.read(), r"SystemExit|sys\.exit", path)
 
     def test_what_is_imported(self):
         self.assertEqual(list(imported("import os\nfrom spanprof import client\nfrom spanprof.record.run import run\n"

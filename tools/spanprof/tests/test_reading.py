@@ -1,10 +1,12 @@
-"""python3 -m unittest discover -s tools/plots/tests -t tools/plots"""
+"""Heads and segments of texts, and where spanprof is looked for."""
 import os
 import unittest
 from unittest import mock
 
 from spanprof import client
+from spanprof.errors import Fault
 from spanprof.head import read_head, said
+from spanprof.text import has_loops
 
 TEXT = """\
 # recorded: from sort, 2026-11-24T00:31:07Z, threads 4, clock cpu, unit 250 ns
@@ -28,6 +30,8 @@ OF_THE_PROGRAM = """\
 # divided among 4 threads: code of the region, 480 parts, 715 x 250 ns beside the longest
 # clock reading: 217 ns, taken off at each record
 # clocks differ: in 424000 of 424576 x 250 ns of the work, by 384500 x 250 ns, 85 times
+# slept: in 300 of 424576 x 250 ns of the work, for 200 x 250 ns, 2 times
+# untimed: 77 x 250 ns before segments were left
 # runs: 7, and each cost is the median of theirs
 # work of the runs: 34000 least, 34770 median, 36010 most
 # span of the runs: 2125 least, 2157 median, 8484 most
@@ -68,6 +72,7 @@ class Heads(unittest.TestCase):
                                         "code of the region, 480 parts, 715 x 250 ns beside the longest"])
         self.assertEqual((head.beside, head.clock_reading, head.most_held, head.runs), (715, 217, 64482, 7))
         self.assertEqual(head.clocks_differ, {"affected": 424000, "work": 424576, "by": 384500, "times": 85})
+        self.assertEqual((head.slept["by"], head.slept["times"], head.untimed), (200, 2, 77))
         self.assertEqual(head.spread, {"work": (34000, 34770, 36010), "span": (2125, 2157, 8484)})
         self.assertTrue(head.is_median)
         self.assertFalse(head.one_thread)
@@ -111,7 +116,7 @@ class Segments(unittest.TestCase):
 
     def test_which_texts_have_loops(self):
         texts = ("# omptasks 2\nomptasks 1", "omptasks\n02 work 1", "omptasks")
-        self.assertEqual([client.has_loops(text) for text in texts],
+        self.assertEqual([has_loops(text) for text in texts],
                          [False, True, False])
 
 
@@ -126,7 +131,7 @@ class Finding(unittest.TestCase):
 
     def test_no_program_is_told_without_a_traceback(self):
         with mock.patch.dict(os.environ, {"SPANPROF": "/no/such/program"}):
-            with self.assertRaisesRegex(SystemExit, "/no/such/program: No such file"):
+            with self.assertRaisesRegex(Fault, "/no/such/program: No such file"):
                 client.ask(["span"], "omptasks 1\n")
 
 

@@ -1,8 +1,9 @@
 """Which change to make first, and what each would bring: by the cause, and by the greedy ends of the changed texts."""
 import json
+from typing import NamedTuple
 
 from spanprof.claims import gain_may_be_less, gain_may_be_more, is_partial, speaks_of, why_not_of_more_threads
-from spanprof.whatif.tell import grouped, numbers_json, yours_to_know
+from spanprof.whatif.tell import grouped, in_unit, numbers_json, yours_to_know
 
 LEAST_GAIN = 0.01       # of the end, from which on a change is put first
 MOST_ROWS, MOST_OTHERS = 15, 5
@@ -27,7 +28,8 @@ def in_words(request):
 
 def preferred(tried, trial, most):
     """How much speaks for a change: 0 the most. A wait for tasks that depend items order too may not be needed, and
-    comes first where it brings half of the most that one change does; other waits mostly are. Halved costs come last."""
+    comes first where it brings half of the most that one change does; other waits mostly are. Halved costs come
+    last."""
     option, place = trial.request
     if option == "drop-wait" and place in tried.ordered:
         return 0 if 2 * tried.gain(trial) >= most else 1
@@ -89,6 +91,17 @@ def first_change(found, tried, head):
     return brings(trial, tried, found.changes, head)
 
 
+class Lead(NamedTuple):
+    """What a summary, a page and an advice lead with."""
+    cause: str
+    first: str
+    then: str = ""      # of the program, where the first is none of it
+
+
+def lead_of(found, tried, head):
+    return Lead(found.words, first_change(found, tried, head), then_change(found, tried, head))
+
+
 def signed(share):
     return "%+.1f %%" % (100 * share + 0.0)     # never -0 where nothing changes
 
@@ -105,10 +118,11 @@ def rows(tried, found, most):
         yield "%31s of %d more changes" % ("", len(found) - most)
 
 
-def table(tried):
+def table(tried, unit=""):
     p, more = tried.threads
-    yield "the greedy run of the text ends at %s on %d threads, at %s on %d; with one change:" % (
-        grouped(tried.before.on[p].end), p, grouped(tried.before.on[more].end), more)
+    yield "the greedy run of the text ends at %s on %d threads, at %s on %d%s; with one change:" % (
+        grouped(tried.before.on[p].end), p, grouped(tried.before.on[more].end), more,
+        ", " + in_unit(unit) if unit else "")
     yield ROW % ("end on %d" % p, "on %d" % more, "work", "change")
     yield from rows(tried, tried.sooner, MOST_ROWS)
     if tried.later:
@@ -123,13 +137,13 @@ def table(tried):
 def lines(tried, found, head):
     """The cause and the first change, then what was tried."""
     if found:
-        yield "cause: " + found.words
-        yield "first: " + first_change(found, tried, head)
-        yield from filter(None, [then_change(found, tried, head)])
+        led = lead_of(found, tried, head)
+        yield from ("cause: " + led.cause, "first: " + led.first)
+        yield from filter(None, [led.then])
     for p in tried.threads:
         if not speaks_of(head, p):
             yield "on %d threads: %s" % (p, why_not_of_more_threads(head))
-    yield from table(tried)
+    yield from table(tried, head.unit)
     yield from yours_to_know([trial.request for trial in tried.made])
     yield PROVED
 
@@ -140,9 +154,11 @@ def trial_json(tried, trial):
             "numbers": numbers_json(trial.numbers)}
 
 
-def as_json(tried, found, head):
-    out = {"cause": found and {"kind": found.kind, "words": found.words, "first": first_change(found, tried, head),
-                                "then": then_change(found, tried, head)},
-           "text": numbers_json(tried.before), "changes": [trial_json(tried, trial) for trial in tried.ranked],
-           "left out": tried.left_out, "proved": PROVED}
+def as_json(tried, found, head, account=None):
+    """`account` is that of the run as JSON, where there is one."""
+    led = found and lead_of(found, tried, head)
+    out = {"cause": led and {"kind": found.kind, "words": led.cause, "first": led.first, "then": led.then},
+           "account": account, "text": numbers_json(tried.before),
+           "changes": [trial_json(tried, trial) for trial in tried.ranked], "left out": tried.left_out,
+           "proved": PROVED}
     return json.dumps(out, indent=2)

@@ -1,16 +1,17 @@
 """spanprof-whatif: a recorded text with another shape or other costs, and what spanprof tells of it."""
 import argparse
 import os
-import sys
 import tempfile
 
+from spanprof.account import account_beside
+from spanprof.account_words import as_json as as_json_of
 from spanprof.answers import Answers
 from spanprof.cause import cause
-from spanprof.command import count
+from spanprof.command import Console, check_files, count, end_with
 from spanprof.errors import Fault
+from spanprof.version import Version
 from spanprof.whatif import advice
 from spanprof.whatif.creating import costs_for
-from spanprof.whatif.lead import run_account
 from spanprof.whatif.listing import listing
 from spanprof.whatif.numbers import measure
 from spanprof.whatif.requests import Request, applied, changes
@@ -56,23 +57,13 @@ def parse(words):
     add("--advise", action="store_true",
         help="try each single change, and list what each brings on P threads and on 4 P")
     add("--json", action="store_true", help="print JSON")
+    add("--version", action=Version)
     chosen = parser.parse_args(words)
     if not (chosen.requests or chosen.places or chosen.advise):
         parser.error("nothing to change; --places lists what there is, and --advise tries each")
     if chosen.requests and chosen.advise:
         parser.error("--advise tries single changes, and takes none")
     return chosen
-
-
-def say(words):
-    print("spanprof-whatif: " + words, file=sys.stderr, flush=True)
-
-
-def check_files(chosen):
-    if not os.path.isfile(chosen.text):
-        raise Fault("%s: no such file" % chosen.text)
-    if chosen.output and os.path.exists(chosen.output) and os.path.samefile(chosen.text, chosen.output):
-        raise Fault("%s: the changed text would be written over the text" % chosen.output)
 
 
 def compare(chosen, text, before, path):
@@ -87,7 +78,7 @@ def compare(chosen, text, before, path):
         raise Fault("nothing is changed by it: %s" % idle[0].words())
     after = measure(path, threads)
     told = list(notes(chosen.requests, made, costs, text.head, threads))
-    print(as_json(told, before, after) if chosen.json else "\n".join([*told, *lines(before, after)]))
+    print(as_json(told, before, after) if chosen.json else "\n".join([*told, *lines(before, after, text.head.unit)]))
 
 
 def advise(chosen, text, threads):
@@ -95,16 +86,20 @@ def advise(chosen, text, threads):
         raise Fault("--advise takes a text of version 1")
     try:
         answers = Answers(chosen.text)
-        seen = survey(text.statements())
-        found = cause(answers, run_account(answers))
-        tried = trials(text, seen, costs_for(text.head, seen, chosen.creating, chosen.least), threads)
-    except SystemExit as refused:   # a word of spanprof's
+    except Fault as refused:
         raise Fault("%s; --advise compares greedy runs, which only spanprof tells" % refused) from refused
-    print(advice.as_json(tried, found, text.head) if chosen.json else "\n".join(advice.lines(tried, found, text.head)))
+    seen = survey(text.statements())
+    account, _ = account_beside(answers)
+    found = cause(answers, account)
+    tried = trials(text, seen, costs_for(text.head, seen, chosen.creating, chosen.least), threads)
+    if chosen.json:
+        print(advice.as_json(tried, found, text.head, as_json_of(account) if account else None))
+    else:
+        print("\n".join(advice.lines(tried, found, text.head)))
 
 
 def answer(chosen):
-    check_files(chosen)
+    check_files(chosen.text, chosen.output)
     text = Text(chosen.text, version_of(chosen.text))
     threads = [min(chosen.threads or text.head.threads or 4, 1024)]
     if chosen.advise:
@@ -118,13 +113,4 @@ def answer(chosen):
 
 
 def main(words):
-    try:
-        answer(parse(words))
-    except Fault as fault:
-        say(str(fault))
-        sys.exit(1)
-    except OSError as wrong:
-        say("%s: %s" % (wrong.filename, wrong.strerror))
-        sys.exit(1)
-    except KeyboardInterrupt:
-        sys.exit(130)
+    end_with(Console("spanprof-whatif"), answer, parse(words))

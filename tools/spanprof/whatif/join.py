@@ -2,8 +2,8 @@
 from dataclasses import dataclass, field
 from typing import List
 
+from spanprof.text import Statement
 from spanprof.whatif.shapes import Creating
-from spanprof.whatif.statements import Statement
 
 
 @dataclass

@@ -1,11 +1,10 @@
 """The lead of a summary or a page: the one cause, and the change that comes first by it."""
-import os
-from typing import NamedTuple
+from dataclasses import replace
 
-from spanprof.account import NoAccount, account_of
 from spanprof.cause import cause
 from spanprof.errors import Fault
-from spanprof.whatif.advice import first_change, then_change
+from spanprof.whatif.advice import Lead, lead_of
+from spanprof.whatif.candidates import candidates
 from spanprof.whatif.creating import costs_for
 from spanprof.whatif.survey import survey
 from spanprof.whatif.texts import Text, version_of
@@ -14,24 +13,16 @@ from spanprof.whatif.trials import trials
 MOST_PLACES = 5     # of each kind of change
 
 
-class Lead(NamedTuple):
-    cause: str
-    first: str
-    then: str = ""      # of the program, where the first is none of it
+def among(tried, seen, kinds):
+    """Of changes that were tried those that a lead looks at."""
+    wanted = set(candidates(seen, tried.threads[0], kinds, MOST_PLACES).requests)
+    return replace(tried, made=[trial for trial in tried.made if trial.request in wanted])
 
 
-def run_account(answers, times=""):
-    """The account of the run whose table of times is named, or lies beside the text; None where there is none."""
-    beside = os.path.splitext(answers.path)[0] + ".times"
-    try:
-        return account_of(answers, times or (beside if os.path.exists(beside) else ""))
-    except NoAccount:
-        return None
-
-
-def lead(answers, times=""):
-    """None where the text tells no time, or is of one thread or of version 2."""
-    found = cause(answers, run_account(answers, times))
+def lead(answers, account=None, tried=None):
+    """By the account of the run, where there is one. None where the text tells no time, or is of one thread or of
+    version 2. `tried` are changes of the text that were tried already, on the threads of the recording."""
+    found = cause(answers, account)
     version = version_of(answers.path)
     if not found or version == 2:
         return None
@@ -41,7 +32,8 @@ def lead(answers, times=""):
     try:
         text = Text(answers.path, version)
         seen = survey(text.statements())
-        tried = trials(text, seen, costs_for(text.head, seen), answers.head.threads, kinds, MOST_PLACES)
+        tried = among(tried, seen, kinds) if tried else trials(text, seen, costs_for(text.head, seen),
+                                                               answers.head.threads, kinds, MOST_PLACES)
     except (Fault, OSError) as wrong:
         return Lead(found.words, found.instead or "none is tried: %s" % wrong)
-    return Lead(found.words, first_change(found, tried, answers.head), then_change(found, tried, answers.head))
+    return lead_of(found, tried, answers.head)

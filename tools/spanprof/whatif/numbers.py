@@ -29,11 +29,8 @@ class Numbers(NamedTuple):
 
 
 def by_spanprof(text, threads):
-    try:
-        numbers = named_numbers(client.ask(["span"], text))
-        told = client.ask(["curve", "--upto", str(max(threads))], text)
-    except SystemExit as refused:
-        raise Fault(str(refused)) from refused
+    numbers = named_numbers(client.ask(["span"], text))
+    told = client.ask(["curve", "--upto", str(max(threads))], text)
     return Numbers("spanprof", numbers["segments"], numbers["work"], numbers["span"], on_threads(told, threads))
 
 
@@ -70,7 +67,7 @@ def measure(path, threads):
         return by_large(path, threads, "the text is beyond the limits of spanprof")
     try:
         return by_spanprof(client.read(path), threads)
-    except (SystemExit, Fault) as refused:  # the first is a word of spanprof's
+    except Fault as refused:
         if not LIMITS.search(str(refused)):
-            raise Fault(str(refused)) from refused
+            raise
         return by_large(path, threads, str(refused))

@@ -3,8 +3,8 @@
 `creating` is what the creation of a task costs: a new task brings so much, and one less takes away as much, or all of
 the code before it where that cost less.
 """
+from spanprof.text import Statement
 from spanprof.whatif.changes import Change
-from spanprof.whatif.statements import Statement
 
 
 class Creating(Change):

@@ -58,8 +58,13 @@ def notes(requests, made, costs, head, threads):
     yield from on_more_threads(head, threads)
 
 
-def lines(before, after):
-    yield (HEADS % ("", "text", "changed text", "")).rstrip()
+def in_unit(unit):
+    """Of the costs; one that is a number of nanoseconds is a factor."""
+    return "in %s%s" % ("x " if unit[:1].isdigit() else "", unit) if unit else ""
+
+
+def lines(before, after, unit=""):
+    yield (HEADS % (in_unit(unit), "text", "changed text", "")).rstrip()
     for name, was, now in pairs(before, after):
         yield (HEADS % (name, grouped(was), grouped(now), change(was, now))).rstrip()
     yield proved(before, after)

@@ -4,7 +4,7 @@ from itertools import islice
 
 from spanprof import client
 from spanprof.head import head_text, read_head
-from spanprof.whatif.statements import statements, text_lines
+from spanprof.text import has_loops, statements, text_lines
 
 ENCODING = {"encoding": "utf-8", "errors": "replace", "newline": "\n"}
 LINES_OF_A_HEAD = 1000
@@ -32,7 +32,7 @@ class Text:
 def version_of(path):
     """By the header, which is looked for among the first lines."""
     with open(path, **ENCODING) as lines:
-        return 2 if client.has_loops("".join(islice(lines, LINES_OF_A_HEAD))) else 1
+        return 2 if has_loops("".join(islice(lines, LINES_OF_A_HEAD))) else 1
 
 
 def changed_head(text, made):

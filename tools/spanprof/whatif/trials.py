@@ -4,10 +4,10 @@ from typing import List
 
 from spanprof import client
 from spanprof.errors import Fault
+from spanprof.text import text_lines
 from spanprof.whatif.candidates import candidates
 from spanprof.whatif.numbers import Numbers, by_spanprof
 from spanprof.whatif.requests import Request, applied, changes
-from spanprof.whatif.statements import text_lines
 
 LEAST_CHANGE = 0.001    # of an end; what changes less counts as no change
 

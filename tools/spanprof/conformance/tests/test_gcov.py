@@ -24,7 +24,8 @@ class Reaching(unittest.TestCase):
             return list(gcov.rows(gcov.reached("folder")))
 
     def test_the_counts_of_all_objects_are_added(self):
-        self.assertEqual(self.rows(), [("task.c", "2 of 3 (66 %)", "2 of 2 (100 %)"), ("bar.c", "0 of 1 (0 %)", "0 of 0")])
+        self.assertEqual(self.rows(), [("task.c", "2 of 3 (66 %)", "2 of 2 (100 %)"),
+                                       ("bar.c", "0 of 1 (0 %)", "0 of 0")])
 
     def test_a_runtime_without_counts(self):
         with tempfile.TemporaryDirectory() as folder:

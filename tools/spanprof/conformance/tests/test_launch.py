@@ -32,6 +32,10 @@ class Reading(unittest.TestCase):
             Log(2, "creation", ["overflow"], "crashed", "11"),
             Log(3, "scattered", [], "crashed", "")])
 
+    def test_events_with_their_moments(self):
+        log, = read_logs("run 3 plain\nstart 0 0 1700\nfinish 0 0 1900\ndone 17\n")
+        self.assertEqual((log.events, log.moments), (["start 0 0", "finish 0 0"], [1700, 1900]))
+
     def test_runs_without_an_order(self):
         log, = read_logs("run 3 late unlogged\nstart 0 0\nfinish 0 0\ndone 17\n")
         self.assertEqual((log.schedule, log.unlogged, log.end), ("late", True, "done"))

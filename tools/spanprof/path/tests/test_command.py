@@ -95,7 +95,8 @@ proved of this text: its work and span, and that both are 7 for the masked text;
         self.write("mine.tasks", "tasks")
         status, printed, said = self.told()
         self.assertEqual((status, printed), (1, ""))
-        self.assertRegex(said, "(?s)^spanprof-path: .*mine.tasks:1: BadHeader: .*\n    1 | tasks\n.*: line 1: BadHeader\n$")
+        self.assertRegex(said, "(?s)^spanprof-path: .*mine.tasks:1: BadHeader: .*\n    1 | tasks\n"
+                               ".*: line 1: BadHeader\n$")
 
     def test_a_program_that_fails(self):
         self.assertEqual(self.told(status=3), (1, "", "spanprof-path: spanprof_path: no good\n"))

@@ -58,6 +58,8 @@ class Head:
     one_thread: bool = False
     most_held: int = None
     clocks_differ: dict = field(default_factory=dict)
+    slept: dict = field(default_factory=dict)
+    untimed: int = 0
     runs: int = None
     is_median: bool = False
     spread: dict = field(default_factory=dict)
@@ -80,6 +82,7 @@ class Answers:
     head: Head = field(default_factory=Head)
 
     def __post_init__(self):
+        self.path = self.name
         self.span_numbers = {"segments": 3, "work": self.work, "span": self.span}
         self.code = [Segment("the beginning"), Segment("task at sort.c:9"), Segment("after a taskwait")]
         self.rows = [Row(20, True), Row(30, False), Row(50, True)]

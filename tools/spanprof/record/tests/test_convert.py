@@ -14,7 +14,8 @@ class Logs(unittest.TestCase):
     def converter(self, words, status=0):
         path = os.path.join(self.folder, "convert")
         with open(path, "w", encoding="utf-8") as file:
-            file.write("#!/bin/sh\necho \"{\\\"told\\\": \\\"$1 ${2-} ${LD_PRELOAD-none}\\\"}\"\n%s\nexit %d\n" % (words, status))
+            file.write("#!/bin/sh\necho \"{\\\"told\\\": \\\"$1 ${2-} ${LD_PRELOAD-none}\\\"}\"\n%s\nexit %d\n"
+                       % (words, status))
         os.chmod(path, 0o755)
         return path
 

@@ -60,8 +60,8 @@ class Recordings(InAFolder):
         self.assertEqual(self.names(), ["mine", "mine.c", "mine.html", "mine.x.tasks"])
 
     def test_old_logs_go_and_what_else_is_in_them_stays(self):
-        for name in ("mine.log/head", "mine.log/modules", "mine.log/thread.12", "mine.log/thread.12.last", "mine.rank1.4711.log/head",
-                     "mine.4712-2.log/notes", "mine.4712-2.log/thread.0"):
+        for name in ("mine.log/head", "mine.log/modules", "mine.log/thread.12", "mine.log/thread.12.last",
+                     "mine.rank1.4711.log/head", "mine.4712-2.log/notes", "mine.4712-2.log/thread.0"):
             self.write(name)
         files.remove_old(self.out)
         self.assertEqual(self.names(), ["mine.4712-2.log"])
@@ -101,7 +101,8 @@ class Recorder(InAFolder):
         self.assertEqual(built.why_not_built(""), "no word of it")
 
 
-SPREAD = "# runs: 3, %s\n# work of the runs: 10 least, 20 median, 30 most\n# span of the runs: 7 least, 8 median, 9 most\n"
+SPREAD = "# runs: 3, %s\n# work of the runs: 10 least, 20 median, 30 most\n" \
+    "# span of the runs: 7 least, 8 median, 9 most\n"
 
 
 class Repeated(InAFolder):
@@ -130,13 +131,15 @@ class Repeated(InAFolder):
             remarks = repeat.combine(tool, self.out, self.three())
         self.assertIn("they differ", remarks[0])
         with open(self.out + ".tasks", encoding="utf-8") as file:
-            self.assertEqual(file.read(), "# 3\n" + SPREAD % "and this is the one with the median work" + "omptasks 1\n")
+            self.assertEqual(file.read(),
+                             "# 3\n" + SPREAD % "and this is the one with the median work" + "omptasks 1\n")
 
     def test_the_spread_stands_before_the_remarks(self):
         text = self.write("mine.tasks", "# in tasks: 5\n# remark: folded\nomptasks 1\n# remark: no\n")
         repeat.add_to_head(text, repeat.spread_lines((30, 10, 20), (7, 9, 8), "so"))
         with open(text, encoding="utf-8") as file:
-            self.assertEqual(file.read(), "# in tasks: 5\n" + SPREAD % "so" + "# remark: folded\nomptasks 1\n# remark: no\n")
+            self.assertEqual(file.read(),
+                             "# in tasks: 5\n" + SPREAD % "so" + "# remark: folded\nomptasks 1\n# remark: no\n")
 
     def test_the_next_run_has_the_parts_of_the_first(self):
         part = "taskgroup {\n  task {  # one of the region's threads\n    %s\n  }\n}\n"
@@ -146,7 +149,8 @@ class Repeated(InAFolder):
         self.assertEqual(repeat.parts_of_the_next([self.write("mine.tasks", "omptasks 1\ntask {\n}\n")]), "none")
 
     def test_of_an_even_number_the_lower_median(self):
-        self.assertIn("# work of the runs: 1 least, 2 median, 4 most\n", repeat.spread_lines((4, 1, 3, 2), (1,) * 4, ""))
+        self.assertIn("# work of the runs: 1 least, 2 median, 4 most\n",
+                      repeat.spread_lines((4, 1, 3, 2), (1,) * 4, ""))
 
     def test_regions_that_all_runs_wrote(self):
         for name in ("run1.tasks", "run1.2.tasks", "run2.2.tasks"):

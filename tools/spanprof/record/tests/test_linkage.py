@@ -84,7 +84,8 @@ class Preloading(unittest.TestCase):
 
     def test_the_newest_version_comes_first(self):
         paths = ["/usr/local/lib/libomp.so"] + ["/usr/lib/llvm-%d/lib/libomp.so.5" % n for n in (9, 19, 16)]
-        self.assertEqual([p.split("/")[3] for p in sorted(paths, key=by_version)], ["llvm-19", "llvm-16", "llvm-9", "lib"])
+        self.assertEqual([p.split("/")[3] for p in sorted(paths, key=by_version)],
+                         ["llvm-19", "llvm-16", "llvm-9", "lib"])
 
     def test_what_llvm_lacks(self):
         table = SYMBOLS.replace("UND GOMP_taskwait", "12 GOMP_taskwait")

@@ -60,7 +60,8 @@ class Proved(unittest.TestCase):
             for lines in summaries(head):
                 if head.covered == 10 or head.covers_at_most and head.covered:
                     self.assertIn("of the program's thread-time", lines[0])
-                    self.assertTrue(all("a part of the program)" in line for line in lines[5:] if "proved" in line), lines)
+                    proved = [line for line in lines[5:] if "proved" in line]
+                    self.assertTrue(all("a part of the program)" in line for line in proved), lines)
 
     def test_nothing_is_measured_in_comparison_with_a_run_that_was_not(self):
         for head in heads():

@@ -36,7 +36,8 @@ class Reasons(unittest.TestCase):
     def test_target_tasks_of_gcc_are_refused(self):
         with mock.patch("spanprof.record.session.what_it_lacks", return_value=["GOMP_target_ext"]), \
                 mock.patch("spanprof.record.runtime.llvm_runtime", return_value="/llvm.so"):
-            with self.assertRaisesRegex(Fault, "GOMP_target_ext, which LLVM's runtime does not have.*--runtime /llvm.so"):
+            with self.assertRaisesRegex(Fault, "GOMP_target_ext, which LLVM's runtime does not have.*"
+                                               "--runtime /llvm.so"):
                 session.notes_on("/llvm.so", {"GOMP_target_ext"})
             self.assertIn("GOMP_target_ext", session.notes_on("/llvm.so", {"GOMP_target_ext"}, True)[0])
 
@@ -115,7 +116,7 @@ def setUpModule():
 class Summaries(unittest.TestCase):
     def test_the_heaviest_region_is_the_one_that_is_told(self):
         by_path = {"a.tasks": Answers(name="a.tasks", work=10, span=5), "b.tasks": Answers(name="b.tasks")}
-        made = mock.Mock(notes=["a note"], rank=None, out="/tmp/mine")
+        made = mock.Mock(notes=["a note"], rank=None, out="/tmp/mine", options=argparse.Namespace(json=None))
         told = io.StringIO()
         with mock.patch("spanprof.record.command.Answers", side_effect=by_path.get), contextlib.redirect_stderr(told):
             found = command.print_summary(made, [Recording("a.tasks"), Recording("b.tasks")], Told(True, []))
@@ -128,7 +129,8 @@ class Summaries(unittest.TestCase):
         said = Told(True, [{"told": "remark", "name": "/tmp/mine", "remark": "folded task: span too high"}])
         told = io.StringIO()
         with mock.patch("spanprof.record.command.Answers", return_value=answers), contextlib.redirect_stderr(told):
-            command.print_summary(mock.Mock(notes=[], rank=None, out="/tmp/mine"), [Recording("mine.tasks")], said)
+            made = mock.Mock(notes=[], rank=None, out="/tmp/mine", options=argparse.Namespace(json=None))
+            command.print_summary(made, [Recording("mine.tasks")], said)
         self.assertEqual(told.getvalue().count("folded task"), 1)
 
 
@@ -153,9 +155,11 @@ class Large(unittest.TestCase):
             file.write("# recorded: from mine, 2026-11-24T00:10:02Z, threads 4, clock wall, unit us\n"
                        "# region: at mine.c:9, 1 of 1\n# elapsed: 40\n"
                        "# covers: 95.1 % of the program's thread-time (951 of 1000 us)\n"
-                       "# not covered: 49 outside regions, 0 in other regions, 0 of this region\nomptasks 1\n# remark: none\nwork 1\n")
+                       "# not covered: 49 outside regions, 0 in other regions, 0 of this region\n"
+                       "omptasks 1\n# remark: none\nwork 1\n")
         self.things = [
-            {"told": "text", "file": self.out + ".large.tasks", "tasks": 9000, "segments": 20001, "work": 100, "unit": "us"},
+            {"told": "text", "file": self.out + ".large.tasks", "tasks": 9000, "segments": 20001, "work": 100,
+             "unit": "us"},
             {"told": "too large", "file": self.out + ".tasks", "what": "tasks", "program": "spanprof", "has": 9000,
              "takes": 4096}]
 
@@ -168,7 +172,7 @@ class Large(unittest.TestCase):
 
     def told(self, program, small=(), **places):
         found = list(small) + [Recording(self.out + ".large.tasks", is_large=True)]
-        made = mock.Mock(notes=["a note"], rank=None, out=self.out, options=argparse.Namespace(html=None))
+        made = mock.Mock(notes=["a note"], rank=None, out=self.out, options=argparse.Namespace(html=None, json=None))
         told = io.StringIO()
         with mock.patch("spanprof.record.command.spanprof_large", return_value=program), \
                 contextlib.redirect_stderr(told), \
@@ -224,7 +228,7 @@ remarks       spanprof_large, which measures it, is not found; tools/prove_progr
             self.told(["/no/such/program"])
 
     def test_no_page(self):
-        made = mock.Mock(notes=[], rank=None, out=self.out, options=argparse.Namespace(html="p.html"))
+        made = mock.Mock(notes=[], rank=None, out=self.out, options=argparse.Namespace(html="p.html", json=None))
         with mock.patch("spanprof.record.command.spanprof_large", return_value=[]), \
                 contextlib.redirect_stderr(io.StringIO()) as told:
             command.report(made, [Recording(self.out + ".large.tasks", is_large=True)], Told(True, []))

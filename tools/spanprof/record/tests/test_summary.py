@@ -3,7 +3,7 @@ import unittest
 from unittest import mock
 
 from spanprof import client
-
+from spanprof.errors import Fault
 from spanprof.record.files import Recording
 from spanprof.record.summary import other_region, summary
 from spanprof.record.tests.made_up import Answers, Head
@@ -32,7 +32,7 @@ DIVIDED = "on another number of threads its code is divided otherwise"
 
 def lines_of(**told):
     """The summary's lines by their names, where the head tells what is given here."""
-    out = {}
+    out, name = {}, ""
     for line in summary(Answers(head=Head(**told)), LEGAL):
         name = line[:13].strip() or name
         out.setdefault(name, []).append(line[14:])
@@ -120,8 +120,8 @@ class WhatTheTextIsNot(unittest.TestCase):
         lines = lines_of(covered=382, thread_time=1001, not_covered={"outside regions": 19, "in other regions": 600})
         part = "(proved of the recorded text, a part of the program)"
         self.assertEqual(summary(Answers(head=Head(covered=382, thread_time=1001)))[0],
-                         "sort.tasks, region at sort.c:48, only 38.1 % of the program's thread-time, 4 threads, costs in "
-                         "us of wall time")
+                         "sort.tasks, region at sort.c:48, only 38.1 % of the program's thread-time, 4 threads, "
+                         "costs in us of wall time")
         self.assertEqual(lines["covers"], ["38.1 % of the program's thread-time in code; not covered: "
                                            "19 outside regions, 600 in other regions (measured)"])
         for name in ("span", "parallelism", "threads"):
@@ -165,8 +165,8 @@ class WhatTheTextIsNot(unittest.TestCase):
     def test_a_lock_beside_a_remark(self):
         remark = "off the processor in the midst of code, 9 times: work and span too high, since the wall clock went on"
         lines = lines_of(locks=["critical at a.c:3: 2 times, 80 inside, 0 waiting"], most_held=80, remarks=[remark])
-        self.assertEqual(lines["locks"], ["80 us inside the most held one; another run may hold it for less, beside its "
-                                          "work (remarks) (measured)"])
+        self.assertEqual(lines["locks"], ["80 us inside the most held one; another run may hold it for less, beside "
+                                          "its work (remarks) (measured)"])
         self.assertIn("(of the recorded text; the program's may be more (remarks))", lines["threads"][0])
 
     def test_a_lock_that_is_held_for_less_than_the_span(self):
@@ -182,7 +182,8 @@ class WhatTheTextIsNot(unittest.TestCase):
 
     def test_several_runs_without_a_median(self):
         told = lines_of(runs=7, is_median=False)["runs"]
-        self.assertEqual(told, ["7, and each cost is that of the one with the median work, since they have no median (measured)"])
+        self.assertEqual(told, ["7, and each cost is that of the one with the median work, since they have no median "
+                                "(measured)"])
 
 
 class Verdicts(unittest.TestCase):
@@ -193,14 +194,14 @@ class Verdicts(unittest.TestCase):
     def test_all_three(self):
         self.assertEqual(verdict(Recording("mine.tasks")), "")
         self.assertEqual(self.verdict(return_value="events 2\nfinished 1\n"), LEGAL)
-        self.assertEqual(self.verdict(side_effect=SystemExit("spanprof replay: error: event 4: NotReady 1")),
+        self.assertEqual(self.verdict(side_effect=Fault("spanprof replay: error: event 4: NotReady 1")),
                          "its run is refused: spanprof replay: error: event 4: NotReady 1")
 
     def test_the_refused_event_is_shown(self):
         log = "omptasks 1 taskwait\n---\nstart 0 1\n"
         self.assertEqual(self.verdict(side_effect=client.Refused(["replay"], log, "error: event 0: NotReady 0")),
-                         "its run is refused: spanprof replay: error: event 0: NotReady 0; `start 0 1`: segment 0, which has "
-                         "to come first, has not finished")
+                         "its run is refused: spanprof replay: error: event 0: NotReady 0; `start 0 1`: segment 0, "
+                         "which has to come first, has not finished")
 
 
 if __name__ == "__main__":

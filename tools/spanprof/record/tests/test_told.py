@@ -22,9 +22,10 @@ class Words(unittest.TestCase):
 
     def test_limits(self):
         self.assertEqual(told.in_words(LARGE), "/tmp/mine.3.tasks is not written: 21890 tasks, and spanprof takes 4096")
-        self.assertEqual(told.in_words(FOLDS), "/tmp/mine.3.tasks is not written: 21890 tasks, and spanprof takes 4096; "
-                         "parallelism is 50.0; make the program's own cutoff or blocks larger, or record with --fold depth=7 "
-                         "(254 tasks left, parallelism 10.0); with --fold exact work and span stay (3000 tasks left)")
+        self.assertEqual(told.in_words(FOLDS),
+                         "/tmp/mine.3.tasks is not written: 21890 tasks, and spanprof takes 4096; parallelism is 50.0; "
+                         "make the program's own cutoff or blocks larger, or record with --fold depth=7 (254 tasks "
+                         "left, parallelism 10.0); with --fold exact work and span stay (3000 tasks left)")
         self.assertIn("larger; no fold fits, since", told.in_words(dict(FOLDS, offers=[])))
         for advice, words in (("fewer items", "fewer depend items"), ("larger unit", "larger --unit"),
                               ("beginning only", "no fold is advised")):

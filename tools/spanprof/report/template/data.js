@@ -1,59 +1,85 @@
 "use strict";
-// What the page knows of its programs, from the element `data`, and the stretch of time that is shown.
+// What the page knows of its programs, from the element `data`.
 
-const numbers = (text) => text.split(" ").map((word) => (word === "-" ? null : parseInt(word, 36)));
-const grouped = (value, digits = 0) => value.toLocaleString("en-US", { maximumFractionDigits: digits });
+const numbers = (text) => (text ? text.split(" ").map((word) => (word === "-" ? null : parseInt(word, 36))) : []);
+const grouped = (value, digits = 0) => value.toLocaleString("en-US",
+  { minimumFractionDigits: digits, maximumFractionDigits: digits });
 const byId = (name) => document.getElementById(name);
 
-function rowsOf(program, run) {
-  const inUnits = (packed) => numbers(packed).map((time) => time / (run.per || 1));
-  const starts = inUnits(run.starts), lanes = numbers(run.lanes);
-  const lengths = run.lengths ? inUnits(run.lengths) : program.cost;
-  const rows = Array.from({ length: run.count }, () => []);
-  starts.forEach((start, segment) => {
-    const length = lengths[segment];
-    if (lanes[segment] !== null && length) rows[lanes[segment]].push({ segment, start, end: start + length });
+const STEPS = [["s", 1e9], ["ms", 1e6], ["µs", 1e3], ["ns", 1]];
+
+// A time as people read it: in the largest unit in which there is at least one, with three digits.
+function human(program, value) {
+  const { nanoseconds, unit } = program;
+  if (!nanoseconds || !value) return `${grouped(value, value % 1 ? 2 : 0)} ${unit}`.trim();
+  const whole = Math.abs(value) * nanoseconds;
+  const [name, size] = STEPS.find(([, step]) => whole >= step * 0.9995) || STEPS[3];
+  const number = value * nanoseconds / size, large = Math.abs(number);
+  const digits = Number.isInteger(number) && size <= nanoseconds ? 0 : large < 9.995 ? 2 : large < 99.95 ? 1 : 0;
+  return `${grouped(number, digits)} ${name}`;
+}
+
+// A cost, and in full where that says more.
+function cost(program, value) {
+  const words = human(program, value), exact = `${grouped(value)} ${program.unit}`.trim();
+  return words === exact ? words : `${words} (${exact})`;
+}
+const percent = (part, whole) => `${(whole ? 100 * part / whole : 0).toFixed(1)} %`;
+
+// One run: of each segment its thread, begin and end, and a row of bars for each thread.
+class Run {
+  constructor(program, packed) {
+    const inUnits = (words) => numbers(words).map((time) => time / (packed.per || 1));
+    this.isTimed = Boolean(packed.lengths);
+    this.starts = inUnits(packed.starts);
+    this.lanes = numbers(packed.lanes);
+    const lengths = this.isTimed ? inUnits(packed.lengths) : program.cost;
+    this.ends = this.starts.map((start, segment) => start + lengths[segment]);
+    this.rows = Array.from({ length: packed.count }, () => []);
+    this.where = new Map();     // of each segment that has a bar its row and its place there
+    this.fill(lengths);
+  }
+  fill(lengths) {
+    this.starts.forEach((start, segment) => {
+      const lane = this.lanes[segment];
+      if (lane !== null && lengths[segment]) this.rows[lane].push({ segment, start, end: this.ends[segment] });
+    });
+    this.rows.forEach((row, i) => {
+      row.sort((a, b) => a.start - b.start);
+      row.forEach((bar, index) => this.where.set(bar.segment, { row: i, index }));
+    });
+  }
+  get end() { return Math.max(0, ...this.rows.map((row) => (row.length ? row[row.length - 1].end : 0))); }
+}
+
+// Of each segment those that it waits for, and those that wait for it.
+function waits(packed) {
+  if (!packed.waits) return null;
+  const counts = numbers(packed.waits.counts), steps = numbers(packed.waits.steps);
+  const before = [], after = counts.map(() => []);
+  let next = 0;
+  counts.forEach((count, segment) => {
+    before.push(steps.slice(next, next + count).map((step) => segment - step));
+    next += count;
+    before[segment].forEach((p) => after[p].push(segment));
   });
-  rows.forEach((row) => row.sort((a, b) => a.start - b.start));
-  return rows;
+  return { before, after };
+}
+
+// Of a program with too many segments for a row each: runs in bins of time.
+function unpackedLarge({ name, unit, nanoseconds, names, levels }) {
+  const runs = Object.fromEntries(Object.entries(levels).map(([run, packed]) => [run, new LevelRun(packed)]));
+  return { name, unit, nanoseconds, names, runs, isLarge: true, waits: null, per: 1, cost: [], place: [] };
 }
 
 function unpacked(packed) {
-  const program = { name: packed.name, unit: packed.unit, places: packed.places, runs: {} };
+  if (packed.levels) return unpackedLarge(packed);
+  const { name, unit, nanoseconds, places } = packed, program = { name, unit, nanoseconds, places, runs: {} };
   for (const column of ["cost", "task", "place", "slack"]) program[column] = numbers(packed[column]);
   program.colour = numbers(packed.taskPlace).map((place) => Math.min(place, packed.colours - 1));
   program.critical = new Set(numbers(packed.critical));
+  program.waits = waits(packed);
   program.per = Math.max(...Object.values(packed.runs).map((run) => run.per || 1));
-  for (const [name, run] of Object.entries(packed.runs)) program.runs[name] = rowsOf(program, run);
+  for (const [run, words] of Object.entries(packed.runs)) program.runs[run] = new Run(program, words);
   return program;
 }
-
-const programs = JSON.parse(byId("data").textContent).programs.map(unpacked);
-
-class Stretch {
-  // No less is shown than 20 units, a part of a shorter run, or 2 microseconds of one whose unit is `per` nanoseconds.
-  constructor(end, per) {
-    this.whole = Math.max(end, 1);
-    this.least = Math.min(20, this.whole / 20, 2000 / per);
-    this.show(0, this.whole);
-  }
-  get length() { return this.to - this.from; }
-  show(from, length) {
-    const kept = Math.min(Math.max(length, this.least), this.whole);
-    this.from = Math.min(Math.max(from, 0), this.whole - kept);
-    this.to = this.from + kept;
-  }
-  zoom(factor, at) { this.show(at - (at - this.from) * factor, this.length * factor); }
-  move(part) { this.show(this.from + part * this.length, this.length); }
-  reveal(start, end) {
-    if (end - start > this.length * 0.9) this.show(start - (end - start) * 0.1, (end - start) * 1.2);
-    else if (start < this.from || end > this.to) this.show((start + end - this.length) / 2, this.length);
-  }
-}
-
-const lastEnd = (rows) => Math.max(0, ...rows.map((row) => (row.length ? row[row.length - 1].end : 0)));
-const ends = (program) => Object.values(program.runs).map(lastEnd);
-// Programs of one unit share a scale, so that their lengths can be compared.
-const stretchOf = (some) => new Stretch(Math.max(...some.flatMap(ends)), Math.max(...some.map((one) => one.per)));
-const stretches = programs.map((program) => stretchOf([program]));
-if (programs.length > 1 && programs[0].unit === programs[1].unit) stretches.fill(stretchOf(programs));

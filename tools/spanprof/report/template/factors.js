@@ -1,4 +1,4 @@
-// The lines to run for chosen factors; copying; light and dark.
+// The lines to run for chosen factors; copying; the button of light and dark.
 
 const quoted = (words) => "'" + words.replaceAll("'", "'\\''") + "'";
 
@@ -22,6 +22,7 @@ function changes(program, boxes) {
 
 function showLines() {
   const boxes = chosenFactors(), line = byId("factors-line"), exact = byId("changes-line");
+  if (!line) return;
   const words = boxes.map((box) => "--factor " + quoted(box.dataset.place + "=" + box.value));
   line.textContent = ["spanprof-report", quoted(line.dataset.file), ...words].join(" ");
   const changed = changes(programs[0], boxes);
@@ -43,7 +44,6 @@ document.querySelectorAll("[data-copy]").forEach((button) => button.addEventList
 }));
 
 byId("theme").addEventListener("click", () => {
-  const root = document.documentElement, now = root.dataset.theme;
-  const dark = now ? now === "dark" : matchMedia("(prefers-color-scheme: dark)").matches;
-  root.dataset.theme = dark ? "light" : "dark";
+  theme.set(theme.now() === "dark" ? "light" : "dark");
+  theme.keep(theme.now());
 });

@@ -1,10 +1,11 @@
 """Compares each number of a page with what it has to be.
 
-    python3 -m report.tests.compare PAGE.html MINE.tasks [OTHER.tasks]    in tools/; status 1 where one is wrong
+    python3 -m spanprof.report.tests.compare PAGE.html MINE.tasks [OTHER.tasks]    in tools/; status 1 if one is wrong
 """
 import json
 import math
 import sys
+from itertools import zip_longest
 
 from spanprof.report.tests.expected import Program, table, unpacked
 from spanprof.report.tests.page_reader import read_page
@@ -40,7 +41,7 @@ def faults_of(figure, programs):
         return ["%s: the page has %r" % ("; ".join(figure.sources), figure.words)]
     wrong = ["%s: the page shows %s, and not %s" % (source, words, value)
              for source, words, value in zip(figure.sources, figure.shown, values)
-             if not is_seen(words, value, figure.rounded)]
+             if not is_seen(words, value / figure.scale, figure.rounded)]
     if figure.exact and not is_same(figure.exact, values[0]):
         wrong.append("%s: the page has %s, and not %s" % (figure.sources[0], figure.exact, values[0]))
     return wrong
@@ -78,15 +79,21 @@ def drawn_differences(program, data):
     return ["%s: %s" % (data["name"], words) for words in wrong]
 
 
+def programs_of(reader, paths, ask):
+    """The programs of a page, with what its script knows of them."""
+    found = json.loads(reader.data)
+    data = [dict(own, tried=tried) for own, tried in zip_longest(found["programs"], found["tried"])]
+    return [Program(path, own, ask) for path, own in zip(paths, data)]
+
+
 def differences(page, paths, ask):
     """All numbers of the page that are not what they have to be, and how many there are."""
     reader = read_page(page)
-    data = json.loads(reader.data)["programs"]
-    programs = [Program(path, own, ask) for path, own in zip(paths, data)]
+    programs = programs_of(reader, paths, ask)
     wrong = [fault for figure in reader.figures for fault in faults_of(figure, programs)]
     wrong += ["%r: a number without a source" % words for words in reader.without_source]
-    for program, own in zip(programs, data):
-        wrong += drawn_differences(program, own)
+    for program in programs:
+        wrong += drawn_differences(program, program.data)
     return wrong, sum(len(figure.sources) for figure in reader.figures)
 
 

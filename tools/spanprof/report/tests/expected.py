@@ -2,10 +2,19 @@
 import os
 import re
 from functools import cached_property
+from types import SimpleNamespace
 
+from spanprof.account import account_of
 from spanprof.changed_text import with_costs, without_costs
+from spanprof.client import segments
+from spanprof.head import read_head
+from spanprof.text import has_loops, statements, text_lines
+from spanprof.whatif.creating import costs_for
+from spanprof.whatif.requests import Request, applied, changes
+from spanprof.whatif.survey import survey
 
 ROWS_OF_A_CURVE = 64
+LEVELS = 12
 
 
 def unpacked(words):
@@ -101,6 +110,25 @@ class Program:
                 "critical": len({self.task_of[s] for s in path if self.cost[s]}),
                 "creating": sum(self.cost[s - 1] for s in firsts.values() if s)}[what]
 
+    @cached_property
+    def nested_sums(self):
+        """Of each chain of places the costs of its tasks and of all below them, and what of these is on the path."""
+        firsts, paths, out = {}, {}, {}
+        for s, task in enumerate(self.task_of):
+            firsts.setdefault(task, s)
+        for task in sorted(firsts):
+            above = paths[self.task_of[firsts[task] - 1]] if task else ()
+            paths[task] = above + (self.task_place_of[task],) if len(above) < LEVELS else above
+        for s, task in enumerate(self.task_of):
+            for i in range(len(paths[task])):
+                sums = out.setdefault("-".join(map(str, paths[task][:i + 1])), [0, 0])
+                sums[0] += self.cost[s]
+                sums[1] += self.cost[s] * (self.slack[s]["chain"] == "1")
+        return out
+
+    def nested(self, path, what):
+        return self.nested_sums[path][what == "path"]
+
     def task(self, number, what):
         own = [s for s, task in enumerate(self.task_of) if task == int(number)]
         return {"number": int(number), "cost": self.total(own),
@@ -117,6 +145,19 @@ class Program:
         if what == "end":
             return int(self.slack[last]["start"]) + self.cost[last]
         return self.total(s for s in path if first <= s <= last)
+
+    @cached_property
+    def found(self):
+        """The account of the run beside the text, asked anew."""
+        answers = SimpleNamespace(head=read_head(self.text), code=segments(self.text), work=self.line("work", "span"))
+        return account_of(answers, self.base + ".timed")
+
+    def account(self, what, number=None):
+        if number is None:
+            parts = {name.replace(" ", "-"): value for name, value in self.found.parts.items()}
+            return {**parts, "whole": self.found.whole, "elapsed": self.found.elapsed}[what]
+        name = self.found.places[self.segments({int(number)})[0]]
+        return {"delayed-at": self.found.delayed_by, "starved-at": self.found.starved_by}[what][name]
 
     def changed(self, factors):
         costs = {s: round(self.cost[s] * factor) for place, factor in factors for s in self.segments({place})
@@ -142,6 +183,29 @@ class Program:
     @cached_property
     def without_costs(self):
         return without_costs(self.answer("show"))
+
+    def trial(self, number, what, threads=None):
+        """Of the text with one change, which is made here again."""
+        if ("trial", number) not in self.kept:
+            self.kept["trial", number] = self.tried(Request(*self.data["tried"]["requests"][int(number)]))
+        span, curve = self.kept["trial", number]
+        return int(re.search(r"(?m)^%s (\d+)$" % what, span)[1]) if threads is None else \
+            int(curve[int(threads) - 1][what])
+
+    def tried(self, request):
+        made = changes([request], *self.surveyed)
+        text, upto = "".join(text_lines(applied(self.statements, made), 1)), max(self.data["tried"]["threads"])
+        return self.ask(["span"], text), table(self.ask(["curve", "--upto", str(upto)], text))
+
+    @cached_property
+    def statements(self):
+        text = self.answer("show") if has_loops(self.text) else self.text
+        return list(statements(line + "\n" for line in text.split("\n")))
+
+    @cached_property
+    def surveyed(self):
+        seen = survey(self.statements)
+        return seen, costs_for(read_head(self.text), seen)
 
     def count(self, number):
         """Of threads, as the page names them."""

@@ -17,6 +17,7 @@ class Figure:
     exact: str = ""         # the value that the element carries, where it has one
     words: str = ""
     rounded: str = ""       # up or down, where it is not to the nearest
+    scale: float = 1        # what the number is divided by where it is seen
 
     @property
     def shown(self):
@@ -46,7 +47,7 @@ class Reader(HTMLParser):
         element.figure = above.figure
         if named.get("data-from"):
             element.figure = Figure(named["data-from"].split("; "), named.get("value", ""), "",
-                                    named.get("data-rounded", ""))
+                                    named.get("data-rounded", ""), float(named.get("data-scale", 1)))
             self.figures.append(element.figure)
         if tag not in EMPTY:
             self.open.append(element)

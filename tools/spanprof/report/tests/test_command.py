@@ -6,7 +6,7 @@ import shutil
 import tempfile
 import unittest
 
-from spanprof.report.command import Progress, main
+from spanprof.report.command import Progress, beside, main
 from spanprof.report.tests import worked
 
 
@@ -25,7 +25,8 @@ class Command(unittest.TestCase):
         told = io.StringIO()
         with contextlib.redirect_stderr(told), self.assertRaises(SystemExit) as ended:
             main(list(words))
-        return str(ended.exception) if isinstance(ended.exception.code, str) else told.getvalue()
+        self.assertIn(ended.exception.code, (1, 2))
+        return told.getvalue()
 
     def test_all_that_can_be_written(self):
         main([worked.path("mesh.tasks"), "-o", self.out("m.html"), "--trace", self.out("m.json"), "--speedscope",
@@ -51,11 +52,34 @@ class Command(unittest.TestCase):
                          "lock critical at mesh.c:9: 3 times, 2 inside, 1 waiting\n"
                          "1 segment changed\nwork 35\nspan 25\nwas 31\n")
 
+    def copied(self, name="mesh"):
+        for ending in (".tasks", ".replay"):
+            shutil.copy(worked.path(name + ending), self.folder.name)
+        return self.out(name + ".tasks")
+
+    def test_a_page_is_written_beside_the_text_and_named(self):
+        told = io.StringIO()
+        with contextlib.redirect_stderr(told):
+            main([self.copied()])
+        self.assertTrue(os.path.exists(self.out("mesh.html")))
+        self.assertEqual(told.getvalue(), "spanprof-report: written: %s\n" % self.out("mesh.html"))
+        self.assertEqual(beside("a/b.html"), "a/b.html.html")
+
+    def test_the_summary_as_json(self):
+        told = io.StringIO()
+        with contextlib.redirect_stdout(told):
+            main([self.copied(), "--json"])
+        found = json.loads(told.getvalue())
+        self.assertEqual((found["work"], found["recording"]["elapsed"]["value"]),
+                         ({"value": 41, "kind": "proved of the text"}, 40))
+        self.assertEqual(found["on threads"]["threads"], 2)
+        self.assertFalse(os.path.exists(self.out("mesh.html")))
+
     def test_refusals(self):
         mesh = worked.path("mesh.tasks")
-        self.assertIn("nothing to write", self.refused(mesh))
+        self.assertIn("ask for one of them", self.refused(mesh, "--json", "--factor", "a=1"))
         self.assertIn("--threads is from 1 to 1024", self.refused(mesh, "-o", "x", "--threads", "0"))
-        self.assertEqual(self.refused("no.tasks", "-o", "x"), "spanprof-report: no.tasks: no such file")
+        self.assertEqual(self.refused("no.tasks", "-o", "x"), "spanprof-report: no.tasks: no such file\n")
         self.assertIn("no place of this name", self.refused(mesh, "--factor", "nowhere=2"))
         self.assertIn("No such file or directory", self.refused(mesh, "-o", self.out("none/x.html")))
 
@@ -75,14 +99,14 @@ class ProgressTold(unittest.TestCase):
         progress = Progress(stream)
         progress("spanprof span < a.tasks")
         progress("spanprof " + "x" * 300)
-        progress.end("done")
+        progress.end(["a.html"])
         return stream.getvalue()
 
     def test_on_a_terminal(self):
         told = self.told(True)
         self.assertIn("1: spanprof span < a.tasks", told)
         self.assertTrue(all(len(line) < 120 for line in told.split("\r")))
-        self.assertTrue(told.endswith("spanprof-report: done\n"))
+        self.assertTrue(told.endswith("spanprof-report: written: a.html\n"))
 
-    def test_elsewhere_nothing(self):
-        self.assertEqual(self.told(False), "")
+    def test_elsewhere_the_files_alone(self):
+        self.assertEqual(self.told(False), "spanprof-report: written: a.html\n")

@@ -1,19 +1,28 @@
 import unittest
 
-from spanprof.report.figures import MEASURED, PROVED, Figures, badge, grouped, percent, unit_name
+from spanprof.head import Head
+from spanprof.report.figures import MEASURED, PROVED, Figures, badge, percent
+from spanprof.report.units import Units
 
 
 class Numbers(unittest.TestCase):
-    def test_grouped(self):
-        self.assertEqual([grouped(1234567), grouped(-12), grouped(2.345, 2)], ["1,234,567", "−12", "2.35"])
-
     def test_percent_of_nothing(self):
         self.assertEqual((percent(1, 4), percent(3, 0)), (25.0, 0.0))
 
     def test_a_number_tells_its_source_and_kind(self):
-        self.assertEqual(Figures().number(1200, "span work", PROVED, unit="µs"),
+        self.assertEqual(Figures().number(1200, "span work", PROVED),
                          '<data value="1200" title="proved of the text (span work)" data-from="span work" '
-                         'class="proved">1,200 µs</data>')
+                         'class="proved">1,200</data>')
+
+    def test_a_time_has_a_human_unit_and_its_number_in_the_title(self):
+        show = Figures("", Units(Head(unit="us")))
+        self.assertEqual(show.time(1234567, "span work", PROVED),
+                         '<data value="1234567" title="1,234,567 µs: proved of the text (span work)" '
+                         'data-from="span work" data-scale="1000000" class="proved">1.23 s</data>')
+        self.assertIn('data-rounded="up" data-scale="1000" class="proved">1.24 ms<',
+                      show.time(1231, "curve 2 bound", PROVED, "up"))
+        self.assertEqual(show.told_time("tspan", 5000, "task 3 cost"),
+                         '<tspan data-from="task 3 cost" data-scale="1000">5.00 ms</tspan>')
 
     def test_the_second_program(self):
         self.assertIn('data-from="other percent span span / span work"',
@@ -40,8 +49,5 @@ class Numbers(unittest.TestCase):
 
 
 class Words(unittest.TestCase):
-    def test_units(self):
-        self.assertEqual([unit_name(unit) for unit in ("us", "ns", "", "250 ns")], ["µs", "ns", "", "× 250 ns"])
-
     def test_a_badge_explains_itself(self):
         self.assertRegex(badge(PROVED), '<span class="badge proved" title="follows from .*">proved of the text</span>')

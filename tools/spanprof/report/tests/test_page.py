@@ -2,10 +2,11 @@
 import json
 import re
 import unittest
+from dataclasses import replace
 
 from spanprof.report.page import filled
 from spanprof.report.tests import worked
-from spanprof.report.tests.compare import differences, is_seen
+from spanprof.report.tests.compare import differences, faults_of, is_seen, programs_of
 from spanprof.report.tests.page_reader import read_page
 
 
@@ -27,20 +28,21 @@ class Pages(unittest.TestCase):
 
     def test_no_other_file_is_needed(self):
         text = worked.page_text(["mesh", "split"])
+        self.assertNotIn("light-dark(", text)   # which older browsers do not take
         self.assertIsNone(re.search(r'(src|href)="(?!#)|@import|url\((?!#)|https?://', text))
 
     def test_parts_and_what_leads_to_them(self):
         text = worked.page_text(["mesh", "split"])
         names = re.findall(r'<section id="(\S+)"', text)
-        self.assertEqual(names, ["summary", "compared", "speed-up", "timeline", "timeline-other", "path", "what-if",
-                                 "tasks", "graph", "sources"])
+        self.assertEqual(names, ["summary", "compared", "speed-up", "timeline", "timeline-other", "path", "changes",
+                                 "what-if", "tasks", "nesting", "source", "graph", "sources"])
         for name in names:
             self.assertIn('<a href="#%s">' % name, text)
 
     def test_words_of_a_text_are_words_on_the_page(self):
         text = worked.page_text(["odd"])
         self.assertNotIn("<img", text)
-        self.assertEqual(text.count("</script>"), 2)
+        self.assertEqual(text.count("</script>"), 3)
         self.assertIn("odd &lt;/script&gt; thing: span too low", text)
 
     def test_names_cannot_end_the_data(self):
@@ -59,8 +61,13 @@ class WrongNumbers(unittest.TestCase):
         return compared(self.text.replace(old, new, 1), ["mesh", "split"])[0]
 
     def test_each_wrong_value_is_found(self):
-        for value in set(re.findall(r'<data value="(\d+)"', self.text)):
-            self.assertTrue(self.faults('<data value="%s"' % value, '<data value="%d"' % (int(value) + 1)))
+        reader = read_page(self.text)
+        programs = programs_of(reader, [worked.path(name + ".tasks") for name in ("mesh", "split")], worked.Kept())
+        whole = [figure for figure in reader.figures if figure.exact.isdigit()]
+        self.assertGreater(len(whole), 100)
+        for figure in whole:
+            self.assertEqual(faults_of(figure, programs), [])
+            self.assertTrue(faults_of(replace(figure, exact=str(int(figure.exact) + 1)), programs))
 
     def test_a_wrong_number_that_only_a_reader_sees(self):
         self.assertEqual(len(self.faults(">41 µs<", ">42 µs<")), 1)

@@ -3,15 +3,16 @@ import re
 import unittest
 from html import unescape
 
-from spanprof.answers import Row
 from spanprof.report.part_compare import change, compare_part, partners
 from spanprof.report.part_curve import curve_part, shown_threads, step_of
 from spanprof.report.part_graph import graph_part
 from spanprof.report.part_path import path_part, stretches
-from spanprof.report.part_summary import moved, summary_part
+from spanprof.report.part_summary import summary_part
 from spanprof.report.part_tasks import tasks_part
 from spanprof.report.part_timeline import timeline_part
 from spanprof.report.part_what_if import what_if_part
+from spanprof.report.summary_tiles import moved
+from spanprof.answers import Row
 from spanprof.report.tests import worked
 from spanprof.report.what_if import Trials
 
@@ -93,8 +94,8 @@ class OfOneProgram(unittest.TestCase):
     def test_the_spread_of_several_runs(self):
         words = self.told(runs=7, is_median=True, spread={"work": (39, 41, 1044), "span": (30, 31, 36)})
         self.assertIn("the median of 7 runs", words)
-        self.assertIn("code on 2 threads, added up 39 to 1,044 in 7 runs", words)
-        self.assertIn("30 to 36 in 7 runs", words)
+        self.assertIn("code on 2 threads, added up 39 µs to 1.04 ms in 7 runs", words)
+        self.assertIn("30 µs to 36 µs in 7 runs", words)
 
     def test_several_runs_without_a_median(self):
         self.assertIn("one of 7 runs, which have no median", self.told(runs=7))
@@ -164,7 +165,8 @@ class OfOneProgram(unittest.TestCase):
         self.assertIn('id="changes-line" data-file="mesh.tasks"', part)
 
     def test_tasks(self):
-        self.assertRegex(seen(tasks_part(self.view)), r"mesh.c:10 .*? 2 7 7 8 36.6 % 22.6 % 1 0 2 13.3 %")
+        words = seen(tasks_part(self.view))
+        self.assertRegex(words, r"mesh.c:10 .*? 2 7 µs 7 µs 8 µs 36.6 % 22.6 % 1 0 µs 2 µs 13.3 %")
 
     def test_graph(self):
         part = graph_part(self.view)
@@ -184,7 +186,7 @@ class OfTwo(unittest.TestCase):
         self.assertIn("work 41 µs 37 µs −9.8 % proved of the text", words)
         self.assertIn("threads of the recorded run 2 2 the same recorded", words)
         self.assertIn("elapsed 40 µs 30 µs −25.0 % measured", words)
-        self.assertIn("cost: mesh.tasks , in µs of its span", words)
+        self.assertIn("cost: mesh.tasks of its span", words)
 
     def test_times_of_different_units_are_not_compared(self):
         words = seen(compare_part([self.views[0], worked.view("plain", prefix="other ")]))

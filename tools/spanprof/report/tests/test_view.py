@@ -1,5 +1,6 @@
 import unittest
 
+from spanprof.errors import Fault
 from spanprof.report.figures import DECLARED, MEASURED, RECORDED
 from spanprof.report.tests import worked
 from spanprof.report.view import COLOURS, View
@@ -44,5 +45,5 @@ class Kinds(unittest.TestCase):
 
 class ReplayByName(unittest.TestCase):
     def test_a_named_replay_has_to_fit(self):
-        with worked.patched(), self.assertRaisesRegex(SystemExit, "split.replay is not a run of mesh.tasks"):
+        with worked.patched(), self.assertRaisesRegex(Fault, "split.replay is not a run of mesh.tasks"):
             View(worked.path("mesh.tasks"), worked.path("split.replay"))

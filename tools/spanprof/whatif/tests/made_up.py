@@ -1,5 +1,5 @@
 """Small texts that the tests change."""
-from spanprof.whatif.statements import statements, text_lines
+from spanprof.text import statements, text_lines
 
 SORT = """\
 # recorded: from sort, threads 2, clock cpu, unit us

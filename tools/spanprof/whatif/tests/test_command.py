@@ -65,7 +65,7 @@ class Commands(unittest.TestCase):
         self.assertEqual(self.told("--drop-wait", "taskwait"), (0, """\
 changed: 1 wait dropped: taskwait at sort.c:10
 whether the program stays right without it is yours to know: no text tells what its tasks read and write
-                                     text       changed text
+in us                                text       changed text
 segments                                8                  8    +0.0 %
 work                                    5                  4   -20.0 %
 span                                   60                 60    +0.0 %
@@ -87,8 +87,9 @@ proved of the text, and of the changed text: spanprof has read both
         self.assertEqual(self.told("--drop-wait", "taskgroup", "-o", kept)[0], 0)
         with open(kept, encoding="utf-8") as file:
             text = file.read()
-        self.assertTrue(text.startswith("# recorded: from sort, threads 2, clock cpu, unit us\n# remark: a changed "
-                                        "text, 1 wait dropped, taskgroup at sort.c:7: work and span too low or too high\n"
+        self.assertTrue(text.startswith("# recorded: from sort, threads 2, clock cpu, unit us\n"
+                                        "# remark: a changed text, 1 wait dropped, taskgroup at sort.c:7: "
+                                        "work and span too low or too high\n"
                                         "omptasks 1\nwork 4\ntask {  # sort.c:8\n"))
         self.assertEqual(sorted(os.listdir(self.folder)), ["kept.tasks", "large", "mine.tasks", "spanprof"])
 
@@ -133,7 +134,7 @@ proved of the text, and of the changed text: spanprof has read both
     def test_advice(self):
         status, out, errors = self.told("--advise", "--threads", "4")
         self.assertEqual((status, errors), (0, ""))
-        self.assertIn("the greedy run of the text ends at 65 on 4 threads, at 65 on 16; with one change:", out)
+        self.assertIn("the greedy run of the text ends at 65 on 4 threads, at 65 on 16, in us; with one change:", out)
         self.assertIn("as soon on 4 threads, to a thousandth:", out)
         self.assertIn("proved of the text, and of each changed text", out)
         told = json.loads(self.told("--advise", "--json")[1])

@@ -3,12 +3,16 @@ import tempfile
 import unittest
 from unittest import mock
 
+from spanprof.account import Account
 from spanprof.record.tests.made_up import Answers, Head
+from spanprof.whatif.creating import costs_for
 from spanprof.whatif.lead import Lead, lead
+from spanprof.whatif.survey import survey
 from spanprof.whatif.tests.made_up import ROW
+from spanprof.whatif.texts import Text
+from spanprof.whatif.trials import trials
 
 CURVE = "threads,end,least,bound\n" + "".join("%d,%%d,9,30\n" % p for p in range(1, 17))
-TIMES = "segment,thread,start_ns,end_ns\n0,0,0,1000\n1,1,2000,3000\n"
 
 
 def spanprof(words, text):
@@ -30,20 +34,29 @@ class Led(unittest.TestCase):
         with open(path, "w", encoding="utf-8") as file:
             file.write(text)
 
-    def lead(self, times="", **told):
+    def lead(self, account=None, tried=None, **told):
         answers = Answers(work=20, span=9, head=Head(**dict(dict(elapsed=20), **told)))
         answers.path, answers.predecessors = self.path, [[], [0]]
         for row in answers.curve.values():
             row["end"] = 20
         with mock.patch("spanprof.client.ask", spanprof):
-            return lead(answers, times)
+            return lead(answers, account, tried)
 
     def test_the_change_that_ends_soonest(self):
         self.assertEqual(self.lead(), Lead(
-            "too few tasks: for 75 % of the threads' time they idled with no segment ready (measured, beside the greedy "
+            "too few tasks: for 75 % of the threads' time they idled with nothing ready (measured, beside the greedy "
             "run of the recorded text)",
             "without the taskwait at row.c:5, if the program stays right: the greedy run on 4 threads ends 20.0 % "
             "sooner (proved of the recorded text and of each changed one)"))
+
+    def test_of_changes_that_were_tried_already(self):
+        text = Text(self.path, 1)
+        seen = survey(text.statements())
+        with mock.patch("spanprof.client.ask", spanprof):
+            made = trials(text, seen, costs_for(text.head, seen), 4)
+        with mock.patch("spanprof.whatif.lead.trials", side_effect=AssertionError):
+            self.assertEqual(self.lead(tried=made), self.lead(tried=made))
+            self.assertIn("without the taskwait at row.c:5", self.lead(tried=made).first)
 
     def test_no_change_where_the_runtime_or_the_machine_is_the_cause(self):
         led = self.lead(elapsed=90, unit="ms")
@@ -51,10 +64,11 @@ class Led(unittest.TestCase):
                          "none of the program: record it on a machine with less to do, or on another runtime")
         self.assertTrue(led.then.startswith("after that, of the program: without the taskwait at row.c:5, if"))
 
-    def test_by_the_account_beside_the_text(self):
-        self.write(self.path.replace(".tasks", ".times"), TIMES)
-        self.assertEqual(self.lead(elapsed=3).cause,
-                         "too few tasks: for 50 % of the threads' time they idled with no segment ready (measured)")
+    def test_by_the_account(self):
+        account = Account(4, 100, 160, 40, 200, 0)
+        account.idle = ({}, {})
+        self.assertEqual(self.lead(account).cause,
+                         "too few tasks: for 50 % of the threads' time they idled with nothing ready (measured)")
 
     def test_nothing_to_say(self):
         self.assertIsNone(self.lead(elapsed=None))

@@ -1,8 +1,8 @@
 import unittest
 
+from spanprof.text import statements, text_lines
 from spanprof.whatif.join import Join
 from spanprof.whatif.shapes import Cutoff, Grain, OwnTask, Split
-from spanprof.whatif.statements import statements, text_lines
 from spanprof.whatif.tests.made_up import ROW, SORT, changed
 
 ROWS = "omptasks 1\n" + "".join("work 3\ntask { # a\nwork %d\n}\n" % cost for cost in (10, 20, 30, 40, 50))

@@ -1,14 +1,55 @@
-"""A program text without loops as statements, one after the other, each with its place in the source; and back."""
+"""A program text without loops as statements, one after the other, each with its place in the source; and back.
+
+A comment belongs to the construct that stands on its line.
+"""
 import re
+from dataclasses import dataclass
 from functools import lru_cache
+from itertools import islice
 from typing import Iterable, Iterator, NamedTuple, Tuple
 
-from spanprof.client import Segment, words_of
-
 DIVIDER = "---"
+TOKEN = re.compile(r"[A-Za-z0-9_]+|[^\sA-Za-z0-9_]")
 DEPEND = re.compile(r"depend\((\w+):([^)]*)\)")
 UNDEFERRED = re.compile(r"if\(0+\)")
 WHOLE = re.compile(r"[ \t]*(?:(work) (\d+)|(taskwait|\})|(taskgroup|task)( [\w(): ,]*)?\{)[ \t]*(?:#(.*))?\s*")
+
+
+@dataclass
+class Segment:
+    task: int
+    task_place: str
+    after: str          # the construct that it follows; empty for a task's first
+    after_place: str
+    cost: int = 0
+
+    def place(self):
+        """Where its code stands: the construct that it follows, or the task that it begins."""
+        if self.after:
+            after = "after " + self.after if self.after_place or " " in self.after else "after a " + self.after
+            return after + " at " + self.after_place if self.after_place else after
+        if self.task == 0:
+            return "the beginning"
+        return "task at %s" % self.task_place if self.task_place else "a task"
+
+
+def lines_of(text):
+    """The tokens of each line, and its comment."""
+    for line in text.split("\n"):
+        code, _, comment = line.partition("#")
+        yield TOKEN.findall(code), comment.strip()
+
+
+def words_of(text):
+    """The tokens of a text, each with the comment of its line."""
+    for words, comment in lines_of(text):
+        yield from ((word, comment) for word in words)
+
+
+def has_loops(text):
+    """Whether the text is of version 2; its canonical text is of version 1."""
+    words = [word for word, _ in islice(words_of(text), 2)]
+    return len(words) > 1 and words[1].lstrip("0") == "2"
 
 
 class Statement(NamedTuple):
@@ -94,8 +135,8 @@ def lines_before_the_divider(lines):
 
 
 def statements(lines: Iterable[str]) -> Iterator[Statement]:
-    """Of the lines of a text that spanprof has taken. A line that is one statement, as the recorder writes it, is read at
-    once."""
+    """Of the lines of a text that spanprof has taken. A line that is one statement, as the recorder writes it, is read
+    at once."""
     naming, pending, header = Naming(), [], 2
     for line in lines_before_the_divider(lines):
         whole = not pending and not header and WHOLE.fullmatch(line)
@@ -112,6 +153,58 @@ def statements(lines: Iterable[str]) -> Iterator[Statement]:
             yield statement(pending[first][0], code, pending[end - 1][1], naming)
             first = end
         del pending[:first]
+
+
+class Cutter:
+    """Cuts a program into segments, statement by statement."""
+
+    def __init__(self):
+        self.out = [Segment(0, "", "", "")]
+        self.running = [(0, "", 0)]     # of each open task: its number, its place, its open segment
+        self.blocks = []                # of each open block: what it is, and its place
+        self.tasks = 0
+
+    @property
+    def current(self):
+        """The number of the open segment of the running task."""
+        return self.running[-1][2]
+
+    def take(self, one):
+        if one.kind == "work":
+            self.out[self.current].cost += one.cost
+        elif one.kind == "taskwait":
+            self.go_on(one.kind, one.comment)
+        elif one.kind == "end":
+            self.end()
+        else:
+            self.begin(one.kind, one.comment)
+
+    def begin(self, kind, place):
+        self.blocks.append((kind, place))
+        if kind == "task":
+            self.tasks += 1
+            self.running.append((self.tasks, place, len(self.out)))
+            self.out.append(Segment(self.tasks, place, "", ""))
+
+    def end(self):
+        kind, place = self.blocks.pop()
+        if kind == "task":
+            self.running.pop()
+        self.go_on("creating a task" if kind == "task" else kind, place)
+
+    def go_on(self, after, place):
+        """The running task's next segment."""
+        task, task_place, _ = self.running[-1]
+        self.running[-1] = (task, task_place, len(self.out))
+        self.out.append(Segment(task, task_place, after, place))
+
+
+def segments_of(text):
+    """The segments of a text without loops, in the order of their numbers."""
+    cutter = Cutter()
+    for one in statements(text.split("\n")):
+        cutter.take(one)
+    return cutter.out
 
 
 def clauses(task):

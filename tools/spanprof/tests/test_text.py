@@ -4,7 +4,7 @@ import unittest
 from collections import Counter
 
 from spanprof import client
-from spanprof.whatif.statements import Statement, merged, statements, text_lines
+from spanprof.text import Statement, merged, statements, text_lines
 from spanprof.whatif.tests.made_up import ROW, SORT, changed, read
 
 RECORDED = os.path.join(client.TOP, "examples", "openmp", "recorded")
