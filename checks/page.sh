@@ -13,6 +13,8 @@ cd "$(dirname "$0")/.."
 program=$(realpath "${1:-crates/spanprof/out/spanprof}")
 [ -x "$program" ] || { echo "no program $program"; exit 1; }
 export SPANPROF=$program
+account=crates/spanprof_account/out/spanprof_account    # where it is there, pages of recordings have the account
+[ -n "${SPANPROF_ACCOUNT:-}" ] || [ ! -x "$account" ] || export SPANPROF_ACCOUNT=$PWD/$account
 if [ $# -gt 1 ]; then
     folder=$(realpath -m "$2")
     mkdir -p "$folder"
@@ -36,7 +38,7 @@ record() { # NAME CLOCK WORD ..: a program of examples/openmp, which `compile` h
     SPANPROF_QUIET=1 OMP_TOOL_LIBRARIES=$PWD/tools/openmp_recorder/librecorder.so OMP_NUM_THREADS=4 SPANPROF_UNIT=us \
         SPANPROF_CLOCK=$clock SPANPROF_OUT=$folder/$name-$clock "$folder/$name" "$@" > "$folder/said" 2>&1 ||
         fail "$name cannot be recorded: $(tail -1 "$folder/said")"
-    SPANPROF_UNIT=us tools/spanprof-convert "$folder/$name-$clock.log" > "$folder/said" 2>&1 ||
+    SPANPROF_UNIT=us tools/spanprof-convert --times "$folder/$name-$clock.log" > "$folder/said" 2>&1 ||
         fail "$name cannot be converted: $(tail -1 "$folder/said")"
 }
 
@@ -103,7 +105,7 @@ for pair in kept_merge_sort:kept_merge_sort_split kept_wavefront:kept_wavefront_
         merge_sort-wall:merge_sort_split-wall wavefront-cpu:wavefront_overlapped-cpu; do
     first=${pair%:*} second=${pair#*:}
     [ -e "$folder/$first.tasks" ] || continue
-    for ending in tasks replay times; do
+    for ending in tasks replay times timed; do
         [ ! -e "$folder/$first.$ending" ] || cp "$folder/$first.$ending" "$folder/${first}_and_other.$ending"
     done
     make_page "${first}_and_other" --with "$folder/$second.tasks"

@@ -11,7 +11,7 @@ passes() {
     local name=$1 told
     shift
     if told=$("$@" 2>&1); then
-        echo "ok      $name"
+        case $told in 'skipped: '*) echo "skipped $name: ${told#skipped: }" ;; *) echo "ok      $name" ;; esac
     else
         printf 'FAILED  %s\n%s\n' "$name" "$told"
         failed=1
@@ -31,8 +31,14 @@ done
 if command -v pyflakes3 > /dev/null; then
     passes pyflakes3 pyflakes3 tools checks bench examples
 else
-    echo "skipped pyflakes3 (package pyflakes3)"
+    echo "skipped pyflakes3: it is missing (package pyflakes3)"
 fi
+if command -v pycodestyle > /dev/null; then  # E402 is an import below sys.path, and style.py looks at long lines
+    passes pycodestyle pycodestyle --ignore=E126,E402,E501,W291,W503,W504 tools checks bench examples
+else
+    echo "skipped pycodestyle: it is missing (package pycodestyle)"
+fi
+passes cpp_format.sh checks/cpp_format.sh
 for test in checks/test_*.py checks/waiting/test_*.py checks/large_recordings/test_*.py bench/test_*.py \
     bench/recording/test_*.py; do
     passes "$test" python3 -B "$test"

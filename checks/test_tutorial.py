@@ -32,8 +32,8 @@ class Faults(unittest.TestCase):
 class Programs(unittest.TestCase):
     def test_the_second_one_may_be_missing(self):
         self.assertEqual(named_programs(["/no/spanprof", "/no/large"]), {"spanprof": "/no/spanprof"})
-        self.assertEqual(named_programs(["/no/spanprof", "/bin/sh"]), {"spanprof": "/no/spanprof",
-                                                                      "spanprof_large": "/bin/sh"})
+        self.assertEqual(named_programs(["/no/spanprof", "/bin/sh"]), {
+            "spanprof": "/no/spanprof", "spanprof_large": "/bin/sh"})
 
 
 class Commands(unittest.TestCase):

@@ -9,6 +9,7 @@ import os
 import shutil
 import sys
 
+from spanprof.errors import Fault
 from spanprof.version import commit_of
 
 TOOLS = os.path.dirname(os.path.abspath(__file__))
@@ -75,8 +76,8 @@ def install(root, pairs):
     for source, path in pairs:
         if not os.path.isfile(source):
             shown = os.path.relpath(source, os.path.join(TOOLS, ".."))
-            sys.exit("install: %s: no such %s" % (shown, "program; README.md tells how spanprof is built"
-                                                  if path == "bin/spanprof" else "file"))
+            raise Fault("%s: no such %s" % (shown, "program; README.md tells how spanprof is built"
+                                            if path == "bin/spanprof" else "file"))
     uninstall(root)
     made = [] if os.path.isdir(root) else ["./"]
     os.makedirs(root, exist_ok=True)
@@ -134,6 +135,8 @@ def main():
             install(root, plan(os.environ.get("SPANPROF") or SPANPROF))
         else:
             print("%d files taken from %s" % (uninstall(root), root))
+    except Fault as fault:
+        sys.exit("install: %s" % fault)
     except OSError as wrong:
         sys.exit("install: %s: %s" % (wrong.filename, wrong.strerror))
 

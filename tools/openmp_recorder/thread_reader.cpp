@@ -74,12 +74,12 @@ void ThreadReader::end_region() {
 
 // The thread's own clock stands still from when it asks for a lock until it has it.
 void ThreadReader::use_lock() {
-  Called now{cost_clock(), time.wall(raw.record.at)};
+  Called now{cost_clock() - log.stood_still, time.wall(raw.record.at)};
   uint64_t name = raw.wide();
   switch (raw.told()) {
     case Told::LockAsked: return log.locks.ask(static_cast<int>(raw.detail()), name, raw.place(), now);
-    case Told::LockGot: log.stood_still += now.clock - log.locks.get(name, now, log.stood_still, told); break;
-    default: log.locks.leave(name, regions.empty() ? 0 : regions.back(), now.clock - log.stood_still, told);
+    case Told::LockGot: log.stood_still += now.own - log.locks.get(name, now, told); break;
+    default: log.locks.leave(name, regions.empty() ? 0 : regions.back(), now.own, told);
   }
   log.stood_still += in_a_record;
 }

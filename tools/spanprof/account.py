@@ -46,7 +46,8 @@ class Account:
     starved: int
     outside: int
     held_up: HeldUp = field(default_factory=HeldUp)
-    recorder: int = 0       # of the time in code, where the clock of the costs tells it
+    recorder: int = 0       # of the time in code, by the wall clock
+    by_processor: bool = False      # costs are read on that clock: then it is among what was preempted
     of_runs: bool = False   # of the one of several runs that has the median work
     left_out: int = 0       # code of the region that has no times here, and is idle
     rows: List[Row] = field(default_factory=list)
@@ -124,6 +125,7 @@ def account_of(answers, path):
     found = Account(**sums, rows=rows, places=[segment.place() for segment in answers.code])
     # lines that are rounded to whole units may have less than the text covers
     found.held_up, found.recorder = divide_busy(found, head, max(answers.work, head.covered or 0))
+    found.by_processor = head.clock == "cpu"
     found.of_runs = (head.runs or 1) > 1
     found.left_out = (head.not_covered.get("of this region", 0) + head.untimed) * head.nanoseconds
     return found
@@ -152,5 +154,3 @@ def account_beside(answers):
         return account_of(answers, path), ""
     except NoAccount as fault:
         return None, str(fault)
-
-

@@ -1,14 +1,11 @@
 """spanprof_account: where the program is, and what it tells of a timed document."""
-import os
 import re
-import shlex
-import shutil
 import subprocess
 import tempfile
 
-TOP = os.path.dirname(os.path.dirname(os.path.dirname(os.path.abspath(__file__))))
-PLACES = (os.path.join(TOP, "crates", "spanprof_account", "out", "spanprof_account"),
-          os.path.join(TOP, "..", "bin", "spanprof_account"))  # where this file is in PREFIX/share/spanprof/record
+from spanprof.folders import places_of, words_for
+
+PLACES = places_of("spanprof_account")
 HOW = "spanprof_account, which tells it, is not found; tools/prove_program.sh spanprof_account proves and builds it"
 FAULTS = {
     "NotTimed": "segment %s has no times",
@@ -28,9 +25,7 @@ class NoAccount(Exception):
 
 def spanprof_account():
     """The words that start the program; none where it is not found."""
-    words = shlex.split(os.environ.get("SPANPROF_ACCOUNT", ""))
-    found = shutil.which("spanprof_account") or next((path for path in PLACES if os.access(path, os.X_OK)), None)
-    return words or ([found] if found else [])
+    return words_for("spanprof_account", PLACES)
 
 
 def in_words(line):

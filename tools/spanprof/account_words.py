@@ -15,12 +15,14 @@ def lasting(nanoseconds):
 def of_places(parts, words):
     """The first places of idle time, each with its share of that time."""
     whole = sum(parts.values())
-    shown = ["%s (%.0f %%)" % (place, 100 * part / whole) for place, part in list(parts.items())[:MOST_PLACES] if part]
+    shown = ["%s (%.0f %%)" % (place, 100 * part / whole) for place, part in list(parts.items())[:MOST_PLACES]
+             if part and 200 * part >= whole]
     return words + ", ".join(shown) if shown else ""
 
 
 def held_up_words(found, share):
-    parts = [(found.held_up.preempted, "off the processor"), (found.held_up.asleep, "asleep"),
+    off = "off the processor or in the recorder" if found.by_processor else "off the processor"
+    parts = [(found.held_up.preempted, off), (found.held_up.asleep, "asleep"),
              (found.held_up.at_locks, "waiting for locks")]
     told = ["%s %s" % (share(part), name) for part, name in parts if part >= LEAST * found.whole and part]
     return "; %s held up in it: %s" % (share(found.held_up.all), ", ".join(told)) if told else ""

@@ -5,24 +5,20 @@ and then in the repository, or where `make install` has put it.
 """
 import os
 import re
-import shlex
-import shutil
 import signal
 import subprocess
 
 from spanprof.errors import Fault
+from spanprof.folders import places_of, words_for
 from spanprof.refusal import explained, of_event, of_whole
 from spanprof.text import has_loops, segments_of
 
-TOP = os.path.dirname(os.path.dirname(os.path.dirname(os.path.abspath(__file__))))
-IN_REPOSITORY = os.path.join(TOP, "crates", "spanprof", "out", "spanprof")
-INSTALLED = os.path.join(TOP, "..", "bin", "spanprof")  # this file is then in PREFIX/share/spanprof/spanprof
+PLACES = places_of("spanprof")
 
 
 def spanprof():
     """The words that start the program."""
-    here = INSTALLED if os.path.basename(TOP) == "share" else IN_REPOSITORY
-    return shlex.split(os.environ.get("SPANPROF", "")) or [shutil.which("spanprof") or here]
+    return words_for("spanprof", PLACES) or [PLACES[0]]
 
 
 class Refused(Fault):

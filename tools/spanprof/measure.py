@@ -1,16 +1,12 @@
 """What spanprof_large tells of a text of any size, and where that program is."""
-import os
-import shlex
-import shutil
 import subprocess
 
 from spanprof.answers import named_numbers
 from spanprof.errors import Fault
+from spanprof.folders import places_of, words_for
 from spanprof.refusal import without_text
 
-TOP = os.path.dirname(os.path.dirname(os.path.dirname(os.path.abspath(__file__))))
-PLACES = (os.path.join(TOP, "crates", "spanprof_large", "out", "spanprof_large"),
-          os.path.join(TOP, "..", "bin", "spanprof_large"))  # of PREFIX, where it is installed
+PLACES = places_of("spanprof_large")
 LIMITS = {
     "BadHeader": "spanprof_large reads texts that begin with `omptasks 1`",
     "TooLong": "a text has at most 9,223,372,036,854,775,806 bytes",
@@ -21,9 +17,7 @@ HOW = "spanprof_large, which measures it, is not found; tools/prove_program.sh s
 
 def spanprof_large():
     """The words that start the program; none where it is not found."""
-    words = shlex.split(os.environ.get("SPANPROF_LARGE", ""))
-    found = shutil.which("spanprof_large") or next((path for path in PLACES if os.access(path, os.X_OK)), None)
-    return words or ([found] if found else [])
+    return words_for("spanprof_large", PLACES)
 
 
 def measure(program, path):

@@ -48,7 +48,8 @@ def command_run(options, folder):
             keep_part(options, what, results)
     found = shrink_failures(options, bench, results)
     sources = list(gcov.rows(gcov.reached(options.gcov))) if options.gcov else []
-    publish(options.report, Report(facts_of(what, results), bench.toolchain.kinds, results, found, sources))
+    waits = list(delays.tables_of(measured_delays(options, bench, []))) if options.delays else []
+    publish(options.report, Report(facts_of(what, results), bench.toolchain.kinds, results, found, sources, waits))
     return 1 if results.groups else 0
 
 
@@ -120,11 +121,9 @@ def command_delays(options, folder):
     """Tells how much of the threads' time runtimes delay, and how long ready segments wait, by construct."""
     found = {}
     for cc in options.cc.split(","):
-        own = replace_words(options, cc=cc)
-        bench = open_bench(own, folder)
-        cases = directed_cases(bench.toolchain.kinds, ["tied"], options.match)[0]
-        cases += random_cases(range(options.seed, options.seed + options.programs), bench.toolchain.kinds, ["tied"], [])
-        found[f"{cc}: {bench.toolchain.runtime(bench.environment)}"] = delays.measured(bench, cases, own)
+        own = argparse.Namespace(**{**vars(options), "cc": cc})
+        seeds = range(options.seed, options.seed + options.programs)
+        found.update(measured_delays(own, open_bench(own, folder), seeds))
     print("\n".join(delays.tables_of(found)))
     if options.report:
         is_json = options.report.endswith(".json")
@@ -133,9 +132,11 @@ def command_delays(options, folder):
     return 0
 
 
-def replace_words(options, **others):
-    """The options with others in their place."""
-    return argparse.Namespace(**{**vars(options), **others})
+def measured_delays(options, bench, seeds):
+    """Of the bench's runtime, by its name, what timed runs of the directed programs and some random ones tell."""
+    kinds = bench.toolchain.kinds
+    cases = directed_cases(kinds, ["tied"], options.match)[0] + random_cases(seeds, kinds, ["tied"], [])
+    return {f"{options.cc}: {bench.toolchain.runtime(bench.environment)}": delays.measured(bench, cases, options)}
 
 
 def command_shrink(options, folder):

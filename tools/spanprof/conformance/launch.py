@@ -5,6 +5,7 @@ from dataclasses import dataclass, field
 
 from spanprof.conformance.settings import SETTINGS
 
+
 @dataclass
 class Log:
     """One run: its events, as lines of a replay document, and how it ended."""

@@ -134,6 +134,8 @@ def add_failure_options(name, parser):
             help="the file from which a campaign of hours goes on, and to which a part goes (campaign.jsonl)")
         add("--shard", type=read_shard, default=Shard(), metavar="I/N",
             help="only this part of the programs; its results go to --state, for `merge`")
+        add("--delays", action="store_true",
+            help="after the test, tell how long ready segments of the directed programs wait, as `delays` does")
         add("--gcov", default="", metavar="FOLDER",
             help="where the runtime was built with --coverage: tell which of its lines were reached")
         add("--no-directed", dest="directed", action="store_false", help="leave out the directed part")

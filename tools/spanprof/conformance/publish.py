@@ -14,7 +14,7 @@ def publish(names, report):
     """Writes the reports that are asked for, names with commas, with a text and a C file for each small program; prints
     the tables."""
     results = report.results
-    for lines in (tables.summary(results, ["all"]), coverage_lines(report), tables.expected(results),
+    for lines in (tables.summary(results, ["all"]), coverage_lines(report), report.delays, tables.expected(results),
                   tables.kinds_of_failure(results)):
         print("\n".join([*lines, ""]))
     if not names:

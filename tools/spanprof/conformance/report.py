@@ -21,6 +21,7 @@ class Report:
     results: object
     found: list
     sources: list = field(default_factory=list)
+    delays: list = field(default_factory=list)  # lines on how long ready segments waited, where that was asked for
 
 
 def reproducer(number, found, name):
@@ -58,6 +59,8 @@ def markdown(report, stem):
     lines += ["## By setting and schedule", "", *tables.conditions(results), ""]
     if report.sources:
         lines += ["## Reached of the runtime's sources", "", *tables.table(SOURCE_HEADS, report.sources), ""]
+    if report.delays:
+        lines += ["## Delayed time, and waits of ready segments", "", *report.delays]
     if results.expected:
         lines += ["## Expected failures", "", *tables.expected(results), ""]
     if results.groups:

@@ -1,17 +1,16 @@
 """A critical path of a text of any size: a plain program finds it, and spanprof_large measures what it left."""
-import os
 import subprocess
 from dataclasses import dataclass, field
 from typing import List, NamedTuple
 
 from spanprof.built import Product, find_or_build
 from spanprof.errors import Fault
+from spanprof.folders import builds_in
 from spanprof.measure import measure
 from spanprof.path.masked import first_other_line
 from spanprof.path.table import place
 
-TOOLS = os.path.dirname(os.path.dirname(os.path.dirname(os.path.abspath(__file__))))
-FOLDERS = [os.path.join(TOOLS, "large_path"), os.path.join(TOOLS, "..", "..", "lib", "spanprof")]
+FOLDERS = builds_in("large_path")
 PROGRAM = Product("spanprof_path", "spanprof_path", "g++ make")
 ENCODING = {"encoding": "utf-8", "errors": "replace", "newline": "\n"}
 

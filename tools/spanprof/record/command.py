@@ -10,19 +10,20 @@ from spanprof.account_words import lines_of
 from spanprof.answers import Answers
 from spanprof.command import end_at_a_closed_pipe
 from spanprof.errors import OWN_FAULT, Fault
+from spanprof.folders import PREFIX, TOOLS
 from spanprof.measure import HOW, spanprof_large
 from spanprof.record.console import say, tell
 from spanprof.record.large import answers, head_of, large_summary, unmeasured_summary
 from spanprof.record.options import parse
 from spanprof.record.ranks import are_ranks
 from spanprof.record.run import end_as
-from spanprof.record.session import TOOLS, Session
+from spanprof.record.session import Session
 from spanprof.record.summary import other_region, summary
 from spanprof.record.summary_json import led_json, write_json
 from spanprof.record.verdict import verdict
 from spanprof.whatif.lead import lead
 
-REPORTERS = [os.path.join(TOOLS, "spanprof-report"), os.path.join(TOOLS, "..", "..", "bin", "spanprof-report")]
+REPORTERS = [os.path.join(TOOLS, "spanprof-report"), os.path.join(PREFIX, "bin", "spanprof-report")]
 
 
 def show(lines):

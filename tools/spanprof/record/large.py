@@ -12,6 +12,7 @@ from spanprof.path.table import share
 from spanprof.record.console import tell
 from spanprof.record.summary import MOST_PLACES, first_lines, grouped, lock_lines, named, remark_lines, title
 
+TOO_LARGE = "the text is beyond the limits of spanprof_account"
 
 @dataclass
 class LargeAnswers:
@@ -59,6 +60,7 @@ def place_lines(answered):
 def large_summary(answered, news=()):
     tasks = "%s, in %s segments (recorded)" % (grouped(answered.tasks), grouped(answered.segments))
     return first_lines(answered, tasks, takes_several=False) \
+        + named("account", ["not told: " + TOO_LARGE] if answered.head.elapsed else []) \
         + named("locks", lock_lines(answered, answered.span)) \
         + named("span by place", place_lines(answered)) \
         + named("remarks", remark_lines(answered, list(filter(None, [answered.unplaced])) + list(news)))

@@ -4,13 +4,12 @@ import os
 import re
 import shutil
 import statistics
-import subprocess
-import sys
 
 from spanprof import client
 from spanprof.account import timed_beside
 from spanprof.errors import Fault
 from spanprof.record.files import recordings, stem_of
+from spanprof.record.median import write_median
 
 BARE_PART = re.compile(r"task \{  # one of the region's threads\n *(work \d+ *(#.*)?\n *)?\}")
 FIRST_PARTS = "all-or-none"  # of the first run
@@ -95,18 +94,18 @@ def replay_of(text, events_of, path):
         file.write(whole)
 
 
-def combine(tool, out, same_region):
+def combine(out, same_region):
     """Makes OUT.tasks and OUT.replay of the recordings of one region; answers what is to be remarked."""
     works, spans = zip(*[work_and_span(recording.text) for recording in same_region])
     middle_run = middle(same_region, works)
     take_times(middle_run, out)
-    done = subprocess.run([sys.executable, tool, out + ".tasks"] + [recording.text for recording in same_region],
-                          capture_output=True, text=True, errors="replace", check=False)
-    if done.returncode:
+    try:
+        write_median(out + ".tasks", [recording.text for recording in same_region])
+    except (Fault, OSError) as differ:
         take(middle_run, out)
         for path in filter(os.path.exists, (out + ".tasks", out + ".replay")):
             add_to_head(path, spread_lines(works, spans, "and this is the one with the median work"))
-        why = (done.stderr or done.stdout).strip().replace("\n", "; ").replace(os.path.dirname(out) + os.sep, "")
+        why = str(differ).replace(os.path.dirname(out) + os.sep, "")
         return ["the runs have no median, and this is the one with the median work: " + why]
     add_to_head(out + ".tasks", spread_lines(works, spans, "and each cost is the median of theirs"))
     if middle_run.replay:
@@ -114,14 +113,14 @@ def combine(tool, out, same_region):
     return []
 
 
-def combine_all(tool, out, run_names):
+def combine_all(out, run_names):
     """The same for each region that all runs have written."""
     by_run = [{one.number: one for one in recordings(name)} for name in run_names]
     every = set().union(*by_run)
     common = sorted(number for number in every if all(number in found for found in by_run))
     remarks = []
     for number in common:
-        remarks += combine(tool, stem_of(out, number), [found[number] for found in by_run])
+        remarks += combine(stem_of(out, number), [found[number] for found in by_run])
     if len(common) < len(every):
         remarks.append("regions that not all runs wrote, left out: %d" % (len(every) - len(common)))
     return remarks

@@ -4,6 +4,7 @@ import os
 from spanprof import client
 from spanprof.account_program import spanprof_account
 from spanprof.errors import Fault
+from spanprof.folders import builds_in
 from spanprof.record.console import say, tell
 from spanprof.record.convert import convert_all, converter
 from spanprof.record.files import check_folder, large_recordings, recordings, remove_old
@@ -15,9 +16,7 @@ from spanprof.record.run import environment, run, signal_name
 from spanprof.record.runtime import refuse_targets, to_preload, what_it_lacks
 from spanprof.record.target import find, launched
 
-TOOLS = os.path.dirname(os.path.dirname(os.path.dirname(os.path.abspath(__file__))))
-RECORDERS = [os.path.join(TOOLS, "openmp_recorder"), os.path.join(TOOLS, "..", "..", "lib", "spanprof")]
-MEDIAN = os.path.join(TOOLS, "median_recording.py")
+RECORDERS = builds_in("openmp_recorder")
 
 
 def check_spanprof():
@@ -110,7 +109,7 @@ class Session:
                 return status, [], said
             parts = parts_of_the_next([one.text for one in recordings(name)]) if parts == FIRST_PARTS else parts
         tell("taking medians")
-        self.notes += combine_all(MEDIAN, self.out, names)
+        self.notes += combine_all(self.out, names)
         return 0, recordings(self.out), said.without([recording.text for recording in recordings(names[-1])])
 
     def record(self):

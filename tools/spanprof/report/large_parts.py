@@ -2,6 +2,7 @@
 import shlex
 
 from spanprof.report.figures import MEASURED, PROVED, badges
+from spanprof.report.large_view import TOGETHER
 from spanprof.report.markup import details, join, note, section, tag
 from spanprof.report.part_path import by_place
 from spanprof.report.part_tasks import MOST_PLACES, costs, creation
@@ -49,10 +50,9 @@ def tasks_part(view):
 
 def lines_to_ask(view):
     """Some single changes, the dearest places first; each is an answer of spanprof_large, which takes its time."""
-    task = next((place.name for place in view.task_places if place.name != "the root"), "")
     code = view.places[0].name if view.places else ""
     asked = [("factor", code + "=0.5")] * bool(code) + [("split", code + "=4")] * bool(code)
-    asked += [("join", "task at %s=8" % task if task != "a task" else "a task=8")] * bool(task)
+    asked += [("join", "%s=%d" % (view.most_tasks, TOGETHER))] * bool(view.most_tasks)
     return [["spanprof-whatif", view.name, "--" + option, word, "--threads", str(view.answers.threads)]
             for option, word in asked]
 

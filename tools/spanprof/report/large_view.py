@@ -12,7 +12,8 @@ from spanprof.report.units import Units
 from spanprof.report.view import Kinds
 from spanprof.whatif.lead import Lead
 
-LATER = "fewer, larger tasks, such as neighbours joined; the lines under Changes ask what one brings"
+ASK = "the lines under Changes ask what one brings"
+TOGETHER = 8
 
 
 class Bounded:
@@ -52,8 +53,19 @@ class LargeView(Kinds):
     @cached_property
     def lead(self):
         found = cause(Bounded(self.answers))
-        return found and Lead(found.words, found.instead or (LATER if found.kind == "small" else
-                                                             "the lines under Changes ask what one brings"))
+        return found and Lead(found.words, found.instead or (self.fewer_tasks if found.kind == "small" else ASK))
+
+    @property
+    def most_tasks(self):
+        """The place of tasks with the most of them, as it is named; nothing without tasks."""
+        names = {place.name: len(place.costs) for place in self.task_places if place.name != "the root"}
+        name = max(names, key=names.get, default="")
+        return name if name in ("", "a task") else "task at " + name
+
+    @property
+    def fewer_tasks(self):
+        return "fewer, larger tasks, such as: %s, of which %d neighbours are one task; %s" % (
+            self.most_tasks, TOGETHER, ASK)
 
     @cached_property
     def levels(self):

@@ -49,7 +49,7 @@ def place_row(view, kind, place, part):
     found, show = view.account, view.figures
     numbers = {place.name: place.number for place in view.places}
     source, whole = "account %s-at %d" % (kind, numbers[place]), getattr(found, kind)
-    return [place_cell(place, view.sources.snippet(place)),
+    return [place_cell(place, view.snippet(place)),
             join([show.share(part, whole, "%s / account %s" % (source, kind), MEASURED), bar(percent(part, whole))]),
             show.share(part, found.whole, source + " / account whole", MEASURED)]
 

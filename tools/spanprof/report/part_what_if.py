@@ -62,9 +62,10 @@ def line_to_run(name, file):
 
 def lines_to_run(view):
     """The script fills them in."""
-    return tag("div", tag("p", "Set factors in the last column, and run this line for the exact span:"),
-               line_to_run("factors-line", view.name), tag("p", "Or, with spanprof alone, the same with each segment's "
-                                                                "changed cost:"),
+    return tag("div", tag("p", "Set factors in the last column: the lines that ask for the exact span come here.",
+                          class_="hint"),
+               tag("p", "For the exact span run:"), line_to_run("factors-line", view.name),
+               tag("p", "Or, with spanprof alone, the same with each segment's changed cost:"),
                line_to_run("changes-line", view.name), class_="to-run")
 
 

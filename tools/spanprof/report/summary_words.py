@@ -46,8 +46,8 @@ def on_the_threads(view):
              show.time(row["least"], named + "least", PROVED, "down")]
     if not gain_may_be_less(head):
         words += [", and every run of it that leaves no thread idle while a segment is ready is over by ",
-                  show.time(row["bound"], named + "bound", PROVED, "up"), "; tied tasks can force a thread "
-                                                                                       "to idle"]
+                  show.time(row["bound"], named + "bound", PROVED, "up"), "; tied tasks can "
+                  "force a thread to idle"]
     if gain_may_be_more(head):
         return tag("p", *words, "; the program may end sooner (remarks).")
     return tag("p", *words, " ", badge(PROVED), ".")

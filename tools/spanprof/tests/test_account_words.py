@@ -29,6 +29,14 @@ class Lines(unittest.TestCase):
                          "of 4 x 68.0 ms: 31.1 % in your code, 1.0 % the recorder's; 15.0 % held up in it: 5.0 % off "
                          "the processor, 10.0 % asleep (measured)")
 
+        self.assertIn("5.0 % off the processor or in the recorder, ", account_lines(account(
+            held_up=HeldUp(13600000, 27200000, 1000), by_processor=True))[0])
+
+    def test_places_of_next_to_nothing_are_left_out(self):
+        found = account()
+        found.idle = ({"task at a.c:3": 111 * MS, "task at a.c:5": MS // 2}, {})
+        self.assertIn("beside task at a.c:3 (100 %) (measured)", account_lines(found)[1])
+
     def test_one_of_several_runs(self):
         self.assertTrue(account_lines(account(of_runs=True))[0].startswith(
             "of 4 x 68.0 ms, in the run with the median work: 47.1 % in your code"))

@@ -62,7 +62,7 @@ class Heads(unittest.TestCase):
         self.assertEqual(head.division, {"outside regions": 20, "in other regions": 30, "in parts without tasks": 4,
                                          "in tasks": 3000})
         self.assertEqual(said(TEXT), ["remark: mutexinoutset, 12 times at sort.c:40: span too low",
-                                     "lock critical at sort.c:9: 32 times, 77 inside, 5 waiting"])
+                                      "lock critical at sort.c:9: 32 times, 77 inside, 5 waiting"])
 
     def test_what_it_says_of_the_program(self):
         head = read_head(OF_THE_PROGRAM)
@@ -127,7 +127,7 @@ class Finding(unittest.TestCase):
         with mock.patch.dict(os.environ, {"SPANPROF": ""}), mock.patch("shutil.which", return_value="/bin/spanprof"):
             self.assertEqual(client.spanprof(), ["/bin/spanprof"])
         with mock.patch.dict(os.environ, {"SPANPROF": ""}), mock.patch("shutil.which", return_value=None):
-            self.assertEqual(client.spanprof(), [client.IN_REPOSITORY])
+            self.assertEqual(client.spanprof(), [client.PLACES[0]])
 
     def test_no_program_is_told_without_a_traceback(self):
         with mock.patch.dict(os.environ, {"SPANPROF": "/no/such/program"}):

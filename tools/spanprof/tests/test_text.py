@@ -3,11 +3,11 @@ import os
 import unittest
 from collections import Counter
 
-from spanprof import client
+from spanprof import client, folders
 from spanprof.text import Statement, merged, statements, text_lines
 from spanprof.whatif.tests.made_up import ROW, SORT, changed, read
 
-RECORDED = os.path.join(client.TOP, "examples", "openmp", "recorded")
+RECORDED = os.path.join(folders.TOP, "examples", "openmp", "recorded")
 
 
 class Reading(unittest.TestCase):

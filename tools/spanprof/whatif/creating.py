@@ -21,4 +21,4 @@ def costs_for(head, seen, creating=None, least=None):
     if found is None:
         return Costs(0, least, "the text does not tell it")
     return Costs(found, least, "a quarter of the %d pieces of code between two creations cost at most that "
-                                      "(measured)" % sum(seen.between.values()))
+                 "(measured)" % sum(seen.between.values()))

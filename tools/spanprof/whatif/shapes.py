@@ -21,7 +21,20 @@ class Creating(Change):
         yield Statement("end", of="task")
 
 
-class Split(Creating):
+class OfCode(Creating):
+    """Each piece of code at the place that costs enough becomes something else."""
+    least = 0
+
+    def __call__(self, stream):
+        for one in stream:
+            if one.kind == "work" and one.name == self.place and one.cost >= self.least:
+                self.count += 1
+                yield from self.instead(one)
+            else:
+                yield one
+
+
+class Split(OfCode):
     """A piece of code that costs enough is so many tasks in a group, whose end waits for them."""
     what = "%d piece%s of code split: %s"
 
@@ -35,17 +48,12 @@ class Split(Creating):
     def parts_of(self, _):
         return self.parts
 
-    def __call__(self, stream):
-        for one in stream:
-            if one.kind != "work" or one.name != self.place or one.cost < self.least:
-                yield one
-                continue
-            self.count += 1
-            yield Statement("taskgroup", "the group of the parts")
-            each, more = divmod(one.cost, self.parts_of(one.cost))
-            for i in range(self.parts_of(one.cost)):
-                yield from self.task(one.name, each + (i < more))
-            yield Statement("end", of="taskgroup")
+    def instead(self, one):
+        yield Statement("taskgroup", "the group of the parts")
+        each, more = divmod(one.cost, self.parts_of(one.cost))
+        for i in range(self.parts_of(one.cost)):
+            yield from self.task(one.name, each + (i < more))
+        yield Statement("end", of="taskgroup")
 
 
 class Grain(Split):
@@ -62,7 +70,7 @@ class Grain(Split):
         return -(-cost // self.grain)
 
 
-class OwnTask(Creating):
+class OwnTask(OfCode):
     """A piece of code is a task of its own: the next `taskwait`, or the end of a group around it, waits for it."""
     what = "%d piece%s of code made a task: %s"
 
@@ -70,13 +78,8 @@ class OwnTask(Creating):
         super().__init__(place, creating)
         self.least = max(least, 1)
 
-    def __call__(self, stream):
-        for one in stream:
-            if one.kind != "work" or one.name != self.place or one.cost < self.least:
-                yield one
-                continue
-            self.count += 1
-            yield from self.task(one.name, one.cost)
+    def instead(self, one):
+        return self.task(one.name, one.cost)
 
 
 class Cutoff(Creating):

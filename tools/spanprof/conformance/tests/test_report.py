@@ -65,6 +65,12 @@ class Reports(unittest.TestCase):
                      "`cc -fopenmp -Iharness report-1.c harness/*.c`, then `./a.out 2 3 1 1000 5`"):
             self.assertIn(part, text)
 
+    def test_delays_where_they_were_asked_for(self):
+        report = report_of(results_of(LARGE))
+        self.assertNotIn("## Delayed time", markdown(report, "report"))
+        report.delays = ["| creation | task | 7: 1.0, 2.0 |"]
+        self.assertIn("waits of ready segments\n\n| creation | task |", markdown(report, "report"))
+
     def test_no_failures_no_chapters_of_them(self):
         text = markdown(report_of(results_of(LARGE)), "report")
         self.assertNotIn("## Failures", text)

@@ -1,12 +1,12 @@
 import contextlib
 import io
 import os
-import tempfile
 import unittest
 from unittest import mock
 
 from spanprof.errors import Fault
 from spanprof.path import command
+from spanprof.tests.in_folder import InFolder, answered
 
 TEXT = "# remark: untied, 1 time: span too low\nomptasks 1\nwork 2\ntask { # a.c:3\nwork 5\n}\nwork 1\n"
 MASKED = TEXT.replace("work 1\n", "work 0\n")
@@ -21,25 +21,12 @@ esac
 """
 
 
-class Commands(unittest.TestCase):
+class Commands(InFolder):
     """spanprof_large knows two texts, and spanprof_path writes what it is told to."""
 
     def setUp(self):
-        kept = tempfile.TemporaryDirectory()
-        self.addCleanup(kept.cleanup)
-        self.folder = kept.name
+        super().setUp()
         self.text = self.write("mine.tasks", TEXT)
-
-    def write(self, name, text):
-        path = os.path.join(self.folder, name)
-        with open(path, "w", encoding="utf-8") as file:
-            file.write(text)
-        return path
-
-    def program(self, name, script):
-        path = self.write(name, script)
-        os.chmod(path, 0o755)
-        return path
 
     def path_program(self, masked, table, status=0):
         files = self.write("its_masked", masked), self.write("its_table", table)
@@ -48,15 +35,8 @@ class Commands(unittest.TestCase):
     def told(self, *words, masked=MASKED, table=TABLE, span=7, status=0):
         """The exit status, and what stands on standard output and standard error."""
         large = self.program("large", LARGE % span)
-        out, errors, ended = io.StringIO(), io.StringIO(), 0
-        with mock.patch("spanprof.path.found.find_or_build", return_value=self.path_program(masked, table, status)), \
-                mock.patch.dict(os.environ, {"SPANPROF_LARGE": large}), contextlib.redirect_stdout(out), \
-                contextlib.redirect_stderr(errors):
-            try:
-                command.main([self.text, *words])
-            except SystemExit as end:
-                ended = end.code
-        return ended, out.getvalue(), errors.getvalue()
+        with mock.patch("spanprof.path.found.find_or_build", return_value=self.path_program(masked, table, status)):
+            return answered(command.main, [self.text, *words], SPANPROF_LARGE=large)
 
     def test_a_table(self):
         self.assertEqual(self.told(), (0, """\

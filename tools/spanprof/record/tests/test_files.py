@@ -1,33 +1,23 @@
 import os
-import tempfile
 import unittest
 from unittest import mock
 
 from spanprof import built
 from spanprof.errors import Fault
 from spanprof.record import files, recorder, repeat
+from spanprof.tests.in_folder import InFolder
 
 
-class InAFolder(unittest.TestCase):
+class OfARecording(InFolder):
     def setUp(self):
-        self.kept = tempfile.TemporaryDirectory()
-        self.out = os.path.join(self.kept.name, "mine")
-
-    def tearDown(self):
-        self.kept.cleanup()
-
-    def write(self, name, text=""):
-        path = os.path.join(self.kept.name, name)
-        os.makedirs(os.path.dirname(path), exist_ok=True)
-        with open(path, "w", encoding="utf-8") as file:
-            file.write(text)
-        return path
+        super().setUp()
+        self.out = os.path.join(self.folder, "mine")
 
     def names(self):
-        return sorted(os.listdir(self.kept.name))
+        return sorted(os.listdir(self.folder))
 
 
-class Recordings(InAFolder):
+class Recordings(OfARecording):
     def test_regions_in_their_order(self):
         for name in ("mine.tasks", "mine.replay", "mine.2.tasks", "mine.2.times", "mine.4711.tasks",
                      "mine.inout.tasks"):
@@ -65,22 +55,22 @@ class Recordings(InAFolder):
             self.write(name)
         files.remove_old(self.out)
         self.assertEqual(self.names(), ["mine.4712-2.log"])
-        self.assertEqual(os.listdir(os.path.join(self.kept.name, "mine.4712-2.log")), ["notes"])
+        self.assertEqual(os.listdir(os.path.join(self.folder, "mine.4712-2.log")), ["notes"])
 
     def test_a_folder_that_is_none(self):
         with self.assertRaisesRegex(Fault, "no folder"):
             files.check_folder(os.path.join(self.out, "x"))
 
 
-class Recorder(InAFolder):
+class Recorder(OfARecording):
     def test_the_one_that_is_built(self):
         self.write("b/librecorder.so")
-        folders = [os.path.join(self.kept.name, name) for name in "ab"]
+        folders = [os.path.join(self.folder, name) for name in "ab"]
         self.assertEqual(recorder.recorder_library(folders, print), os.path.join(folders[1], "librecorder.so"))
 
     def test_none(self):
         with self.assertRaisesRegex(Fault, "neither in .*nowhere"):
-            recorder.recorder_library([os.path.join(self.kept.name, "nowhere")], print)
+            recorder.recorder_library([os.path.join(self.folder, "nowhere")], print)
 
     def test_it_is_built_where_it_is_missing_or_old(self):
         library, source = self.write("r/librecorder.so"), self.write("r/life.cpp")
@@ -105,7 +95,7 @@ SPREAD = "# runs: 3, %s\n# work of the runs: 10 least, 20 median, 30 most\n" \
     "# span of the runs: 7 least, 8 median, 9 most\n"
 
 
-class Repeated(InAFolder):
+class Repeated(OfARecording):
     def test_the_runs_have_a_folder(self):
         self.write("mine.runs/run9.tasks")
         self.write("mine.runs/notes.txt")
@@ -125,10 +115,10 @@ class Repeated(InAFolder):
         return [files.recording(text[:-len(".tasks")]) for text in texts]
 
     def test_runs_of_different_shapes_leave_the_one_in_the_middle(self):
-        tool = self.write("tool.py", "import sys; sys.exit('they differ')\n")
         numbers = iter(((30, 7), (10, 9), (20, 8)))
-        with mock.patch("spanprof.record.repeat.work_and_span", side_effect=lambda text: next(numbers)):
-            remarks = repeat.combine(tool, self.out, self.three())
+        with mock.patch("spanprof.record.repeat.work_and_span", side_effect=lambda text: next(numbers)), \
+                mock.patch("spanprof.record.repeat.write_median", side_effect=Fault("they differ")):
+            remarks = repeat.combine(self.out, self.three())
         self.assertIn("they differ", remarks[0])
         with open(self.out + ".tasks", encoding="utf-8") as file:
             self.assertEqual(file.read(),
@@ -155,18 +145,19 @@ class Repeated(InAFolder):
     def test_regions_that_all_runs_wrote(self):
         for name in ("run1.tasks", "run1.2.tasks", "run2.2.tasks"):
             self.write(name)
-        names = [os.path.join(self.kept.name, name) for name in ("run1", "run2")]
+        names = [os.path.join(self.folder, name) for name in ("run1", "run2")]
         with mock.patch("spanprof.record.repeat.combine", return_value=["combined"]) as combine:
-            remarks = repeat.combine_all("tool", self.out, names)
-        self.assertEqual(combine.call_args.args[1], self.out + ".2")
+            remarks = repeat.combine_all(self.out, names)
+        self.assertEqual(combine.call_args.args[0], self.out + ".2")
         self.assertEqual(remarks, ["combined", "regions that not all runs wrote, left out: 1"])
 
-    def test_the_tool_gets_all_runs(self):
-        tool = self.write("tool.py", "import sys; open(sys.argv[1], 'w').write(str(len(sys.argv) - 2))\n")
+    def test_the_median_is_of_all_runs(self):
         with mock.patch("spanprof.record.repeat.work_and_span", return_value=(1, 1)):
-            self.assertEqual(repeat.combine(tool, self.out, self.three()), [])
+            self.assertEqual(repeat.combine(self.out, self.three()), [])
         with open(self.out + ".tasks", encoding="utf-8") as file:
-            self.assertEqual(file.read().split("\n")[0], "3# runs: 3, and each cost is the median of theirs")
+            text = file.read()
+        self.assertIn("# runs: 3, and each cost is the median of theirs\n", text)
+        self.assertIn("# remark: each cost is the median of 3 recordings", text)
 
 
 if __name__ == "__main__":

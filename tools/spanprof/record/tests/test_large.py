@@ -4,8 +4,15 @@ from unittest import mock
 from spanprof.errors import Fault
 from spanprof.path.table import Place
 from spanprof.record import large
+from spanprof.record.tests.made_up import Head
 
 PLACES = [Place(9, 9, 1, "a"), Place(8, 9, 1, "b"), Place(7, 9, 1, "c"), Place(6, 9, 1, "d")]
+
+
+class Summary(unittest.TestCase):
+    def test_why_there_is_no_account(self):
+        told = large.large_summary(large.LargeAnswers("mine.large.tasks", Head(), 9, 20, 100, 70))
+        self.assertIn("account       not told: the text is beyond the limits of spanprof_account", told)
 
 
 class Heaviest(unittest.TestCase):

@@ -91,7 +91,7 @@ class Runs(unittest.TestCase):
         self.assertEqual(told, "spanprof-record: nothing is recorded: no parallel region with tasks\n")
 
     def test_often(self):
-        def combine(tool, out, names):
+        def combine(out, names):
             self.assertEqual(len(names), 3)
             return ["the runs have no median"]
         with mock.patch("spanprof.record.session.combine_all", side_effect=combine):
@@ -132,7 +132,6 @@ class Summaries(unittest.TestCase):
             made = mock.Mock(notes=[], rank=None, out="/tmp/mine", options=argparse.Namespace(json=None))
             command.print_summary(made, [Recording("mine.tasks")], said)
         self.assertEqual(told.getvalue().count("folded task"), 1)
-
 
     def test_each_process_of_mpi_tells_a_line(self):
         by_path = {"a.tasks": Answers(name="a.tasks", work=10, span=5), "b.tasks": Answers(name="b.tasks")}
@@ -192,6 +191,7 @@ work          100 us: code on 4 threads, added up (measured)
 span          30 us: it ends no sooner on any number of threads (proved of the recorded text)
 parallelism   3.34: work / span; it gains no more on any number of threads (proved of the recorded text)
 elapsed       40 us on 4 threads: 2.50 of them busy in this code on average (measured)
+account       not told: the text is beyond the limits of spanprof_account
 span by place 66.7 % of the span, 50.0 % of the work: task at mine.c:12 (measured)
               33.3 % of the span, 10.0 % of the work: the beginning (measured)
 remarks       a note

@@ -28,7 +28,10 @@ function showLines() {
   const changed = changes(programs[0], boxes);
   const command = changed.length ? ["spanprof whatif", ...changed] : ["spanprof span"];
   exact.textContent = [...command, "<", quoted(exact.dataset.file)].join(" ");
-  for (const one of [line, exact]) one.closest("pre").hidden = !boxes.length;
+  for (const one of [line, exact].map((code) => code.closest("pre"))) {
+    one.hidden = one.previousElementSibling.hidden = !boxes.length;
+  }
+  document.querySelector(".to-run .hint").hidden = boxes.length > 0;
 }
 document.querySelectorAll("input.factor").forEach((box) => box.addEventListener("input", showLines));
 showLines();

@@ -72,6 +72,19 @@ class OfAnySize(unittest.TestCase):
         self.assertEqual(found.without_source, [])
         self.assertGreater(len(found.figures), 60)
 
+    def test_what_it_leads_with(self):
+        view = self.view()
+        self.assertTrue(view.lead.cause.startswith("too few tasks: "))
+        self.assertEqual(view.lead.first, "the lines under Changes ask what one brings")
+        self.assertEqual(view.fewer_tasks, "fewer, larger tasks, such as: task at mesh.c:10, of which 8 neighbours are "
+                                           "one task; the lines under Changes ask what one brings")
+        self.assertIn("--join &#x27;task at mesh.c:10=8&#x27; --threads 2", page(view))
+
+    def test_a_lock_is_no_change_of_the_tasks(self):
+        view = self.view()
+        view.answers.head.most_held = 60
+        self.assertTrue(view.lead.first.startswith("shorter code inside the lock"))
+
     def test_without_a_path_it_says_so(self):
         with mock.patch("spanprof.report.large_answers.LargeAnswers.path_of", side_effect=Fault("no g++")):
             self.assertIn("span by place is left out: no g++", page(self.view()))

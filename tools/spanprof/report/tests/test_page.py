@@ -92,7 +92,6 @@ class WrongNumbers(unittest.TestCase):
         self.assertEqual(self.faults('"greedy":{"starts":"%s"' % starts, '"greedy":{"starts":"1%s"' % starts),
                          ["split.tasks: the greedy run that is drawn is another"])
 
-
     def test_another_recorded_run(self):
         for number, name in enumerate(("mesh", "split")):
             lanes = json.loads(read_page(self.text).data)["programs"][number]["runs"]["recorded"]["lanes"]

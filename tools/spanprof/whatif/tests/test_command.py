@@ -1,11 +1,9 @@
-import contextlib
-import io
 import json
 import os
-import tempfile
 import unittest
 from unittest import mock
 
+from spanprof.tests.in_folder import InFolder, answered
 from spanprof.whatif import command
 from spanprof.whatif.tests.made_up import SORT
 
@@ -28,38 +26,18 @@ else printf 'tasks 3\\nsegments 9\\nwork 76\\nspan 60\\n'; fi
 """
 
 
-class Commands(unittest.TestCase):
+class Commands(InFolder):
     """spanprof counts lines with the word task, and spanprof_large tells always the same."""
 
     def setUp(self):
-        kept = tempfile.TemporaryDirectory()
-        self.addCleanup(kept.cleanup)
-        self.folder = kept.name
+        super().setUp()
         self.text = self.write("mine.tasks", SORT)
         self.variables = {"SPANPROF": self.program("spanprof", SPANPROF),
                           "SPANPROF_LARGE": self.program("large", LARGE)}
 
-    def write(self, name, text):
-        path = os.path.join(self.folder, name)
-        with open(path, "w", encoding="utf-8") as file:
-            file.write(text)
-        return path
-
-    def program(self, name, script):
-        path = self.write(name, script)
-        os.chmod(path, 0o755)
-        return path
-
     def told(self, *words):
         """The exit status, and what stands on standard output and standard error."""
-        out, errors, ended = io.StringIO(), io.StringIO(), 0
-        with mock.patch.dict(os.environ, self.variables), contextlib.redirect_stdout(out), \
-                contextlib.redirect_stderr(errors):
-            try:
-                command.main([self.text, *words])
-            except SystemExit as end:
-                ended = end.code
-        return ended, out.getvalue(), errors.getvalue()
+        return answered(command.main, [self.text, *words], **self.variables)
 
     def test_a_change(self):
         self.assertEqual(self.told("--drop-wait", "taskwait"), (0, """\
