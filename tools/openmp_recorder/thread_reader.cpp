@@ -11,6 +11,11 @@ std::string first_bytes(FILE *file, uint64_t from, size_t count) {
   rewind(file);
   return bytes;
 }
+
+bool is_of_a_lock(Told told) { return told == Told::LockGot || told == Told::LockLeft; }
+
+// Records of code that is divided among threads: no other task runs there.
+bool divides(Told told) { return told == Told::Divided || told == Told::Chunk || told == Told::DividedEnd; }
 }  // namespace
 
 ThreadReader::ThreadReader(const std::string &path, unsigned worker, const log_form::Head &head)
@@ -91,13 +96,10 @@ bool ThreadReader::take() {
     case Told::StoodStill:
       log.stood_still += by_processor ? static_cast<int64_t>(raw.wide()) : time.nanoseconds(raw.wide());
       return false;
-    case Told::LockAsked:
+    case Told::LockAsked: use_lock(); return false;
     case Told::LockGot:
-    case Told::LockLeft: use_lock(); return false;
-    case Told::Divided:
-      log.divided[{raw.record.other, static_cast<Divided>(raw.detail())}].add(raw.place());
-      log.stood_still += in_a_record;
-      return false;
+    case Told::LockLeft: use_lock(); return raw.detail() == order_of_turns;
+    case Told::Divided: log.divided[{raw.record.other, static_cast<Divided>(raw.detail())}].add(raw.place()); return true;
     case Told::ParallelBegin: begin_region(); return true;
     case Told::ParallelEnd: end_region(); return true;
     case Told::ImplicitBegin: regions.push_back(raw.record.other); return true;
@@ -124,8 +126,9 @@ const Record &ThreadReader::tell() {
                      static_cast<int64_t>(raw.wide()), (raw.detail() & log_form::taken) != 0};
     return record;
   }
+  if (is_of_a_lock(raw.told())) return record;
   log.stood_still += in_a_record;
-  told++;
+  told += !divides(raw.told());
   if (raw.told() == Told::Dependences) record.other = 0, read_items(record.code), record.code = log.items.size();
   return record;
 }

@@ -38,7 +38,7 @@ TEST(a_large_text_is_told_piece_by_piece_and_not_indented) {
   std::string words;
   tell_program(region, {1, false, true}, Places(), [&](std::string_view piece) { words += piece; });
   EXPECT(words, "omptasks 1\ntask {\nwork 3\ntask {\nwork 4\n}\n}\n");
-  EXPECT(region.tasks.back().numbers.empty(), true);
+  EXPECT(region.numbers.empty(), true);
 }
 
 TEST(the_work_is_that_of_the_lines) {
@@ -128,6 +128,16 @@ TEST(a_run_that_is_not_whole_says_so) {
   Region &region = only_region(run);
   text_of(region);
   EXPECT(event_lines(region).whole, false);
+}
+
+TEST(the_head_tells_the_functions_of_places) {
+  Run run = two_tasks();
+  Region &region = only_region(run);
+  const void *code = region.tasks.back().code;
+  Places places;
+  places.put(code, "sort.c:9");
+  places.put_frames(code, {{"merge", "sort.c:9"}, {"sort", "sort.c:30"}});
+  EXPECT_PART(head_of(region, {}, Options(), places), "# place sort.c:9: in merge, inlined into sort at sort.c:30\n");
 }
 
 TEST(the_head_tells_the_recording) {
