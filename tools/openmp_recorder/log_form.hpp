@@ -1,4 +1,4 @@
-// The binary form of a log, which docs/FORMATS.md describes: what the recorder's library writes and `convert_log` reads.
+// The binary form of a log, which LOG.md describes: what the recorder's library writes and `convert_log` reads.
 // NAME.log is a folder with a head, a list of modules, and two files of each thread: blocks of its records, and the last
 // block, which is mapped while the thread fills it.
 #pragma once
@@ -57,6 +57,6 @@ struct Head {
   Pair stop;
   char program[256];      // its path
 };
-static_assert(sizeof(Head) == 400, "as docs/FORMATS.md has it");
+static_assert(sizeof(Head) == 400, "as LOG.md has it");
 enum Unseen : uint32_t { unseen_detach = 1, unseen_target = 2 };
 }  // namespace log_form
