@@ -2,7 +2,6 @@
 import contextlib
 import io
 import os
-import tempfile
 import unittest
 
 import install
