@@ -7,20 +7,25 @@ use Rattle.program_text.specs.Limits.{work_of}
 use Rattle.program_text.specs.Tokens.{line_at_end, tokens_of}
 use Rattle.task_program.specs.Nested.{IsNested}
 use Rattle.task_segments.specs.Moments.{last_moment, segments_so_far, tasks_so_far}
+use Rattle.task_segments.specs.Table.{Table}
 use Rattle.online_span.specs.declared.meter.Meter.{Meter}
 use Rattle.online_span.specs.Measuring.{Measures}
 use Rattle.online_span.specs.Spans.{IsSpanOf}
 use Rattle.large_text.specs.LargeTrees.{IsLargeFirstFault}
-use Rattle.large_text.specs.Measured.{MeasuresText}
+use Rattle.large_text.specs.Measured.{IsTableOfText, MeasuresText}
 use Rattle.large_text.specs.Streamed.{CanTakeBytes, FitsText, HasTaken}
 use Rattle.large_text.specs.declared.stream.TextMeter.{TextMeter}
 use Rattle.spanprof_command.specs.Report.{Report, input_too_long}
 use Rattle.command_words.specs.declared.large.LargeRequest.{LargeRequest}
-use Rattle.command_words.specs.declared.large.LargeRequest.TheVariants.{Bounds, Numbers}
+use Rattle.command_words.specs.declared.large.LargeRequest.TheVariants.{OfMeter, OfTable}
+use Rattle.command_words.specs.declared.large.MeterRequest.{MeterRequest}
+use Rattle.command_words.specs.declared.large.MeterRequest.TheVariants.{Bounds, Numbers}
+use Rattle.command_words.specs.declared.large.TableRequest.{TableRequest}
 use Rattle.large_command.proofs.Lengths.{is_in_time, not_both}
 use Rattle.large_command.specs.LargeCommand.{AnswersText}
 use Rattle.large_command.specs.LargeReports.{Answers, IsOfProgram, TellsMeter, bounds_report}
 use Rattle.large_command.specs.LargeReports.{numbers_report, text_refusal}
+use Rattle.large_command.specs.TableReports.{TellsTable}
 use Rattle.large_command.specs.TextInput.{ReadsTooLong, TakesText}
 
 pub tells_meter : (meter : Meter) (tasks segments work span : ℕ) (report : Report)
@@ -66,15 +71,26 @@ is_of_program text meter h = record {
   measures = h.measures;
 }
 
-pub accepts : (asked : LargeRequest) (text : List ℕ) (meter : Meter) (report : Report)
+pub accepts : (asked : MeterRequest) (text : List ℕ) (meter : Meter) (report : Report)
     → MeasuresText (tokens_of text) meter
     → TellsMeter asked meter report
-    → Answers asked text report
+    → Answers (OfMeter asked) text report
 accepts asked text meter report h tells = inl (record {
   marks = h.marks;
   tree = h.tree;
   right = h.right;
   says = tells h.marks h.tree.nested h.measures;
+})
+
+pub accepts_table : (asked : TableRequest) (text : List ℕ) (table : Table) (report : Report)
+    → IsTableOfText (tokens_of text) table
+    → TellsTable asked table report
+    → Answers (OfTable asked) text report
+accepts_table asked text table report h tells = inl (record {
+  marks = h.marks;
+  tree = h.tree;
+  right = h.right;
+  says = subst (λ (t : Table). TellsTable asked t report) h.is tells;
 })
 
 pub refuses : (asked : LargeRequest) (text : List ℕ) (fault : ReadFault) (report : Report)
