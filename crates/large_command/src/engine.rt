@@ -8,7 +8,7 @@ ghost use Rattle.spanprof_command.specs.Command.{EndsWith, HadFaults};
 ghost use Rattle.spanprof_command.specs.Report.{out_of_memory, read_fault};
 ghost use Rattle.spanprof_command.specs.declared.engine.TheConstants.{MOST_RETRIES};
 ghost use Rattle.large_command.specs.LargeCommand.{AnswersText, IsReport, is_in_range};
-ghost use Rattle.large_command.specs.LargeCommand.{is_thread_count, wants_text};
+ghost use Rattle.large_command.specs.LargeCommand.{is_table_in_range, is_thread_count, wants_text};
 ghost use Rattle.large_text.specs.Streamed.{HasTaken};
 ghost use Rattle.large_command.specs.declared.engine.NoReport.TheVariants.{OutOfMemory};
 ghost use Rattle.large_text.specs.declared.limits.TheConstants.{LARGEST_TEXT};
@@ -137,10 +137,20 @@ fn is_in_range(asked: &LargeRequest) -> bool
     ensures { result ≡ is_in_range asked.now }
 {
     match asked {
+        LargeRequest::OfMeter(MeterRequest::Numbers) => true,
         LargeRequest::OfMeter(MeterRequest::Bounds { upto }) => is_thread_count(*upto),
-        LargeRequest::OfTable(TableRequest::Greedy { threads }) => is_thread_count(*threads),
-        LargeRequest::OfTable(TableRequest::Curve { upto }) => is_thread_count(*upto),
-        _ => true,
+        LargeRequest::OfTable(asked) => is_table_in_range(asked),
+    }
+}
+
+fn is_table_in_range(asked: &TableRequest) -> bool
+    ensures { result ≡ is_table_in_range asked.now }
+{
+    match asked {
+        TableRequest::Slack => true,
+        TableRequest::Greedy { threads } => is_thread_count(*threads),
+        TableRequest::Curve { upto } => is_thread_count(*upto),
+        TableRequest::WhatIf { changes: _ } => true,
     }
 }
 
