@@ -27,7 +27,7 @@ pub(crate) fn answer_table(
         → Answers (OfTable asked.now) bytes report) }
 {
     match text.finish_table() {
-        Ok(Some(table)) => tell_table(rt, alloc, asked, &table),
+        Ok(Some(table)) => tell_table(rt, alloc, asked, table),
         // There are more rows than are numbered.
         Ok(None) => Err(AllocError),
         Err(fault) => {
@@ -43,12 +43,12 @@ fn tell_table(
     rt: &(impl Threads + Sync),
     alloc: Global,
     asked: &TableRequest,
-    table: &LargeTable,
+    table: LargeTable,
 ) -> Result<Report, AllocError>
-    ensures { IfOk result (λ report. TellsTable asked.now table.now report) }
+    ensures { IfOk result (λ report. TellsTable asked.now table report) }
 {
     // Does nothing when it runs: its clauses tell the proof how many rows there are at most.
-    within_rows(table);
+    within_rows(&table);
     say_of_table(rt, alloc, asked, table)
 }
 
@@ -57,12 +57,12 @@ fn say_of_table(
     rt: &(impl Threads + Sync),
     alloc: Global,
     asked: &TableRequest,
-    table: &LargeTable,
+    table: LargeTable,
 ) -> Result<Report, AllocError>
-    ensures { IfOk result (λ report. SaysOfTable asked.now table.now report) }
+    ensures { IfOk result (λ report. SaysOfTable asked.now table report) }
 {
     match asked {
-        TableRequest::Slack => tell_slacks(alloc, table),
+        TableRequest::Slack => tell_slacks(alloc, &table),
         TableRequest::Greedy { threads } => tell_greedy(alloc, *threads, table),
         TableRequest::Curve { upto } => tell_curve(rt, alloc, *upto, table),
         TableRequest::WhatIf { changes } => try_changes(alloc, changes.as_slice(), table),
