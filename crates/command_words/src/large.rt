@@ -73,7 +73,7 @@ fn large_request_by(
     upto: Option<&str>,
     matches: &ArgMatches<'_>,
 ) -> Result<LargeRequest, WordsFault>
-    ensures { Gives (large_request_by (option_map (λ text. text.now) upto)
+    ensures { Gives (large_request_by (option_map (λ text. text.now) upto.entry)
         (subcommand_rows_of matches.now)) result }
 {
     match matches.subcommand() {
@@ -87,7 +87,7 @@ fn large_request_by(
 
 /// What words without a command ask for.
 fn asked_by(upto: Option<&str>) -> Result<LargeRequest, WordsFault>
-    ensures { Gives (asked_by (option_map (λ text. text.now) upto)) result }
+    ensures { Gives (asked_by (option_map (λ text. text.now) upto.entry)) result }
 {
     match upto {
         None => Ok(LargeRequest::OfMeter(MeterRequest::Numbers)),
