@@ -58,7 +58,8 @@ def grid(tasks):
     for row in range(side):
         for column in range(side):
             above, left = f"a_{max(row - 1, 0)}_{column}", f"a_{row}_{max(column - 1, 0)}"
-            yield f"task depend(in: {above}, {left}) depend(out: a_{row}_{column}) {{ work {1 + (row + column) % 5} }}\n"
+            cost = 1 + (row + column) % 5
+            yield f"task depend(in: {above}, {left}) depend(out: a_{row}_{column}) {{ work {cost} }}\n"
 
 
 def names(tasks):

@@ -22,39 +22,42 @@ fail() { echo "  $1"; wrong=$((wrong + 1)); }
 
 test_runtime() { # COMPILER TASKS [FLAGS] of the compiler
     local kept=$folder/kept-${1//\//_}
-    ./conformance.py run --cc "$1" --cflags="${3:-}" --tasks "$2" --threads 2,4 --programs 10 --runs 2 --timeout 60 \
-        --keep "$kept" --settings free,pinned,bound,active,passive > "$folder/run.txt" || fail "$1: a run is not accepted"
+    ../spanprof-conformance run --cc "$1" --cflags="${3:-}" --tasks "$2" --threads 2,4 --programs 10 --runs 2 \
+        --timeout 60 --keep "$kept" --settings free,pinned,bound,active,passive \
+        > "$folder/run.txt" || fail "$1: a run is not accepted"
     cat "$folder/run.txt"
-    ./conformance.py run --cc "$1" --cflags="${3:-}" --tasks "$2" --threads 2,4 --programs 10 --runs 2 --timeout 60 \
-        --keep "$kept" --settings priorities,sleepy,perturbed,stacks,unlogged,orphaned,nested > "$folder/settings.txt" ||
+    ../spanprof-conformance run --cc "$1" --cflags="${3:-}" --tasks "$2" --threads 2,4 --programs 10 --runs 2 \
+        --timeout 60 --keep "$kept" --settings priorities,sleepy,perturbed,stacks,unlogged,orphaned,nested \
+        > "$folder/settings.txt" ||
         fail "$1: a run in another setting is not accepted"
     head -n 8 "$folder/settings.txt"
     grep -q '^Never held back by this rule alone: none of these\.$' "$folder/run.txt" || fail "$1: a rule is not tried"
-    ./conformance.py mutants --cc "$1" --cflags="${3:-}" --threads 4 --runs 4 --timeout 3 || fail "$1: a mutant is not caught"
+    ../spanprof-conformance mutants --cc "$1" --cflags="${3:-}" --threads 4 --runs 4 --timeout 3 ||
+        fail "$1: a mutant is not caught"
 }
 
 test_parts() {
     for part in 1/2 2/2; do
-        ./conformance.py run --cc gcc --tasks tied --threads 2 --runs 1 --programs 4 --no-directed --shard "$part" \
-            --state "$folder/part-${part%/2}.jsonl" > "$folder/part.txt" || return 1
+        ../spanprof-conformance run --cc gcc --tasks tied --threads 2 --runs 1 --programs 4 --no-directed \
+            --shard "$part" --state "$folder/part-${part%/2}.jsonl" > "$folder/part.txt" || return 1
     done
-    ./conformance.py merge "$folder"/part-*.jsonl --report "$folder/parts.xml" > "$folder/parts.txt"
+    ../spanprof-conformance merge "$folder"/part-*.jsonl --report "$folder/parts.xml" > "$folder/parts.txt"
     grep -q '^| all | 2 | 4 | 4 |' "$folder/parts.txt" && grep -q 'tests="4"' "$folder/parts.xml"
 }
 
 test_bisect() {
-    ./conformance.py bisect directed/taskwait_child.tasks --cc gcc --threads 2 --runs 4 > "$folder/bisect.txt"
+    ../spanprof-conformance bisect directed/taskwait_child.tasks --cc gcc --threads 2 --runs 4 > "$folder/bisect.txt"
 }
 
 test_futures() { # FLAGS of the compiler
     cc -O1 -Wall -Wextra -Werror -pthread "$@" -Iharness examples/futures.c harness/log.c harness/output.c \
         -o "$folder/futures"
     "$folder/futures" 4 20 > "$folder/futures.log"
-    ./conformance.py judge examples/futures.tasks "$folder/futures.log" > "$folder/judged.txt"
+    ../spanprof-conformance judge examples/futures.tasks "$folder/futures.log" > "$folder/judged.txt"
 }
 
 cd tools/conformance
-python3 -m unittest || fail "unit tests"
+(cd .. && python3 -B -m unittest discover -s spanprof/conformance/tests -t .) || fail "unit tests"
 test_futures || fail "the pool of threads: a run is not accepted"
 test_futures -DDONE_TOO_EARLY && fail "the broken pool of threads is accepted"
 grep -q '^run 0: refused: ' "$folder/judged.txt" || fail "the broken pool of threads is not refused"

@@ -12,7 +12,7 @@ import sys
 import tempfile
 import time
 
-TESTER = pathlib.Path(__file__).resolve().parent.parent / "tools" / "conformance" / "conformance.py"
+TESTER = pathlib.Path(__file__).resolve().parent.parent / "tools" / "spanprof-conformance"
 WORDS = "run --cc gcc --tasks tied --threads 2 --runs 1 --programs 2 --no-directed".split()
 PATIENCE = 120  # seconds until a batch has to be there
 

@@ -34,7 +34,7 @@ def damaged(text):
     for place in range(len(text)):
         for byte in OTHER_BYTES:
             if text[place] != byte:
-                yield text[:place] + bytes([byte]) + text[place + 1 :]
+                yield text[:place] + bytes([byte]) + text[place + 1:]
 
 
 def is_error(written):

@@ -2,7 +2,9 @@
 """Runs each command on inputs that cannot be read and outputs that cannot be written, and on a pipe that gives and
 takes few bytes at a time.
 
-    checks/failing_devices.py [PROGRAM]    the built program; crates/spanprof/out/spanprof if none is given
+    checks/failing_devices.py [PROGRAM]            the ten commands of crates/spanprof/out/spanprof, or of this program
+    checks/failing_devices.py large [PROGRAM]      crates/spanprof_large/out/spanprof_large, or this program
+    checks/failing_devices.py account [PROGRAM]    crates/spanprof_account/out/spanprof_account, or this program
 
 A read that fails is `error: read fault` with status 3, a write that fails has status 3, and a slow pipe changes
 nothing. The exit status is 1 where an answer was wrong.
@@ -15,23 +17,23 @@ import threading
 from pathlib import Path
 
 TOP = Path(__file__).resolve().parent.parent
-PROGRAM = sys.argv[1] if len(sys.argv) > 1 else str(TOP / "crates/spanprof/out/spanprof")
 READ_FAULT = b"error: read fault\n"
 
 WORKED = b"omptasks 1\nwork 5 task { work 3 } work 2 taskwait work 1\n"
 EVENTS = b"---\nstart 0 0 finish 0 0 start 0 2 finish 0 2 start 1 1 finish 1 1 start 0 3 finish 0 3\n"
+TIMES = b"---\ntimes 2 0 14\n0 0 0 5\n1 0 6 9\n2 0 9 11\n3 1 12 13\n"
 WORDS = ("span", "show", "slack", "greedy --threads 2", "curve --upto 2", "whatif 2=4", "certify", "run --workers 2")
 
 
 def run(words, **how):
-    ran = subprocess.run([PROGRAM, *words], stderr=subprocess.PIPE, timeout=60, check=False, **how)
+    ran = subprocess.run(words, stderr=subprocess.PIPE, timeout=60, check=False, **how)
     return ran.returncode, ran.stdout, ran.stderr
 
 
 def without(words, text, descriptor):
     """With this descriptor closed."""
     script = f'exec "$@" {descriptor}{"<" if descriptor == 0 else ">"}&-'
-    ran = subprocess.run(["sh", "-c", script, "", PROGRAM, *words], input=text, capture_output=True, timeout=60,
+    ran = subprocess.run(["sh", "-c", script, "", *words], input=text, capture_output=True, timeout=60,
                          check=False)
     return ran.returncode, ran.stdout, ran.stderr
 
@@ -47,7 +49,7 @@ def to_broken_pipe(words, text):
 
 def byte_by_byte(words, text):
     """Gives one byte at a time, and takes what comes."""
-    ran = subprocess.Popen([PROGRAM, *words], stdin=subprocess.PIPE, stdout=subprocess.PIPE, stderr=subprocess.PIPE,
+    ran = subprocess.Popen(words, stdin=subprocess.PIPE, stdout=subprocess.PIPE, stderr=subprocess.PIPE,
                            bufsize=0)
 
     def give():
@@ -78,17 +80,38 @@ def try_command(words, text):
     wanted["a byte at a time"] = (byte_by_byte(words, text), full)
     wrong = {what: answer for what, (answer, right) in wanted.items() if answer != right}
     for what, answer in wrong.items():
-        print(f"WRONG: {' '.join(words)} with {what}: {answer}")
+        print(f"WRONG: {' '.join(map(str, words))} with {what}: {answer}")
     return len(wanted), len(wrong)
 
 
-def main():
-    certificate = run(["certify"], input=WORKED, stdout=subprocess.PIPE)[1]
-    tries = [try_command(words.split(), WORKED) for words in WORDS]
-    tries += [try_command(["check"], certificate), try_command(["replay"], WORKED + EVENTS)]
+def commands(program):
+    """The ten, each with an input that it accepts."""
+    certificate = run([program, "certify"], input=WORKED, stdout=subprocess.PIPE)[1]
+    yield from (([program, *words.split()], WORKED) for words in WORDS)
+    yield [program, "check"], certificate
+    yield [program, "replay"], WORKED + EVENTS
+
+
+def large(program):
+    yield [program], WORKED
+    yield [program, "--upto", "2"], WORKED
+
+
+def account(program):
+    yield from (([program, *words], WORKED + TIMES) for words in ([], ["--rows"], ["--path"]))
+
+
+KINDS = {"commands": (commands, "spanprof"), "large": (large, "spanprof_large"),
+         "account": (account, "spanprof_account")}
+
+
+def main(words):
+    calls, name = KINDS[words.pop(0) if words and words[0] in KINDS else "commands"]
+    program = words[0] if words else str(TOP / "crates" / name / "out" / name)
+    tries = [try_command(*call) for call in calls(program)]
     made, wrong = (sum(numbers) for numbers in zip(*tries))
-    print(f"{made} runs of ten commands, {wrong} wrong")
+    print(f"{made} runs of {len(tries)} commands, {wrong} wrong")
     sys.exit(wrong > 0)
 
 
-main()
+main(sys.argv[1:])

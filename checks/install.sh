@@ -35,7 +35,7 @@ echo 'omptasks 1 work 5 task { work 3 } work 2 taskwait work 1' > worked.tasks
 gcc -g -O1 -fopenmp "$top/checks/record/program.c" -o mine
 installed spanprof-record --html record.html -- ./mine < worked.tasks > printed 2> told || fail "spanprof-record fails"
 cmp -s worked.tasks printed || fail "the program's standard output"
-grep -q '^threads .*(proved)' told || { fail "no summary"; cat told; }
+grep -q '^threads .*(proved of the recorded text' told || { fail "no summary"; cat told; }
 grep -q '</html>' record.html || fail "no page of the recording"
 installed spanprof-report mine.tasks -o mine.html --trace mine.json || fail "spanprof-report fails"
 grep -q '</html>' mine.html || fail "no page"

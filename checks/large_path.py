@@ -1,7 +1,7 @@
 #!/usr/bin/env python3
 """Finds a critical path of random programs, of the examples and of programs of a million tasks by tools/spanprof-path,
 and compares: its own comparisons hold, the masked text has this span by a plain program that keeps the whole graph
-(checks/large_recordings), and each place has the costs that tools/plots finds there in the text and in the masked text.
+(checks/large_recordings), and each place has the costs that spanprof.text finds there in text and masked text.
 Of the large programs it tells time and memory.
 
     checks/large_path.py [COUNT]     COUNT random programs of each of two kinds (200)
@@ -18,15 +18,15 @@ from collections import Counter
 from pathlib import Path
 
 TOP = Path(__file__).resolve().parent.parent
-sys.path[:0] = [str(TOP / folder) for folder in ("checks", "checks/large_recordings", "tools", "tools/plots")]
+sys.path[:0] = [str(TOP / folder) for folder in ("checks", "checks/large_recordings", "tools")]
 sys.dont_write_bytecode = True
 
 import any_size  # noqa: E402
 import whole_graph  # noqa: E402
-from path.found import find_path, programs  # noqa: E402
-from program import segments  # noqa: E402
-from record.fault import Fault  # noqa: E402
-from record.measure import HOW, measure, spanprof_large  # noqa: E402
+from spanprof.errors import Fault  # noqa: E402
+from spanprof.measure import HOW, measure, spanprof_large  # noqa: E402
+from spanprof.path.found import find_path, programs  # noqa: E402
+from spanprof.text import segments_of as segments  # noqa: E402
 
 COMMAND = TOP / "tools" / "spanprof-path"
 RUN = """

@@ -12,6 +12,6 @@ skip() { echo "skipped: $1"; exit 0; }
 find_llvm || skip "$no_llvm"
 built=crates/spanprof_large/out/spanprof_large
 [ -n "${SPANPROF_LARGE:-}" ] || [ -x $built ] || skip "no program $built; tools/prove_program.sh spanprof_large makes it"
-(cd checks/large_recordings && python3 -B -m unittest -q whole_graph_test)
+(cd checks/large_recordings && python3 -B -m unittest -q test_whole_graph)
 make -s -C tools/openmp_recorder LLVM="$llvm" librecorder.so
 LLVM=$llvm exec python3 -B checks/large_recordings/compare.py "$@"

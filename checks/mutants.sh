@@ -6,8 +6,8 @@
 #     checks/mutants.sh kmp [FOLDER [WORD ..]]     LLVM's, of ARCHIVE=llvm-toolchain-16_16.0.6.orig.tar.xz, which
 #                                                  `apt-get source --download-only --tar-only llvm-toolchain-16` gets
 #
-# FOLDER (out-mutants) keeps the libraries, so that a second call builds none. The words go to `conformance.py mutants`.
-# JOBS (2) programs run side by side. It takes half an hour on four free processors.
+# FOLDER (out-mutants) keeps the libraries, so that a second call builds none. The words go to
+# `spanprof-conformance mutants`. JOBS (2) programs run side by side. It takes half an hour on four free processors.
 set -euo pipefail
 cd "$(dirname "$0")/.."
 family=${1:?gomp or kmp}
@@ -18,7 +18,7 @@ jobs=${JOBS:-2}
 [ -f "$folder/mutants.json" ] ||
     checks/mutants/build.py "$family" "$folder" --jobs "$jobs" ${ARCHIVE:+--archive "$ARCHIVE"}
 wrong=0
-tools/conformance/conformance.py mutants --cc "$compiler" --built "$folder" --jobs "$jobs" --threads 1,2,4 --timeout 3 \
+tools/spanprof-conformance mutants --cc "$compiler" --built "$folder" --jobs "$jobs" --threads 1,2,4 --timeout 3 \
     --report "$folder/seen.json" "$@" || wrong=$?
 own=()
 if [ "$family" = gomp ]; then

@@ -1,8 +1,9 @@
 #!/usr/bin/env bash
 # Tries tools/spanprof-report: its unit tests; then for each example, each recorded text, a text at the limits and,
-# where clang and LLVM's OpenMP runtime are there, each program of docs/TUNING.md recorded anew: the page is made,
-# each of its numbers is compared with spanprof's answers, and it is opened in Chromium: errors, sizes, looks in light,
-# dark, narrow and print, keys and mouse. Build spanprof first.
+# where clang and LLVM's OpenMP runtime are there, each program of docs/TUNING.md recorded anew and programs that are
+# slow for a known cause: the page is made, each of its numbers is compared with spanprof's answers, its first words with
+# that cause, and it is opened in Chromium: errors, sizes, looks in light, dark, narrow, wide and print, keys, mouse and
+# fingers. Then the page of a million tasks, where spanprof_large is there. Build spanprof first.
 #
 #     checks/page.sh [PROGRAM [FOLDER]]    instead of crates/spanprof/out/spanprof; where pages and pictures go
 set -euo pipefail
@@ -12,6 +13,8 @@ cd "$(dirname "$0")/.."
 program=$(realpath "${1:-crates/spanprof/out/spanprof}")
 [ -x "$program" ] || { echo "no program $program"; exit 1; }
 export SPANPROF=$program
+account=crates/spanprof_account/out/spanprof_account    # where it is there, pages of recordings have the account
+[ -n "${SPANPROF_ACCOUNT:-}" ] || [ ! -x "$account" ] || export SPANPROF_ACCOUNT=$PWD/$account
 if [ $# -gt 1 ]; then
     folder=$(realpath -m "$2")
     mkdir -p "$folder"
@@ -23,9 +26,10 @@ wrong=0
 fail() { echo "  $1"; wrong=$((wrong + 1)); }
 
 unit_tests() {
-    python3 -m unittest discover -s tools/report/tests -t tools || fail "unit tests of the page"
+    python3 -m unittest discover -s tools/spanprof/report/tests -t tools || fail "unit tests of the page"
     python3 -m unittest discover -s checks/page/tests -t checks/page || fail "unit tests of the client"
-    (cd tools && python3 -m report.tests.worked check) || fail "spanprof answers otherwise than the unit tests have it"
+    (cd tools && python3 -m spanprof.report.tests.worked check) ||
+        fail "spanprof answers otherwise than the unit tests have it"
 }
 
 record() { # NAME CLOCK WORD ..: a program of examples/openmp, which `compile` has made
@@ -34,7 +38,7 @@ record() { # NAME CLOCK WORD ..: a program of examples/openmp, which `compile` h
     SPANPROF_QUIET=1 OMP_TOOL_LIBRARIES=$PWD/tools/openmp_recorder/librecorder.so OMP_NUM_THREADS=4 SPANPROF_UNIT=us \
         SPANPROF_CLOCK=$clock SPANPROF_OUT=$folder/$name-$clock "$folder/$name" "$@" > "$folder/said" 2>&1 ||
         fail "$name cannot be recorded: $(tail -1 "$folder/said")"
-    SPANPROF_UNIT=us tools/spanprof-convert "$folder/$name-$clock.log" > "$folder/said" 2>&1 ||
+    SPANPROF_UNIT=us tools/spanprof-convert --times "$folder/$name-$clock.log" > "$folder/said" 2>&1 ||
         fail "$name cannot be converted: $(tail -1 "$folder/said")"
 }
 
@@ -54,13 +58,31 @@ cholesky 4
 PROGRAMS
 }
 
+record_causes() { # each program of checks/whatif/causes as its users would, with the page
+    "clang-$llvm" -O2 -g -fopenmp checks/whatif/causes/causes.c -o "$folder/causes" "${llvm_flags[@]}"
+    for cause in small serial wait lock machine dear balanced; do
+        tools/spanprof-record --out "$folder/cause_$cause" --unit us --threads 4 \
+            --html "$folder/cause_$cause.html" -- "$folder/causes" "$cause" > "$folder/said" 2>&1 ||
+            fail "$cause cannot be recorded: $(tail -1 "$folder/said")"
+    done
+    checks/page/first_screens.py "$folder" || fail "first screens"
+}
+
+large_page() { # where spanprof_large is built
+    local large=${SPANPROF_LARGE:-crates/spanprof_large/out/spanprof_large} status=0
+    [ -x "$large" ] || { echo "skipped: no page of a million tasks: no program $large"; return; }
+    SPANPROF_LARGE=$(realpath "$large") checks/page/large_page.py "$folder" || status=$?
+    if [ $status = 1 ]; then fail "the page of a million tasks"; fi
+    rm -f "$folder"/million.*
+}
+
 make_page() { # NAME OPTION ..: the page of a text of the folder, and its numbers; further texts by --with
     local name=$1 other=()
     shift
     [ "${1:-}" = --with ] && other=("$2")
     tools/spanprof-report "$folder/$name.tasks" -o "$folder/$name.html" --source examples/openmp "$@" ||
         { fail "$name has no page"; return; }
-    (cd tools && python3 -m report.tests.compare "$folder/$name.html" "$folder/$name.tasks" "${other[@]}") \
+    (cd tools && python3 -m spanprof.report.tests.compare "$folder/$name.html" "$folder/$name.tasks" "${other[@]}") \
         > "$folder/compared" || { fail "$name:"; head -20 "$folder/compared"; }
     echo "$name: $(tail -1 "$folder/compared"), $(wc -c < "$folder/$name.html") bytes"
 }
@@ -69,7 +91,8 @@ unit_tests
 cp examples/*.tasks "$folder"
 for text in examples/openmp/recorded/*.tasks; do cp "$text" "$folder/kept_$(basename "$text")"; done
 checks/page/large_text.py "$folder"
-if find_llvm; then record_all; else echo "skipped: no program is recorded: $no_llvm"; fi
+large_page
+if find_llvm; then record_all; record_causes; else echo "skipped: no program is recorded: $no_llvm"; fi
 
 names=()
 for text in "$folder"/*.tasks; do names+=("$(basename "$text" .tasks)"); done
@@ -82,7 +105,7 @@ for pair in kept_merge_sort:kept_merge_sort_split kept_wavefront:kept_wavefront_
         merge_sort-wall:merge_sort_split-wall wavefront-cpu:wavefront_overlapped-cpu; do
     first=${pair%:*} second=${pair#*:}
     [ -e "$folder/$first.tasks" ] || continue
-    for ending in tasks replay times; do
+    for ending in tasks replay times timed; do
         [ ! -e "$folder/$first.$ending" ] || cp "$folder/$first.$ending" "$folder/${first}_and_other.$ending"
     done
     make_page "${first}_and_other" --with "$folder/$second.tasks"

@@ -3,10 +3,10 @@
 
     checks/places.py         what does not agree; status 1 if anything does not
     checks/places.py --all   the files that name commands, and those that name statements
-A file that names all commands but one at most has a place for each, and so has a file of code that names two statements.
-Words that are plain English, such as `run` and `work`, don't count. CONTRIBUTING.md has a table for each of the two.
-Its first column names files and folders, or `FOLDER`: and then what lies there. Each of them has to hold such a file,
-or a file that names a command or a statement, and each such file has to be one of them or lie below one.
+A file that names all commands but one at most has a place for each, and so has a file of code that names two
+statements. Words that are plain English, such as `run` and `work`, don't count. CONTRIBUTING.md has a table for each of
+the two. Its first column names files and folders, or `FOLDER`: and then what lies there. Each of them has to hold such
+a file, or a file that names a command or a statement, and each such file has to be one of them or lie below one.
 """
 import pathlib
 import re
@@ -16,7 +16,7 @@ import sys
 TOP = pathlib.Path(__file__).resolve().parent.parent
 PLAIN_ENGLISH = {"check", "run", "show", "span", "task", "work"}
 NO_PLACES = re.compile(r"(^|/)(must-fail|edits|out)/")
-NO_CODE = re.compile(r"\.(md|tasks|csv|log)$|(^|/)tests?/|_tests/|(^|/)test_|_test\.py$|^examples/|^checks/openmp")
+NO_CODE = re.compile(r"\.(md|tasks|csv|log)$|(^|/)tests?/|_tests/|(^|/)test_|^examples/|^checks/openmp")
 
 
 def commands(source):

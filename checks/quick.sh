@@ -1,7 +1,7 @@
 #!/usr/bin/env bash
-# Runs the checks of the documents, of the files of definitions and proofs, and of the model of waiting against the
-# sources, and the unit tests of the scripts and tools. It needs neither the program nor a compiler, and half a minute. It
-# prints a line for each, and what a check printed where it failed; the status is 0 where none did.
+# Runs the checks of the documents, of the files of definitions and proofs, of the Python, and of the model of waiting
+# against the sources, and the unit tests of the scripts and tools. It needs neither the program nor a compiler, and half
+# a minute. It prints a line for each, and what a check printed where it failed; the status is 0 where none did.
 set -uo pipefail
 cd "$(dirname "$0")/.."
 failed=0
@@ -11,7 +11,7 @@ passes() {
     local name=$1 told
     shift
     if told=$("$@" 2>&1); then
-        echo "ok      $name"
+        case $told in 'skipped: '*) echo "skipped $name: ${told#skipped: }" ;; *) echo "ok      $name" ;; esac
     else
         printf 'FAILED  %s\n%s\n' "$name" "$told"
         failed=1
@@ -24,21 +24,33 @@ tested() { passes "$1" python3 -B -m unittest discover -q -s "$1" -t "$2"; }
 for script in definitions proof_map; do
     passes "$script.py" python3 -B "checks/$script.py" --check
 done
-for script in crate_picture version signatures places clauses believed_lines left_edits sentences speed_numbers waiting/lines; do
+for script in crate_picture version signatures places clauses believed_lines left_edits sentences speed_numbers \
+    waiting/lines style; do
     passes "$script.py" python3 -B "checks/$script.py"
 done
-for test in checks/*_test.py checks/waiting/*_test.py checks/large_recordings/*_test.py bench/*test*.py \
+if command -v pyflakes3 > /dev/null; then
+    passes pyflakes3 pyflakes3 tools checks bench examples
+else
+    echo "skipped pyflakes3: it is missing (package pyflakes3)"
+fi
+if command -v pycodestyle > /dev/null; then  # E402 is an import below sys.path, and style.py looks at long lines
+    passes pycodestyle pycodestyle --ignore=E126,E402,E501,W291,W503,W504 tools checks bench examples
+else
+    echo "skipped pycodestyle: it is missing (package pycodestyle)"
+fi
+passes cpp_format.sh checks/cpp_format.sh
+for test in checks/test_*.py checks/waiting/test_*.py checks/large_recordings/test_*.py bench/test_*.py \
     bench/recording/test_*.py; do
     passes "$test" python3 -B "$test"
 done
 tested checks/believed/tests checks
-for folder in killed_runs llvm mutants openmp_cases openmp_regions page true_words runtime_calls whatif; do
+for folder in killed_runs llvm mutants openmp_cases openmp_regions page recorded_accounts true_words runtime_calls \
+    whatif; do
     tested "checks/$folder/tests" "checks/$folder"
 done
 tested tools/tests tools
-for folder in record path whatif report; do
-    tested "tools/$folder/tests" tools
+tested tools/spanprof/tests tools
+for folder in record path whatif report conformance; do
+    tested "tools/spanprof/$folder/tests" tools
 done
-tested tools/plots/tests tools/plots
-tested tools/conformance/tests tools/conformance
 exit "$failed"

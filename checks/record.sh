@@ -11,7 +11,7 @@ skip() { echo "skipped: $1"; exit 0; }
 find_llvm || skip "$no_llvm"
 [ -x "$spanprof" ] || { echo "no program $spanprof"; exit 1; }
 
-(cd tools && python3 -B -m unittest discover -s record/tests -t .)
+(cd tools && python3 -B -m unittest discover -s spanprof/record/tests -t .)
 export SPANPROF=$spanprof PATH=$PWD/tools:$PATH OMP_NUM_THREADS=2
 top=$PWD
 folder=$(mktemp -d)
@@ -98,6 +98,8 @@ echo "a signal"
 expect "a fold" 0 spanprof-record --out folded --fold depth=1 --clock cpu --unit 100 -- ./llvm
 expect_word "a fold" 'folded task'
 expect_word "a fold" 'costs in 100 ns of processor time'
+expect "JSON" 0 spanprof-record --json told.json -- ./llvm
+grep -q '"text": "llvm.tasks"' told.json || fail "no JSON"
 expect "a page" 0 spanprof-record --html page.html -- ./llvm
 grep -q '</html>' page.html || fail "no page"
 cat > browser <<'SH'
@@ -132,6 +134,12 @@ echo "several runs"
 expect "another fold of a log" 0 spanprof-convert --fold depth=1 --unit us --out again llvm.log
 expect_word "another fold of a log" 'spanprof-convert: again.tasks and again.replay: 8 tasks, '
 expect_recording again
+expect "the times of a log" 0 spanprof-convert --times --out timed llvm.log
+expect_word "the times of a log" 'timed.tasks and timed.replay and timed.timed: '
+grep -q '^times 2 0 [0-9]*$' timed.timed || fail "no times"
+expect "the times of a fold" 0 spanprof-convert --times --fold depth=1 --out timed llvm.log
+expect_word "the times of a fold" '; no times, since tasks are folded: '
+[ ! -e timed.timed ] || fail "a fold has times"
 expect "no log" 125 spanprof-convert none.log
 expect_word "no log" 'spanprof-convert: none.log cannot be converted: no log of the recorder'
 echo "a log once more"
@@ -140,7 +148,10 @@ echo "a log once more"
 cat > large <<'SH'
 #!/bin/sh
 cat > /dev/null
-printf 'tasks 8190\nsegments 20476\nwork 90\nspan 30\n'
+case $1 in
+    --upto) echo threads,least,bound; for i in $(seq "$2"); do echo "$i,30,90"; done ;;
+    *) printf 'tasks 8190\nsegments 20476\nwork 90\nspan 30\n' ;;
+esac
 SH
 chmod +x large
 # By the processor's clock and without parts, since a busy machine would move the numbers or add to the tasks.
@@ -149,7 +160,8 @@ SPANPROF_LARGE=$folder/large expect "a large recording" 0 spanprof-record --cloc
 expect_word "a large recording" 'many.large.tasks, region at program.c:'
 expect_word "a large recording" '30 ns: it ends no sooner on any number of threads (proved of the recorded text'
 SPANPROF_LARGE=$folder/large expect "a page of it" 0 spanprof-record --clock cpu --html large.html -- ./many tree 13
-expect_word "a page of it" 'spanprof-record: no page is written: the recording is beyond the limits of the ten commands'
+expect_word "a page of it" 'written: large.html'
+grep -q 'span by place is left out: ' large.html || fail "a page of a large recording"
 expect_word "a large recording" 'many.tasks is not written: 8190 tasks, and spanprof takes 4096; parallelism is'
 [ -e many.large.tasks ] && [ ! -e many.tasks ] || fail "a large recording: other files"
 SPANPROF_LARGE=/none expect "no spanprof_large" 125 spanprof-record -- ./many tree 13

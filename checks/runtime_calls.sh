@@ -14,4 +14,5 @@ export SPANPROF=${SPANPROF:-$PWD/crates/spanprof/out/spanprof}
 [ -x "$SPANPROF" ] || { echo "no program $SPANPROF"; exit 1; }
 python3 -B -m unittest discover -q -s checks/runtime_calls/tests -t checks/runtime_calls
 make -s -C checks/runtime_calls
+make -s -C tools/openmp_recorder  # before many recordings need it at once
 exec python3 -B checks/runtime_calls/runtime_calls.py "$@"

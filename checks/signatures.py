@@ -3,8 +3,8 @@
 
     checks/signatures.py             what the crates do not have as promised; status 1 if there is anything
     checks/signatures.py --all       every public signature of the crates, as it would stand in the list
-signatures.txt lists what callers may rely on: each function, type and trait by the path by which a caller names it, with
-all its arguments, cases and public fields in their order. A line that begins with a blank goes on the line before.
+signatures.txt lists what callers may rely on: each function, type and trait by the path by which a caller names it,
+with all its arguments, cases and public fields in their order. A line that begins with a blank goes on the line before.
 """
 import pathlib
 import re

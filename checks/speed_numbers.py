@@ -134,8 +134,8 @@ def main():
         readme = written(readme, measured(bench))
         (TOP / "README.md").write_text(readme, encoding="utf-8")
     told = quoted(readme)
-    wrong = [*differences(told, measured(bench)), *untold(readme, measured(bench)), *range_differences(readme, told, timed(bench)),
-             *reason_differences(bench)]
+    wrong = [*differences(told, measured(bench)), *untold(readme, measured(bench)),
+             *range_differences(readme, told, timed(bench)), *reason_differences(bench)]
     for line in wrong:
         print(line)
     print("%d texts and commands, a range and reasons compared: %d wrong" % (len(told), len(wrong)))

@@ -34,17 +34,18 @@ install_packages() { # without a word where all are there, and none where they c
         echo "not installed: $missing"
 }
 
-# one SECONDS NAME WORD..: runs the words, and once more where they fail, since runs of real programs differ. The last
-# line tells whether it was skipped. The seconds end what hangs: a busy machine takes ten times as long as a quiet one.
+# one SECONDS NAME WORD..: runs the words, and up to twice more where they fail, since runs of real programs differ. The
+# last line tells whether it was skipped. The seconds end what hangs: a busy machine takes ten times as long as a quiet
+# one.
 one() {
     local limit=$1 name=$2 told status tries began
     shift 2
     began=$SECONDS
-    for tries in '' ' (at the second try)'; do
+    for tries in '' ' (at the second try)' ' (at the third try)'; do
         status=0
         told=$(timeout "$limit" "$@" 2>&1) || status=$?
         [ $status -ne 0 ] || break
-        printf '%s\n' "$told" | tail -n 20
+        printf '%s\n' "$told" | tail -n 30
     done
     if [ $status -ne 0 ]; then
         printf 'FAILED  %s (status %s)\n' "$name" "$status"
@@ -65,6 +66,7 @@ one 600 documents.py checks/documents.py
 one 600 'accounts.py 300' checks/accounts.py 300
 one 1800 openmp_cases.sh checks/openmp_cases.sh
 one 900 record.sh checks/record.sh
+one 900 recorded_accounts.sh checks/recorded_accounts.sh
 one 900 killed_runs.sh checks/killed_runs.sh
 one 1200 demo.sh checks/demo.sh
 one 600 release.sh checks/release.sh

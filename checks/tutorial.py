@@ -59,7 +59,6 @@ def run_all(pairs, folder):
     """What each command printed on both streams, and its status. One shell runs them all."""
     script = "".join("%s\nprintf '\\n%s %%d\\n' $?\n" % (command, MARK) for command, _ in pairs)
     environment = {name: value for name, value in os.environ.items() if not name.startswith(("SPANPROF", "OMP_"))}
-    environment["PATH"] = "/usr/bin:" + environment["PATH"]  # Debian's python3 has matplotlib
     done = subprocess.run(["bash", "-c", script], cwd=folder, env=environment, stdin=subprocess.DEVNULL, text=True,
                           stdout=subprocess.PIPE, stderr=subprocess.STDOUT, check=False)
     parts = re.split(r"\n%s (\d+)\n" % MARK, done.stdout)

@@ -7,7 +7,7 @@
 # of memory, and some 26 minutes of one processor.
 set -euo pipefail
 cd "$(dirname "$0")/waiting"
-python3 -B lines_test.py 2> /dev/null || { echo "FAILED: lines_test.py"; exit 1; }
+python3 -B test_lines.py 2> /dev/null || { echo "FAILED: test_lines.py"; exit 1; }
 python3 -B lines.py
 for need in spin cc; do
     command -v "$need" > /dev/null || { echo "skipped: there is no $need"; exit 0; }

@@ -19,7 +19,7 @@ import sys
 
 sys.path.append(os.path.join(os.path.dirname(os.path.abspath(__file__)), "..", "tools"))
 
-from spanprof_version import answer  # noqa: E402
+from spanprof.version import answer  # noqa: E402
 
 
 def fibonacci(n=7, cutoff=-1):

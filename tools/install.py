@@ -9,7 +9,8 @@ import os
 import shutil
 import sys
 
-from spanprof_version import commit_of
+from spanprof.errors import Fault
+from spanprof.version import commit_of
 
 TOOLS = os.path.dirname(os.path.abspath(__file__))
 SPANPROF = os.path.join(TOOLS, "..", "crates", "spanprof", "out", "spanprof")
@@ -20,9 +21,8 @@ LIST = os.path.join("share", "spanprof", "installed")
 COMMANDS = ("spanprof-record", "spanprof-convert", "spanprof-report", "spanprof-path", "spanprof-whatif",
             "spanprof-conformance")
 EXECUTABLE = ("bin/", "lib/spanprof/spanprof_path", "lib/spanprof/convert_log")
-SHARED = ("*.py", "record/*.py", "path/*.py", "whatif/*.py", "report/*.py", "report/template/*", "plots/*.py",
-          "conformance/*.py", "conformance/*.txt", "conformance/*.sh", "conformance/*/*.py",
-          "conformance/directed/*.tasks", "conformance/harness/*", "conformance/mutants/*")
+SHARED = ("*.py", "spanprof/*.py", "spanprof/*/*.py", "spanprof/report/template/*", "conformance/*.txt",
+          "conformance/*.sh", "conformance/directed/*.tasks", "conformance/harness/*", "conformance/mutants/*")
 LEFT_OUT = ("install.py", "/tests/")
 
 
@@ -76,8 +76,8 @@ def install(root, pairs):
     for source, path in pairs:
         if not os.path.isfile(source):
             shown = os.path.relpath(source, os.path.join(TOOLS, ".."))
-            sys.exit("install: %s: no such %s" % (shown, "program; README.md tells how spanprof is built"
-                                                  if path == "bin/spanprof" else "file"))
+            raise Fault("%s: no such %s" % (shown, "program; README.md tells how spanprof is built"
+                                            if path == "bin/spanprof" else "file"))
     uninstall(root)
     made = [] if os.path.isdir(root) else ["./"]
     os.makedirs(root, exist_ok=True)
@@ -135,6 +135,8 @@ def main():
             install(root, plan(os.environ.get("SPANPROF") or SPANPROF))
         else:
             print("%d files taken from %s" % (uninstall(root), root))
+    except Fault as fault:
+        sys.exit("install: %s" % fault)
     except OSError as wrong:
         sys.exit("install: %s: %s" % (wrong.filename, wrong.strerror))
 

@@ -63,7 +63,6 @@ Maintainer: the spanprof project <spanprof@localhost>
 Installed-Size: $(du -sk "$usr" | cut -f1)
 Depends: libc6, libgcc-s1, libstdc++6, python3 (>= 3.9)
 Recommends: binutils, libomp5-16 | libomp5-19 | libomp5-14
-Suggests: graphviz, python3-matplotlib
 Section: devel
 Priority: optional
 Description: proved profiler for programs of OpenMP tasks

@@ -1,5 +1,5 @@
 #!/usr/bin/env python3
-"""Writes the programs that worker_run.sh runs: `texts.py FOLDER`. Each task has a cost of 1, and nothing else has one."""
+"""Writes the programs that worker_run.sh runs: `texts.py FOLDER`. Each task costs 1, and nothing else costs."""
 
 import sys
 from pathlib import Path

@@ -63,7 +63,7 @@ def blocks_of(text):
 
 def definitions_of(module, text):
     """The definitions of a file by name. The arms of a `data` stand for the whole."""
-    found, above = {}, []
+    found = {}
     for block in blocks_of(text):
         lines = block.splitlines()
         code = [line for line in lines if not line.startswith("--")]

@@ -17,26 +17,12 @@ import time
 from prefix import count, is_prefix, read
 
 HERE = os.path.dirname(os.path.abspath(__file__))
-TOP = os.path.dirname(os.path.dirname(HERE))
-sys.path.append(os.path.join(TOP, "checks", "llvm"))
-from versions import asked  # noqa: E402
+sys.path.append(os.path.join(os.path.dirname(HERE), "llvm"))
+from recording import CONVERT, RECORDER, Wrong, build  # noqa: E402
 
-RECORDER = os.path.abspath(os.environ.get("RECORDER", TOP + "/tools/openmp_recorder/librecorder.so"))
-CONVERT = TOP + "/tools/spanprof-convert"
 SIGNALS = (signal.SIGKILL, signal.SIGKILL, signal.SIGSEGV, signal.SIGTERM)
 WORDS = ["11", "20000"]  # 4,094 tasks, of which each takes some microseconds
 SECONDS = 120  # for one run
-
-
-class Wrong(Exception):
-    pass
-
-
-def build(folder):
-    program = os.path.join(folder, "program")
-    compiler = asked(os.environ.get("LLVM", ""))[0].compiler()
-    subprocess.run(compiler + ["-O2", "-g", "-fopenmp", os.path.join(HERE, "program.c"), "-o", program], check=True)
-    return program
 
 
 def run(program, out, moment=None, number=signal.SIGKILL):
@@ -92,7 +78,7 @@ def try_moment(program, folder, whole, moment, number):
 
 
 def try_all(folder, runs, chance):
-    program, out = build(folder), os.path.join(folder, "whole")
+    program, out = build(os.path.join(HERE, "program.c"), folder), os.path.join(folder, "whole")
     took, status = run(program, out)
     _, whole = converted(out)
     if status or whole is None or count(whole) != 4094:

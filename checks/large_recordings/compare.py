@@ -16,26 +16,13 @@ from whole_graph import read
 HERE = os.path.dirname(os.path.abspath(__file__))
 TOP = os.path.dirname(os.path.dirname(HERE))
 sys.path.append(os.path.join(TOP, "checks", "llvm"))
-from versions import asked  # noqa: E402
+from recording import CONVERT, RECORDER, Wrong, build  # noqa: E402
 
 LARGE = shlex.split(os.environ.get("SPANPROF_LARGE", "")) or [TOP + "/crates/spanprof_large/out/spanprof_large"]
 SPANPROF = os.environ.get("SPANPROF", TOP + "/crates/spanprof/out/spanprof")
-RECORDER = os.path.abspath(os.environ.get("RECORDER", TOP + "/tools/openmp_recorder/librecorder.so"))
-CONVERT = TOP + "/tools/spanprof-convert"
 SECONDS = 600  # for one run
 USUAL = {"tree": 18, "grid": 400, "row": 1000000}
 TASKS = {"tree": lambda levels: 2 ** levels - 2, "grid": lambda side: side * side, "row": lambda count: count}
-
-
-class Wrong(Exception):
-    pass
-
-
-def build(folder):
-    program = os.path.join(folder, "program")
-    compiler = asked(os.environ.get("LLVM", ""))[0].compiler()
-    subprocess.run(compiler + ["-O2", "-g", "-fopenmp", os.path.join(HERE, "program.c"), "-o", program], check=True)
-    return program
 
 
 def run(words, **settings):
@@ -115,7 +102,7 @@ def main(asked):
     cases = dict((name, int(number)) for name, number in (word.split("=") for word in asked)) or USUAL
     wrong = 0
     with tempfile.TemporaryDirectory() as folder:
-        program = build(folder)
+        program = build(os.path.join(HERE, "program.c"), folder)
         for name, number in cases.items():
             print("%s %d" % (name, number), flush=True)
             words, out = [program, name, str(number)], os.path.join(folder, name)

@@ -1,7 +1,7 @@
 #!/usr/bin/env python3
 """What the tester caught of the mutants, by rule, as tables in Markdown: table.py FOLDER SEEN.json [OWN.json]
 
-FOLDER is what build.py made, SEEN.json the report of `conformance.py mutants --built FOLDER`, and OWN.json what
+FOLDER is what build.py made, SEEN.json the report of `spanprof-conformance mutants --built FOLDER`, and OWN.json what
 own_tests.py wrote.
 """
 import argparse

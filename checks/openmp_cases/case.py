@@ -9,7 +9,7 @@
     // says: PATTERN              on standard error of the first run
     // text: PATTERN              in out.tasks; `no text:` nowhere in it
     // file: NAME ..              which must lie there, or by `no file:` after the first run must not
-    // expect: WHAT OP NUMBER     work, span, tasks, parallelism of out.tasks; `span without folds`, covers (in percent),
+    // expect: WHAT OP NUMBER     work, span, tasks, parallelism of out.tasks; `span without folds`, covers (percent),
     //                            `most held lock`, affected and `off the processor` of its head; or `inout span` of
     //                            out.inout.tasks
 """

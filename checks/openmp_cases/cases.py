@@ -17,11 +17,10 @@ from case import (Left, count_tasks, first_faults, is_of_gcc, last_faults, neede
 HERE = os.path.dirname(os.path.abspath(__file__))
 TOP = os.path.dirname(os.path.dirname(HERE))
 sys.path.append(os.path.join(TOP, "checks", "llvm"))
+from recording import CONVERT, RECORDER  # noqa: E402
 from versions import asked  # noqa: E402
 
 SPANPROF = os.environ.get("SPANPROF", os.path.join(TOP, "crates/spanprof/out/spanprof"))
-RECORDER = os.path.abspath(os.environ.get("RECORDER", os.path.join(TOP, "tools/openmp_recorder/librecorder.so")))
-CONVERT = os.path.join(TOP, "tools", "spanprof-convert")
 SECONDS = 120  # for one run
 TRIED = "19,16"
 

@@ -12,6 +12,7 @@ from versions import Version, asked  # noqa: E402
 SECONDS = 60  # for one run
 TOP = os.path.dirname(os.path.dirname(os.path.dirname(os.path.abspath(__file__))))
 CONVERT = os.path.join(TOP, "tools", "spanprof-convert")
+ACCOUNT = os.path.join(TOP, "crates", "spanprof_account", "out", "spanprof_account")
 
 
 @dataclass
@@ -99,7 +100,7 @@ def run(tools, drawn, threads, program, folder, is_recorded=True):
 
 def converted(folder):
     """What is said of the run's log when it is made texts."""
-    words = [CONVERT, "--regions", "1000"] + glob.glob(os.path.join(folder, "out*.log"))
+    words = [CONVERT, "--regions", "1000", "--times"] + glob.glob(os.path.join(folder, "out*.log"))
     return subprocess.run(words, capture_output=True, text=True, timeout=SECONDS).stderr
 
 
@@ -118,3 +119,16 @@ def replay(tools, folder, name):
     segments = int(span.stdout.split()[1])
     events, finished = [int(line.split()[1]) for line in done.stdout.split("\n")[:2]]
     return "" if (events, finished) == (2 * segments, segments) else "%d of %d segments finished" % (finished, segments)
+
+
+def account(folder, name):
+    """What spanprof_account says against the times of the run; nothing where they are legal, or it is not there."""
+    program = os.environ.get("SPANPROF_ACCOUNT") or ACCOUNT
+    path = os.path.join(folder, name + ".timed")
+    if not os.path.exists(program):
+        return ""
+    if not os.path.exists(path):
+        return "no timed document"
+    with open(path, "rb") as file:
+        done = subprocess.run([program], stdin=file, capture_output=True, text=True)
+    return done.stdout.strip() if done.returncode else ""

@@ -92,6 +92,9 @@ def judge_run(tools, drawn, threads, program, folder):
         told = toolchain.replay(tools, folder, name)
         if told:
             return "refused", "%s.replay: %s" % (name, told)
+        told = toolchain.account(folder, name)
+        if told:
+            return "refused", "%s.timed: %s" % (name, told)
     return "right", ""
 
 

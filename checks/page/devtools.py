@@ -102,7 +102,7 @@ class Browser:
 
 class Page:
     def __init__(self, session, width, height):
-        self.call, self.session = session.call, session
+        self.call, self.session, self.url = session.call, session, ""
         for domain in ("Page", "Runtime", "Log", "Network"):
             self.call(domain + ".enable")
         self.resize(width, height)
@@ -118,7 +118,11 @@ class Page:
     def open(self, path):
         """Loads a file; returns when it is drawn."""
         self.session.events.clear()
-        self.call("Page.navigate", url="file://" + os.path.abspath(path))
+        self.url = "file://" + os.path.abspath(path)
+        self.call("Page.navigate", url=self.url)
+        self.wait_for_the_page()
+
+    def wait_for_the_page(self):
         self.evaluate("new Promise(done => { const look = () => document.readyState === 'complete' ? "
                       "requestAnimationFrame(() => done(1)) : setTimeout(look, 20); look(); })")
 
@@ -141,6 +145,15 @@ class Page:
     def mouse(self, kind, x, y, **more):
         self.call("Input.dispatchMouseEvent", type=kind, x=x, y=y, **more)
         self.settled()
+
+    def touch(self, kind, points):
+        self.call("Emulation.setTouchEmulationEnabled", enabled=True)
+        self.call("Input.dispatchTouchEvent", type=kind, touchPoints=points)
+        self.settled()
+
+    def reload(self):
+        self.call("Page.navigate", url=self.url)
+        self.wait_for_the_page()
 
     def complaints(self):
         """Errors and warnings of the console, exceptions, and whatever was fetched beside the page itself."""

@@ -1,12 +1,21 @@
 """Zoom, movement, tooltips, tables, factors and colours of a page, by keys and mouse. Each trial yields faults."""
+import json
+import os
+import shlex
 import subprocess
 
+from timelines import (fingers_zoom, names_stand_in_bars, runs_zoom_by_themselves, search_finds, segments_are_chosen,
+                       stretches_are_marked)
+
+TOP = os.path.dirname(os.path.dirname(os.path.dirname(os.path.abspath(__file__))))
+WHATIF = os.path.join(TOP, "tools", "spanprof-whatif")
+FIRST_SCREEN = 800  # pixels
 CTRL = 2    # the bit of the key in an event of the mouse
 
 
 def stretch(page):
-    """From and to of the first program's timelines."""
-    return page.evaluate("[stretches[0].from, stretches[0].to, stretches[0].whole]")
+    """From and to of the first timeline."""
+    return page.evaluate("(s => [s.from, s.to, s.whole])(allLanes[0].stretch)")
 
 
 def length(page):
@@ -37,6 +46,21 @@ def keys_zoom_and_move(page):
     page.key("0", "0")
     if length(page) != whole:
         yield "0 does not show all"
+
+
+def letters_zoom_and_move(page):
+    page.evaluate("document.querySelector('.lanes').focus()")
+    seen = [stretch(page)]
+    for name in "wwdas0":
+        page.key(name, name)
+        seen.append(stretch(page))
+    lengths = [end - start for start, end, _ in seen]
+    if not lengths[0] > lengths[1] > lengths[2]:
+        yield "w does not zoom"
+    if not seen[2][0] < seen[3][0] > seen[4][0]:
+        yield "d and a do not move"
+    if not lengths[5] > lengths[4] or lengths[6] != lengths[0]:
+        yield "s does not zoom out, or 0 does not show all"
 
 
 def keys_go_from_segment_to_segment(page):
@@ -145,13 +169,41 @@ def factors_give_a_line(page, text, program):
         yield "the table has %s, and the line %r prints %r" % (row["half"], row["exact"][:60], told)
 
 
+def the_lead_is_seen_first(page):
+    bottom = page.evaluate("(e => e ? e.getBoundingClientRect().bottom + scrollY : 0)(document.querySelector('.lead'))")
+    if bottom > FIRST_SCREEN:
+        yield "the cause ends %d pixels below the top of the page" % bottom
+
+
 def colours_change(page):
     before = page.evaluate("getComputedStyle(document.body).backgroundColor")
     page.evaluate("document.getElementById('theme').click()")
     page.settled()
-    if page.evaluate("getComputedStyle(document.body).backgroundColor") == before:
+    changed = page.evaluate("getComputedStyle(document.body).backgroundColor")
+    if changed == before:
         yield "the button does not change light and dark"
-    page.evaluate("document.getElementById('theme').click()")
+    page.reload()
+    if page.evaluate("getComputedStyle(document.body).backgroundColor") != changed:
+        yield "light or dark is not kept"
+    page.evaluate("localStorage.clear(); delete document.documentElement.dataset.theme")     # for the next page
+
+
+def changes_give_a_line(page, text, program):
+    """The first change's line, run, tells what stands in its row."""
+    row = page.evaluate("""(() => {
+      const line = document.querySelector('.change code');
+      if (!line) return null;
+      const found = line.closest('tr').querySelector('data[data-from^="trial "][data-from$=" span"]');
+      return {line: line.textContent, span: found.value};
+    })()""")
+    if row is None:
+        return
+    words = shlex.split(row["line"])
+    done = subprocess.run([WHATIF, text, *words[2:], "--json"], capture_output=True, text=True,
+                          env=dict(os.environ, SPANPROF=program), check=False)
+    told = json.loads(done.stdout)["changed text"]["span"] if done.returncode == 0 else done.stderr
+    if str(told) != row["span"]:
+        yield "the table has %s, and the line %r tells %s" % (row["span"], row["line"], told)
 
 
 def focus_goes_through(page):
@@ -168,10 +220,12 @@ def focus_goes_through(page):
 
 def drive(page, text, program):
     """All trials. Those of the timelines are left out where nothing takes time."""
-    trials = [tables_sort, colours_change]
+    trials = [the_lead_is_seen_first, tables_sort, colours_change]
     if has_timeline(page):
-        trials += [focus_goes_through, keys_zoom_and_move, keys_go_from_segment_to_segment, mouse_tells,
-                   mouse_zooms_and_moves]
+        trials += [focus_goes_through, keys_zoom_and_move, letters_zoom_and_move, keys_go_from_segment_to_segment,
+                   mouse_tells, mouse_zooms_and_moves, names_stand_in_bars, segments_are_chosen, search_finds,
+                   stretches_are_marked, runs_zoom_by_themselves, fingers_zoom]
     for trial in trials:
         yield from trial(page)
     yield from factors_give_a_line(page, text, program)
+    yield from changes_give_a_line(page, text, program)

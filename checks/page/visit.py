@@ -13,8 +13,8 @@ from driving import drive
 
 HERE = os.path.dirname(os.path.abspath(__file__))
 MOST_BYTES = 2 * 1024 * 1024
-LOOKS = (("light", 1280, "light", ""), ("dark", 1280, "dark", ""), ("narrow", 390, "light", ""),
-         ("narrow-dark", 390, "dark", ""), ("print", 794, "light", "print"))
+LOOKS = (("light", 1280, "light", ""), ("dark", 1280, "dark", ""), ("wide", 1920, "light", ""),
+         ("narrow", 390, "light", ""), ("narrow-dark", 390, "dark", ""), ("print", 794, "light", "print"))
 
 
 def looks():

@@ -1,7 +1,7 @@
 #!/usr/bin/env python3
-"""Records programs of libgomp's tests, and compares each recording with an oracle that watches the program's calls of the
-runtime (libcalls.so). It prints a table, what is wrong, and why a program was refused; the status is 1 where anything is
-wrong."""
+"""Records programs of libgomp's tests, and compares each recording with an oracle that watches the program's calls of
+the runtime (libcalls.so). It prints a table, what is wrong, and why a program was refused; the status is 1 where
+anything is wrong."""
 import argparse
 import collections
 import concurrent.futures

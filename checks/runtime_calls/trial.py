@@ -1,6 +1,7 @@
 """One program: built, run as it is, run under the oracle, recorded, and what the two tell compared."""
 import glob
 import os
+import shutil
 import subprocess
 from dataclasses import dataclass
 
@@ -98,7 +99,7 @@ def gap(folder):
 def recorded(setting, folder):
     """The regions, the remarks, the exit status, and what was said."""
     for path in glob.glob(os.path.join(folder, "out*")):
-        os.remove(path)
+        shutil.rmtree(path) if os.path.isdir(path) else os.remove(path)
     status, said = run([setting.recorder, "--out", "out", "--runtime", setting.library, "--", "./program"], folder,
                        setting.seconds)
     return texts(folder) + (status, said)

@@ -71,8 +71,8 @@ def of_the_words(summary, threads):
 
 def doubts_of(summary):
     """Which numbers a remark moves: on a busy machine the wall clock goes on while code has no processor."""
-    return " and ".join(name for name, is_doubted in (("work", summary.is_work_doubted), ("span", summary.is_span_doubted))
-                        if is_doubted)
+    moved = (("work", summary.is_work_doubted), ("span", summary.is_span_doubted))
+    return " and ".join(name for name, is_doubted in moved if is_doubted)
 
 
 def faults(summary, shape, threads):

@@ -2,7 +2,7 @@
 from itertools import zip_longest
 from typing import NamedTuple
 
-from whatif.statements import Statement
+from spanprof.text import Statement
 
 TOLERANCE = 0.05
 

@@ -17,12 +17,12 @@ import tempfile
 
 TOP = os.path.dirname(os.path.dirname(os.path.dirname(os.path.abspath(__file__))))
 TOOLS = os.path.join(TOP, "tools")
-sys.path[:0] = [TOOLS, os.path.join(TOOLS, "plots")]
+sys.path.insert(0, TOOLS)
 sys.dont_write_bytecode = True
 
 from comparing import ends, first_difference, largest, least, shape
 from programs import PROGRAMS, TUTORIAL
-from whatif.texts import Text, write
+from spanprof.whatif.texts import Text, write
 
 WHATIF = os.path.join(TOOLS, "spanprof-whatif")
 RECORDER = os.path.join(TOOLS, "openmp_recorder", "librecorder.so")

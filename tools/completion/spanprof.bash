@@ -67,6 +67,7 @@ _spanprof_record() {
         --unit) _spanprof_among "$current" ns us ms ;;
         --clock) _spanprof_among "$current" wall cpu ;;
         --html) _spanprof_files "$current" .html ;;
+        --json) _spanprof_files "$current" .json ;;
         --out | --runtime) _spanprof_files "$current" ;;
         --fold) _spanprof_among "$current" exact depth= cost= chunk=; compopt -o nospace 2> /dev/null ;;
         --threads | --runs) ;;

@@ -2,9 +2,9 @@
 # A test in parts, as an array of jobs of Slurm; each part runs side by side with the others.
 #
 #     sbatch --array=1-32 tools/conformance/slurm_array.sh --cc gcc --programs 2000
-#     tools/conformance/conformance.py merge parts/part-*.jsonl --report report.md     (once all have ended)
+#     tools/spanprof-conformance merge parts/part-*.jsonl --report report.md     (once all have ended)
 #
-# The words go to `conformance.py run`. PARTS (parts) is the folder of the files. With GNU parallel on one machine:
+# The words go to `spanprof-conformance run`. PARTS (parts) is the folder of the files. By GNU parallel on one machine:
 #
 #     parallel -j 4 SLURM_ARRAY_TASK_ID={} SLURM_ARRAY_TASK_COUNT=4 tools/conformance/slurm_array.sh --cc gcc ::: 1 2 3 4
 #SBATCH --job-name=conformance
@@ -17,6 +17,7 @@ folder=${PARTS:-parts}
 mkdir -p "$folder"
 here=$(dirname "$(realpath "${CONFORMANCE:-$0}")")
 status=0
-"$here/conformance.py" run "$@" --shard "$number/$count" --state "$folder/part-$number.jsonl" \
+PATH=$here/..:$here/../../../bin:$PATH spanprof-conformance run "$@" --shard "$number/$count" \
+    --state "$folder/part-$number.jsonl" \
     --report "$folder/part-$number.md" || status=$?
 [ "$status" -le 1 ] # failures stand in the report; anything else is an error of the job

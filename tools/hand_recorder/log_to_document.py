@@ -10,7 +10,7 @@ import sys
 
 sys.path.append(os.path.join(os.path.dirname(os.path.abspath(__file__)), ".."))
 
-from spanprof_version import answer  # noqa: E402
+from spanprof.version import answer  # noqa: E402
 
 
 class Task:

@@ -14,7 +14,7 @@ struct Place {
   After after;
   std::string_view at;  // the comment of the construct's line, in the text
   uint64_t cost = 0, path_cost = 0, path_segments = 0;
-  std::string name() const;  // as tools/plots/program.py names it
+  std::string name() const;  // as tools/spanprof/text.py names it
 };
 
 class Places : public Listener {

@@ -10,9 +10,7 @@ bool is_digit(char c) { return c >= '0' && c <= '9'; }
 bool is_of_word(char c) { return (c >= 'a' && c <= 'z') || (c >= 'A' && c <= 'Z') || is_digit(c) || c == '_'; }
 }  // namespace
 
-void Tokens::refuse(const std::string &why) const {
-  throw Wrong("line " + std::to_string(line) + ": " + why);
-}
+void Tokens::refuse(const std::string &why) const { throw Wrong("line " + std::to_string(line) + ": " + why); }
 
 bool Tokens::next() {
   begin = end;

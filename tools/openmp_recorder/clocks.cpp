@@ -41,17 +41,18 @@ bool BothClocks::is_far(const Times &now) {
   return true;
 }
 
-// Since the clocks were seen apart before: a thread that sleeps makes them so.
-bool BothClocks::slept() {
+// Counted at each look, so that a switch before the last one is none since.
+void BothClocks::count_switches(Passed &since) {
   rusage use;
-  if (getrusage(RUSAGE_THREAD, &use)) return false;
-  return use.ru_nvcsw != std::exchange(sleeps, use.ru_nvcsw);
+  if (getrusage(RUSAGE_THREAD, &use)) return;
+  since.slept = use.ru_nvcsw != std::exchange(given_up, use.ru_nvcsw);
+  since.taken = use.ru_nivcsw != std::exchange(taken, use.ru_nivcsw);
 }
 
 std::optional<Passed> BothClocks::at_record(const Times &now) {
   if (!is_far(now)) return {};
   Passed since{false, at.wall - last.wall + before_wait.wall, at.processor - last.processor + before_wait.processor};
-  if (since.differ()) since.slept = slept();
+  count_switches(since);
   bool is_first = !last.wall;
   last = at;
   before_wait = {};
@@ -69,6 +70,7 @@ void BothClocks::wait_begins(const Times &now) {
 
 void BothClocks::wait_ends(const Times &now) {
   if (!is_far(now)) return;
-  slept();
+  Passed in_the_wait;
+  count_switches(in_the_wait);
   last = at;
 }

@@ -17,6 +17,7 @@ int64_t time_of_reading(const Clock &clock);  // measured, on the clock itself
 struct Passed {
   bool slept = false;  // the thread gave its processor up: it slept, or waited for something
   int64_t wall = 0, processor = 0;
+  bool taken = false;  // the kernel gave its processor to another thread
   int64_t off() const { return wall > processor ? wall - processor : 0; }
   bool differ() const { return off() > wall / 20; }
 };
@@ -39,7 +40,7 @@ class BothClocks {
  private:
   bool by_processor;
   Times last, at, before_wait;  // as both were read last; at the call of the recorder; passed before a wait
-  long sleeps = 0;              // of the thread, so far
+  long given_up = 0, taken = 0;  // how often the thread lost its processor in both ways, so far
   bool is_far(const Times &now);
-  bool slept();
+  void count_switches(Passed &since);
 };

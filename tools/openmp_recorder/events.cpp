@@ -1,5 +1,6 @@
 #include "events.hpp"
 
+#include <algorithm>
 #include <map>
 
 namespace {
@@ -14,27 +15,44 @@ size_t segments_of(const Region &region) {
     for (uint32_t number : t.numbers) count += number != none;
   return count;
 }
+
+std::string row(uint64_t segment, const SegmentTime &time, const char *between) {
+  return std::to_string(segment) + between + std::to_string(time.worker) + between + std::to_string(time.begin) + between +
+         std::to_string(time.end) + "\n";
+}
 }  // namespace
 
 Events event_lines(const Region &region) {
   Events out;
-  out.times = "segment,thread,start_ns,end_ns\n";
+  out.times.resize(segments_of(region));
   std::map<unsigned, unsigned> workers;
-  std::map<uint32_t, int64_t> started;
   size_t finished = 0;
   for (auto &event : region.events) {
     if (!has_number(event)) continue;
-    std::string worker = std::to_string(workers.emplace(event.worker, workers.size()).first->second);
+    unsigned worker = workers.emplace(event.worker, workers.size()).first->second;
     uint32_t number = event.task->numbers[event.segment];
-    int64_t at = event.at - region.time.begin;
-    out.words += (event.start ? "start " : "finish ") + worker + " " + std::to_string(number) + "\n";
-    if (event.start) started[number] = at;
-    else
-      out.times += std::to_string(number) + "," + worker + "," + std::to_string(started[number]) + "," +
-                   std::to_string(at) + "\n";
+    SegmentTime &time = out.times[number];
+    out.words += (event.start ? "start " : "finish ") + std::to_string(worker) + " " + std::to_string(number) + "\n";
+    time.worker = worker;
+    (event.start ? time.begin : time.end) = event.at - region.time.begin;
     finished += !event.start;
   }
   out.workers = workers.size();
-  out.whole = finished == segments_of(region);
+  out.whole = finished == out.times.size();
+  return out;
+}
+
+std::string times_table(const Events &events) {
+  std::string out = "segment,thread,start_ns,end_ns\n";
+  for (size_t s = 0; s < events.times.size(); s++) out += row(s, events.times[s], ",");
+  return out;
+}
+
+std::string timed_lines(const Region &region, const Events &events) {
+  int64_t last = region.time.end - region.time.begin;
+  for (const SegmentTime &time : events.times) last = std::max(last, time.end);
+  size_t threads = std::max<size_t>(region.threads, events.workers);
+  std::string out = "times " + std::to_string(threads) + " 0 " + std::to_string(last) + "\n";
+  for (size_t s = 0; s < events.times.size(); s++) out += row(s, events.times[s], " ");
   return out;
 }

@@ -27,6 +27,7 @@ class Head {
   void covered(const Region &region, const ThreadTime &threads);
   void divided(const Region &region);
   void clocks(const Region &region);
+  void differing(const char *name, const char *by, const Differing &seen, int64_t work);
   void times(const Region &region, const Recording &recording);
   void locks(const Region &region);
   void remarks(const Region &region);
@@ -104,11 +105,16 @@ void Head::divided(const Region &region) {
 
 void Head::clocks(const Region &region) {
   line("clock reading: " + std::to_string(record_clock().reading) + " ns, taken off at each record");
-  const Differing &differing = region.differing;
-  if (differing.off < least_difference) return;
-  std::string times = std::to_string(differing.at.times) + (differing.at.times == 1 ? " time" : " times");
-  line("clocks differ: in " + units(differing.cost) + " of " + with_unit(region.cost) + " of the work, by " +
-       with_unit(differing.off) + ", " + times);
+  differing("clocks differ: ", "by ", region.differing, region.cost);
+  differing("slept: ", "for ", region.asleep, region.cost);
+  if (region.untimed >= least_difference) line("untimed: " + with_unit(region.untimed) + " before segments were left");
+}
+
+void Head::differing(const char *name, const char *by, const Differing &seen, int64_t work) {
+  if (seen.off < least_difference) return;
+  std::string times = std::to_string(seen.at.times) + (seen.at.times == 1 ? " time" : " times");
+  line(name + ("in " + units(seen.cost)) + " of " + with_unit(work) + " of the work, " + by + with_unit(seen.off) + ", " +
+       times);
 }
 
 void Head::times(const Region &region, const Recording &recording) {
@@ -173,9 +179,12 @@ void remark_locks(Region &region) {
   if (seen.times && inside * 100 >= region.in_parts + region.in_tasks) region.remarks[Remark::HeldLock] = seen;
 }
 
+// All that was off the processor may lie on one chain.
 void remark_clocks(Region &region) {
   const Differing &differing = region.differing;
-  bool moves_span = differing.longest >= least_difference && differing.longest * 20 > region.span;
-  if (differing.off * 20 <= region.work && !moves_span) return;
-  region.remarks[record_clock().of_processor ? Remark::Slept : Remark::Preempted] = differing.at;
+  int64_t off = differing.off + differing.slightly;
+  bool moves_span = off >= least_difference && off * 20 > region.span;
+  if (off * 20 <= region.work && !moves_span) return;
+  region.remarks[record_clock().of_processor ? Remark::Slept : Remark::Preempted] =
+      differing.at.times ? differing.at : differing.slightly_at;
 }

@@ -3,7 +3,9 @@
 #include <algorithm>
 #include <iterator>
 
-void Locks::ask(int kind, LockName name, const void *code, int64_t now) { asked = {name, kind, code, 0, now}; }
+void Locks::ask(int kind, LockName name, const void *code, Called now) {
+  asked = {name, kind, code, now.clock, now.wall};
+}
 
 void LockUse::add(const LockUse &more) {
   if (!times) kind = more.kind, code = more.code;
@@ -14,10 +16,10 @@ void LockUse::add(const LockUse &more) {
 }
 
 // The thread's own clock stands still from when the lock was asked for.
-int64_t Locks::get(LockName name, int64_t now, int64_t stood_still, size_t records) {
-  if (asked.name != name) asked = {name, 0, nullptr, 0, now};
+int64_t Locks::get(LockName name, Called now, int64_t stood_still, size_t records) {
+  if (asked.name != name) ask(0, name, nullptr, now);
   int64_t since = asked.since;
-  held.push_back({name, asked.kind, asked.code, now - since, since - stood_still, records});
+  held.push_back({name, asked.kind, asked.code, since - stood_still, now.wall - asked.wall, records});
   asked = {};
   return since;
 }
@@ -30,7 +32,7 @@ void Locks::leave(LockName name, uint32_t region, int64_t own_clock, size_t reco
     int64_t inside = std::max<int64_t>(own_clock - lock->since, 0);
     use.inside += inside;
     if (lock->records == records) use.alone += inside;
-    use.waiting += lock->waited;
+    use.waiting += lock->wall;
     held.erase(std::next(lock).base());
     return;
   }

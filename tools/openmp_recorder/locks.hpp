@@ -1,4 +1,4 @@
-// How often a thread held each lock, for how long, and how long it waited.
+// How often a thread held each lock, for how long by the clock of costs, and how long it waited by the wall clock.
 #pragma once
 #include <cstddef>
 #include <cstdint>
@@ -17,10 +17,14 @@ struct LockUse {
 
 using LockName = uint64_t;
 
+struct Called {  // when the runtime called
+  int64_t clock, wall;  // of costs; of the wall
+};
+
 class Locks {
  public:
-  void ask(int kind, LockName name, const void *code, int64_t now);
-  int64_t get(LockName name, int64_t now, int64_t stood_still, size_t records);  // when it was asked for
+  void ask(int kind, LockName name, const void *code, Called now);
+  int64_t get(LockName name, Called now, int64_t stood_still, size_t records);  // when it was asked for
   void leave(LockName name, uint32_t region, int64_t own_clock, size_t records);
   const std::map<std::pair<uint32_t, LockName>, LockUse> &uses() const { return used; }  // by region and name
 
@@ -29,7 +33,8 @@ class Locks {
     LockName name;
     int kind;
     const void *code;
-    int64_t waited, since;
+    int64_t since;
+    int64_t wall;  // when it was asked for, and then how long the thread waited
     size_t records = 0;  // of the thread, so far
   };
   Held asked{};  // a thread waits for one at a time

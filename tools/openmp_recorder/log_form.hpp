@@ -30,6 +30,8 @@ enum class Counter : uint32_t { ClockGettime, TimeStamp };
 enum class HowEnded : uint32_t { Not, ByRuntime, InsideARegion };  // Not: killed, or it goes on
 enum class Stopped : uint32_t { Not, Full, Unwritable, Numbers, End };  // Full: the disk is
 
+enum Off : unsigned { slept = 1, taken = 2 };  // bits: how the thread lost its processor while both clocks passed
+
 // Ticks of the counter beside nanoseconds of CLOCK_MONOTONIC.
 struct Pair {
   uint64_t ticks;

@@ -70,5 +70,6 @@ Options read_options() {
   number("SPANPROF_FOLD_CHUNK", chosen.fold_chunk);
   parts(chosen.parts);
   flag("SPANPROF_FOLD_EXACT", "0", "1", chosen.fold_exact);
+  flag("SPANPROF_TIMES", "0", "1", chosen.times);
   return chosen;
 }

@@ -43,6 +43,8 @@ class Reporter {
   Text finish(Region &region, bool exclusion_as_order);
   void tell_remarks(const Region &region, const std::string &name);
   void write_run(const Region &region, const std::string &name, const Text &text, Line &line);
+  void write_replay(const std::string &name, const Text &text, const Events &events, Line &line);
+  void write_timed(const Region &region, const std::string &name, const Text &text, const Events &events, Line &line);
   bool write_piece_by_piece(Region &region, const std::string &file, int64_t work, bool exclusion_as_order);
   void write_large(Region &region, const std::string &name, const Size &size);
   void tell_advice(Region &region, const std::string &file, const Excess &over);
@@ -92,19 +94,34 @@ void Reporter::tell_remarks(const Region &region, const std::string &name) {
   for (auto &[what, seen] : region.remarks) Line("remark").put("name", name).put("remark", remark_line(what, seen, places));
 }
 
-// Which files hold the run; where there is no replay document, why.
+// Which files hold the run; where there is no such document, why.
 void Reporter::write_run(const Region &region, const std::string &name, const Text &text, Line &line) {
   if (region.remarks.count(Remark::FoldedExactly)) {
     line.put("no replay", "exact folds");
+    if (options.times) line.put("no times", "folds");
     return;
   }
   Events events = event_lines(region);
+  write_replay(name, text, events, line);
+  if (options.times) write_timed(region, name, text, events, line);
+}
+
+void Reporter::write_replay(const std::string &name, const Text &text, const Events &events, Line &line) {
   if (events.workers > most_workers) line.put("no replay", "workers").put("workers", events.workers);
   else if (!events.whole) line.put("no replay", "unfinished");
   else {
-    if (!options.processor_clock) write_file(name + ".times", events.times);
+    if (!options.processor_clock) write_file(name + ".times", times_table(events));
     if (write_file(name + ".replay", text.words + "---\n" + events.words)) line.put("replay", name + ".replay");
   }
+}
+
+// A folded task ran beside what it is written as, so no text with folds has times.
+void Reporter::write_timed(const Region &region, const std::string &name, const Text &text, const Events &events,
+                           Line &line) {
+  if (region.remarks.count(Remark::Folded)) line.put("no times", "folds");
+  else if (!events.whole) line.put("no times", "unfinished");
+  else if (write_file(name + ".timed", text.words + "---\n" + timed_lines(region, events)))
+    line.put("times", name + ".timed");
 }
 
 // The same run with what excludes each other in the order of creation: its span is too high where that of the first is
@@ -134,6 +151,7 @@ void Reporter::write_large(Region &region, const std::string &name, const Size &
   tell_remarks(region, name);
   Line line("text");
   put_size(line, file, size, work);
+  if (options.times) line.put("no times", "large");
   if (let_exclusion_be_order(region)) write_piece_by_piece(region, name + ".large.inout.tasks", work, true);
 }
 

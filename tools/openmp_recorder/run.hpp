@@ -101,15 +101,20 @@ struct Task {
 
 constexpr uint32_t none = UINT32_MAX;
 
-// Code of a region in which the wall clock and the processor's differ by more than a twentieth, as the clock that
-// costs are read on must not.
+// Code of a region in which the wall clock and the processor's differ, as the clock that costs are read on must not.
 struct Differing {
-  int64_t cost = 0, off = 0, longest = 0;  // of the code; off the processor there, all and at once
+  int64_t cost = 0, off = 0;  // of the code where they do by more than a twentieth; off the processor there
   Seen at;
-  void add(int64_t code_cost, int64_t off_there, const void *code) {
+  int64_t slightly = 0;       // off the processor in other code
+  Seen slightly_at;
+  void add(const Passed &passed, int64_t code_cost, int64_t off_there, const void *code) {
+    if (!passed.differ()) {
+      slightly += off_there;
+      if (off_there) slightly_at.add(code);
+      return;
+    }
     cost += code_cost;
     off += off_there;
-    longest = std::max(longest, off_there);
     at.add(code);
   }
 };
@@ -126,7 +131,7 @@ inline bool is_written(const Task &t) { return t.shown && t.fold != Fold::Whole 
 
 struct Event {
   Task *task;
-  int64_t at;  // the clock of the records
+  int64_t at;  // the wall clock
   unsigned segment;
   uint16_t worker;
   bool start;
@@ -162,6 +167,8 @@ struct Region {
   int64_t in_parts = 0, in_tasks = 0;  // the costs of parts without tasks, and of all else
   int64_t in_own_regions = 0;          // of the cost: what passed while a task was in a region of its own
   Differing differing;
+  Differing asleep;  // by the wall clock: code in which the thread gave its processor up
+  int64_t untimed = 0;  // the wall clock in segments that were left in their midst, until they were
   std::map<Divided, Seen> divided;  // of the thread that met the most
 };
 

@@ -80,7 +80,9 @@ std::string name_of_rank(const std::string &name) {
 // NAME, or NAME.2 of a later region, or NAME.4711 of a child process and NAME.4711.2 of its later regions.
 bool is_of_run(const std::string &file, const std::string &name) {
   std::string rest = file;
-  if (!take(rest, ".tasks") && !take(rest, ".replay") && !take(rest, ".times") && !take(rest, ".log")) return false;
+  if (!take(rest, ".tasks") && !take(rest, ".replay") && !take(rest, ".times") && !take(rest, ".timed") &&
+      !take(rest, ".log"))
+    return false;
   take(rest, ".inout");
   take(rest, ".large");
   for (int numbers = 0; numbers < 2 && rest != name; numbers++) take_number(rest);

@@ -120,7 +120,8 @@ void ThreadLog::compare_clocks(const Moment &now) {
   is_slow = true;
   auto processor = static_cast<uint64_t>(passed->processor);
   uint64_t wall = std::min(static_cast<uint64_t>(passed->wall), log_form::code_mask);
-  put(now, Told::Passed, static_cast<uint32_t>(processor), static_cast<uint32_t>(processor >> 32), wall, passed->slept);
+  unsigned off = (passed->slept ? log_form::slept : 0U) | (passed->taken ? log_form::taken : 0U);
+  put(now, Told::Passed, static_cast<uint32_t>(processor), static_cast<uint32_t>(processor >> 32), wall, off);
 }
 
 void ThreadLog::wait_begins(const Moment &now) {

@@ -74,12 +74,12 @@ void ThreadReader::end_region() {
 
 // The thread's own clock stands still from when it asks for a lock until it has it.
 void ThreadReader::use_lock() {
-  int64_t now = cost_clock();
+  Called now{cost_clock(), time.wall(raw.record.at)};
   uint64_t name = raw.wide();
   switch (raw.told()) {
     case Told::LockAsked: return log.locks.ask(static_cast<int>(raw.detail()), name, raw.place(), now);
-    case Told::LockGot: log.stood_still += now - log.locks.get(name, now, log.stood_still, told); break;
-    default: log.locks.leave(name, regions.empty() ? 0 : regions.back(), now - log.stood_still, told);
+    case Told::LockGot: log.stood_still += now.clock - log.locks.get(name, now, log.stood_still, told); break;
+    default: log.locks.leave(name, regions.empty() ? 0 : regions.back(), now.clock - log.stood_still, told);
   }
   log.stood_still += in_a_record;
 }
@@ -120,7 +120,8 @@ const Record &ThreadReader::tell() {
   record.kind = static_cast<uint8_t>(raw.told());
   record.detail = raw.detail();
   if (raw.told() == Told::Passed) {
-    record.passed = {raw.detail() != 0, static_cast<int64_t>(raw.code()), static_cast<int64_t>(raw.wide())};
+    record.passed = {(raw.detail() & log_form::slept) != 0, static_cast<int64_t>(raw.code()),
+                     static_cast<int64_t>(raw.wide()), (raw.detail() & log_form::taken) != 0};
     return record;
   }
   log.stood_still += in_a_record;

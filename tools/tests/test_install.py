@@ -2,10 +2,11 @@
 import contextlib
 import io
 import os
-import tempfile
 import unittest
 
 import install
+from spanprof.errors import Fault
+from spanprof.tests.in_folder import InFolder
 
 
 class Plan(unittest.TestCase):
@@ -13,13 +14,14 @@ class Plan(unittest.TestCase):
         places = [path for _, path in install.plan()]
         for path in ("bin/spanprof", "bin/spanprof-record", "lib/spanprof/librecorder.so", "bin/spanprof-path",
                      "bin/spanprof-convert", "lib/spanprof/convert_log",
-                     "lib/spanprof/spanprof_path", "share/spanprof/path/found.py", "share/spanprof/whatif/command.py",
+                     "lib/spanprof/spanprof_path", "share/spanprof/spanprof/path/found.py",
+                     "share/spanprof/spanprof/whatif/command.py",
                      "bin/spanprof-whatif", "share/man/man1/spanprof-path.1",
                      "share/man/man1/spanprof.1", "share/bash-completion/completions/spanprof-report",
-                     "share/zsh/site-functions/_spanprof", "share/spanprof/record/command.py",
-                     "share/spanprof/report/template/page.html", "share/spanprof/plots/program.py",
-                     "share/spanprof/conformance/tester/judge.py", "share/spanprof/conformance/harness/log.c",
-                     "share/spanprof/spanprof_version.py", "share/spanprof/VERSION"):
+                     "share/zsh/site-functions/_spanprof", "share/spanprof/spanprof/record/command.py",
+                     "share/spanprof/spanprof/report/template/page.html", "share/spanprof/spanprof/client.py",
+                     "share/spanprof/spanprof/conformance/judge.py", "share/spanprof/conformance/harness/log.c",
+                     "share/spanprof/spanprof/version.py", "share/spanprof/VERSION"):
             self.assertIn(path, places)
         self.assertEqual(len(places), len(set(places)))
 
@@ -39,22 +41,12 @@ class Plan(unittest.TestCase):
         self.assertFalse([path for path in install.shared_files() if "tests/" in path or path.endswith("install.py")])
 
 
-class Prefix(unittest.TestCase):
+class Prefix(InFolder):
     def setUp(self):
-        self.kept = tempfile.TemporaryDirectory()
-        self.root = os.path.join(self.kept.name, "usr")
+        super().setUp()
+        self.root = os.path.join(self.folder, "usr")
         self.source = self.write("source", "program\n")
         self.pairs = [(self.source, "bin/spanprof"), (self.source, "share/spanprof/record/run.py")]
-
-    def tearDown(self):
-        self.kept.cleanup()
-
-    def write(self, name, text=""):
-        path = os.path.join(self.kept.name, name)
-        os.makedirs(os.path.dirname(path), exist_ok=True)
-        with open(path, "w", encoding="utf-8") as file:
-            file.write(text)
-        return path
 
     def install(self):
         with contextlib.redirect_stdout(io.StringIO()):
@@ -91,11 +83,11 @@ class Prefix(unittest.TestCase):
         self.assertEqual(install.uninstall(self.root), 0)
 
     def test_a_file_that_is_missing(self):
-        missing = os.path.join(self.kept.name, "none")
+        missing = os.path.join(self.folder, "none")
         for path, words in (("bin/spanprof", "none: no such program; README.md tells"),
                             ("lib/x.so", "none: no such file")):
             self.pairs[1] = (missing, path)
-            with self.assertRaisesRegex(SystemExit, words):
+            with self.assertRaisesRegex(Fault, words):
                 self.install()
             self.assertFalse(os.path.exists(self.root))
 

@@ -10,11 +10,11 @@ import re
 import unittest
 
 TOOLS = os.path.dirname(os.path.dirname(os.path.abspath(__file__)))
-COMMANDS = ("record", "report", "path", "whatif")
+PARTS = ("", "record", "report", "path", "whatif")
 OF_WHAT = re.compile(r"proved of (the recorded text|the text|this text|that text|it\b|them\b|%s)")
 OTHERS = ("proved", "a program that is proved correct", "nothing about which is proved", "proves and builds")
-ABOUT_THE_TEXT = re.compile(r"\btexts?\b|nothing (is|about them is) proved|about which nothing is proved|with its proofs|"
-                            r"in place of a proof")
+ABOUT_THE_TEXT = re.compile(r"\btexts?\b|nothing (is|about them is) proved|about which nothing is proved|"
+                            r"with its proofs|in place of a proof")
 
 
 def docstrings(tree):
@@ -51,19 +51,19 @@ def read(path):
 
 class Words(unittest.TestCase):
     def test_of_the_commands(self):
-        paths = [path for name in COMMANDS for path in glob.glob(os.path.join(TOOLS, name, "*.py"))]
+        paths = [path for name in PARTS for path in glob.glob(os.path.join(TOOLS, "spanprof", name, "*.py"))]
         self.assertGreater(len(paths), 40)
         for path in paths:
             for words in strings(read(path)):
                 self.assertFalse(claims_too_much(words), "%s: %r" % (path, words))
 
     def test_of_the_script(self):
-        for path in glob.glob(os.path.join(TOOLS, "report", "template", "*.js")):
+        for path in glob.glob(os.path.join(TOOLS, "spanprof", "report", "template", "*.js")):
             self.assertNotIn("proved", read(path), path)
 
     def test_of_the_documents(self):
         pages = glob.glob(os.path.join(TOOLS, "man", "spanprof-[rpw]*.1"))
-        for path in pages + [os.path.join(TOOLS, "README.md"), os.path.join(TOOLS, "report", "README.md"),
+        for path in pages + [os.path.join(TOOLS, "README.md"), os.path.join(TOOLS, "spanprof", "report", "README.md"),
                              os.path.join(TOOLS, "..", "docs", "TUNING.md")]:
             for sentence in sentences(read(path)):
                 if re.search(r"\bproved\b", sentence):

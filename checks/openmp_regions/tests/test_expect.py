@@ -1,8 +1,7 @@
 import unittest
 
 from expect import body_of, regions, shape, works
-from program import (All, Barrier, For, Master, Region, Repeat, Sections, Single, Task, Taskgroup, Taskloop, Taskwait,
-                     Work)
+from program import (All, Barrier, For, Master, Region, Repeat, Sections, Single, Task, Taskloop, Taskwait, Work)
 from structure import costs, nodes
 
 

@@ -4,7 +4,8 @@ import unittest
 
 import testsuite
 
-HEAD = '/* { dg-do run } */\n/* { dg-options "-O2 -fopenmp" } */\n/* { dg-additional-options "-msse2" { target sse2 } } */\n'
+HEAD = '/* { dg-do run } */\n/* { dg-options "-O2 -fopenmp" } */\n' \
+    '/* { dg-additional-options "-msse2" { target sse2 } } */\n'
 
 
 class Testsuite(unittest.TestCase):

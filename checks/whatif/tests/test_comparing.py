@@ -3,10 +3,10 @@ import sys
 import unittest
 
 TOOLS = os.path.join(os.path.dirname(os.path.abspath(__file__)), "..", "..", "..", "tools")
-sys.path[:0] = [TOOLS, os.path.join(TOOLS, "plots")]
+sys.path.insert(0, TOOLS)
 
 from comparing import Ends, ends, first_difference, largest, least, shape, work
-from whatif.statements import statements
+from spanprof.text import statements
 
 TEXT = "omptasks 1\nwork 3\ntask depend(in: b) depend(out: a) { # x.c:3\nwork 5\n}\ntaskwait\n"
 
@@ -23,7 +23,8 @@ class Numbers(unittest.TestCase):
     def test_a_machine_that_moves_all_costs(self):
         moved = Ends(4, 120, 110, 100, 0.92)
         self.assertFalse(moved.fault)
-        self.assertEqual(str(moved), "120, 110 foretold, 100 rewritten (+10.0 %, work / end -1.2 %: the work is -8.0 %)")
+        self.assertEqual(str(moved),
+                         "120, 110 foretold, 100 rewritten (+10.0 %, work / end -1.2 %: the work is -8.0 %)")
         self.assertTrue(Ends(4, 120, 110, 100, 1.02).fault)
         self.assertFalse(Ends(4, 120, 103, 100, 0.92).is_by_gain)
 
@@ -52,8 +53,8 @@ class Shapes(unittest.TestCase):
         self.assertEqual(first_difference(shape(read(TEXT)), shape(read(other))), "")
 
     def test_all_else_does(self):
-        for other in (TEXT.replace("taskwait", ""), TEXT.replace("out: a", "out: b"), TEXT.replace("task d", "task if(0) d"),
-                      TEXT.replace("in: b", "out: b"), TEXT + "taskwait"):
+        for other in (TEXT.replace("taskwait", ""), TEXT.replace("out: a", "out: b"),
+                      TEXT.replace("task d", "task if(0) d"), TEXT.replace("in: b", "out: b"), TEXT + "taskwait"):
             self.assertTrue(first_difference(shape(read(TEXT)), shape(read(other))), other)
 
 

@@ -2,7 +2,7 @@
  *
  *     cc -O1 -pthread -I../harness futures.c ../harness/log.c ../harness/output.c -o futures
  *     ./futures 4 20 > futures.log
- *     ../conformance.py judge futures.tasks futures.log
+ *     ../../spanprof-conformance judge futures.tasks futures.log
  *
  * on 4 threads, in 20 runs. With -DDONE_TOO_EARLY a future is done when its code begins, which is refused. */
 #include "log.h"

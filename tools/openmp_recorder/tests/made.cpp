@@ -70,9 +70,9 @@ Made &Made::barrier(unsigned thread, uint32_t task) {
   return add(thread, Told::SyncBegin, task, 0, ompt_sync_region_barrier_implicit_parallel);
 }
 
-Made &Made::passed(unsigned thread, int64_t wall, int64_t processor, bool slept) {
+Made &Made::passed(unsigned thread, int64_t wall, int64_t processor, bool slept, bool taken) {
   add(thread, Told::Passed, 0);
-  threads[thread]->records.back().passed = {slept, wall, processor};
+  threads[thread]->records.back().passed = {slept, wall, processor, taken};
   return *this;
 }
 

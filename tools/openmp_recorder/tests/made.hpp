@@ -33,7 +33,7 @@ class Made {
   Made &run(unsigned thread, uint32_t from, uint32_t task, int64_t nanoseconds);  // begins, costs so much, and ends
   Made &sync(unsigned thread, uint32_t task, ompt_sync_region_t kind);            // begins and ends at once
   Made &barrier(unsigned thread, uint32_t task);                                  // begins
-  Made &passed(unsigned thread, int64_t wall, int64_t processor, bool slept);     // until the next record
+  Made &passed(unsigned thread, int64_t wall, int64_t processor, bool slept, bool taken = false);  // until the next record
   Run read(Ending ending = {}, uint64_t most_replayed = UINT64_MAX);
 
  private:

@@ -1,6 +1,8 @@
 // The time of a reading, and both clocks beside each other.
 #include <time.h>
 
+#include <utility>
+
 #include "../clocks.hpp"
 #include "../program_time.hpp"
 #include "../records.hpp"
@@ -56,6 +58,18 @@ TEST(a_thread_that_sleeps_is_off_the_processor) {
   }
 }
 
+TEST(a_sleep_counts_where_it_was) {
+  BothClocks both(false);
+  both.at_record(times(wall));
+  sleep_for(100);
+  work_for(5000);
+  both.at_record(times(wall));  // nearly no difference, with a sleep
+  work_for(1000);
+  std::optional<Passed> passed = both.at_record(times(wall));
+  EXPECT(passed.has_value(), true);
+  EXPECT(passed->slept, false);
+}
+
 TEST(one_that_works_is_not_asleep) {
   for (const Clock &clock : {wall, processor}) {
     std::vector<Passed> passed = passed_by(clock, [](BothClocks &) { work_for(5000); });
@@ -98,16 +112,19 @@ TEST(a_twentieth_is_the_difference_that_counts) {
   EXPECT((Passed{false, 1000, 1001}.off()), 0);
 }
 
-// By the wall clock what the thread was preempted for; a task that slept took that time.
+// By the wall clock what the thread was preempted for; a task that slept, and was not preempted beside that, took that
+// time, which is told apart.
 TEST(code_off_the_processor_counts_for_its_region) {
-  for (bool slept : {false, true}) {
+  for (auto [slept, taken] : {std::pair{false, false}, {false, true}, {true, true}, {true, false}}) {
+    bool counts = taken || !slept;
     Made made(2);
-    made.create(0, 1, 3).barrier(0, 1).barrier(1, 2).go(1, 2, 3).after(1000).passed(1, 1000, 400, slept);
+    made.create(0, 1, 3).barrier(0, 1).barrier(1, 2).go(1, 2, 3).after(1000).passed(1, 1000, 400, slept, taken);
     Run run = made.go(1, 3, 2, ompt_task_complete).read();
     const Differing &differing = run.regions.begin()->second->differing;
-    EXPECT(differing.cost, slept ? 0 : 1000);
-    EXPECT(differing.off, slept ? 0 : 600);
-    EXPECT(differing.longest, slept ? 0 : 600);
+    EXPECT(differing.cost, counts ? 1000 : 0);
+    EXPECT(differing.off, counts ? 600 : 0);
+    EXPECT(differing.slightly, 0);
+    EXPECT(run.regions.begin()->second->asleep.off, counts ? 0 : 600);
   }
 }
 

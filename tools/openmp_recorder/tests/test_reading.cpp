@@ -57,6 +57,11 @@ TEST(a_task_that_a_full_queue_runs_at_once_interrupts_its_maker) {
   EXPECT(events_of(only_region(run)), "start 0 0\nfinish 0 0\nstart 0 1\nfinish 0 1\nstart 0 2\nfinish 0 2\n");
 }
 
+TEST(what_a_segment_did_before_it_was_left_has_no_times) {
+  Run run = Made().after(5).create(0, 1, 2).after(3).run(0, 1, 2, 4).after(1).barrier(0, 1).read();
+  EXPECT(only_region(run).untimed, 3);
+}
+
 TEST(a_wait_for_dependences_and_an_undeferred_task_are_one) {
   Run run = Made().create(0, 1, 0, is_taskwait | is_undeferred, 100).depend(0, 0, {item(ompt_dependence_type_in, 64)})
                 .go(0, 1, 0, ompt_taskwait_complete).create(0, 1, 2, is_undeferred, 120).run(0, 1, 2, 5)

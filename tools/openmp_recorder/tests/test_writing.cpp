@@ -104,9 +104,23 @@ TEST(times_of_segments_are_since_the_region_began) {
   Region &region = only_region(run);
   text_of(region);
   Events events = event_lines(region);
-  EXPECT(events.times, "segment,thread,start_ns,end_ns\n0,0,0,1499\n2,0,1499,1499\n1,1,1499,3999\n");
+  EXPECT(times_table(events), "segment,thread,start_ns,end_ns\n0,0,0,1499\n1,1,1499,3999\n2,0,1499,1499\n");
+  EXPECT(timed_lines(region, events), "times 2 0 3999\n0 0 0 1499\n1 1 1499 3999\n2 0 1499 1499\n");
   EXPECT(events.whole, true);
   EXPECT(events.workers, 2u);
+}
+
+// LLVM 14 may tell of a thread's last code after the region's end.
+TEST(the_root_ends_behind_all_that_is_told) {
+  Run run = two_parts();
+  run.regions.begin()->second->time.end -= 1000;
+  Region &region = only_region(run);
+  text_of(region);
+  std::vector<SegmentTime> times = event_lines(region).times;
+  int64_t last = 0;
+  for (const SegmentTime &time : times) last = std::max(last, time.end);
+  EXPECT(times.back().begin, last);
+  EXPECT(last > region.time.end - region.time.begin, true);
 }
 
 TEST(a_run_that_is_not_whole_says_so) {
@@ -122,8 +136,10 @@ TEST(the_head_tells_the_recording) {
   region.place = 2;
   region.locks[7] = {ompt_mutex_critical, nullptr, 3, 400, 90, 300};
   region.divided[Divided::Loops].times = 4;
-  region.differing.add(2000, 49000, nullptr);
-  region.differing.add(1000, 1000, nullptr);
+  region.differing.add({false, 2, 1}, 2000, 49000, nullptr);
+  region.differing.add({false, 2, 1}, 1000, 1000, nullptr);
+  region.asleep.add({true, 2, 1}, 500, 60000, nullptr);
+  region.untimed = 70000;
   region.remarks[Remark::Detach].add(nullptr);
   Options options;
   options.unit_name = "ns";
@@ -136,6 +152,8 @@ TEST(the_head_tells_the_recording) {
                "# divided among 2 threads: code of the region, 2 parts, 1499 ns beside the longest\n"
                "# clock reading: 0 ns, taken off at each record\n"
                "# clocks differ: in 3000 of 5498 ns of the work, by 50000 ns, 2 times\n"
+               "# slept: in 500 of 5498 ns of the work, for 60000 ns, 1 time\n"
+               "# untimed: 70000 ns before segments were left\n"
                "# elapsed: 3999\n# outside regions: 100\n# in other regions: 5001\n# in parts without tasks: 1499\n"
                "# in tasks: 3999\n# most held lock: 300 ns inside, one thread at a time\n"
                "# lock critical: 3 times, 400 inside, 90 waiting\n"
@@ -179,7 +197,7 @@ TEST(lengths_are_limited) {
 }
 
 TEST(files_of_a_run_are_known_by_their_names) {
-  for (const char *name : {"out.tasks", "out.replay", "out.times", "out.2.tasks", "out.inout.tasks",
+  for (const char *name : {"out.tasks", "out.replay", "out.times", "out.timed", "out.2.tasks", "out.inout.tasks",
                            "out.2.inout.tasks", "out.4711.tasks", "out.4711.2.replay", "out.large.tasks",
                            "out.2.large.tasks", "out.2.large.inout.tasks"})
     EXPECT(is_of_run(name, "out"), true);
@@ -206,20 +224,21 @@ TEST(a_module_calls_what_its_relocations_name) {
   EXPECT(unseen_of_gcc(), 0u);
 }
 
-// Of the work by all together, of the span by one.
-TEST(clocks_are_remarked_where_they_move_a_number_by_a_twentieth) {
-  auto remarked = [](int64_t work, int64_t span, int64_t off) {
+TEST(clocks_are_remarked_where_they_may_move_a_number_by_a_twentieth) {
+  auto remarked = [](int64_t work, int64_t span, int64_t off, int64_t slightly) {
     Region region;
     region.work = work, region.span = span;
-    region.differing.add(off, off, nullptr);
-    region.differing.add(off, off, nullptr);
+    if (off) region.differing.add({false, 2, 1}, off, off, nullptr);
+    region.differing.add({false, 100, 99}, slightly, slightly, nullptr);
     remark_clocks(region);
-    return region.remarks.count(Remark::Preempted) == 1;
+    auto remark = region.remarks.find(Remark::Preempted);
+    return remark == region.remarks.end() ? 0 : remark->second.times;
   };
-  EXPECT(remarked(2000000, 1000000, 50000), false);
-  EXPECT(remarked(1999999, 1000000, 50000), true);
-  EXPECT(remarked(2000000, 999999, 50000), true);
-  EXPECT(remarked(2000000, 900000, 49999), false);  // a few microseconds of a short region are not worth a word
+  EXPECT(remarked(2000000, 2000000, 50000, 50000), 0u);
+  EXPECT(remarked(1999999, 1999999, 50000, 50000), 1u);
+  EXPECT(remarked(2000000, 1999999, 50000, 50000), 1u);
+  EXPECT(remarked(2000000, 1999999, 0, 100000), 1u);
+  EXPECT(remarked(2000000, 900000, 25000, 24999), 0u);  // a few microseconds of a short region are not worth a word
 }
 
 TEST(a_remark_on_what_is_not_seen_has_no_number) {
@@ -243,20 +262,20 @@ TEST(records_come_in_their_common_order) {
 
 TEST(locks_count_times_inside_and_waiting) {
   Locks locks;
-  locks.ask(ompt_mutex_critical, 7, nullptr, 100);
-  EXPECT(locks.get(7, 130, 0, 5), 100);
+  locks.ask(ompt_mutex_critical, 7, nullptr, {100, 2000});
+  EXPECT(locks.get(7, {130, 2070}, 0, 5), 100);
   locks.leave(7, 1, 150, 5);  // on the thread's own clock, which stood still until 100
   const LockUse &use = locks.uses().at({1, 7});
   EXPECT(use.times, 1u);
-  EXPECT(use.waiting, 30);
+  EXPECT(use.waiting, 70);  // by the wall clock
   EXPECT(use.inside, 50);
   EXPECT(use.alone, 50);
 }
 
 TEST(where_records_came_meanwhile_a_lock_may_have_held_another_task) {
   Locks locks;
-  locks.ask(ompt_mutex_critical, 7, nullptr, 100);
-  locks.get(7, 100, 0, 5);
+  locks.ask(ompt_mutex_critical, 7, nullptr, {100, 100});
+  locks.get(7, {100, 100}, 0, 5);
   locks.leave(7, 1, 150, 6);
   EXPECT(locks.uses().at({1, 7}).inside, 50);
   EXPECT(locks.uses().at({1, 7}).alone, 0);

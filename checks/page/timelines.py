@@ -1,0 +1,122 @@
+"""What a timeline does beside zoom and movement: names, choice, search, marks, fingers. Each trial yields faults."""
+SHIFT = 8   # the bit of the key in an event of the mouse
+
+
+def widest(page):
+    """Shows the widest bar of the first timeline from close by; where its middle is in the window, and its segment."""
+    return page.evaluate("""(() => {
+      const lanes = allLanes[0];
+      lanes.element.scrollIntoView({block: 'center'});
+      const all = lanes.rows.flatMap((row, i) => row.map(bar => ({...bar, i})));
+      const bar = all.reduce((a, b) => b.end - b.start > a.end - a.start ? b : a);
+      lanes.stretch.show(2 * bar.start - bar.end, 3 * (bar.end - bar.start));
+      lanes.draw();
+      const box = lanes.element.getBoundingClientRect(), middle = (bar.start + bar.end) / 2;
+      return {x: box.left + lanes.x(middle), y: box.top + lanes.top(bar.i) + lanes.height / 2, segment: bar.segment,
+              left: box.left + LEFT, right: box.right, rows: lanes.rows.length};
+    })()""")
+
+
+def show_all(page):
+    page.evaluate("(lanes => { lanes.stretch.show(0, lanes.stretch.whole); leave(lanes); })(allLanes[0])")
+
+
+def names_stand_in_bars(page):
+    bar = widest(page)
+    if bar["rows"] <= 16 and not page.evaluate("allLanes[0].element.querySelectorAll('text.name').length"):
+        yield "no name stands in the widest bar"
+    show_all(page)
+
+
+def segments_are_chosen(page):
+    """A click on a bar draws an arrow for each segment that it waited for and that waited for it."""
+    bar = widest(page)
+    page.mouse("mousePressed", bar["x"], bar["y"], button="left", buttons=1, clickCount=1)
+    page.mouse("mouseReleased", bar["x"], bar["y"], button="left", clickCount=1)
+    seen = page.evaluate("""(() => {
+      const lanes = allLanes[0], { before, after } = lanes.program.waits, of = (list) => list[lanes.chosen] || [];
+      const count = (name) => lanes.element.querySelectorAll('path.' + name + ':not(.head)').length;
+      return {chosen: lanes.chosen, arrows: [count('waited'), count('waits')],
+              wanted: [before, after].map((list) => Math.min(MOST_ARROWS, lanes.chosen === null ? 0
+                : neighbours(lanes, list, lanes.chosen).length)), box: !!lanes.element.querySelector('.cursor')};
+    })()""")
+    if seen["chosen"] != bar["segment"] or not seen["box"]:
+        yield "a click on segment %d chooses %s" % (bar["segment"], seen["chosen"])
+    if seen["arrows"] != seen["wanted"]:
+        yield "%s arrows, and not %s" % (seen["arrows"], seen["wanted"])
+    show_all(page)
+
+
+def search_finds(page):
+    """A place's name finds its bars, and Enter goes to one of them."""
+    seen = page.evaluate("""(() => {
+      const lanes = allLanes[0], box = lanes.figure.querySelector('input.search');
+      const { place, places } = lanes.program, first = [...lanes.run.where.keys()][0], name = places[place[first]];
+      const type = (words) => { box.value = words; box.dispatchEvent(new Event('input', {bubbles: true})); };
+      type(name);
+      const wanted = [...lanes.run.where.keys()].filter(s => places[place[s]].includes(name)).length;
+      const told = lanes.figure.querySelector('output').textContent;
+      box.dispatchEvent(new KeyboardEvent('keydown', {key: 'Enter', bubbles: true}));
+      const chosen = lanes.chosen === null ? '' : places[place[lanes.chosen]];
+      type('');
+      return {name, wanted, told, chosen, after: lanes.figure.querySelector('output').textContent};
+    })()""")
+    if seen["told"] != "%s found" % "{:,}".format(seen["wanted"]):
+        yield "a search for %r tells %r, and not %d" % (seen["name"], seen["told"], seen["wanted"])
+    if seen["name"] not in seen["chosen"] or seen["after"]:
+        yield "Enter goes to %r; an empty search tells %r" % (seen["chosen"], seen["after"])
+    show_all(page)
+
+
+def stretches_are_marked(page):
+    """A drag with Shift marks a stretch; the line tells of it, and Escape takes it away."""
+    bar = widest(page)
+    first, last = bar["left"] + 40, bar["right"] - 40
+    page.mouse("mousePressed", first, bar["y"], button="left", buttons=1, clickCount=1, modifiers=SHIFT)
+    page.mouse("mouseMoved", last, bar["y"], button="left", buttons=1, modifiers=SHIFT)
+    page.mouse("mouseReleased", last, bar["y"], button="left", clickCount=1, modifiers=SHIFT)
+    told = page.evaluate("allLanes[0].figure.querySelector('.stretch').textContent")
+    if not told.startswith("Chosen stretch: ") or "% " not in told.replace("%,", "% "):
+        yield "a marked stretch tells %r" % told
+    if not page.evaluate("!!allLanes[0].element.querySelector('.mark')"):
+        yield "a marked stretch is not drawn"
+    page.evaluate("allLanes[0].element.focus()")
+    page.key("Escape")
+    if page.evaluate("!!allLanes[0].mark"):
+        yield "Escape does not take a mark away"
+    show_all(page)
+
+
+def runs_zoom_by_themselves(page):
+    lengths = "allLanes.map(lanes => lanes.stretch.length)"
+    before = page.evaluate(lengths)
+    page.evaluate("allLanes[0].element.focus()")
+    page.key("+", "+")
+    after = page.evaluate(lengths)
+    if not after[0] < before[0] or after[1:] != before[1:]:
+        yield "the runs do not zoom by themselves: %s, %s" % (before, after)
+    if page.evaluate("allLanes.length > 1 && document.querySelector('details.greedy') ? "
+                     "document.querySelector('details.greedy').hasAttribute('open') : false"):
+        yield "the greedy run is not folded away"
+    show_all(page)
+
+
+def fingers_zoom(page):
+    """Two fingers that part zoom; one finger that taps a bar tells of it."""
+    bar = widest(page)
+    show_all(page)
+    whole = page.evaluate("allLanes[0].stretch.length")
+    near, far = ([{"x": bar["left"] + 300 + d, "y": bar["y"], "id": i} for i, d in enumerate((-part, part))]
+                 for part in (20, 120))
+    page.touch("touchStart", near)
+    page.touch("touchMove", far)
+    page.touch("touchEnd", [])
+    zoomed = page.evaluate("allLanes[0].stretch.length")
+    if not zoomed < whole:
+        yield "two fingers do not zoom"
+    bar = widest(page)
+    page.touch("touchStart", [{"x": bar["x"], "y": bar["y"], "id": 0}])
+    page.touch("touchEnd", [])
+    if page.evaluate("(t => t ? t.textContent : '')(document.querySelector('.tip.shown'))") == "":
+        yield "a tap tells nothing"
+    show_all(page)

@@ -1,0 +1,1 @@
+"""The tools around spanprof: recordings, pages, changed programs, paths, tests of runtimes."""

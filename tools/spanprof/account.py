@@ -1,0 +1,156 @@
+"""Where the time of a recorded run's threads went: the sums that spanprof_account tells of the timed document, and what
+the recording tells beside them. docs/MODEL.md has the words."""
+import os
+import re
+from dataclasses import dataclass, field
+from functools import cached_property
+from typing import List
+
+from spanprof import client
+from spanprof.account_program import HOW, NoAccount, ask, spanprof_account
+from spanprof.answers import named_numbers
+from spanprof.claims import is_folded
+from spanprof.idle import idle_by_place
+
+UNFINISHED = "task that did not end|the program ended inside|the records were full inside"
+
+
+@dataclass
+class Row:
+    """When a segment was ready, began and ended, in nanoseconds since the region began."""
+    thread: int
+    ready: int
+    begin: int
+    end: int
+
+
+@dataclass
+class HeldUp:
+    """Of the time in code, in nanoseconds: what was no code of the program."""
+    preempted: int = 0      # the system had put the thread off
+    asleep: int = 0         # the code slept, or waited by itself
+    at_locks: int = 0       # of OpenMP
+
+    @property
+    def all(self):
+        return self.preempted + self.asleep + self.at_locks
+
+
+@dataclass
+class Account:
+    """In nanoseconds, over all threads."""
+    threads: int
+    elapsed: int
+    busy: int
+    delayed: int
+    starved: int
+    outside: int
+    held_up: HeldUp = field(default_factory=HeldUp)
+    recorder: int = 0       # of the time in code, by the wall clock
+    by_processor: bool = False      # costs are read on that clock: then it is among what was preempted
+    of_runs: bool = False   # of the one of several runs that has the median work
+    left_out: int = 0       # code of the region that has no times here, and is idle
+    rows: List[Row] = field(default_factory=list)
+    places: List[str] = field(default_factory=list)     # of the segments
+
+    @property
+    def whole(self):
+        return self.threads * self.elapsed
+
+    @property
+    def code(self):
+        return self.busy - self.held_up.all - self.recorder
+
+    @property
+    def parts(self):
+        """What the threads' time is made of; the parts add up to it."""
+        return {"code": self.code, "recorder": self.recorder, "preempted": self.held_up.preempted,
+                "asleep": self.held_up.asleep, "at locks": self.held_up.at_locks, "delayed": self.delayed,
+                "starved": self.starved, "outside": self.outside}
+
+    @cached_property
+    def idle(self):
+        """Delayed and starved time by place: the parts add up to the sums."""
+        found = idle_by_place(self.rows, self.places, self.threads)
+        assert [sum(parts.values()) for parts in found] == [self.delayed, self.starved], "the rows have other sums"
+        return found
+
+    @property
+    def delayed_by(self):
+        return self.idle[0]
+
+    @property
+    def starved_by(self):
+        return self.idle[1]
+
+
+def read_rows(table):
+    names = ("thread", "ready", "begin", "end")
+    return [Row(*(int(row[name]) for name in names)) for row in client.rows(table)]
+
+
+def at_locks(head):
+    """How long threads waited for locks of OpenMP, in the text's unit."""
+    return sum(int(found[1]) for found in (re.search(r"(\d+) waiting\b", line) for line in head.locks) if found)
+
+
+def within(parts, whole):
+    """Each part is seen by itself; together they are no more than the whole."""
+    out = []
+    for part in parts:
+        out.append(max(0, min(part, whole - sum(out))))
+    return out
+
+
+def divide_busy(found, head, work):
+    """By the wall clock both clocks tell what held code up, and what segments lasted beyond their costs and their
+    waiting for locks is the recorder's. By the processor's clock it is held up for as long as it lasted beyond its
+    costs, the recorder's time included."""
+    unit, by = head.nanoseconds, head.clocks_differ.get("by", 0)
+    beyond = min(max(found.busy - (work - head.untimed) * unit, 0), found.busy)
+    waiting = at_locks(head) * unit
+    if head.clock == "cpu":
+        asleep, waiting = within((by * unit, waiting), beyond)
+        return HeldUp(beyond - asleep - waiting, asleep, waiting), 0
+    *parts, recorder = within((by * unit, head.slept.get("by", 0) * unit, waiting, beyond - waiting), found.busy)
+    return HeldUp(*parts), recorder
+
+
+def account_of(answers, path):
+    """That of the timed document in a file, which is a run of the text."""
+    head = answers.head
+    sums, rows = named_numbers(ask([], path)), read_rows(ask(["--rows"], path))
+    if len(rows) != len(answers.code):
+        raise NoAccount("there are times of %d segments, and not of %d" % (len(rows), len(answers.code)))
+    found = Account(**sums, rows=rows, places=[segment.place() for segment in answers.code])
+    # lines that are rounded to whole units may have less than the text covers
+    found.held_up, found.recorder = divide_busy(found, head, max(answers.work, head.covered or 0))
+    found.by_processor = head.clock == "cpu"
+    found.of_runs = (head.runs or 1) > 1
+    found.left_out = (head.not_covered.get("of this region", 0) + head.untimed) * head.nanoseconds
+    return found
+
+
+def timed_beside(path):
+    """Where the timed document of a text lies, if it has one."""
+    return re.sub(r"\.tasks$", "", path) + ".timed"
+
+
+def why_none(head):
+    """Why the converter wrote no timed document; empty where nothing is known."""
+    if is_folded(head):
+        return "tasks are folded, and the times are not those of all of their code"
+    if any(re.match(UNFINISHED, remark) for remark in head.remarks):
+        return "tasks did not run to their ends"
+    return "" if not head.elapsed or spanprof_account() else HOW
+
+
+def account_beside(answers):
+    """That of the timed document beside the text; or None, and why."""
+    path = timed_beside(answers.path)
+    if not os.path.exists(path) or not answers.head.nanoseconds:
+        return None, why_none(answers.head)
+    try:
+        return account_of(answers, path), ""
+    except NoAccount as fault:
+        return None, str(fault)

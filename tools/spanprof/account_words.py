@@ -1,0 +1,61 @@
+"""The account of a recorded run in four lines of a user's words, and as JSON."""
+MOST_PLACES = 2
+LEAST = 0.0005      # of the threads' time, from which on a part is told
+PROVED = "the four sums are proved of the recorded text and these times"
+LONG = ((10 ** 9, "s"), (10 ** 6, "ms"), (10 ** 3, "us"), (1, "ns"))
+
+
+def lasting(nanoseconds):
+    """In the unit that leaves a whole number, with three digits."""
+    size, name = next((pair for pair in LONG if nanoseconds >= pair[0]), LONG[-1])
+    digits = max(0, 3 - len(str(nanoseconds // size))) if size > 1 else 0
+    return "%.*f %s" % (digits, nanoseconds / size, name)
+
+
+def of_places(parts, words):
+    """The first places of idle time, each with its share of that time."""
+    whole = sum(parts.values())
+    shown = ["%s (%.0f %%)" % (place, 100 * part / whole) for place, part in list(parts.items())[:MOST_PLACES]
+             if part and 200 * part >= whole]
+    return words + ", ".join(shown) if shown else ""
+
+
+def held_up_words(found, share):
+    off = "off the processor or in the recorder" if found.by_processor else "off the processor"
+    parts = [(found.held_up.preempted, off), (found.held_up.asleep, "asleep"),
+             (found.held_up.at_locks, "waiting for locks")]
+    told = ["%s %s" % (share(part), name) for part, name in parts if part >= LEAST * found.whole and part]
+    return "; %s held up in it: %s" % (share(found.held_up.all), ", ".join(told)) if told else ""
+
+
+def account_lines(found):
+    """Shares are of threads times elapsed time."""
+    def share(part):
+        return "%.1f %%" % (100 * part / found.whole if found.whole else 0)
+
+    def idle(part, by, words):
+        return share(part), of_places(by, words) if part >= LEAST * found.whole else ""
+
+    recorder = ", %s the recorder's" % share(found.recorder) if found.recorder >= LEAST * found.whole > 0 else ""
+    run = ", in the run with the median work" if found.of_runs else ""
+    lines = ["of %d x %s%s: %s in your code%s%s (measured)" % (
+                 found.threads, lasting(found.elapsed), run, share(found.code), recorder, held_up_words(found, share)),
+             "%s idle though a task was ready%s (measured)" % idle(found.delayed, found.delayed_by, ": beside "),
+             "%s idle with nothing ready%s (measured)" % idle(found.starved, found.starved_by, ": there ran "),
+             "%s before the region's code and after it (measured); %s" % (share(found.outside), PROVED)]
+    if found.left_out >= 2 * LEAST * found.whole > 0:
+        lines.append("up to %s in code of the region that has no times, and is idle here (measured)" %
+                     share(found.left_out))
+    return lines
+
+
+def lines_of(found, why=""):
+    """What the summary tells of an account, or why there is none."""
+    return account_lines(found) if found else ["not told: " + why] if why else []
+
+
+def as_json(found):
+    """Times in nanoseconds, over all threads."""
+    return {"threads": found.threads, "elapsed": found.elapsed, "parts": found.parts,
+            "delayed beside": found.delayed_by, "starved while": found.starved_by, "left out": found.left_out,
+            "unit": "ns", "measured": "all times", "proved": PROVED}

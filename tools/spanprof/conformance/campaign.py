@@ -1,0 +1,102 @@
+"""Runs many cases side by side."""
+import concurrent.futures
+import contextlib
+import fnmatch
+import sys
+import time
+
+from spanprof.conformance.cases import Case
+from spanprof.conformance.directed import directed_programs, kinds_of
+from spanprof.conformance.generate import random_program
+from spanprof.conformance.results import Results
+from spanprof.conformance.second_try import SecondTries, doubtful
+from spanprof.conformance.variants import in_variant
+
+DIRECTED_UNIT, RANDOM_UNIT = 100_000, 1_000  # nanoseconds for a cost of 1
+
+
+def cases_of(name, body, variants, unit):
+    """A program's cases: one for each variant that differs."""
+    bodies = {in_variant(body, variant): variant for variant in reversed(variants)}
+    return [Case(name, written, variant, unit) for written, variant in reversed(bodies.items())]
+
+
+def directed_cases(kinds, variants, pattern="*"):
+    """The cases of the directed part, of programs whose names fit a pattern of the shell's, and the names of those that
+    need a kind that the compiler lacks."""
+    programs = [(name, body) for name, body in directed_programs() if fnmatch.fnmatchcase(name, pattern)]
+    cases = [case for name, body in programs if kinds_of(body) <= kinds
+             for case in cases_of(name, body, variants, DIRECTED_UNIT)]
+    return cases, [name for name, body in programs if not kinds_of(body) <= kinds]
+
+
+def random_cases(seeds, kinds, variants, without):
+    """Cases of random programs. Each is named for its shape and the seed that makes it."""
+    cases = []
+    for seed in seeds:
+        shape, body = random_program(seed, kinds, without)
+        cases += cases_of(f"{shape}-{seed}", body, variants, RANDOM_UNIT)
+    return cases
+
+
+class Progress:
+    """A line on standard error, where that is a terminal."""
+
+    def __init__(self, cases):
+        self.cases, self.done, self.failed = cases, 0, 0
+        self.shown = sys.stderr.isatty()
+
+    def add(self, tallies):
+        self.done += 1
+        self.failed += any(tally.failures for tally in tallies)
+        if self.shown:
+            end = "\n" if self.done == self.cases else ""
+            sys.stderr.write(f"\r{self.done} of {self.cases} cases, {self.failed} with failures{end}")
+            sys.stderr.flush()
+
+
+def tried(bench, cases, plan, jobs):
+    """Each of the cases with its tallies, as it ends; each is run as the plan says. What may only have been slow comes
+    last, after a second try."""
+    progress, pool, slow = Progress(len(cases)), concurrent.futures.ThreadPoolExecutor(jobs), []
+    try:
+        futures = {pool.submit(bench.try_case, case, plan.conditions(case)): case for case in cases}
+        for future in concurrent.futures.as_completed(futures):
+            progress.add(future.result())
+            if doubtful(future.result()):
+                slow.append((futures[future], future.result()))
+            else:
+                yield futures[future], future.result()
+        tries = SecondTries(lambda case, conditions: bench.try_case(case, [conditions])[0])
+        for case, tallies in slow:
+            yield case, tries.settled(case, tallies)
+    finally:
+        pool.shutdown(cancel_futures=True)
+
+
+def some_failing(bench, cases, plan, jobs, enough):
+    """The results of cases, which end once so many programs have failed."""
+    begun, outcomes, failed = time.monotonic(), [], set()
+    with contextlib.closing(tried(bench, cases, plan, jobs)) as running:
+        for case, tallies in running:
+            outcomes.append((case, tallies))
+            if any(tally.failures for tally in tallies):
+                failed.add(case.name)
+            if len(failed) >= enough:
+                break
+    return summed(outcomes, begun)
+
+
+def run_cases(bench, cases, plan, jobs):
+    """The results of cases."""
+    begun = time.monotonic()
+    return summed(tried(bench, cases, plan, jobs), begun)
+
+
+def summed(outcomes, begun):
+    """The results of cases with their tallies, which were begun at a time of the monotonic clock."""
+    results = Results()
+    for case, tallies in outcomes:
+        results.add(case, tallies)
+    results.seconds = time.monotonic() - begun
+    return results

@@ -1,0 +1,164 @@
+"""Cases: a program in one variant, built, run under several conditions, and judged."""
+import collections
+import itertools
+import shutil
+import zlib
+from dataclasses import dataclass, field
+
+from spanprof.conformance.coverage import Coverage
+from spanprof.conformance.emit_c import c_text
+from spanprof.conformance.expected import Expectations
+from spanprof.conformance.explain import explain
+from spanprof.conformance.judge import Verdict
+from spanprof.conformance.launch import Conditions, launch
+from spanprof.conformance.segments import Table
+from spanprof.conformance.text import text_of
+from spanprof.conformance.tied import moved, unconstrained
+from spanprof.conformance.toolchain import BuildFailed
+
+
+@dataclass(frozen=True)
+class Case:
+    """A program to be tested; `variant` says how its tasks are written: tied, untied or mixed."""
+    name: str
+    body: tuple
+    variant: str
+    unit: int  # what a cost of 1 lasts, in nanoseconds
+
+
+@dataclass
+class Failure:
+    """A run that was not accepted, with all that is needed to see it again."""
+    case: Case
+    conditions: Conditions
+    verdict: Verdict
+    rule: str
+    words: str
+    log: object
+
+    @property
+    def signature(self):
+        """Failures with one signature are taken for the same."""
+        return self.case.variant, self.verdict.kind, self.rule
+
+
+@dataclass
+class Tally:
+    """What came of the runs of a case under some conditions."""
+    conditions: Conditions
+    runs: int = 0
+    events: int = 0
+    failures: list = field(default_factory=list)
+    schedules: collections.Counter = field(default_factory=collections.Counter)  # runs by the schedule's name
+    coverage: collections.Counter = field(default_factory=collections.Counter)   # as Coverage.of_run
+    seen_once: int = 0  # hangs that a second try did not show
+    expected: collections.Counter = field(default_factory=collections.Counter)   # failures by what is known of them
+
+
+@dataclass(frozen=True)
+class Plan:
+    """Under which conditions cases are run: on each number of threads, in one of the settings."""
+    threads: tuple
+    runs: int
+    seed: int
+    timeout: int
+    settings: tuple = ("free",)
+
+    def conditions(self, case):
+        """The conditions for a case; which setting goes with which number of threads differs from case to case."""
+        first = zlib.crc32(case.name.encode()) + self.seed * len(self.threads)
+        settings = [self.settings[(first + number) % len(self.settings)] for number in range(len(self.threads))]
+        if case.name.startswith("priority") and "priorities" in self.settings:
+            settings = ["priorities" if number % 2 else setting for number, setting in enumerate(settings)]
+        return [Conditions(threads, self.runs, self.seed, case.unit, self.timeout, setting)
+                for threads, setting in zip(self.threads, settings)]
+
+
+class Examined:
+    """A case with all that its runs are judged by."""
+
+    def __init__(self, case, judge):
+        self.case, self.judge, self.text = case, judge, text_of(case.body)
+        self.record = judge.record(self.text)
+        self.table = Table(case.body)
+        self.coverage = Coverage(self.table)
+        self.known = {}
+
+    def source(self):
+        return c_text(self.case.body, self.table, self.record.preds)
+
+    def judged(self, log, constrained):
+        """The verdict of spanprof, and on what it accepts whether tied tasks stayed on their threads and, where the
+        runtime was not told otherwise, whether threads began tied tasks only where they may."""
+        verdict = self.judge.verdict(self.text, self.record, log)
+        if not verdict.accepted or log.unlogged:
+            return verdict
+        tests = {"moved": moved, "unconstrained": unconstrained} if constrained else {"moved": moved}
+        told = {kind: test(self.table, log.events) for kind, test in tests.items()}
+        return next((Verdict(kind, words) for kind, words in told.items() if words), verdict)
+
+    def verdict(self, log, conditions):
+        """The verdict on a log, and what it tried. Equal logs get equal answers, so each is looked at once."""
+        constrained = conditions.setting != "unconstrained"
+        key = (conditions.threads, constrained, log.end, log.detail, log.unlogged, tuple(log.events))
+        if key not in self.known:
+            verdict = self.judged(log, constrained)
+            ordered = verdict.accepted and not log.unlogged
+            tried = self.coverage.of_run(log.events, conditions.threads) if ordered else collections.Counter()
+            self.known[key] = verdict, tried
+        return self.known[key]
+
+
+class Bench:
+    """Where cases are built, run and judged."""
+
+    def __init__(self, toolchain, judge, environment, expectations=Expectations("", ())):
+        self.toolchain, self.judge, self.environment = toolchain, judge, environment
+        self.expectations = expectations
+        self.programs, self.numbers = {}, itertools.count()
+
+    def build(self, source):
+        """The program of a C file; the same file is built once."""
+        if source not in self.programs:
+            self.programs[source] = self.toolchain.build(source, f"p{next(self.numbers)}")
+        return self.programs[source]
+
+    def forget(self):
+        """Removes all programs that were built, where they are not to be kept."""
+        self.toolchain.forget(self.programs.values())
+        self.programs.clear()
+
+    def examined(self, case):
+        return Examined(case, self.judge)
+
+    def try_case(self, case, all_conditions):
+        """A tally for each of the conditions."""
+        examined = self.examined(case)
+        try:
+            program = self.build(examined.source())
+        except BuildFailed as refused:
+            verdict = Verdict("not built", str(refused))
+            return [Tally(c, failures=[Failure(case, c, verdict, "not built", str(refused), None)])
+                    for c in all_conditions]
+        return [self.tally(examined, program, conditions) for conditions in all_conditions]
+
+    def stacks_of(self, case, conditions):
+        """The stacks of all threads in a run of a case that hangs, where a debugger is there and one hangs again."""
+        if not shutil.which("gdb"):
+            return []
+        program = self.build(self.examined(case).source())
+        logs = launch(program, conditions, {**self.environment, "CONFORMANCE_STACKS": "1"})
+        return next((log.stacks for log in logs if log.stacks), [])
+
+    def tally(self, examined, program, conditions):
+        tally = Tally(conditions)
+        for log in launch(program, conditions, self.environment):
+            tally.runs += 1
+            tally.events += len(log.events)
+            tally.schedules[log.schedule] += 1
+            verdict, tried = examined.verdict(log, conditions)
+            tally.coverage.update(tried)
+            if not verdict.accepted:
+                told = explain(examined.text, verdict, log)
+                tally.failures.append(Failure(examined.case, conditions, verdict, told.rule, told.words, log))
+        return self.expectations.settled(tally)

@@ -1,0 +1,25 @@
+"""Tests a runtime for OpenMP tasks: spanprof, whose answers are proved, says whether what it did was legal.
+
+    spanprof-conformance run --cc clang-16 --report report.md
+    spanprof-conformance mutants --cc gcc
+
+tools/conformance/README.md has all commands and what they mean.
+"""
+import sys
+import tempfile
+
+from spanprof.conformance.commands import COMMANDS
+from spanprof.conformance.options import parse
+from spanprof.errors import Fault
+
+
+def main():
+    options = parse(COMMANDS)
+    with tempfile.TemporaryDirectory(prefix="conformance-") as folder:
+        try:
+            return options.call(options, folder)
+        except (Fault, OSError) as reason:
+            print(f"spanprof-conformance: {reason}", file=sys.stderr)
+            return 2
+        except KeyboardInterrupt:
+            return 130

@@ -1,0 +1,189 @@
+"""Writes a program as C with OpenMP tasks. To test another language, write its like of this file and of harness/."""
+from spanprof.conformance.data import DATA
+from spanprof.conformance.forms import form_of, is_of_regions, is_wait_for_items
+from spanprof.conformance.locations import Locations
+from spanprof.conformance.program import Group, Loop, Task, Wait, Work, segment_count
+from spanprof.conformance.text import item_runs, text_of
+
+TEMPLATE = DATA / "harness" / "program.c.in"
+WAITED_FOR, CREATES = 1, 2  # what the harness delays: see delays.c
+
+
+class Emitter:
+    """Walks over a program. A segment's number is a constant, plus a stride for each turn of each loop around it."""
+
+    def __init__(self, body):
+        self.locations, self.regions = Locations(body), is_of_regions(body)
+        self.lines, self.next, self.strides, self.tasks, self.finals = [], 0, [], 0, 0
+        self.start(1)
+        self.body(body, 1)
+        self.put(1, "segment_finish();")
+
+    def put(self, indent, line):
+        self.lines.append("    " * indent + line)
+
+    def pragma(self, words):
+        self.lines.append(f"#pragma omp {words}")
+
+    def segment(self, number):
+        turns = [f" + {stride}u * (unsigned)(v_{loop.var} - {loop.first})" for loop, stride in self.strides]
+        return f"{number}u{''.join(turns)}"
+
+    def start(self, indent):
+        self.put(indent, f"segment_start({self.segment(self.next)});")
+        self.next += 1
+
+    def body(self, body, indent):
+        calls = {Wait: self.wait, Group: self.group, Loop: self.loop, Task: self.task}
+        for node in body:
+            if not isinstance(node, Work):  # the harness looks up each segment's cost
+                calls[type(node)](node, indent)
+
+    def wait(self, node, indent):
+        self.put(indent, "segment_finish();")
+        self.pragma("taskwait")
+        self.start(indent)
+
+    def group(self, node, indent):
+        form = form_of(node)
+        if form == "parallel" and self.regions:
+            self.region(node, indent)
+        elif form == "taskyield":
+            self.put(indent, "segment_finish();")
+            self.pragma("taskyield")
+        elif form == "taskloop" and not self.finals:
+            self.task_loop(node.body[0], "", indent)
+        else:
+            self.pragma("taskgroup")
+            self.block(node, indent)
+        self.start(indent)
+
+    def block(self, node, indent):
+        self.put(indent, "{")
+        self.body(node.body, indent + 1)
+        self.put(indent + 1, "segment_finish();")
+        self.put(indent, "}")
+
+    def region(self, node, indent):
+        """The tasks of a group as the implicit tasks of a parallel region, whose end waits as a group's does."""
+        self.put(indent, "segment_finish();")
+        at = self.next - 1
+        for task in node.body:
+            at += segment_count((task,))
+            self.put(indent, f"segment_pass({at}u);")
+        self.pragma("parallel num_threads(threads)")
+        self.put(indent, f"for (int part = omp_get_thread_num(); part < {len(node.body)}; "
+                         "part += omp_get_num_threads()) switch (part) {")
+        for part, task in enumerate(node.body):
+            self.put(indent, f"case {part}: {{")
+            self.start(indent + 1)
+            self.body(task.body, indent + 1)
+            self.put(indent + 1, "segment_finish();")
+            self.put(indent + 1, "break;")
+            self.put(indent, "}")
+            self.next += 1
+        self.put(indent, "}")
+
+    def loop(self, node, indent):
+        if not node.turns:
+            return
+        if form_of(node) == "taskloop" and not self.finals:
+            self.task_loop(node, " nogroup", indent)
+            self.start(indent)
+            return
+        stride, first = segment_count(node.body), self.next
+        self.put(indent, self.for_head(node))
+        self.strides.append((node, stride))
+        self.body(node.body, indent + 1)
+        self.strides.pop()
+        self.put(indent, "}")
+        self.next = first + stride * node.turns
+
+    def for_head(self, node):
+        return f"for (int v_{node.var} = {node.first}; v_{node.var} <= {node.last}; v_{node.var}++) {{"
+
+    def task_loop(self, node, nogroup, indent):
+        """A loop of tasks as a taskloop. It may make its tasks in any order, so all segments from which it makes them
+        come before it; without a group the last one is left to go on after it."""
+        task, stride, first = node.body[0], segment_count(node.body), self.next
+        last = node.turns - 1 if nogroup else node.turns
+        self.put(indent, "segment_finish();")
+        self.put(indent, f"for (unsigned turn = 1; turn <= {last}; turn++) "
+                         f"segment_pass({self.segment(first - 1)} + {stride}u * turn);")
+        self.pragma(f"taskloop num_tasks({node.turns}){nogroup}{self.clauses(task)}")
+        self.put(indent, self.for_head(node))
+        self.strides.append((node, stride))
+        self.task_body(task, indent + 1)
+        self.strides.pop()
+        self.put(indent, "}")
+        self.next = first + stride * node.turns - (1 if nogroup else 0)
+
+    def task(self, node, indent):
+        self.put(indent, "segment_finish();")
+        if is_wait_for_items(node):
+            self.pragma("taskwait" + self.depend(node))
+            self.put(indent, f"segment_pass({self.segment(self.next)});")
+            self.next += 1
+            self.start(indent)
+            return
+        self.pragma("task" + self.clauses(node))
+        self.put(indent, "{")
+        self.task_body(node, indent + 1)
+        self.put(indent, "}")
+        self.start(indent)
+
+    def task_body(self, node, indent):
+        self.finals += node.final
+        self.start(indent)
+        self.body(node.body, indent)
+        self.put(indent, "segment_finish();")
+        self.finals -= node.final
+
+    def clauses(self, node):
+        """Conditions are constants in every other task, since a compiler translates those in another way."""
+        self.tasks += 1
+        variable = self.tasks % 2
+        words = "".join(f" {clause}" for clause in node.clauses if clause != "taskwait")
+        if node.undeferred:
+            words += " if(conformance_no)" if variable else " if(0)"
+        if node.final:
+            words += " final(conformance_yes)" if variable else " final(1)"
+        return words + self.depend(node)
+
+    def depend(self, node):
+        """The `depend` clauses of a task."""
+        return "".join(f" depend({kind}: {', '.join(self.locations.of(item) for item in items)})"
+                       for kind, items in item_runs(node.items))
+
+
+def roles_of(table):
+    """For each segment whether another task waits for its end, and whether it creates a task."""
+    roles = [0] * len(table.cost)
+    for segment in range(len(roles)):
+        for need in table.needs(segment):
+            if need.rule == "creation":
+                roles[need.before] |= CREATES
+            elif need.rule != "order":
+                roles[need.before] |= WAITED_FOR
+    return roles
+
+
+def listed(numbers):
+    return ", ".join(map(str, numbers)) or "0"
+
+
+def c_text(body, table, preds):
+    """The C file of a program, given its table of segments and each segment's predecessors."""
+    emitter = Emitter(body)
+    begins = [0]
+    for row in preds:
+        begins.append(begins[-1] + len(row))
+    parts = {"TEXT": text_of(body).replace("*/", "* /"), "LOCATIONS": emitter.locations.declarations(),
+             "COSTS": listed(table.cost), "PREDS_BEGIN": listed(begins),
+             "PREDS": listed(before for row in preds for before in row),
+             "ROLES": listed(roles_of(table)), "SEGMENTS": len(table.cost), "REGIONS": int(emitter.regions),
+             "BODY": "\n".join(emitter.lines)}
+    filled = TEMPLATE.read_text()
+    for name, part in parts.items():
+        filled = filled.replace(f"@{name}@", str(part))
+    return filled

@@ -1,0 +1,34 @@
+"""What a report says of the test itself, as pairs of a name and what is so."""
+import os
+
+from spanprof.conformance.campaign import directed_cases
+from spanprof.conformance.settings import SETTINGS
+
+
+def tested(options, bench, settings):
+    """What is tested, and how: the same whenever a campaign goes on."""
+    toolchain = bench.toolchain
+    facts = {"compiler": f"{toolchain.version()}, flags `{' '.join(toolchain.shown_flags)}`",
+             "runtime": toolchain.runtime(bench.environment),
+             "threads": ", ".join(map(str, options.threads)),
+             "runs each": str(options.runs),
+             "seed": str(options.seed),
+             **{f"setting {name}": SETTINGS[name].told() for name in settings},
+             "tasks": ", ".join(options.tasks),
+             "mutant": options.mutate,
+             "part": str(options.shard) if options.shard.of > 1 else "",
+             "directed programs": options.match if options.match != "*" else "",
+             "left out of random programs": ", ".join(options.without),
+             "left out, as the compiler lacks a kind of item": lacking(options, toolchain.kinds)}
+    return {name: fact for name, fact in facts.items() if fact}
+
+
+def lacking(options, kinds):
+    """The directed programs that need a kind of item that the compiler lacks."""
+    return ", ".join(directed_cases(kinds, options.tasks, options.match)[1]) if options.directed else ""
+
+
+def facts_of(what, results):
+    """All facts, after a test: on which machine, and how long it took."""
+    machine = f"{os.cpu_count()} processors, load {os.getloadavg()[0]:.1f} at the end"
+    return [*what.items(), ("machine", machine), ("time", f"{results.seconds:.0f} s")]

@@ -1,0 +1,56 @@
+"""What the options ask for: the judge, a bench, how to run on it, and the program in a file."""
+import os
+import pathlib
+
+from spanprof.conformance.cases import Bench, Plan
+from spanprof.conformance.expected import USUAL, Expectations, read_expected
+from spanprof.conformance.judge import Judge, Missing, Refused, find_spanprof
+from spanprof.conformance.mutants import build_mutants, family_of, mutants_of, mutated
+from spanprof.conformance.reader import read_program
+from spanprof.conformance.settings import settings_of
+from spanprof.conformance.toolchain import Toolchain
+from spanprof.refusal import explained
+
+
+def judge_of(options):
+    return Judge(find_spanprof(options.spanprof, os.environ))
+
+
+def open_bench(options, folder):
+    toolchain = Toolchain(options.cc, options.cflags.split(), folder, options.keep)
+    environment = {**os.environ, "LD_PRELOAD": options.preload} if options.preload else dict(os.environ)
+    files = [USUAL] * options.known_faults + options.expected
+    expectations = Expectations(toolchain.runtime(environment), read_expected(files))
+    return Bench(toolchain, judge_of(options), environment, expectations)
+
+
+def entry_points(bench):
+    """Which entry points the compiler's programs call: those of its own runtime, whatever is loaded in its place."""
+    return family_of(bench.toolchain.runtime(dict(os.environ)))
+
+
+def plan_of(options, bench):
+    settings = options.settings or settings_of(entry_points(bench))
+    return Plan(options.threads, options.runs, options.seed, options.timeout, tuple(settings))
+
+
+def mutate(bench, name):
+    """Makes the bench's runtime a mutant."""
+    mutants = mutants_of(entry_points(bench))
+    if name not in mutants:
+        raise Missing(f"no mutant {name} of this runtime; there are {', '.join(mutants)}")
+    library = build_mutants(entry_points(bench), bench.toolchain.folder)
+    bench.environment = mutated(bench.environment, library, name)
+
+
+def program_in(path, judge):
+    """The program in a file, which spanprof has to accept."""
+    if not os.path.isfile(path):
+        raise Missing(f"{path}: no such file")
+    text = pathlib.Path(path).read_text()
+    try:
+        judge.record(text)
+    except Refused as refused:
+        more = explained(path, ["run"], text, str(refused), lambda words, shorter: judge.ask(words, shorter)[1])
+        raise Refused("\n".join(filter(None, [more, f"spanprof: {refused}"]))) from refused
+    return read_program(text)

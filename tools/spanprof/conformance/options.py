@@ -1,0 +1,143 @@
+"""The words of the command line."""
+import argparse
+import os
+
+from spanprof.conformance.campaign import DIRECTED_UNIT
+from spanprof.conformance.generate import CONSTRUCTS
+from spanprof.conformance.settings import SETTINGS
+from spanprof.conformance.shards import Shard, read_shard
+from spanprof.conformance.variants import VARIANTS
+from spanprof.version import Version
+
+MOST_THREADS = 64
+REPORT = "files for the report, with commas: .md, .json, .xml (JUnit), .tap"
+
+
+def positive(word):
+    """A whole number from 1."""
+    number = int(word)
+    if number < 1:
+        raise argparse.ArgumentTypeError("1 is the least")
+    return number
+
+
+def natural(word):
+    """A whole number from 0."""
+    return 0 if int(word) == 0 else positive(word)
+
+
+def thread_counts(words):
+    """Numbers of threads, in words with commas; spanprof counts 64 at most."""
+    counts = tuple(int(word) for word in words.split(","))
+    if not all(0 < count <= MOST_THREADS for count in counts):
+        raise argparse.ArgumentTypeError(f"numbers of threads are 1 to {MOST_THREADS}")
+    return counts
+
+
+def some_of(known):
+    """A type of options: words of these, with commas."""
+    def read(words):
+        chosen = words.split(",")
+        for word in chosen:
+            if word not in known:
+                raise argparse.ArgumentTypeError(f"{word} is none of {', '.join(known)}")
+        return chosen
+    return read
+
+
+def parse(calls, words=None):
+    """The options of the process. `calls` are the commands by name; the one that is chosen is `call`."""
+    parser = argparse.ArgumentParser(description="Tests a runtime for OpenMP tasks.")
+    parser.add_argument("--version", action=Version)
+    commands = parser.add_subparsers(dest="command", required=True)
+    for name, call in calls.items():
+        of_name = commands.add_parser(name, help=call.__doc__)
+        of_name.set_defaults(call=call)
+        add_options(name, of_name)
+    return parser.parse_args(words)
+
+
+def add_options(name, parser):
+    add = parser.add_argument
+    add("--spanprof", default="",
+        help="the program spanprof (SPANPROF, or as this repository builds it, or on the PATH)")
+    if name in ("shrink", "bisect", "emit", "judge"):
+        add("file", help="a program text")
+    if name == "merge":
+        add("files", nargs="+", help="the --state files of all parts")
+        add("--report", default="", help=REPORT)
+    if name == "judge":
+        add("log", help="what a run of it wrote")
+    if name == "run":
+        add("--tasks", type=some_of(VARIANTS), default=list(VARIANTS), metavar="tied,untied,mixed",
+            help="how tasks are written (all three; mixed: every other task is untied)")
+    if name in ("shrink", "bisect", "emit"):
+        add("--tasks", choices=VARIANTS, default="tied", help="how tasks are written (tied)")
+    if name in ("run", "mutants", "shrink", "bisect", "delays"):
+        add_bench_options(name, parser)
+
+
+def add_bench_options(name, parser):
+    add = parser.add_argument
+    add("--cc", required=True, help="the compiler" + (", or several with commas" if name == "delays" else ""))
+    add("--cflags", default="", help="more flags for it")
+    add("--preload", default="", help="a library to load first, such as another runtime with the same entry points")
+    add("--threads", type=thread_counts, default=(2, 4) if name == "mutants" else (1, 2, 4, 16),
+        help="numbers of threads (1,2,4,16; for mutants 2,4)")
+    add("--runs", type=positive, default=8, help="runs of each program on each number of threads (8)")
+    add("--settings", type=some_of(SETTINGS), default=[], metavar=",".join(SETTINGS),
+        help="how programs are started (each of those for the runtime in turn)")
+    add("--expected", type=lambda word: [word], default=[], metavar="FILE",
+        help="failures that do not count, beside those of expected.txt")
+    add("--no-known-faults", dest="known_faults", action="store_false", help="count the failures of expected.txt too")
+    add("--seed", type=natural, default=1, help="the first random program's number, and the delays' seed (1)")
+    add("--timeout", type=positive, default=10, help="seconds until a run counts as hung (10)")
+    add("--jobs", type=positive, default=max(1, (os.cpu_count() or 1) // 2), help="programs that run side by side")
+    add("--match", default="*", metavar="PATTERN", help="only the directed programs whose names fit it (*)")
+    add("--keep", default="", metavar="FOLDER", help="keep the built programs there, and take those that are there")
+    add("--report", default="", help=REPORT)
+    if name in ("shrink", "bisect"):
+        add("--unit", type=natural, default=DIRECTED_UNIT, help="what a cost of 1 lasts, in nanoseconds")
+    if name == "mutants":
+        add_mutant_options(parser)
+    elif name == "delays":
+        add("--programs", type=natural, default=20, help="how many random programs (20)")
+    elif name == "bisect":
+        add("--fails", type=positive, default=1, help="runs that have to fail (1)")
+    else:
+        add_failure_options(name, parser)
+
+
+def add_mutant_options(parser):
+    add = parser.add_argument
+    add("--built", default="", metavar="FOLDER",
+        help="runtimes built from changed sources, as checks/mutants/build.py leaves them, in place of entry points")
+    add("--only", type=lambda words: words.split(","), default=[], metavar="NAME,..", help="these of them alone")
+    add("--programs", type=natural, default=30, help="random programs of a campaign on each of them (30)")
+    add("--campaigns", type=positive, default=5,
+        help="campaigns on each of them, until two programs have failed (5)")
+    add("--no-directed", dest="directed", action="store_false", help="leave the directed part out of campaigns")
+    add("--without", type=some_of(CONSTRUCTS), default=[], metavar="CONSTRUCT,..",
+        help="constructs that random programs do not have")
+
+
+def add_failure_options(name, parser):
+    add = parser.add_argument
+    add("--mutate", default="", help="break a rule of the runtime, to see that it is noticed")
+    add("--shrink", type=natural, default=8, help="how many kinds of failures are shrunk (8)")
+    add("--shrink-runs", type=positive, default=20, help="runs in which a smaller program has to fail once (20)")
+    add("--shrink-tries", type=natural, default=300, help="smaller programs to try at most (300)")
+    if name == "run":
+        add("--programs", type=natural, default=100, help="how many random programs (100); with --hours: of a batch")
+        add("--hours", type=float, default=0, help="go on with batch after batch until so many hours are full")
+        add("--state", default="campaign.jsonl",
+            help="the file from which a campaign of hours goes on, and to which a part goes (campaign.jsonl)")
+        add("--shard", type=read_shard, default=Shard(), metavar="I/N",
+            help="only this part of the programs; its results go to --state, for `merge`")
+        add("--delays", action="store_true",
+            help="after the test, tell how long ready segments of the directed programs wait, as `delays` does")
+        add("--gcov", default="", metavar="FOLDER",
+            help="where the runtime was built with --coverage: tell which of its lines were reached")
+        add("--no-directed", dest="directed", action="store_false", help="leave out the directed part")
+        add("--without", type=some_of(CONSTRUCTS), default=[], metavar="CONSTRUCT,..",
+            help=f"constructs that random programs do not have: {', '.join(CONSTRUCTS)}")

@@ -1,0 +1,78 @@
+"""Cases of a campaign, their conditions, and their running side by side."""
+import io
+import unittest
+from unittest import mock
+
+from spanprof.conformance.campaign import Progress, cases_of, directed_cases, random_cases, run_cases
+from spanprof.conformance.cases import Plan
+from spanprof.conformance.program import KINDS
+from spanprof.conformance.tests.helpers import PLAN, StubBench, body_of, case_of
+
+ALL = ["tied", "untied", "mixed"]
+
+
+class Cases(unittest.TestCase):
+    def test_one_for_each_variant_that_differs(self):
+        two = body_of("task { } task { }")
+        self.assertEqual([case.variant for case in cases_of("x", two, ALL, 1)], ALL)
+        self.assertEqual([case.variant for case in cases_of("x", body_of("task { }"), ALL, 1)], ["tied", "untied"])
+        self.assertEqual([case.variant for case in cases_of("x", body_of("taskwait"), ALL, 1)], ["tied"])
+
+    def test_directed_programs_by_their_names(self):
+        names = {case.name for case in directed_cases(set(KINDS), ["tied"], "taskwait_depend_*")[0]}
+        self.assertEqual(names, {f"taskwait_depend_{which}" for which in ("in", "out", "several")})
+
+    def test_directed_programs_that_need_an_unknown_kind(self):
+        cases, skipped = directed_cases({"in", "out", "inout"}, ["tied"])
+        self.assertIn("depend_two_sets", skipped)
+        self.assertNotIn("depend_two_sets", [case.name for case in cases])
+        self.assertEqual(directed_cases(set(KINDS), ["tied"])[1], [])
+
+    def test_random_programs_are_named_for_their_seeds(self):
+        cases = random_cases(range(5, 8), set(KINDS), ["tied"], [])
+        self.assertEqual([case.name.split("-")[1] for case in cases], ["5", "6", "7"])
+        self.assertEqual(cases, random_cases(range(5, 8), set(KINDS), ["tied"], []))
+
+
+class Conditions(unittest.TestCase):
+    def test_each_number_of_threads_once(self):
+        plan = Plan((1, 2, 4, 16), 8, 3, 10, ("free", "pinned"))
+        found = plan.conditions(case_of())
+        self.assertEqual([at.threads for at in found], [1, 2, 4, 16])
+        self.assertEqual({at.setting for at in found}, {"free", "pinned"})
+        self.assertEqual(found, plan.conditions(case_of()))
+
+    def test_programs_differ_in_which_setting_comes_first(self):
+        plan = Plan((1, 2), 8, 3, 10, ("free", "pinned"))
+        self.assertEqual({plan.conditions(case_of(name))[0].setting for name in "abcdefgh"}, {"free", "pinned"})
+
+
+class Running(unittest.TestCase):
+    def test_all_cases_are_counted(self):
+        cases = [case_of(name) for name in "abc"]
+        results = run_cases(StubBench(), cases, PLAN, 2)
+        self.assertEqual((results.rows["all", 2]["programs"], results.rows["all", 4]["runs"]), (3, 9))
+        self.assertEqual(results.groups, {})
+
+    def test_failures_are_counted(self):
+        bench = StubBench(lambda body: body == body_of("taskwait"))
+        results = run_cases(bench, [case_of("a"), case_of("b", "taskwait")], PLAN, 1)
+        self.assertEqual(results.failed_programs(), ["b"])
+
+    def test_an_error_ends_it(self):
+        def breaks(body):
+            raise OSError("no room")
+        with self.assertRaises(OSError):
+            run_cases(StubBench(breaks), [case_of("a"), case_of("b")], PLAN, 1)
+
+    def test_progress_on_a_terminal_alone(self):
+        for is_terminal in (False, True):
+            with mock.patch("sys.stderr", new=io.StringIO()) as said:
+                said.isatty = lambda: is_terminal
+                progress = Progress(1)
+                progress.add([])
+            self.assertEqual(said.getvalue(), "\r1 of 1 cases, 0 with failures\n" if is_terminal else "")
+
+
+if __name__ == "__main__":
+    unittest.main()

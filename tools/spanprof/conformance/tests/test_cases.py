@@ -1,0 +1,110 @@
+"""Cases, built by a stub in place of a compiler: each program is a script that writes one log again and again."""
+import collections
+import os
+import pathlib
+import tempfile
+import unittest
+
+from spanprof.conformance.cases import Bench
+from spanprof.conformance.judge import Record, Verdict
+from spanprof.conformance.tests.helpers import PLAN, case_of
+from spanprof.conformance.toolchain import BuildFailed
+
+LOG = "start 0 0\nfinish 0 0\nstart 1 1\nstart 0 2\nfinish 0 2\nfinish 1 1\nstart 0 3\nfinish 0 3\n"
+EARLY = "start 0 0\nfinish 0 0\nstart 1 1\nstart 0 2\nfinish 0 2\nstart 0 3\nfinish 0 3\nfinish 1 1\n"
+
+
+class StubToolchain:
+    """Builds scripts in a folder; they write `logs` in turn, a run for each of them."""
+
+    def __init__(self, folder, logs):
+        self.folder, self.logs, self.built = pathlib.Path(folder), logs, 0
+
+    def build(self, _source, name):
+        self.built += 1
+        if not self.logs:
+            raise BuildFailed("no such pragma")
+        program = self.folder / name
+        runs = [f"run {number} plain\n{log}done 1\n" for number, log in enumerate(self.logs)]
+        program.write_text("#!/bin/sh\ncat << 'END'\n" + "".join(runs) + "END\n")
+        program.chmod(0o755)
+        return program
+
+    def forget(self, programs):
+        for program in programs:
+            program.unlink()
+
+
+class StubJudge:
+    """Refuses logs that are EARLY, and counts what it is asked."""
+
+    def __init__(self):
+        self.asked = 0
+
+    def record(self, _text):
+        return Record([[], [0], [0], [1, 2]], "1", "")
+
+    def verdict(self, _text, _record, log):
+        self.asked += 1
+        if "\n".join([*log.events, ""]) == EARLY:
+            return Verdict("refused", "event 5: NotReady 1")
+        return Verdict("accepted")
+
+
+class Cases(unittest.TestCase):
+    def setUp(self):
+        folder = tempfile.TemporaryDirectory()
+        self.addCleanup(folder.cleanup)
+        self.folder = folder.name
+
+    def tallies(self, *logs):
+        """The bench, and the tallies of a case whose program writes these logs."""
+        bench = Bench(StubToolchain(self.folder, logs), StubJudge(), dict(os.environ))
+        return bench, bench.try_case(case_of(), PLAN.conditions(case_of()))
+
+    def test_accepted(self):
+        _, tallies = self.tallies(LOG, LOG, LOG)
+        self.assertEqual([tally.conditions.threads for tally in tallies], [2, 4])
+        self.assertEqual((tallies[0].runs, tallies[0].events, tallies[0].failures), (3, 24, []))
+        self.assertEqual(tallies[0].schedules, {"plain": 3})
+        self.assertEqual(tallies[0].coverage, collections.Counter({
+            ("taskwait", "taskwait", measure): 3 for measure in ("waits", "held", "close")}))
+
+    def test_refused(self):
+        _, tallies = self.tallies(LOG, EARLY)
+        failure, = tallies[0].failures
+        self.assertEqual(failure.signature, ("tied", "refused", "taskwait"))
+        self.assertIn("the taskwait of task 0 waits for its child task 1", failure.words)
+        self.assertEqual(failure.log.number, 1)
+
+    def test_tied_task_on_another_thread(self):
+        _, tallies = self.tallies(LOG.replace("0 3", "1 3"))
+        self.assertEqual(tallies[0].failures[0].signature, ("tied", "moved", "moved"))
+        self.assertIn("event 6: thread 1 starts segment 3", tallies[0].failures[0].words)
+
+    def test_refused_runs_count_for_no_coverage(self):
+        _, tallies = self.tallies(EARLY)
+        self.assertEqual(tallies[0].coverage, {})
+
+    def test_equal_logs_are_judged_once(self):
+        bench, _ = self.tallies(LOG, LOG, EARLY, LOG)
+        self.assertEqual(bench.judge.asked, 4)  # two logs on two numbers of threads
+
+    def test_not_built(self):
+        bench, tallies = self.tallies()
+        self.assertEqual([tally.failures[0].signature for tally in tallies], [("tied", "not built", "not built")] * 2)
+        self.assertEqual((tallies[0].runs, tallies[0].failures[0].words), (0, "no such pragma"))
+        self.assertEqual(bench.programs, {})
+
+    def test_one_source_is_built_once_until_it_is_forgotten(self):
+        bench, _ = self.tallies(LOG)
+        bench.try_case(case_of(), PLAN.conditions(case_of()))
+        self.assertEqual(bench.toolchain.built, 1)
+        bench.forget()
+        self.assertEqual(os.listdir(self.folder), [])
+        bench.try_case(case_of(), PLAN.conditions(case_of()))
+        self.assertEqual(bench.toolchain.built, 2)
+
+
+if __name__ == "__main__":
+    unittest.main()

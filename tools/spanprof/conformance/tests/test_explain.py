@@ -1,0 +1,81 @@
+"""What is said of a run that was not accepted."""
+import unittest
+
+from spanprof.conformance.explain import RULES, explain
+from spanprof.conformance.judge import Verdict
+from spanprof.conformance.launch import Log
+
+WORKED = "omptasks 1\nwork 5 task { work 3 } work 2 taskwait work 1\n"
+DEPENDENCE = "omptasks 1\ntask depend(out: x) { } task depend(in: x) { }\n"
+GROUP = "omptasks 1\ntaskgroup { task { task { } } }\n"
+
+
+def told(text, detail, event, kind="refused", place=1):
+    events = ["start 0 0"] * place + [event]
+    return explain(text, Verdict(kind, detail), Log(0, "plain", events, "done"))
+
+
+class Refusals(unittest.TestCase):
+    def rule(self, text, before, event):
+        found = told(text, f"event 1: NotReady {before}", event)
+        self.assertIn(RULES[found.rule], found.words)
+        return found.rule, found.words
+
+    def test_each_rule(self):
+        self.assertEqual(self.rule(WORKED, 0, "start 0 1")[0], "creation")
+        self.assertEqual(self.rule(WORKED, 2, "start 0 3")[0], "order")
+        self.assertEqual(self.rule("omptasks 1 task if(0) { }", 1, "start 0 2")[0], "undeferred")
+        self.assertEqual(self.rule("omptasks 2 task final(1) { task { } }", 2, "start 0 3")[0], "undeferred")
+
+    def test_taskwait(self):
+        rule, words = self.rule(WORKED, 1, "start 3 3")
+        self.assertEqual(rule, "taskwait")
+        self.assertIn("event 1, `start 3 3`: thread 3 starts segment 3 (part 3 of 3 of task 0, `the root`) before "
+                      "segment 1 (part 1 of 1 of task 1, `task`) has finished", words)
+
+    def test_dependence(self):
+        rule, words = self.rule(DEPENDENCE, 1, "start 1 3")
+        self.assertEqual(rule, "dependence")
+        self.assertIn("`in: x` of task 2 conflicts with `out: x` of its sibling task 1", words)
+
+    def test_group(self):
+        self.assertIn("task 1, which was created inside it", self.rule(GROUP, 3, "start 1 5")[1])
+        self.assertIn("task 2, which is below a task that was created inside it", self.rule(GROUP, 2, "start 1 5")[1])
+
+    def test_several_steps(self):
+        rule, words = self.rule(WORKED, 0, "start 0 3")
+        self.assertEqual(rule, "order")
+        self.assertIn("by several rules together", words)
+
+    def test_other_refusals(self):
+        self.assertEqual(told(WORKED, "event 1: AlreadyStarted", "start 1 0").rule, "twice")
+        self.assertEqual(told(WORKED, "event 1: WorkerBusy", "start 0 1").rule, "two at once")
+        self.assertEqual(told(WORKED, "event 1: NotRunning", "finish 1 0").rule, "not running")
+        self.assertIn("segment 9", told(WORKED, "event 1: UnknownSegment", "start 0 9").words)
+
+    def test_what_is_no_event(self):
+        self.assertEqual(told(WORKED, "another record than that of `run`", "start 0 0").rule,
+                         "another record than that of `run`")
+        self.assertEqual(told(WORKED, "digest 1 and not 2", "start 0 0", kind="values").rule, "values")
+
+
+class Stops(unittest.TestCase):
+    def test_hung(self):
+        log = Log(0, "late", ["start 0 0", "finish 0 0", "start 1 1"], "hung")
+        found = explain(WORKED, Verdict("hung"), log)
+        self.assertEqual(found.rule, "at after a task")
+        self.assertEqual(found.words, "Hung, with 1 of 4 segments finished. Running: segment 1 (part 1 of 1 of task 1, "
+                                      "`task`). Ready, but not started: segment 2 (part 2 of 3 of task 0, `the root`).")
+
+    def test_crashed(self):
+        found = explain(WORKED, Verdict("crashed", "signal 6: oh"), Log(0, "late", [], "crashed", "signal 6: oh"))
+        self.assertEqual(found.rule, "signal 6: oh")
+        self.assertTrue(found.words.startswith("Crashed (signal 6: oh), with 0 of 4 segments finished."))
+
+    def test_large_programs_list_nothing_ready(self):
+        text = "omptasks 2 for i 1 600 { task { } }"
+        self.assertNotIn("Ready", explain(text, Verdict("hung"), Log(0, "late", [], "hung")).words)
+
+
+if __name__ == "__main__":
+    unittest.main()

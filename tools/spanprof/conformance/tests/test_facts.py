@@ -1,0 +1,53 @@
+"""What a report says of the test itself."""
+import types
+import unittest
+
+from spanprof.conformance.facts import facts_of, tested
+from spanprof.conformance.results import Results
+from spanprof.conformance.shards import Shard
+
+
+class StubToolchain:
+    kinds = {"in", "out", "inout"}
+    shown_flags = ["-O1", "-fopenmp"]
+
+    def version(self):
+        return "cc 1.0"
+
+    def runtime(self, environment):
+        return environment["RUNTIME"]
+
+
+def facts(settings=("free", "pinned"), directed=True, **others):
+    options = types.SimpleNamespace(threads=(2, 4), runs=3, seed=7, tasks=["tied"], mutate="", without=[],
+                                    directed=directed, shard=Shard(), match="*")
+    options.__dict__.update(others)
+    bench = types.SimpleNamespace(toolchain=StubToolchain(), environment={"RUNTIME": "/lib/libgomp.so"})
+    return tested(options, bench, settings)
+
+
+class Facts(unittest.TestCase):
+    def test_what_is_tested(self):
+        found = facts(settings=("free", "priorities"), directed=False)
+        self.assertEqual(found, {
+            "compiler": "cc 1.0, flags `-O1 -fopenmp`", "runtime": "/lib/libgomp.so", "threads": "2, 4",
+            "runs each": "3", "seed": "7", "setting free": "as the runtime is by itself",
+            "setting priorities": "priorities count: `OMP_MAX_TASK_PRIORITY=9`", "tasks": "tied"})
+
+    def test_what_is_left_out(self):
+        found = facts(without=["loop"])
+        self.assertEqual(found["left out of random programs"], "loop")
+        self.assertIn("depend_two_sets", found["left out, as the compiler lacks a kind of item"])
+
+    def test_mutant(self):
+        self.assertEqual(facts(mutate="hang")["mutant"], "hang")
+
+    def test_machine_and_time_come_after_the_test(self):
+        results = Results()
+        results.seconds = 61.4
+        self.assertEqual([name for name, _ in facts_of({"seed": "1"}, results)], ["seed", "machine", "time"])
+        self.assertEqual(facts_of({}, results)[-1], ("time", "61 s"))
+
+
+if __name__ == "__main__":
+    unittest.main()

@@ -1,0 +1,71 @@
+"""The words of the command line."""
+import contextlib
+import io
+import unittest
+
+from spanprof.conformance.commands import COMMANDS
+from spanprof.conformance.options import parse
+from spanprof.conformance.shards import Shard
+
+
+def parsed(words):
+    return parse(COMMANDS, words.split())
+
+
+class Options(unittest.TestCase):
+    def refused(self, words):
+        with self.assertRaises(SystemExit) as end, contextlib.redirect_stderr(io.StringIO()) as said:
+            parsed(words)
+        self.assertEqual(end.exception.code, 2)
+        return said.getvalue()
+
+    def test_usual_values(self):
+        run, mutants = parsed("run --cc gcc"), parsed("mutants --cc gcc")
+        self.assertEqual(run.threads, (1, 2, 4, 16))
+        self.assertEqual(mutants.threads, (2, 4))
+        self.assertEqual((run.settings, mutants.settings), ([], []))  # those for the runtime
+        self.assertEqual((run.known_faults, run.expected), (True, []))
+        self.assertEqual(run.tasks, ["tied", "untied", "mixed"])
+        self.assertEqual((run.hours, run.directed, run.report), (0, True, ""))
+
+    def test_each_command_is_called(self):
+        for name, call in COMMANDS.items():
+            words = {"emit": "x", "judge": "x y", "shrink": "x --cc gcc", "bisect": "x --cc gcc",
+                     "merge": "x.jsonl y.jsonl", "list": ""}.get(name, "--cc gcc")
+            self.assertIs(parsed(f"{name} {words}").call, call)
+            self.assertTrue(call.__doc__, name)
+
+    def test_parts(self):
+        self.assertEqual(parsed("run --cc gcc").shard, Shard(1, 1))
+        self.assertEqual(parsed("run --cc gcc --shard 2/8").shard, Shard(2, 8))
+        self.assertIn("invalid", self.refused("run --cc gcc --shard 9/8"))
+
+    def test_lists(self):
+        options = parsed("run --cc gcc --threads 3,64 --settings pinned,free --tasks mixed --without loop,if(0)")
+        self.assertEqual(options.threads, (3, 64))
+        self.assertEqual(options.settings, ["pinned", "free"])
+        self.assertEqual(options.tasks, ["mixed"])
+        self.assertEqual(options.without, ["loop", "if(0)"])
+
+    def test_numbers(self):
+        options = parsed("run --cc gcc --programs 0 --seed 0 --jobs 1")
+        self.assertEqual((options.programs, options.seed, options.jobs), (0, 0, 1))
+
+    def test_hours(self):
+        options = parsed("run --cc gcc --hours 0.5 --state night.jsonl")
+        self.assertEqual((options.hours, options.state), (0.5, "night.jsonl"))
+
+    def test_what_is_refused(self):
+        self.assertIn("1 to 64", self.refused("run --cc gcc --threads 2,65"))
+        self.assertIn("1 to 64", self.refused("run --cc gcc --threads 0"))
+        self.assertIn("1 is the least", self.refused("run --cc gcc --runs 0"))
+        self.assertIn("1 is the least", self.refused("run --cc gcc --seed -1"))
+        self.assertIn("invalid", self.refused("run --cc gcc --timeout soon"))
+        self.assertIn("slow is none of", self.refused("run --cc gcc --settings free,slow"))
+        self.assertIn("required: --cc", self.refused("run"))
+        self.assertIn("required: command", self.refused(""))
+        self.assertIn("required: log", self.refused("judge x"))
+
+
+if __name__ == "__main__":
+    unittest.main()

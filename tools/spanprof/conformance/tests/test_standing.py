@@ -1,0 +1,51 @@
+"""Where runs stood that did not come to their ends."""
+import unittest
+
+from spanprof.conformance.segments import Table
+from spanprof.conformance.standing import Standing, without_places
+from spanprof.conformance.tests.helpers import body_of
+
+
+def standing(text, *segments, running=()):
+    """Where a run stands that has finished some segments and begun others."""
+    events = [f"{what} 0 {s}" for s in segments for what in ("start", "finish")] + [f"start 1 {s}" for s in running]
+    return Standing(Table(body_of(text)), events)
+
+
+class Places(unittest.TestCase):
+    def test_the_construct_that_does_not_go_on(self):
+        self.assertEqual(standing("task { } taskwait", 0, 1, 2).places(), "taskwait")
+        self.assertEqual(standing("taskgroup { task { } }", 0, 1, 2).places(), "taskgroup")
+        self.assertEqual(standing("taskgroup { #: taskyield\n}", 0).places(), "taskyield")
+        self.assertEqual(standing("task if(0) { }", 0, 1).places(), "if(0)")
+
+    def test_a_task_that_never_begins(self):
+        self.assertEqual(standing("task { } taskwait", 0, 2).places(), "begin of a task")
+        depends = "task depend(out: x) { } task depend(in: x) { } taskwait"
+        self.assertEqual(standing(depends, 0, 1, 2, 4).places(), "begin of a task with depend")
+
+    def test_several_places(self):
+        text = "task { task { } taskwait } taskgroup { task { } }"
+        self.assertEqual(standing(text, 0, 1, 2, 3, 5, 6, 7).places(), "taskgroup, taskwait")
+
+    def test_without_anything_ready(self):
+        self.assertEqual(standing("work 1", 0).places(), "end of the region")
+        self.assertEqual(standing("work 1", running=[0]).places(), "inside a segment")
+        self.assertEqual(standing("for i 1 600 { task { } }").places(), "somewhere")
+
+
+class Complaints(unittest.TestCase):
+    def test_paths_and_numbers_are_left_out(self):
+        told = "signal 6: Assertion failure at kmp_tasking.cpp(1738): taskdata->td_last_tied."
+        self.assertEqual(without_places(told),
+                         "signal 6: Assertion failure at kmp_tasking.cpp(N): taskdata->td_last_tied.")
+        self.assertEqual(without_places("status 127: /tmp/a-1/p3: symbol lookup error: 0x7f12"),
+                         "status 127: p3: symbol lookup error: N")
+
+    def test_what_has_none_stays(self):
+        self.assertEqual(without_places("signal 11"), "signal 11")
+        self.assertEqual(without_places("status 1: n/a or so"), "status 1: a or so")
+
+
+if __name__ == "__main__":
+    unittest.main()

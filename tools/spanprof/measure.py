@@ -1,0 +1,34 @@
+"""What spanprof_large tells of a text of any size, and where that program is."""
+import subprocess
+
+from spanprof.answers import named_numbers
+from spanprof.errors import Fault
+from spanprof.folders import places_of, words_for
+from spanprof.refusal import without_text
+
+PLACES = places_of("spanprof_large")
+LIMITS = {
+    "BadHeader": "spanprof_large reads texts that begin with `omptasks 1`",
+    "TooLong": "a text has at most 9,223,372,036,854,775,806 bytes",
+    "TooDeep": "at most 1,048,576 blocks are open at a time",
+    "TooManyItems": "a task has at most 32 depend items, and a text 4,294,967,294"}
+HOW = "spanprof_large, which measures it, is not found; tools/prove_program.sh spanprof_large proves and builds it"
+
+
+def spanprof_large():
+    """The words that start the program; none where it is not found."""
+    return words_for("spanprof_large", PLACES)
+
+
+def measure(program, path):
+    """Tasks, segments, work and span of the text in a file."""
+    try:
+        with open(path, "rb") as text:
+            done = subprocess.run(program, stdin=text, capture_output=True, text=True, errors="replace", check=False)
+    except OSError as wrong:
+        raise Fault("spanprof_large: %s" % wrong) from wrong
+    if done.returncode:
+        answer = done.stdout.strip() or "it ended with status %d" % done.returncode
+        more = without_text(path, answer, LIMITS)
+        raise Fault("%s\nspanprof_large: %s" % (more, answer) if more else "spanprof_large: %s" % answer)
+    return named_numbers(done.stdout)

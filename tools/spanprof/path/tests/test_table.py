@@ -1,0 +1,36 @@
+import io
+import unittest
+
+from spanprof.path.table import HEADS, MOST_ROWS, Place, lines, place, write_csv
+
+
+class Tables(unittest.TestCase):
+    def test_a_line_of_the_program(self):
+        self.assertEqual(place("7 8 2 after taskwait at a.c:3, b\n"), Place(7, 8, 2, "after taskwait at a.c:3, b"))
+        self.assertEqual(place("0 0 1 the beginning\n"), Place(0, 0, 1, "the beginning"))
+
+    def test_what_is_shown(self):
+        places = [Place(30, 50, 2, "a task"), Place(0, 2, 0, "b"), Place(0, 1, 0, "c"), Place(0, 0, 3, "d")]
+        self.assertEqual(list(lines(places, 200, 40)), [
+            HEADS,
+            "   75.0%    25.0%         2  a task",
+            "    0.0%     1.0%         0  b",
+        ])
+
+    def test_nothing_costs_anything(self):
+        self.assertEqual(list(lines([Place(0, 0, 1, "the beginning")], 0, 0)),
+                         [HEADS, "    0.0%     0.0%         1  the beginning"])
+
+    def test_many_places(self):
+        told = list(lines((Place(1, 2, 1, str(i)) for i in range(MOST_ROWS + 300)), 800, 400))
+        self.assertEqual(len(told), MOST_ROWS + 2)
+        self.assertEqual(told[-1], "   75.0%    75.0%       300  300 more places")
+
+    def test_csv_has_all_and_quotes_names(self):
+        file = io.StringIO()
+        write_csv([Place(1, 2, 3, 'a, "b"'), Place(0, 0, 0, "c")], file)
+        self.assertEqual(file.getvalue(), 'span,work,segments,place\n1,2,3,"a, ""b"""\n0,0,0,c\n')
+
+
+if __name__ == "__main__":
+    unittest.main()

@@ -1,0 +1,76 @@
+"""The files of a recording."""
+import glob
+import os
+import re
+from dataclasses import dataclass
+
+from spanprof.errors import Fault
+
+USUAL_REGIONS = 10
+IN_A_LOG = re.compile(r"head|modules|thread\.[0-9]+(\.last)?")
+
+
+@dataclass
+class Recording:
+    """The text of one parallel region, and its run where that was written."""
+    text: str
+    replay: str = ""
+    times: str = ""
+    number: int = 1  # in the files' names
+    is_large: bool = False  # beyond the limits of the ten commands
+
+
+def check_folder(out):
+    """Ends where no file can be written, before anything is run."""
+    folder = os.path.dirname(out) or "."
+    if not os.path.isdir(folder):
+        raise Fault("--out %s: there is no folder %s" % (out, folder))
+    if not os.access(folder, os.W_OK):
+        raise Fault("%s: files cannot be written in this folder; --out names another" % os.path.abspath(folder))
+
+
+def most_regions(variables):
+    """How many the recorder writes; its files of later numbers are those of child processes."""
+    asked = variables.get("SPANPROF_REGIONS", "")
+    return int(asked) if re.fullmatch(r"[0-9]{1,4}", asked) else USUAL_REGIONS
+
+
+def recordings(out):
+    """Those of all regions that were written, in the order of time: NAME.tasks, NAME.2.tasks, and so on."""
+    found = [recording(stem_of(out, number), number) for number in range(1, most_regions(os.environ) + 1)]
+    return [one for one in found if os.path.exists(one.text)]
+
+
+def large_recordings(out):
+    """Those of the regions that are beyond the limits of the ten commands: NAME.large.tasks, NAME.2.large.tasks .."""
+    stems = [(stem_of(out, number), number) for number in range(1, most_regions(os.environ) + 1)]
+    found = [Recording(stem + ".large.tasks", number=number, is_large=True) for stem, number in stems]
+    return [one for one in found if os.path.exists(one.text)]
+
+
+def stem_of(out, number):
+    return out if number == 1 else "%s.%d" % (out, number)
+
+
+def recording(stem, number=1):
+    beside = [stem + end if os.path.exists(stem + end) else "" for end in (".replay", ".times")]
+    return Recording(stem + ".tasks", *beside, number)
+
+
+def remove_log(folder):
+    """Takes away what the recorder wrote there, and the folder where nothing else is in it."""
+    for name in filter(IN_A_LOG.fullmatch, os.listdir(folder)):
+        os.remove(os.path.join(folder, name))
+    try:
+        os.rmdir(folder)
+    except OSError:
+        pass  # somebody else's file is in it
+
+
+def remove_old(out):
+    """Takes away what an earlier run of this name left, as the recorder does where it is loaded."""
+    for path in glob.glob(glob.escape(out) + ".*"):
+        if re.fullmatch(r"(\.rank[0-9]+)?(\.[0-9]+)?(\.large)?(\.inout)?\.(tasks|replay|times|timed)", path[len(out):]):
+            os.remove(path)
+        elif re.fullmatch(r"(\.rank[0-9]+)?(\.[0-9]+(-[0-9]+)?)?\.log", path[len(out):]) and os.path.isdir(path):
+            remove_log(path)

@@ -1,0 +1,72 @@
+"""A recording beyond the limits of the ten commands: its text is one for the program spanprof_large."""
+import os
+import tempfile
+from dataclasses import dataclass, field
+from itertools import islice
+
+from spanprof.errors import Fault
+from spanprof.head import Head, head_text, read_head
+from spanprof.measure import HOW, measure
+from spanprof.path.found import find_path, programs
+from spanprof.path.table import share
+from spanprof.record.console import tell
+from spanprof.record.summary import MOST_PLACES, first_lines, grouped, lock_lines, named, remark_lines, title
+
+TOO_LARGE = "the text is beyond the limits of spanprof_account"
+
+@dataclass
+class LargeAnswers:
+    """The head of a text, and what spanprof_large tells of it; the heaviest places by spanprof_path."""
+    name: str
+    head: Head
+    tasks: int = 0
+    segments: int = 0
+    work: int = 0
+    span: int = 0
+    places: list = field(default_factory=list)
+    unplaced: str = ""  # why there are no places
+
+
+def head_of(path):
+    return read_head(head_text(path))
+
+
+def heaviest_places(program, path, numbers):
+    """Those with the most of the span, on a path whose masked text spanprof_large has measured."""
+    by = programs(program, tell)
+    with tempfile.TemporaryDirectory(prefix="spanprof-record-") as folder:
+        masked, table = [os.path.join(folder, name) for name in ("masked.tasks", "table")]
+        found = find_path(by, path, numbers, masked, table)
+        if found.faults:
+            raise Fault("; ".join(found.faults))
+        return [place for place in islice(found.places(), MOST_PLACES) if place.span]
+
+
+def answers(program, path):
+    numbers = measure(program, path)
+    answered = LargeAnswers(os.path.basename(path), head_of(path), **numbers)
+    try:
+        answered.places = heaviest_places(program, path, numbers)
+    except (Fault, OSError) as wrong:
+        answered.unplaced = "span by place is left out: %s" % wrong
+    return answered
+
+
+def place_lines(answered):
+    return ["%.1f %% of the span, %.1f %% of the work: %s (measured)" % (
+        share(place.span, answered.span), share(place.work, answered.work), place.name) for place in answered.places]
+
+
+def large_summary(answered, news=()):
+    tasks = "%s, in %s segments (recorded)" % (grouped(answered.tasks), grouped(answered.segments))
+    return first_lines(answered, tasks, takes_several=False) \
+        + named("account", ["not told: " + TOO_LARGE] if answered.head.elapsed else []) \
+        + named("locks", lock_lines(answered, answered.span)) \
+        + named("span by place", place_lines(answered)) \
+        + named("remarks", remark_lines(answered, list(filter(None, [answered.unplaced])) + list(news)))
+
+
+def unmeasured_summary(path, news=()):
+    """Of a text where spanprof_large is not found."""
+    told = LargeAnswers(os.path.basename(path), head_of(path))
+    return [title(told)] + named("remarks", remark_lines(told, [HOW] + list(news)))

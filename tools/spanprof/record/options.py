@@ -1,0 +1,91 @@
+"""The words of spanprof-record."""
+import argparse
+import os
+import re
+import sys
+
+from spanprof.command import count
+from spanprof.errors import OWN_FAULT, Fault
+from spanprof.record.ranks import is_launcher
+from spanprof.record.target import launched
+from spanprof.version import Version
+
+DESCRIPTION = "Records a run of an OpenMP program, and says on standard error what its text gains from more threads."
+AFTER = """Everything after -- is the program and its words. The exit status is the program's, also where its page could
+not be written; 125 where nothing was recorded, 126 where the program cannot be run, 127 where there is none. The
+recorder's own variables (SPANPROF_REGIONS, SPANPROF_PARTS, SPANPROF_LINES) and those of OpenMP hold too."""
+MOST_RUNS = 99
+FOLDS = ("depth", "cost", "chunk")
+FOLD_WORDS = "exact|depth=D|cost=C|chunk=N"
+
+
+class Parser(argparse.ArgumentParser):
+    """Wrong words end with the status that is no program's."""
+
+    def error(self, message):
+        self.print_usage(sys.stderr)
+        self.exit(OWN_FAULT, "%s: %s\n" % (self.prog, message))
+
+
+def unit(word):
+    number = int(word) if re.fullmatch(r"[0-9]{1,10}", word) else 0
+    if word not in ("ns", "us", "ms") and not 1 <= number <= 1000000000:
+        raise argparse.ArgumentTypeError("a unit is ns, us, ms, or nanoseconds up to 1000000000")
+    return word
+
+
+def fold(word):
+    name, _, number = word.partition("=")
+    if word == "exact":
+        return name, 1
+    if name not in FOLDS or not re.fullmatch(r"[1-9][0-9]{0,14}", number):
+        listed = ", ".join(name + "=N" for name in FOLDS)
+        raise argparse.ArgumentTypeError("a fold is exact, or %s with a whole number" % listed)
+    return name, int(number)
+
+
+def parser():
+    out = Parser(prog="spanprof-record", description=DESCRIPTION, epilog=AFTER, allow_abbrev=False,
+                 usage="spanprof-record [options] [--] PROGRAM [WORD ..]")
+    add = out.add_argument
+    add("--out", metavar="NAME", help="the first name of the files: NAME.tasks, NAME.replay; without it the program's; "
+        "of several processes of MPI, NAME.rank0.tasks and so on")
+    add("--unit", type=unit, help="what a cost of 1 is: ns (without it), us, ms, or a number of nanoseconds")
+    add("--clock", choices=("wall", "cpu"), help="wall time (without it), or processor time of each thread")
+    add("--threads", type=count(1, 1024), metavar="P", help="OMP_NUM_THREADS of the run; spanprof judges 64 at most")
+    add("--runs", type=count(1, MOST_RUNS), default=1, metavar="N",
+        help="run it N times, and take the median of each segment's costs")
+    add("--fold", type=fold, action="append", default=[], metavar=FOLD_WORDS,
+        help="where a recording is too large, write fewer tasks with the same work and span; or tasks at depth D with "
+        "all below them as one cost; tasks cheaper than C as work of their parent; N neighbours as one task")
+    add("--runtime", metavar="FILE", help="LLVM's runtime, to run the program on whatever it is linked with")
+    add("--html", metavar="PAGE", help="write the page of spanprof-report too")
+    add("--json", metavar="FILE", help="write the account of the run, the cause and the first change as JSON too")
+    add("--version", action=Version)
+    add("--open", action="store_true", help="show that page in the browser; without --html it is NAME.html")
+    add("command", nargs=argparse.REMAINDER, metavar="PROGRAM [WORD ..]", help="what to run")
+    return out
+
+
+def named_after(command):
+    """Of a launcher's words the program that it launches."""
+    try:
+        return launched(command) if is_launcher(command[0]) else command[0]
+    except Fault:
+        return command[0]  # the session says what is wrong with it
+
+
+def parse(words):
+    reader = parser()
+    chosen = reader.parse_args(words)
+    if chosen.command[:1] == ["--"]:
+        del chosen.command[0]
+    if not chosen.command:
+        reader.error("no program to run; such as: spanprof-record -- ./mine")
+    if chosen.out is None:
+        chosen.out = os.path.basename(named_after(chosen.command))
+    if not os.path.basename(chosen.out):
+        reader.error("--out %s: the first name of files, and no folder" % chosen.out)
+    if chosen.open and not chosen.html:
+        chosen.html = chosen.out + ".html"
+    return chosen

@@ -1,0 +1,85 @@
+"""Runs the program with its own standard streams, and ends as it has ended."""
+import os
+import resource
+import signal
+import subprocess
+
+from spanprof.errors import NOT_EXECUTABLE, Fault
+
+PASSED_ON = (signal.SIGTERM, signal.SIGHUP, signal.SIGQUIT)
+
+
+def environment(base, options, library, preload, out):
+    """The variables of a recorded run. What is not asked for stays as it is."""
+    new = dict(base, OMP_TOOL="enabled", SPANPROF_OUT=out, SPANPROF_QUIET="1")
+    others = base.get("OMP_TOOL_LIBRARIES")
+    new["OMP_TOOL_LIBRARIES"] = library + (os.pathsep + others if others else "")
+    if preload:
+        others = base.get("LD_PRELOAD")
+        new["LD_PRELOAD"] = preload + (os.pathsep + others if others else "")
+    asked = {"SPANPROF_UNIT": options.unit, "SPANPROF_CLOCK": options.clock, "OMP_NUM_THREADS": options.threads}
+    asked.update(("SPANPROF_FOLD_" + name.upper(), number) for name, number in options.fold)
+    new.update((name, str(value)) for name, value in asked.items() if value is not None)
+    return new
+
+
+class PassedOn:
+    """While it holds, signals that would end this process go to the program, and how that ends decides.
+
+    What the terminal sends goes to both already, so an interrupt is only outlived here. A signal that was ignored
+    before, as under `nohup`, stays so, here and in the program.
+    """
+
+    def __init__(self):
+        self.process, self.early, self.before = None, [], {}
+
+    def hand_on(self, number, _):
+        if self.process is None:
+            self.early.append(number)
+        else:
+            self.process.send_signal(number)
+
+    def to(self, process):
+        self.process = process
+        for number in self.early:
+            process.send_signal(number)
+
+    def __enter__(self):
+        handlers = {number: self.hand_on for number in PASSED_ON}
+        handlers[signal.SIGINT] = lambda number, _: None
+        for number, handler in handlers.items():
+            if signal.getsignal(number) != signal.SIG_IGN:
+                self.before[number] = signal.signal(number, handler)
+        return self
+
+    def __exit__(self, *_):
+        for number, handler in self.before.items():
+            signal.signal(number, handler)
+
+
+def run(path, words, variables):
+    """How the program ended: its exit status, or less than 0 the signal."""
+    with PassedOn() as passed_on:
+        try:
+            process = subprocess.Popen(words, executable=path, env=variables, close_fds=False)
+        except OSError as wrong:
+            raise Fault("%s: %s" % (path, wrong.strerror), NOT_EXECUTABLE) from wrong
+        passed_on.to(process)
+        return process.wait()
+
+
+def signal_name(status):
+    try:
+        return signal.Signals(-status).name
+    except ValueError:
+        return "signal %d" % -status
+
+
+def end_as(status):
+    """Ends this process as the program has ended, by a signal too; without a core file of its own."""
+    if status < 0:
+        resource.setrlimit(resource.RLIMIT_CORE, (0, 0))
+        if -status != signal.SIGKILL:
+            signal.signal(-status, signal.SIG_DFL)
+        os.kill(os.getpid(), -status)
+    raise SystemExit(status if status >= 0 else 128 - status)

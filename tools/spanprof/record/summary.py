@@ -1,0 +1,214 @@
+"""The summary of a recording: what spanprof printed, quotients of that, and what the text's head tells.
+
+A person reads it to decide about a program, and what is proved is proved of the text. So each line that says `proved`
+says of what, and where the head tells that the text is not the program the line says that in its place.
+"""
+from spanprof.claims import (OTHERWISE, against_parallelism, against_span, gain_may_be_less, gain_may_be_more,
+                             is_divided, is_of_one_thread, is_partial, least_end, lock_binds, share_covered, tenths,
+                             why_not_of_more_threads)
+from spanprof.report.figures import rounded_down, rounded_up
+from spanprof.report.places import places
+
+THREADS = (2, 4, 8, 16)
+CLOCKS = {"wall": " of wall time", "cpu": " of processor time"}
+MOST_PLACES = 3
+LESS_HELD = "another run may hold it for less, beside its work (remarks)"
+
+
+def grouped(number):
+    return "{:,}".format(number)
+
+
+def threads_of(head):
+    return "%d thread%s" % (head.threads, "" if head.threads == 1 else "s") if head.threads else ""
+
+
+def costs(number, unit):
+    """With the unit; one that is a number of nanoseconds is a factor."""
+    return "%s %s%s" % (grouped(number), "x " if unit[:1].isdigit() else "", unit)
+
+
+def title(answers):
+    head = answers.head
+    only = "" if head.covers_at_most else "only "
+    parts = [answers.name, "region at %s" % head.region if head.region else "",
+             only + share_covered(head) if is_partial(head) else "", threads_of(head),
+             "costs in %s%s" % (head.unit, CLOCKS.get(head.clock, ""))]
+    return ", ".join(filter(None, parts))
+
+
+def covers_line(head):
+    """What of the program is in the text, and where the rest is."""
+    if not share_covered(head):
+        return "not told how much of the program's thread-time"
+    rest = ", ".join("%s %s" % (grouped(value), name) for name, value in head.not_covered.items() if value)
+    return "%s in code%s (measured)" % (share_covered(head), "; not covered: " + rest if rest else "")
+
+
+def tasks_line(answers, verdict):
+    parts = ", and %s parts of the region's own code" % grouped(answers.parts) if answers.parts else ""
+    return "%s%s, in %s segments (recorded)%s" % (
+        grouped(answers.tasks - answers.parts), parts, grouped(answers.span_numbers["segments"]),
+        "; " + verdict if verdict else "")
+
+
+def runs_line(head, takes_several=True):
+    """`--runs` takes no recording that is beyond the limits of the ten commands."""
+    if head.runs and head.runs > 1:
+        return "%d, and each cost is %s (measured)" % (
+            head.runs, "the median of theirs" if head.is_median else
+            "that of the one with the median work, since they have no median")
+    return "1: another run has other costs" + ("; --runs 9 tells how far they spread" if takes_several else "")
+
+
+def proved_of_text(head):
+    return "(proved of the recorded text%s)" % (", a part of the program" if is_partial(head) else "")
+
+
+def with_spread(number, name, head):
+    """A sum of the text, and beside it the least and the most of several runs."""
+    spread = head.spread.get(name)
+    if not spread:
+        return costs(number, head.unit)
+    return "%s (%s to %s in %d runs)" % (costs(number, head.unit), grouped(spread[0]), grouped(spread[-1]), head.runs)
+
+
+def work_line(answers):
+    head = answers.head
+    on = "one thread" if head.threads == 1 else "%s, added up" % (threads_of(head) or "all threads")
+    return "%s: code on %s (measured)" % (with_spread(answers.work, "work", head), on)
+
+
+def span_line(answers):
+    head, why_not = answers.head, against_span(answers.head)
+    number = with_spread(answers.span, "span", head)
+    if why_not:
+        return "%s: a longest chain of the recorded text; %s" % (number, why_not)
+    return "%s: it ends no sooner on any number of threads %s" % (number, proved_of_text(head))
+
+
+def parallelism_line(answers):
+    head, why_not = answers.head, against_parallelism(answers.head)
+    number = rounded_up(answers.work, answers.span)
+    if why_not:
+        return "%s: work / span of the recorded text; %s" % (number, why_not)
+    return "%s: work / span; it gains no more on any number of threads %s" % (number, proved_of_text(head))
+
+
+def elapsed_line(answers):
+    elapsed = answers.head.elapsed
+    if not elapsed:
+        return "not told"
+    threads = " on %s" % (threads_of(answers.head) or "all threads")
+    return "%s%s: %.2f of them busy in this code on average (measured)" % (
+        costs(elapsed, answers.head.unit), threads, answers.work / elapsed)
+
+
+def told_threads(answers):
+    """The numbers of threads of which the text says something."""
+    head = answers.head
+    if is_of_one_thread(head):
+        return []
+    if is_divided(head):
+        return [head.threads] if head.threads in answers.curve else []
+    return THREADS
+
+
+def at_most_line(answers, told):
+    """By `least`, and by the lock that was held the longest, which is measured and no part of what is proved."""
+    head = answers.head
+    gains = ", ".join("%d: up to %s" % (p, rounded_up(answers.work, least_end(answers, p))) for p in told)
+    if gain_may_be_more(head):
+        why = "(of the recorded text; %s)" % (OTHERWISE % "more")
+    elif any(lock_binds(answers, p) for p in told):
+        why = "(measured: work / the recorded text's least end, or / the time inside the most held lock)"
+    else:
+        why = proved_of_text(head)
+    return "%s times as fast as its work in a row %s" % (gains, why)
+
+
+def at_least_line(answers, told):
+    gains = ", ".join("%d: %s" % (p, rounded_down(answers.work, answers.curve[p]["bound"])) for p in told)
+    return "%s and more as long as no thread idles beside a ready segment, which tied tasks can force %s" % (
+        gains, proved_of_text(answers.head))
+
+
+def threads_lines(answers):
+    """What so many threads can give."""
+    told = told_threads(answers)
+    if not told:
+        return [why_not_of_more_threads(answers.head)]
+    others = [why_not_of_more_threads(answers.head)] if is_divided(answers.head) else []
+    lower = [] if gain_may_be_less(answers.head) else [at_least_line(answers, told)]
+    return [at_most_line(answers, told)] + lower + others
+
+
+def lock_lines(answers, least):
+    """Where the most held lock allows less than `least`, an end that no run of the text passes."""
+    inside, unit = answers.head.most_held, answers.head.unit
+    if not inside or inside <= least:
+        return []
+    if gain_may_be_more(answers.head):
+        return ["%s inside the most held one; %s (measured)" % (costs(inside, unit), LESS_HELD)]
+    return ["%s inside the most held one: no run of this code is more than %s times as fast as its work in a row "
+            "(measured)" % (costs(inside, unit), rounded_up(answers.work, inside))]
+
+
+def clock_lines(head):
+    """Which part of the work was not on a processor all the time, or slept, by one clock beside the other."""
+    told = head.clocks_differ
+    if not told:
+        return []
+    return ["in %s %% of the work they differ by more than a twentieth, together by %s (measured)" % (
+        tenths(told["affected"], told["work"]), costs(told["by"], head.unit))]
+
+
+def place_lines(answers):
+    heaviest = [place for place in places(answers) if place.critical_cost][:MOST_PLACES]
+    return ["%.1f %% of the span, %.1f %% of the work: %s (measured)" % (
+        100 * place.critical_cost / answers.span, 100 * place.cost / answers.work, place.name) for place in heaviest]
+
+
+def remark_lines(answers, news):
+    head = answers.head
+    return head.remarks + ["lock " + words for words in head.locks] + list(news) or ["none"]
+
+
+def named(name, lines):
+    """Lines under one name, which stands before the first."""
+    return ["%-13s %s" % (name if i == 0 else "", line) for i, line in enumerate(lines)]
+
+
+def first_lines(answers, tasks, takes_several=True):
+    """Those that a text of any size has."""
+    return [title(answers)] \
+        + named("covers", [covers_line(answers.head)]) \
+        + named("tasks", [tasks]) \
+        + named("runs", [runs_line(answers.head, takes_several)]) \
+        + named("work", [work_line(answers)]) \
+        + named("span", [span_line(answers)]) \
+        + named("parallelism", [parallelism_line(answers)]) \
+        + named("elapsed", [elapsed_line(answers)]) \
+        + named("both clocks", clock_lines(answers.head))
+
+
+def lead_lines(lead):
+    """What to read first: the cause, and the change that comes first by it."""
+    return named("cause", [lead.cause]) + named("first change", filter(None, lead[1:])) if lead else []
+
+
+def summary(answers, verdict="", news=(), others=(), of_what="regions", account=(), lead=None):
+    heading, *lines = first_lines(answers, tasks_line(answers, verdict))
+    return [heading] + lead_lines(lead) + lines \
+        + named("account", account) \
+        + named("threads", threads_lines(answers)) \
+        + named("locks", lock_lines(answers, answers.curve[max(THREADS)]["least"])) \
+        + named("span by place", place_lines(answers)) \
+        + named("remarks", remark_lines(answers, news)) \
+        + named("other " + of_what, others)
+
+
+def other_region(answers):
+    head = answers.head
+    return "%s%s: work %s, span %s" % (answers.name, ", region at %s" % head.region if head.region else "",
+                                       costs(answers.work, head.unit), costs(answers.span, head.unit))

@@ -1,0 +1,99 @@
+import os
+import tempfile
+import unittest
+from unittest import mock
+
+from spanprof.errors import Fault
+from spanprof.record.linkage import GCC, LLVM, Linkage, is_static, linkage, shared_runtimes, symbols
+from spanprof.record.runtime import by_version, to_preload, what_it_lacks
+from spanprof.record.tests.made_up import LDD_GCC, LDD_LLVM, LDD_MISSING, LDD_PLAIN, LDD_STATIC, SYMBOLS
+
+
+class Listings(unittest.TestCase):
+    def test_runtimes(self):
+        self.assertEqual(shared_runtimes(LDD_GCC), {GCC: "/lib/x86_64-linux-gnu/libgomp.so.1"})
+        self.assertEqual(shared_runtimes(LDD_LLVM), {LLVM: "/usr/lib/llvm-16/lib/libomp.so.5"})
+        self.assertEqual(shared_runtimes(LDD_MISSING), {LLVM: ""})
+        self.assertEqual(shared_runtimes(LDD_PLAIN), {})
+        self.assertEqual(shared_runtimes(LDD_STATIC), {})
+
+    def test_a_runtime_that_is_named_by_its_path(self):
+        self.assertEqual(shared_runtimes("\t/opt/libiomp5.so (0x00007f)\n"), {LLVM: "/opt/libiomp5.so"})
+
+    def test_static(self):
+        self.assertTrue(is_static(LDD_STATIC))
+        self.assertFalse(is_static(LDD_GCC))
+
+    def test_symbols(self):
+        defined, undefined = symbols(SYMBOLS)
+        self.assertEqual(defined, {"main", "GOMP_parallel"})
+        self.assertEqual(undefined, {"GOMP_taskwait", "GOMP_scope_start"})
+
+
+class Programs(unittest.TestCase):
+    def linkage_of(self, first, listings):
+        with tempfile.TemporaryDirectory() as folder:
+            path = os.path.join(folder, "mine")
+            with open(path, "wb") as file:
+                file.write(first)
+            with mock.patch("spanprof.record.linkage.listed", side_effect=lambda words: listings[words[0]]):
+                return linkage(path)
+
+    def test_a_script_is_not_listed(self):
+        self.assertTrue(self.linkage_of(b"#!/bin/sh\n", {}).is_script)
+
+    def test_a_program_of_gcc(self):
+        found = self.linkage_of(b"\x7fELF", {"ldd": LDD_GCC, "readelf": SYMBOLS.replace("GOMP_parallel", "mine")})
+        self.assertEqual((list(found.libraries), found.inside), ([GCC], set()))
+        self.assertEqual(found.called, {"GOMP_taskwait", "GOMP_scope_start"})
+
+    def test_a_runtime_inside(self):
+        self.assertEqual(self.linkage_of(b"\x7fELF", {"ldd": LDD_PLAIN, "readelf": SYMBOLS}).inside, {GCC})
+
+    def test_a_file_that_cannot_be_read(self):
+        with self.assertRaisesRegex(Fault, "No such file"):
+            linkage("/no/such/program")
+
+
+class Preloading(unittest.TestCase):
+    def preloaded(self, linked):
+        with mock.patch("spanprof.record.runtime.llvm_runtime", return_value="/llvm/libomp.so.5"):
+            return to_preload("mine", linked)
+
+    def test_gcc_runs_on_llvm(self):
+        self.assertEqual(self.preloaded(Linkage(libraries={GCC: "/lib/libgomp.so.1"})), "/llvm/libomp.so.5")
+
+    def test_a_runtime_that_the_loader_does_not_find(self):
+        self.assertEqual(self.preloaded(Linkage(libraries={LLVM: ""})), "/llvm/libomp.so.5")
+
+    def test_llvm_stays_and_scripts_stay(self):
+        self.assertEqual(self.preloaded(Linkage(libraries={LLVM: "/llvm-14/libomp.so.5"})), "")
+        self.assertEqual(self.preloaded(Linkage(inside={LLVM})), "")
+        self.assertEqual(self.preloaded(Linkage(is_script=True)), "")
+
+    def test_what_cannot_be_recorded(self):
+        for linked, words in ((Linkage(), "no OpenMP in it"), (Linkage(is_static=True, inside={GCC}), "statically"),
+                              (Linkage(inside={GCC}), "has gcc's runtime .* inside")):
+            with self.assertRaisesRegex(Fault, words):
+                self.preloaded(linked)
+
+    def test_a_runtime_that_is_asked_for(self):
+        self.assertEqual(to_preload("mine", Linkage(), __file__), os.path.abspath(__file__))
+        with self.assertRaisesRegex(Fault, "no such file"):
+            to_preload("mine", Linkage(), "/no/such/library")
+
+    def test_the_newest_version_comes_first(self):
+        paths = ["/usr/local/lib/libomp.so"] + ["/usr/lib/llvm-%d/lib/libomp.so.5" % n for n in (9, 19, 16)]
+        self.assertEqual([p.split("/")[3] for p in sorted(paths, key=by_version)],
+                         ["llvm-19", "llvm-16", "llvm-9", "lib"])
+
+    def test_what_llvm_lacks(self):
+        table = SYMBOLS.replace("UND GOMP_taskwait", "12 GOMP_taskwait")
+        with mock.patch("spanprof.record.runtime.listed", return_value=table):
+            self.assertEqual(what_it_lacks("libomp.so.5", {"GOMP_taskwait", "GOMP_scope_start"}), ["GOMP_scope_start"])
+        with mock.patch("spanprof.record.runtime.listed", return_value=""):
+            self.assertEqual(what_it_lacks("libomp.so.5", {"GOMP_taskwait"}), [])
+
+
+if __name__ == "__main__":
+    unittest.main()

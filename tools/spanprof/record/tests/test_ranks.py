@@ -1,0 +1,55 @@
+import os
+import tempfile
+import unittest
+from unittest import mock
+
+from spanprof.errors import Fault
+from spanprof.record import ranks
+from spanprof.record.files import Recording
+from spanprof.record.linkage import LLVM, Linkage
+from spanprof.record.target import launched
+
+
+class Ranks(unittest.TestCase):
+    def test_the_number_of_a_process(self):
+        for rank, size in ranks.VARIABLES:
+            self.assertEqual(ranks.rank_of({rank: "2", size: "3"}), 2)
+            self.assertIsNone(ranks.rank_of({rank: "0", size: "1"}))
+            self.assertIsNone(ranks.rank_of({rank: "2"}))
+        self.assertIsNone(ranks.rank_of({"SLURM_PROCID": "x", "SLURM_STEP_NUM_TASKS": "3"}))
+
+    def test_names(self):
+        self.assertEqual([ranks.of_rank("/tmp/m", rank) for rank in (None, 7)], ["/tmp/m", "/tmp/m.rank7"])
+        self.assertTrue(ranks.are_ranks([Recording("/tmp/m.tasks"), Recording("/tmp/m.rank0.2.tasks")]))
+        self.assertFalse(ranks.are_ranks([Recording("/tmp/m.rank0.d/m.tasks")]))
+
+    def test_launchers(self):
+        for name in ("mpirun", "/usr/bin/mpirun.openmpi", "mpiexec.hydra", "srun"):
+            self.assertTrue(ranks.is_launcher(name))
+        self.assertFalse(ranks.is_launcher("./mpirunner"))
+
+    def test_what_the_ranks_of_a_run_wrote(self):
+        with tempfile.TemporaryDirectory() as folder:
+            out = os.path.join(folder, "m")
+            for end in (".rank10.tasks", ".rank2.2.tasks", ".rank2.large.tasks", ".tasks", ".rankx.tasks"):
+                open(out + end, "w", encoding="utf-8").close()
+            self.assertEqual(ranks.names_of_ranks(out), [out + ".rank2", out + ".rank10"])
+
+
+class Launched(unittest.TestCase):
+    def find(self, words, linked=()):
+        def linkage(path):
+            return Linkage(libraries={LLVM: "/l"} if path in linked else {})
+        with mock.patch("spanprof.record.target.shutil.which", lambda word: word if word.startswith("/") else None), \
+                mock.patch("spanprof.record.target.linkage", linkage):
+            return launched(words)
+
+    def test_the_program_among_the_words(self):
+        self.assertEqual(self.find(["mpirun", "-n", "3", "/bin/env", "/m", "5"], ["/m"]), "/m")
+        self.assertEqual(self.find(["mpirun", "-n", "3", "/plain"]), "/plain")
+        with self.assertRaisesRegex(Fault, "mpirun: no program is among its words"):
+            self.find(["mpirun", "-n", "3"])
+
+
+if __name__ == "__main__":
+    unittest.main()

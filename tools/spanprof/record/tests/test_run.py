@@ -1,0 +1,142 @@
+import argparse
+import os
+import signal
+import sys
+import tempfile
+import unittest
+from unittest import mock
+
+from spanprof.errors import NO_PROGRAM, NOT_EXECUTABLE, Fault
+from spanprof.record.options import parse
+from spanprof.record.run import PassedOn, end_as, environment, run, signal_name
+from spanprof.record.target import find
+
+
+def options(**given):
+    known = dict(unit=None, clock=None, threads=None, fold=())
+    return argparse.Namespace(**dict(known, **given))
+
+
+class Environment(unittest.TestCase):
+    def test_what_is_not_asked_for_stays(self):
+        new = environment({"OMP_NUM_THREADS": "3", "SPANPROF_UNIT": "ms"}, options(), "/r.so", "", "/out")
+        self.assertEqual(new, {"OMP_NUM_THREADS": "3", "SPANPROF_UNIT": "ms", "OMP_TOOL": "enabled",
+                               "OMP_TOOL_LIBRARIES": "/r.so", "SPANPROF_OUT": "/out", "SPANPROF_QUIET": "1"})
+
+    def test_what_is_asked_for(self):
+        asked = options(unit="us", clock="cpu", threads=8, fold=[("depth", 2), ("chunk", 5)])
+        new = environment({}, asked, "/r.so", "", "o")
+        self.assertEqual([new[name] for name in ("SPANPROF_UNIT", "SPANPROF_CLOCK", "OMP_NUM_THREADS",
+                                                 "SPANPROF_FOLD_DEPTH", "SPANPROF_FOLD_CHUNK")],
+                         ["us", "cpu", "8", "2", "5"])
+
+    def test_other_tools_and_libraries_come_after(self):
+        new = environment({"LD_PRELOAD": "/a.so", "OMP_TOOL_LIBRARIES": "/b.so", "OMP_TOOL": "disabled"}, options(),
+                          "/r.so", "/llvm.so", "o")
+        self.assertEqual((new["LD_PRELOAD"], new["OMP_TOOL_LIBRARIES"], new["OMP_TOOL"]),
+                         ("/llvm.so:/a.so", "/r.so:/b.so", "enabled"))
+
+
+class Ends(unittest.TestCase):
+    def python(self, code):
+        return run(sys.executable, [sys.executable, "-c", code], dict(os.environ))
+
+    def test_the_status_of_the_program(self):
+        self.assertEqual(self.python("raise SystemExit(3)"), 3)
+        self.assertEqual(self.python("import os; os.abort()"), -signal.SIGABRT)
+
+    def test_a_file_that_is_no_program(self):
+        with tempfile.NamedTemporaryFile(suffix=".txt") as file:
+            os.chmod(file.name, 0o644)
+            with self.assertRaises(Fault) as fault:
+                run(file.name, [file.name], {})
+        self.assertEqual(fault.exception.status, NOT_EXECUTABLE)
+
+    def test_this_process_ends_alike(self):
+        for status in (0, 3, -signal.SIGABRT, -signal.SIGKILL):
+            child = os.fork()
+            if not child:
+                try:
+                    end_as(status)
+                except SystemExit as end:
+                    os._exit(end.code)
+            self.assertEqual(os.waitstatus_to_exitcode(os.waitpid(child, 0)[1]), status)
+
+    def test_names_of_signals(self):
+        self.assertEqual(signal_name(-11), "SIGSEGV")
+        self.assertEqual(signal_name(-99), "signal 99")
+
+
+class Signals(unittest.TestCase):
+    def test_a_signal_goes_to_the_program(self):
+        program = mock.Mock()
+        before = signal.getsignal(signal.SIGTERM)
+        with PassedOn() as passed_on:
+            passed_on.to(program)
+            os.kill(os.getpid(), signal.SIGTERM)
+        program.send_signal.assert_called_once_with(signal.SIGTERM)
+        self.assertEqual(signal.getsignal(signal.SIGTERM), before)
+
+    def test_one_that_comes_before_the_program_does(self):
+        program = mock.Mock()
+        with PassedOn() as passed_on:
+            os.kill(os.getpid(), signal.SIGTERM)
+            passed_on.to(program)
+        program.send_signal.assert_called_once_with(signal.SIGTERM)
+
+    def test_one_that_is_ignored_stays_ignored(self):
+        before = signal.signal(signal.SIGHUP, signal.SIG_IGN)
+        try:
+            with PassedOn():
+                self.assertEqual(signal.getsignal(signal.SIGHUP), signal.SIG_IGN)
+        finally:
+            signal.signal(signal.SIGHUP, before)
+
+
+class Finding(unittest.TestCase):
+    def status(self, word):
+        with self.assertRaises(Fault) as fault:
+            find(word)
+        return fault.exception.status
+
+    def test_programs(self):
+        self.assertEqual(find(sys.executable), sys.executable)
+        with mock.patch("shutil.which", return_value="/bin/mine"), mock.patch("os.path.exists", return_value=True), \
+                mock.patch("os.access", return_value=True):
+            self.assertEqual(find("mine"), "/bin/mine")
+
+    def test_what_is_none(self):
+        self.assertEqual(self.status("/no/such/program"), NO_PROGRAM)
+        self.assertEqual(self.status("no-such-program-at-all"), NO_PROGRAM)
+        self.assertEqual(self.status("/"), NOT_EXECUTABLE)
+        self.assertEqual(self.status(os.path.abspath(__file__)), NOT_EXECUTABLE)
+
+
+class Words(unittest.TestCase):
+    def test_the_program_and_its_words(self):
+        for words in (["--unit", "us", "--", "./mine", "--unit", "7"], ["--unit", "us", "./mine", "--unit", "7"]):
+            chosen = parse(words)
+            self.assertEqual((chosen.unit, chosen.command), ("us", ["./mine", "--unit", "7"]))
+
+    def test_names(self):
+        self.assertEqual(parse(["--", "./build/mine"]).out, "mine")
+        self.assertEqual(parse(["--open", "--", "./mine"]).html, "mine.html")
+        self.assertEqual(parse(["--open", "--html", "p.html", "--", "./mine"]).html, "p.html")
+
+    def test_folds(self):
+        chosen = parse(["--fold", "exact", "--fold", "depth=3", "--", "x"])
+        self.assertEqual(chosen.fold, [("exact", 1), ("depth", 3)])
+        new = environment({}, chosen, "/r.so", "", "o")
+        self.assertEqual((new["SPANPROF_FOLD_EXACT"], new["SPANPROF_FOLD_DEPTH"]), ("1", "3"))
+
+    def test_wrong_words(self):
+        wrong = ("--unit s", "--unit 0", "--threads 0", "--runs -1", "--fold depth", "--fold exact=2",
+                 "--clock sun", "--out a/", "--thre 2")
+        for words in [[], ["--"]] + [options.split() + ["--", "x"] for options in wrong]:
+            with mock.patch("sys.stderr"), self.assertRaises(SystemExit) as end:
+                parse(words)
+            self.assertEqual(end.exception.code, 125, words)
+
+
+if __name__ == "__main__":
+    unittest.main()

@@ -1,0 +1,73 @@
+"""No line of a summary says `proved` without saying of what, or against what the head tells."""
+import itertools
+import unittest
+
+from spanprof.claims import is_divided
+from spanprof.record.large import LargeAnswers, large_summary
+from spanprof.record.summary import summary
+from spanprof.record.tests.made_up import Answers, Head
+
+OF_WHAT = ("proved of the recorded text", "proved of this text")
+HEADS = {
+    "threads": [dict(), dict(threads=1, one_thread=True), dict(threads=None)],
+    "divided": [dict(), dict(divided=["loops, 3 times at a.c:3"])],
+    "covered": [dict(), dict(covered=10), dict(covered=None, thread_time=None), dict(covers_at_most=True)],
+    "locks": [dict(), dict(locks=["critical: 1 time"], most_held=90), dict(locks=["critical: 1 time"], most_held=1)],
+    "remarks": [dict(), dict(remarks=["a: span too high"]), dict(remarks=["a: span too low"]),
+                dict(remarks=["a: work and span too low"]), dict(remarks=["a: work and span too high or too low"]),
+                dict(remarks=["a: work too low, span too high"])],
+    "runs": [dict(), dict(runs=5, is_median=True, spread={"work": (90, 100, 110), "span": (60, 70, 80)})],
+}
+
+
+def heads():
+    """Each of all ways in which the lines of a head may come together."""
+    for chosen in itertools.product(*HEADS.values()):
+        yield Head(**{name: value for told in chosen for name, value in told.items()})
+
+
+def summaries(head):
+    yield summary(Answers(head=head), "its run was legal (proved of the recorded text and events)")
+    yield large_summary(LargeAnswers("sort.large.tasks", head, tasks=9, segments=20, work=100, span=70))
+
+
+def line_of(lines, name):
+    return next(line for line in lines if line.startswith(name))
+
+
+class Proved(unittest.TestCase):
+    def test_of_what(self):
+        for head in heads():
+            for line in itertools.chain(*summaries(head)):
+                self.assertTrue("proved" not in line or any(words in line for words in OF_WHAT), line)
+
+    def test_nothing_on_more_threads_than_the_text_speaks_of(self):
+        for head in heads():
+            for lines in summaries(head):
+                if is_divided(head) or head.threads == 1:
+                    self.assertNotIn("proved", line_of(lines, "span ") + line_of(lines, "parallelism"))
+
+    def test_nothing_against_a_remark(self):
+        for head in heads():
+            for lines in summaries(head):
+                if any("span too high" in remark or "high or" in remark for remark in head.remarks):
+                    self.assertNotIn("proved", line_of(lines, "span ") + line_of(lines, "parallelism"))
+                if any("work too low" in remark or "work and span too low" in remark for remark in head.remarks):
+                    self.assertNotIn("proved", line_of(lines, "parallelism"))
+
+    def test_a_part_is_called_one(self):
+        for head in heads():
+            for lines in summaries(head):
+                if head.covered == 10 or head.covers_at_most and head.covered:
+                    self.assertIn("of the program's thread-time", lines[0])
+                    proved = [line for line in lines[5:] if "proved" in line]
+                    self.assertTrue(all("a part of the program)" in line for line in proved), lines)
+
+    def test_nothing_is_measured_in_comparison_with_a_run_that_was_not(self):
+        for head in heads():
+            for line in itertools.chain(*summaries(head)):
+                self.assertNotIn("as fast as one", line)
+
+
+if __name__ == "__main__":
+    unittest.main()

@@ -1,0 +1,208 @@
+import tempfile
+import unittest
+from unittest import mock
+
+from spanprof import client
+from spanprof.errors import Fault
+from spanprof.record.files import Recording
+from spanprof.record.summary import other_region, summary
+from spanprof.record.tests.made_up import Answers, Head
+from spanprof.record.verdict import verdict
+from spanprof.report.figures import rounded_down, rounded_up
+from spanprof.whatif.lead import Lead
+
+LEGAL = "its run was legal (proved of the recorded text and events)"
+EXPECTED = """\
+sort.tasks, region at sort.c:48, 4 threads, costs in us of wall time
+covers        97.0 % of the program's thread-time in code (measured)
+tasks         1, in 3 segments (recorded); its run was legal (proved of the recorded text and events)
+runs          1: another run has other costs; --runs 9 tells how far they spread
+work          100 us: code on 4 threads, added up (measured)
+span          70 us: it ends no sooner on any number of threads (proved of the recorded text)
+parallelism   1.43: work / span; it gains no more on any number of threads (proved of the recorded text)
+elapsed       40 us on 4 threads: 2.50 of them busy in this code on average (measured)
+threads       2: up to 1.43, 4: up to 1.43, 8: up to 1.43, 16: up to 1.43 times as fast as its work in a row (proved of the recorded text)
+              2: 1.17, 4: 1.29, 8: 1.36, 16: 1.40 and more as long as no thread idles beside a ready segment, which tied tasks can force (proved of the recorded text)
+span by place 71.4 % of the span, 50.0 % of the work: after a taskwait (measured)
+              28.6 % of the span, 20.0 % of the work: the beginning (measured)
+remarks       none"""
+NOT_OF_ONE = "a longest chain of the recorded text; it is of one thread, and says nothing of more"
+DIVIDED = "on another number of threads its code is divided otherwise"
+
+
+def lines_of(**told):
+    """The summary's lines by their names, where the head tells what is given here."""
+    out, name = {}, ""
+    for line in summary(Answers(head=Head(**told)), LEGAL):
+        name = line[:13].strip() or name
+        out.setdefault(name, []).append(line[14:])
+    return out
+
+
+class Lines(unittest.TestCase):
+    def test_a_recording(self):
+        self.assertEqual("\n".join(summary(Answers(), LEGAL)), EXPECTED)
+
+    def test_remarks_locks_and_news(self):
+        head = Head(remarks=["folded task: span too high"], locks=["critical at a.c:3: 2 times"], elapsed=None)
+        lines = summary(Answers(head=head), news=["mine.2 is not written"])
+        self.assertEqual(lines[-3:], ["remarks       folded task: span too high",
+                                      "              lock critical at a.c:3: 2 times",
+                                      "              mine.2 is not written"])
+        self.assertIn("elapsed       not told", lines)
+
+    def test_parts_are_no_tasks_of_the_program(self):
+        answers = Answers(tasks=179, parts=149)
+        self.assertIn("tasks         30, and 149 parts of the region's own code, in 3 segments (recorded)",
+                      summary(answers))
+
+    def test_a_text_without_costs(self):
+        answers = Answers(work=0, span=0)
+        for row in answers.rows:
+            row.cost = 0
+        answers.curve = {p: {"least": 0, "bound": 0} for p in (2, 4, 8, 16)}
+        self.assertIn("parallelism   1.00", "\n".join(summary(answers)))
+
+    def test_a_unit_that_is_a_number(self):
+        self.assertEqual(lines_of(unit="250 ns")["work"], ["100 x 250 ns: code on 4 threads, added up (measured)"])
+
+    def test_the_lead_stands_below_the_first_line(self):
+        lines = summary(Answers(), lead=Lead("too few tasks", "without the wait"))
+        after = summary(Answers(), lead=Lead("the machine", "none", "after that"))
+        self.assertEqual(after[2:4], ["first change  none", "              after that"])
+        self.assertEqual(lines[1:4], ["cause         too few tasks", "first change  without the wait",
+                                      "covers        97.0 % of the program's thread-time in code (measured)"])
+
+    def test_an_account(self):
+        lines = summary(Answers(), account=["of 4 x 40 us: 62.5 % in code (measured)", "10.0 % idle"])
+        at = lines.index("account       of 4 x 40 us: 62.5 % in code (measured)")
+        self.assertEqual(lines[at + 1], "              10.0 % idle")
+        self.assertTrue(lines[at - 1].startswith("elapsed"))
+
+    def test_other_regions(self):
+        other = "sort.tasks, region at sort.c:48: work 100 us, span 70 us"
+        self.assertEqual(other_region(Answers()), other)
+        self.assertEqual(summary(Answers(), others=[other])[-1], "other regions " + other)
+
+    def test_no_bound_is_told_better_than_it_is(self):
+        self.assertEqual((rounded_down(1999, 1000), rounded_up(1999, 1000)), ("1.99", "2.00"))
+        self.assertEqual((rounded_down(200, 100), rounded_up(200, 100)), ("2.00", "2.00"))
+        self.assertEqual((rounded_down(0, 0), rounded_up(0, 0)), ("1.00", "1.00"))
+        self.assertEqual((rounded_down(10 ** 15 - 1, 7), rounded_up(10 ** 15, 3)),
+                         ("142857142857142.71", "333333333333333.34"))
+
+
+class WhatTheTextIsNot(unittest.TestCase):
+    """Where the head tells that the text is not the program, the line says that, and nothing proved."""
+
+    def test_one_thread(self):
+        lines = lines_of(threads=1, one_thread=True)
+        self.assertEqual(lines["work"], ["100 us: code on one thread (measured)"])
+        self.assertEqual(lines["span"], ["70 us: " + NOT_OF_ONE])
+        self.assertEqual(lines["threads"], ["it is of one thread, and says nothing of more"])
+        self.assertNotIn("proved", lines["parallelism"][0])
+
+    def test_divided_code(self):
+        lines = lines_of(divided=["loops, 120 times at spmd.c:6"])
+        self.assertEqual(lines["span"], ["70 us: a longest chain of the recorded text; " + DIVIDED])
+        self.assertEqual(lines["parallelism"], ["1.43: work / span of the recorded text; " + DIVIDED])
+        self.assertTrue(lines["threads"][0].startswith("4: up to 1.43 times as fast"))
+        self.assertEqual(lines["threads"][2], DIVIDED)
+
+    def test_the_code_of_threads_beside_each_other(self):
+        """Below a twentieth of the text it changes little."""
+        parts = ["code of the region, 9 parts, 4 us beside the longest"]
+        self.assertIn("proved", lines_of(divided=parts, beside=4)["span"][0])
+        self.assertIn(DIVIDED, lines_of(divided=parts, beside=5)["span"][0])
+        self.assertIn(DIVIDED, lines_of(divided=parts + ["loops, 1 time at a.c:3"], beside=4)["span"][0])
+
+    def test_a_part_of_the_program(self):
+        lines = lines_of(covered=382, thread_time=1001, not_covered={"outside regions": 19, "in other regions": 600})
+        part = "(proved of the recorded text, a part of the program)"
+        self.assertEqual(summary(Answers(head=Head(covered=382, thread_time=1001)))[0],
+                         "sort.tasks, region at sort.c:48, only 38.1 % of the program's thread-time, 4 threads, "
+                         "costs in us of wall time")
+        self.assertEqual(lines["covers"], ["38.1 % of the program's thread-time in code; not covered: "
+                                           "19 outside regions, 600 in other regions (measured)"])
+        for name in ("span", "parallelism", "threads"):
+            self.assertTrue(lines[name][0].endswith(part), name)
+
+    def test_a_full_log(self):
+        lines = lines_of(covered=99, covers_at_most=True)
+        self.assertTrue(lines["covers"][0].startswith("at most 99.0 % of the program's thread-time in code"))
+        self.assertIn("(proved of the recorded text, a part of the program)", lines["span"][0])
+
+    def test_nothing_told_of_what_is_covered(self):
+        self.assertEqual(lines_of(covered=None, thread_time=None)["covers"],
+                         ["not told how much of the program's thread-time"])
+
+    def test_remarks(self):
+        too_high = lines_of(remarks=["folded task, 1 time at a.c:3: span too high (an upper bound)"])
+        self.assertEqual(too_high["span"][0], "70 us: a longest chain of the recorded text; the program's may be less "
+                                              "(remarks)")
+        self.assertNotIn("proved", too_high["parallelism"][0] + too_high["threads"][0])
+        self.assertEqual(len(too_high["threads"]), 2)
+        too_low = lines_of(remarks=["mutexinoutset: span too low, and too high in the text .inout.tasks"])
+        self.assertIn("(proved of the recorded text)", too_low["span"][0])
+        self.assertEqual(len(too_low["threads"]), 1)
+        either = lines_of(remarks=["cancellation: work and span too high or too low"])
+        self.assertNotIn("proved", "".join(either["span"] + either["parallelism"] + either["threads"]))
+
+    def test_both_clocks(self):
+        told = {"affected": 72, "work": 101, "by": 3000, "times": 9}
+        self.assertEqual(lines_of(clocks_differ=told)["both clocks"], [
+            "in 71.2 % of the work they differ by more than a twentieth, together by 3,000 us (measured)"])
+        self.assertNotIn("both clocks", lines_of())
+
+    def test_locks(self):
+        lines = lines_of(locks=["critical at a.c:3: 2 times, 80 inside, 0 waiting"], most_held=80)
+        self.assertEqual(lines["locks"], ["80 us inside the most held one: no run of this code is more than 1.25 times "
+                                          "as fast as its work in a row (measured)"])
+        self.assertEqual(len(lines["threads"]), 1)
+        self.assertTrue(lines["threads"][0].startswith("2: up to 1.25, 4: up to 1.25"))
+        self.assertNotIn("proved", lines["threads"][0])
+
+    def test_a_lock_beside_a_remark(self):
+        remark = "off the processor in the midst of code, 9 times: work and span too high, since the wall clock went on"
+        lines = lines_of(locks=["critical at a.c:3: 2 times, 80 inside, 0 waiting"], most_held=80, remarks=[remark])
+        self.assertEqual(lines["locks"], ["80 us inside the most held one; another run may hold it for less, beside "
+                                          "its work (remarks) (measured)"])
+        self.assertIn("(of the recorded text; the program's may be more (remarks))", lines["threads"][0])
+
+    def test_a_lock_that_is_held_for_less_than_the_span(self):
+        lines = lines_of(locks=["critical at a.c:3: 2 times, 50 inside, 0 waiting"], most_held=50)
+        self.assertNotIn("locks", lines)
+        self.assertIn("4: up to 1.43", lines["threads"][0])
+
+    def test_the_spread_of_several_runs(self):
+        lines = lines_of(runs=7, is_median=True, spread={"work": (90, 100, 120), "span": (60, 70, 75)})
+        self.assertEqual(lines["runs"], ["7, and each cost is the median of theirs (measured)"])
+        self.assertTrue(lines["work"][0].startswith("100 us (90 to 120 in 7 runs): code"))
+        self.assertTrue(lines["span"][0].startswith("70 us (60 to 75 in 7 runs): it ends"))
+
+    def test_several_runs_without_a_median(self):
+        told = lines_of(runs=7, is_median=False)["runs"]
+        self.assertEqual(told, ["7, and each cost is that of the one with the median work, since they have no median "
+                                "(measured)"])
+
+
+class Verdicts(unittest.TestCase):
+    def verdict(self, **asked):
+        with tempfile.NamedTemporaryFile() as file, mock.patch("spanprof.client.ask", **asked):
+            return verdict(Recording("mine.tasks", file.name))
+
+    def test_all_three(self):
+        self.assertEqual(verdict(Recording("mine.tasks")), "")
+        self.assertEqual(self.verdict(return_value="events 2\nfinished 1\n"), LEGAL)
+        self.assertEqual(self.verdict(side_effect=Fault("spanprof replay: error: event 4: NotReady 1")),
+                         "its run is refused: spanprof replay: error: event 4: NotReady 1")
+
+    def test_the_refused_event_is_shown(self):
+        log = "omptasks 1 taskwait\n---\nstart 0 1\n"
+        self.assertEqual(self.verdict(side_effect=client.Refused(["replay"], log, "error: event 0: NotReady 0")),
+                         "its run is refused: spanprof replay: error: event 0: NotReady 0; `start 0 1`: segment 0, "
+                         "which has to come first, has not finished")
+
+
+if __name__ == "__main__":
+    unittest.main()

@@ -1,0 +1,136 @@
+"""spanprof-report: one page on a program text and its recorded run."""
+import argparse
+import json
+import os
+import sys
+
+from spanprof.command import Console, check_files, end_with
+from spanprof.errors import Fault
+from spanprof.head import said
+from spanprof.report.large_answers import is_large
+from spanprof.report.large_page import page as page_of_any_size
+from spanprof.report.large_view import LargeView
+from spanprof.report.page import page
+from spanprof.report.speedscope import speedscope_text
+from spanprof.report.summary_json import summary_json
+from spanprof.report.trace_events import trace_text
+from spanprof.report.view import View
+from spanprof.report.what_if import UnknownPlace, all_at_once, read_factors
+from spanprof.version import Version
+
+DESCRIPTION = "Writes one page (HTML that needs no other file and no network) on a program text of spanprof."
+ANSWER = ("work", "span", "was")
+LONGEST_WORDS = 100
+
+
+def beside(text):
+    """The page's name where none is given; never the text's own."""
+    stem, ending = os.path.splitext(text)
+    return stem + ".html" if ending != ".html" else text + ".html"
+
+
+def arguments(words):
+    parser = argparse.ArgumentParser(prog="spanprof-report", description=DESCRIPTION)
+    add = parser.add_argument
+    add("program", metavar="MINE.tasks", help="the program text")
+    add("-o", "--output", metavar="MINE.html",
+        help="the page; without it, and where nothing else is asked for, it is written beside the text")
+    add("--replay", metavar="MINE.replay", help="the recorded run; without it the one beside the text, if there is one")
+    add("--with", dest="other", metavar="OTHER.tasks", help="a second program, side by side with the first")
+    add("--threads", type=int, metavar="P", help="of the greedy run; without it as many as were recorded")
+    add("--source", action="append", metavar="FOLDER", help="where the source is; without it beside the text, and here")
+    add("--factor", action="append", default=[], metavar="PLACE=F",
+        help="what if the costs at PLACE were F times as much; may be given several times")
+    add("--trace", metavar="FILE.json", help="the runs as a trace for ui.perfetto.dev")
+    add("--speedscope", metavar="FILE.json", help="the work and the span by place, for speedscope.app")
+    add("--json", action="store_true", help="print the summary as JSON")
+    add("--version", action=Version)
+    chosen = parser.parse_args(words)
+    if chosen.json and chosen.factor and not chosen.output:
+        parser.error("--json prints the summary, and --factor without -o its answer: ask for one of them")
+    if not (chosen.output or chosen.trace or chosen.speedscope or chosen.factor or chosen.json):
+        chosen.output = beside(chosen.program)
+    if chosen.threads is not None and not 1 <= chosen.threads <= 1024:
+        parser.error("--threads is from 1 to 1024")
+    return chosen
+
+
+def write(path, text):
+    with open(path, "w", encoding="utf-8", errors="replace") as file:   # a file's name may be no UTF-8
+        file.write(text)
+
+
+class Progress:
+    """One line that says what is being done, where somebody looks on."""
+
+    def __init__(self, stream):
+        self.stream, self.count = stream, 0
+
+    def __call__(self, words):
+        self.count += 1
+        if self.stream.isatty():
+            shown = "spanprof-report: %d: %s" % (self.count, words)
+            print("\r\033[K" + shown[:LONGEST_WORDS], end="", file=self.stream, flush=True)
+
+    def end(self, written):
+        """Names the files, wherever they are told."""
+        before = "\r\033[K" if self.stream.isatty() else ""
+        words = ["spanprof-report: written: %s" % path for path in written]
+        print(before + "\n".join(words), end="\n" if words else "", file=self.stream)
+
+
+def print_factors(view, factors):
+    """Remarks first, then how many segments change, and spanprof's answer."""
+    remarks = said(view.answers.text)
+    changed = sum(1 for place, _ in factors for s in place.segments if view.answers.rows[s].cost)
+    after = all_at_once(view, factors)
+    count = "%d segment%s changed" % (changed, "" if changed == 1 else "s")
+    print("\n".join([*remarks, count, *("%s %d" % (name, after[name]) for name in ANSWER)]))
+
+
+def views_of(chosen, tell):
+    views = [View(chosen.program, chosen.replay, chosen.threads, chosen.source, tell=tell)]
+    if chosen.other:
+        views.append(View(chosen.other, None, chosen.threads, chosen.source, "other ", tell))
+    return views
+
+
+def write_all(chosen, views, factors):
+    """What was asked for; what was written is told."""
+    written = [(chosen.output, lambda: page(views, factors)), (chosen.trace, lambda: trace_text(views[0])),
+               (chosen.speedscope, lambda: speedscope_text(views[0]))]
+    for path, make in written:
+        if path:
+            write(path, make())
+    return [path for path, _ in written if path]
+
+
+def write_large_page(chosen, progress):
+    """Of a text beyond the limits of spanprof: what needs no table of its segments."""
+    if any(getattr(chosen, option) for option in ("other", "trace", "speedscope", "factor", "json", "replay")):
+        raise Fault("%s: beyond the limits of spanprof, where there is only a page (-o)" % chosen.program)
+    write(chosen.output, page_of_any_size(LargeView(chosen.program, chosen.threads, chosen.source, progress)))
+    progress.end([chosen.output])
+
+
+def write_the_rest(chosen, progress):
+    views = views_of(chosen, progress)
+    try:
+        factors = read_factors(chosen.factor, views[0].places)
+    except UnknownPlace as unknown:
+        raise Fault("--factor %s" % unknown) from unknown
+    if factors and not chosen.output:
+        print_factors(views[0], factors)
+    if chosen.json:
+        print(json.dumps(summary_json(views[0]), indent=2))
+    progress.end(write_all(chosen, views, factors))
+
+
+def answer(chosen):
+    for path in filter(None, (chosen.program, chosen.replay, chosen.other)):
+        check_files(path)
+    (write_large_page if is_large(chosen.program) else write_the_rest)(chosen, Progress(sys.stderr))
+
+
+def main(words):
+    end_with(Console("spanprof-report"), answer, arguments(words))

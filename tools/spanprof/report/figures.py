@@ -1,0 +1,97 @@
+"""Numbers of the page. Each tells where it comes from: it carries the answer of spanprof that it is, or the sum.
+
+A source is written in a few words that the tests read again: `span work`, `curve 4 end`, `place 3 cost`,
+`whatif 3 0.5 span`. `A - B` is a difference, `A / B` a quotient, `percent A / B` the same in per cent. `other` before
+all of it means the second program of the page, and `change A` how that differs from the first in per cent.
+"""
+from spanprof.report.markup import join, tag
+from spanprof.report.units import grouped
+
+MEASURED, RECORDED, PROVED, DECLARED = "measured", "recorded", "proved", "declared"
+MEANINGS = {
+    MEASURED: "read from the recorder's clock, or a sum or quotient of such readings",
+    DECLARED: "stated by the text, with no recording behind it, or a sum of such statements",
+    RECORDED: "taken from the run: tasks and segments, what waits for what, the order of events",
+    PROVED: "follows from the costs and the shape that the text has, computed by a program that is proved correct; of "
+            "the program that was recorded it says as much as the text is that program",
+}
+LABELS = {PROVED: "proved of the text"}
+
+
+def percent(part, whole):
+    return 100 * part / whole if whole else 0.0
+
+
+def rounded_down(above, below):
+    """A quotient that is never told greater than it is."""
+    return "%d.%02d" % divmod(100 * above // below, 100) if below else "1.00"
+
+
+def rounded_up(above, below):
+    """A quotient that is never told less than it is."""
+    return "%d.%02d" % divmod(-(-100 * above // below), 100) if below else "1.00"
+
+
+def label(kind):
+    """The word for a kind of number; what is proved is proved of the text."""
+    return LABELS.get(kind, kind)
+
+
+class Figures:
+    """The numbers of one program of the page; `prefix` stands before the sources of the second."""
+
+    def __init__(self, prefix="", units=None):
+        self.prefix, self.units = prefix, units
+
+    def data(self, words, value, source, kind, rounded=None, exact="", scale=1):
+        """`exact` is the number in full, and `scale` what it is divided by where it is seen."""
+        carried = value if isinstance(value, int) else "%.6g" % value
+        told = "%s (%s)" % (label(kind), self.prefix + source)
+        return tag("data", words, value=carried, title="%s: %s" % (exact, told) if exact else told,
+                   data_from=self.prefix + source, data_rounded=rounded,
+                   data_scale=None if scale == 1 else "%.12g" % scale, class_=kind)
+
+    def number(self, value, source, kind, digits=0):
+        """A number as HTML. Its title says whether it was measured, recorded or proved, and by which answer."""
+        return self.data(grouped(value, digits), value, source, kind)
+
+    def time(self, value, source, kind, rounded=None):
+        """A time in a human unit; in full it is the title's. What bounds is rounded `up` or `down`, its own way."""
+        words, scale = self.units.shown(value, rounded)
+        return self.data(words, value, source, kind, rounded, self.units.exact(value), scale)
+
+    def share(self, part, whole, source, kind):
+        """A part of a whole in per cent; the source is that of the quotient."""
+        value = percent(part, whole)
+        return self.data(grouped(value, 1) + " %", value, "percent " + source, kind)
+
+    def times(self, above, below, source, kind):
+        """A quotient such as a speed-up; 1 where nothing costs anything."""
+        return self.number(above / below if below else 1.0, source, kind, 2)
+
+    def times_at_most(self, above, below, source, kind):
+        """A quotient that nothing passes, rounded up."""
+        return self.data(rounded_up(above, below), above / below if below else 1.0, source, kind, "up")
+
+    def times_at_least(self, above, below, source, kind):
+        """A quotient that is always reached, rounded down."""
+        return self.data(rounded_down(above, below), above / below if below else 1.0, source, kind, "down")
+
+    def told(self, name, words, sources, **attributes):
+        """An element, as of a picture, whose words have one number for each of the sources, in this order."""
+        listed = "; ".join(self.prefix + source for source in sources)
+        return tag(name, words, data_from=listed or None, **attributes)
+
+    def told_time(self, name, value, source, **attributes):
+        """The same of one time, in a human unit."""
+        words, scale = self.units.shown(value)
+        return self.told(name, words, [source], data_scale=None if scale == 1 else "%.12g" % scale, **attributes)
+
+
+def badge(kind):
+    """The word itself, where a column or a tile holds numbers of one kind."""
+    return tag("span", label(kind), class_="badge " + kind, title=MEANINGS[kind])
+
+
+def badges(*kinds):
+    return join([badge(kind) for kind in kinds], " ")

@@ -1,0 +1,105 @@
+"""A text of any size with what spanprof_large answers of it, and the sums by place of spanprof_path."""
+import os
+import re
+import tempfile
+from functools import cached_property
+
+from spanprof import client
+from spanprof.head import head_text, read_head
+from spanprof.path.found import find_path, programs
+from spanprof.errors import Fault
+from spanprof.measure import HOW, measure, spanprof_large
+from spanprof.answers import LONGEST_CURVE, THREADS_WITHOUT_RECORDING
+from spanprof.report.large_sums import sums_in
+from spanprof.whatif.numbers import LIMITS, LONGEST, ask_large
+
+
+def is_large(path):
+    """Whether the text is beyond the limits of spanprof; any other fault in it is spanprof's to tell."""
+    if os.path.getsize(path) > LONGEST:
+        return True
+    with open(path, encoding="utf-8", errors="replace", newline="") as file:
+        text = re.split(r"(?m)^---\r?$", file.read())[0]
+    try:
+        client.ask(["span"], text)
+    except Fault as refused:
+        return bool(LIMITS.search(str(refused)))
+    return False
+
+
+class LargeAnswers:
+    """Like Answers, without what needs a table of all segments."""
+
+    def __init__(self, path, threads=None, tell=None):
+        self.path, self.tell = path, tell or (lambda words: None)
+        self.name = os.path.basename(path)
+        self.head = read_head(head_text(path))
+        self.asked, self.wanted_threads, self.without_path = [], threads, ""
+        self.program = spanprof_large()
+        if not self.program:
+            raise Fault("%s: %s" % (path, HOW))
+
+    def note(self, *words):
+        shown = " ".join(["spanprof_large", *words, "<", self.name])
+        self.tell(shown)
+        self.asked.append(shown)
+
+    @cached_property
+    def span_numbers(self):
+        self.note()
+        return measure(self.program, self.path)
+
+    @property
+    def work(self):
+        return self.span_numbers["work"]
+
+    @property
+    def span(self):
+        return self.span_numbers["span"]
+
+    @property
+    def tasks(self):
+        return self.span_numbers["tasks"]
+
+    @property
+    def parts(self):
+        return self.sums.parts
+
+    @property
+    def threads(self):
+        return min(self.wanted_threads or self.head.threads or THREADS_WITHOUT_RECORDING, 1024)
+
+    @cached_property
+    def curve(self):
+        """Of each number of threads `least` and `bound`; no greedy run is made."""
+        upto = str(max(self.threads, LONGEST_CURVE))
+        self.note("--upto", upto)
+        told = ask_large(self.program + ["--upto", upto], self.path)
+        try:
+            return {int(row["threads"]): {key: int(value) for key, value in row.items()} for row in client.rows(told)}
+        except (KeyError, ValueError) as wrong:
+            raise Fault("spanprof_large tells no bounds up to %s threads" % upto) from wrong
+
+    @cached_property
+    def sums(self):
+        self.tell("reading " + self.name)
+        return sums_in(self.path)
+
+    @cached_property
+    def on_the_path(self):
+        """Of each place, by its name, what spanprof_path tells; nothing where that program is not to be had."""
+        try:
+            return self.path_of(programs(self.program, self.tell))
+        except (Fault, OSError) as wrong:
+            self.without_path = "span by place is left out: %s" % wrong
+            return {}
+
+    def path_of(self, by):
+        self.tell("spanprof-path " + self.name)
+        with tempfile.TemporaryDirectory(prefix="spanprof-report-") as folder:
+            masked, table = (os.path.join(folder, name) for name in ("masked.tasks", "table"))
+            found = find_path(by, self.path, self.span_numbers, masked, table)
+            if found.faults:
+                raise Fault("; ".join(found.faults))
+            self.asked.append("spanprof-path %s" % self.name)
+            return {place.name: place for place in found.places()}

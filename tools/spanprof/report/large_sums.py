@@ -1,0 +1,140 @@
+"""Sums over a text of any size in one pass: by place of code, and by place of tasks."""
+import re
+from array import array
+from dataclasses import dataclass, field
+from typing import Dict
+
+from spanprof.answers import OF_A_THREAD
+from spanprof.errors import Fault
+from spanprof.report.places import TaskPlace
+from spanprof.text import Naming, statements
+
+ENCODING = {"encoding": "utf-8", "errors": "replace", "newline": "\n"}
+MOST_KNOWN = 100000  # lines whose marks are kept
+BLOCK = re.compile(r"(taskgroup|task)(?: [\w(): ,]*)?\{(?: *#(.*))?")
+
+
+@dataclass
+class Code:
+    cost: int = 0
+    segments: int = 0
+
+
+@dataclass
+class Sums:
+    code: Dict[str, Code] = field(default_factory=dict)         # by place
+    tasks: Dict[str, TaskPlace] = field(default_factory=dict)   # without what needs a table of all segments
+    of_segment: array = field(default_factory=lambda: array("I"))   # of each segment which of `names` its task is at
+    names: Dict[str, int] = field(default_factory=dict)
+    parts: int = 0
+
+
+class Unusual(Exception):
+    """A line is not one statement, as the recorder writes it."""
+
+
+def mark_of(line):
+    """Kind, cost and comment of a line that is one statement; nothing of an empty line."""
+    code = line.strip()
+    if code.startswith("work "):
+        return "work", int(code[5:]), ""
+    if code == "}":
+        return "end", 0, ""
+    if code.startswith("taskwait"):
+        return "taskwait", 0, code.partition("#")[2].strip()
+    block = BLOCK.fullmatch(code)
+    if code and not block:
+        raise Unusual(line)
+    return (block[1], 0, (block[2] or "").strip()) if block else ()
+
+
+def usual_marks(lines):
+    """The marks of a text of the recorder's, in which most lines stand many times."""
+    for line in lines:
+        if line.strip() == "omptasks 1":
+            break
+        if not line.startswith("#"):
+            raise Unusual(line)
+    known = {}
+    for line in lines:
+        mark = known.get(line)
+        if mark is None:
+            mark = mark_of(line)
+            if len(known) < MOST_KNOWN:
+                known[line] = mark
+        if mark:
+            yield mark
+
+
+def any_marks(lines):
+    for one in statements(lines):
+        yield one.kind, one.cost, one.comment
+
+
+class Summing:
+    """Goes over marks; of each open task its place, its cost, that of its running segment, and its place's number."""
+
+    def __init__(self):
+        self.out, self.open, self.naming = Sums(names={"the root": 0}), [["the root", 0, 0, 0]], Naming()
+        self.code = None
+        self.segment()
+
+    def segment(self):
+        self.code = self.out.code.setdefault(self.naming.place, Code())
+        self.code.segments += 1
+        self.out.of_segment.append(self.open[-1][3])
+        self.open[-1][2] = 0
+
+    def work(self, cost, _):
+        running = self.open[-1]
+        self.code.cost += cost
+        running[1] += cost
+        running[2] += cost
+
+    def taskwait(self, _, comment):
+        self.naming.go_on("taskwait", comment)
+        self.segment()
+
+    def taskgroup(self, _, comment):
+        self.naming.begin("taskgroup", comment)
+
+    def task(self, _, comment):
+        name = comment or "a task"
+        place = self.out.tasks.setdefault(name, TaskPlace(name))
+        place.creating += self.open[-1][2]
+        self.out.parts += comment == OF_A_THREAD
+        self.open.append([name, 0, 0, self.out.names.setdefault(name, len(self.out.names))])
+        self.naming.begin("task", comment)
+        self.segment()
+
+    def end(self, *_):
+        if self.naming.end() == "task":
+            name, cost, *_ = self.open.pop()
+            self.out.tasks[name].costs.append(cost)
+        self.segment()
+
+    def finish(self):
+        name, cost, *_ = self.open.pop()
+        self.out.tasks.setdefault(name, TaskPlace(name)).costs.append(cost)
+        ordered = sorted(self.out.tasks.values(), key=lambda place: (-place.cost, place.name))
+        for number, place in enumerate(ordered):
+            place.number = number
+        return self.out
+
+
+def sums_of(marks):
+    summing = Summing()
+    does = {kind: getattr(summing, kind) for kind in ("work", "taskwait", "taskgroup", "task", "end")}
+    for kind, cost, comment in marks:
+        does[kind](cost, comment)
+    return summing.finish()
+
+
+def sums_in(path):
+    for marks in (usual_marks, any_marks):
+        try:
+            with open(path, **ENCODING) as lines:
+                return sums_of(marks(lines))
+        except (Unusual, ValueError):
+            continue
+    raise Fault("%s is no text of version 1" % path)

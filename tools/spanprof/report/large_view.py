@@ -1,0 +1,86 @@
+"""What a text of any size brings to its page: like View, without a run by segment."""
+import os
+from functools import cached_property
+
+from spanprof.cause import cause
+from spanprof.report.figures import Figures
+from spanprof.report.large_answers import LargeAnswers
+from spanprof.report.large_times import NoTimes, levels_in, levels_of_greedy
+from spanprof.report.places import Place
+from spanprof.report.source import Sources
+from spanprof.report.units import Units
+from spanprof.report.view import Kinds
+from spanprof.whatif.lead import Lead
+
+ASK = "the lines under Changes ask what one brings"
+TOGETHER = 8
+
+
+class Bounded:
+    """The answers as a cause reads them: in place of a greedy end what every greedy run reaches."""
+
+    def __init__(self, answers):
+        self.head, self.work, self.tasks = answers.head, answers.work, answers.tasks
+        self.curve = {threads: dict(row, end=row["bound"]) for threads, row in answers.curve.items()}
+        self.beside = "what every greedy run of the recorded text reaches"
+
+
+class LargeView(Kinds):
+    def __init__(self, path, threads=None, source=None, tell=None):
+        self.answers = LargeAnswers(path, threads, tell)
+        self.units = Units(self.answers.head)
+        self.figures = Figures("", self.units)
+        self.sources = Sources(source or [os.path.dirname(os.path.abspath(path)), os.getcwd()])
+        self.places = self.code_places()
+        self.task_places = sorted(self.answers.sums.tasks.values(), key=lambda place: place.number)
+        self.without_run, self.run, self.tried = "", None, None
+
+    def code_places(self):
+        """By their part of the span, then of the work."""
+        path, out = self.answers.on_the_path, []
+        for name, code in self.answers.sums.code.items():
+            found = path.get(name)
+            out.append(Place(name, 0, range(code.segments), code.cost, found.span if found else 0,
+                             found.segments if found else 0))
+        out.sort(key=lambda place: (-place.critical_cost, -place.cost, place.name))
+        for number, place in enumerate(out):
+            place.number = number
+        return out
+
+    def snippet(self, place):
+        return self.sources.snippet(place)
+
+    @cached_property
+    def lead(self):
+        found = cause(Bounded(self.answers))
+        return found and Lead(found.words, found.instead or (self.fewer_tasks if found.kind == "small" else ASK))
+
+    @property
+    def most_tasks(self):
+        """The place of tasks with the most of them, as it is named; nothing without tasks."""
+        names = {place.name: len(place.costs) for place in self.task_places if place.name != "the root"}
+        name = max(names, key=names.get, default="")
+        return name if name in ("", "a task") else "task at " + name
+
+    @property
+    def fewer_tasks(self):
+        return "fewer, larger tasks, such as: %s, of which %d neighbours are one task; %s" % (
+            self.most_tasks, TOGETHER, ASK)
+
+    @cached_property
+    def levels(self):
+        """The timeline, where the recorder's table of times lies beside the text."""
+        times = os.path.splitext(self.answers.path)[0] + ".times"
+        if not os.path.exists(times):
+            return None
+        self.answers.tell("reading " + os.path.basename(times))
+        try:
+            return levels_in(times, self.answers)
+        except NoTimes as reason:
+            self.without_run = str(reason)
+            return None
+
+    @cached_property
+    def greedy_levels(self):
+        self.answers.tell("the greedy run of " + self.name)
+        return levels_of_greedy(self.answers)

@@ -1,0 +1,53 @@
+"""Tasks by the chain of constructs that created them: what a task and all that it has created cost."""
+from dataclasses import dataclass, field
+from typing import Dict
+
+MOST_LEVELS = 12    # deeper tasks count where they hang
+
+
+@dataclass
+class Node:
+    """`path` are the numbers of the places, from the root's on."""
+    path: tuple
+    tasks: int = 0
+    cost: int = 0           # with those below
+    critical_cost: int = 0
+    below: Dict[int, "Node"] = field(default_factory=dict)
+
+    @property
+    def place(self):
+        return self.path[-1]
+
+    def child(self, place):
+        return self.below.setdefault(place, Node(self.path + (place,)))
+
+
+def creators(code):
+    """Of each task the one that creates it: the task of the segment before its first. The root has none."""
+    out = {}
+    for s, segment in enumerate(code):
+        if not segment.after and segment.task:
+            out[segment.task] = code[s - 1].task
+    return out
+
+
+def nesting(code, tasks, place_of):
+    """The root's node. `tasks` tell their costs, by number; a task has a greater number than its creator."""
+    by, nodes = creators(code), {0: Node((place_of[0],))}
+    for number in range(1, len(tasks)):
+        above = nodes[by[number]]
+        nodes[number] = above.child(place_of[number]) if len(above.path) < MOST_LEVELS else above
+    for number, task in enumerate(tasks):
+        node = nodes[number]
+        node.tasks += 1
+        node.cost += task.cost
+        node.critical_cost += task.critical_cost
+    add_up(nodes[0])
+    return nodes[0]
+
+
+def add_up(node):
+    for below in node.below.values():
+        add_up(below)
+        node.cost += below.cost
+        node.critical_cost += below.critical_cost

@@ -1,0 +1,75 @@
+"""The source with heat: which lines the work and the span are of."""
+from spanprof.report.figures import badges, percent
+from spanprof.report.markup import details, join, note, section, tag
+
+MOST_FILES, MOST_LINES, AROUND = 6, 800, 3
+
+
+def of_files(view):
+    """By file the numbers of the places with costs that begin there, the file with the most work first."""
+    out = {}
+    for place in view.places:
+        stretch = view.stretches.get(place.name)
+        if stretch and place.cost:
+            out.setdefault(stretch.file, []).append(place)
+    return sorted(out.items(), key=lambda item: -sum(place.cost for place in item[1]))
+
+
+def shown_lines(view, places, lines):
+    """Those that segments run, and some around them."""
+    near = set()
+    for place in places:
+        stretch = view.stretches[place.name]
+        near.update(range(stretch.first - AROUND, stretch.last + AROUND + 1))
+    return sorted(number for number in near if 0 < number <= len(lines))[:MOST_LINES]
+
+
+def heat(view, places, number):
+    """The greatest part of the work that a place is whose segments run the line."""
+    return max((percent(place.cost, view.answers.work) for place in places
+                if view.stretches[place.name].first <= number <= view.stretches[place.name].last), default=0)
+
+
+def words_of(view, place):
+    show, kind, named = view.figures, view.cost_kind, "place %d " % place.number
+    stretch = view.stretches[place.name]
+    return tag("span", tag("span", place.name.partition(" at ")[0] + ", " + stretch.words, class_="given"), " ",
+               show.share(place.cost, view.answers.work, named + "cost / span work", kind), " of the work, ",
+               show.share(place.critical_cost, view.answers.span, named + "path / span span", kind), " of the span",
+               class_="at-line")
+
+
+def line_row(view, places, lines, number):
+    here = [place for place in places if view.stretches[place.name].first == number]
+    warm = heat(view, places, number)
+    cells = [tag("td", number, class_="n given"), tag("td", tag("code", lines[number - 1] or " ")),
+             tag("td", *[words_of(view, place) for place in here])]
+    return tag("tr", *cells, style="--heat:%.1f%%" % (0.45 * warm) if warm else None)
+
+
+def gap_row():
+    return tag("tr", tag("td", "⋮", colspan=3), class_="gap")
+
+
+def file_table(view, places, lines):
+    rows, before = [], 0
+    for number in shown_lines(view, places, lines):
+        rows += [gap_row()] if before and number > before + 1 else []
+        rows.append(line_row(view, places, lines, number))
+        before = number
+    return tag("div", tag("table", tag("tbody", *rows), class_="source"), class_="wide")
+
+
+def source_part(view, of=""):
+    """`of` names the program where the page has two. Nothing where no file is found."""
+    files = [(name, places, view.sources.lines_of(name)) for name, places in of_files(view)]
+    found = [(name, places, lines) for name, places, lines in files if lines][:MOST_FILES]
+    if not found:
+        return ""
+    pieces = [details(tag("span", name, class_="place"), file_table(view, places, lines), is_open=i == 0)
+              for i, (name, places, lines) in enumerate(found)]
+    return section("source", "Source" + of, note(
+        "The darker a line, the more of the work a place is whose segments run it: from where they begin to the "
+        "construct that ends them. Where the statement of a directive ends, this page reads off the file's braces. "
+        "Shares ",
+        badges(view.cost_kind), "."), join(pieces))

@@ -1,0 +1,119 @@
+"""The timelines: the run as it was, above the greedy run on the same threads. The page's script draws them."""
+from spanprof.report.figures import MEASURED, PROVED, RECORDED, badge, badges
+from spanprof.report.markup import details, join, note, section, tag
+from spanprof.report.view import COLOURS
+
+KEYS = (("w s", "or + −: zoom"), ("a d", "or ← →: move"), ("0", "show all"),
+        (", .", "the segment before, and the next"), ("↑ ↓", "another thread"),
+        ("n", "the next segment on the critical path"), ("Esc", "let go of what is chosen"),
+        ("Enter", "show a marked stretch alone"))
+HANDS = "Click or tap a segment to choose it: arrows come from those that it waited for (solid) and go to those that " \
+    "waited for it (dashed). A drag moves, and Ctrl with the wheel or two fingers zoom. A drag with Shift marks a " \
+    "stretch: the line below tells of it. A search for words dims all places without them, and Enter goes to the " \
+    "next one with them; a number is a segment's."
+
+
+def title(name, threads, end, busy, kinds):
+    return join([tag("b", name), ", ", tag("span", "%d threads" % threads, class_="given"), ", ", end, ", ", busy,
+                 " busy ", badges(*dict.fromkeys(kinds))])
+
+
+def recorded_title(view):
+    """The run stands as it was only where its times are recorded."""
+    run, show, kind = view.run, view.figures, view.cost_kind
+    busy = sum(end - start for start, end in zip(run.starts, run.ends))
+    name = "The run as it was" if run.is_timed else "The recorded run, in the order of the replay"
+    return title(name, run.count, show.time(round(run.end), "run end", kind),
+                 show.share(busy, run.count * run.end, "run busy / run time", kind), [RECORDED, kind])
+
+
+def until_the_end(view):
+    """Why what elapsed is more than the end of the recorded run."""
+    run, elapsed = view.run, view.answers.head.elapsed
+    if not elapsed or elapsed <= round(run.end):
+        return ""
+    show = view.figures
+    words = AFTER_THE_LAST if run.is_timed else NOT_IN_THE_ORDER
+    return note("From the region's beginning to its end ", show.time(elapsed, "elapsed", MEASURED),
+                " elapsed ", badge(MEASURED), ", ",
+                show.time(elapsed - round(run.end), "elapsed - run end", MEASURED), words)
+
+
+def greedy_title(view):
+    answers, show = view.answers, view.figures
+    end = answers.curve[answers.threads]["end"]
+    return title("The greedy run", answers.threads,
+                 show.time(end, "curve %d end" % answers.threads, PROVED),
+                 show.share(answers.work, answers.threads * end, "span work / greedy time", PROVED), [PROVED])
+
+
+def controls(has_search=True):
+    def button(act, words, label):
+        return tag("button", words, type="button", data_act=act, aria_label=label)
+
+    find = tag("input", type="search", class_="search", placeholder="place or segment", aria_label="search")
+    return tag("div", button("in", "+", "zoom in"), button("out", "−", "zoom out"), button("all", "all", "show all"),
+               button("left", "←", "to the left"), button("right", "→", "to the right"),
+               find if has_search else "",
+               tag("output", class_="keys"), class_="controls")
+
+
+def lane(title, program, run):
+    """One timeline; the script fills the drawing, and the line that tells of the stretch that is shown."""
+    drawing = tag("div", class_="lanes", tabindex="0", role="application", data_program=program, data_run=run,
+                  aria_label="Timeline; arrow keys move, plus and minus zoom, comma and dot go from segment to segment")
+    return tag("figure", tag("figcaption", title), controls(), drawing, tag("p", class_="note stretch", role="status"),
+               class_="timeline")
+
+
+def colour_legend(view, has_segments=True):
+    shown = [place for place in view.task_places if place.cost]
+    items = []
+    for place in shown[:COLOURS - 1]:
+        items.append(tag("span", tag("i", class_="key square c%d" % view.colour_of(place)), place.name))
+    if len(shown) >= COLOURS:
+        items.append(tag("span", tag("i", class_="key square c%d" % (COLOURS - 1)), "all others"))
+    if not has_segments:
+        return tag("p", *items, class_="legend given")
+    items.append(tag("span", tag("i", class_="key strip"), "below a segment: on the critical path"))
+    items.append(tag("span", tag("i", class_="key merged"),
+                     "segments thinner than a pixel: as high as the share of its time that the thread is busy"))
+    return tag("p", *items, class_="legend given")
+
+
+def lanes_of(view, program):
+    if not any(row.cost for row in view.answers.rows):
+        return [note(tag("span", view.name, class_="given"), ": no segment takes time.")]
+    greedy = lane(greedy_title(view), program, "greedy")
+    if not view.run:
+        return [greedy, colour_legend(view)]
+    return [lane(recorded_title(view), program, "recorded"), until_the_end(view), colour_legend(view),
+            details("The greedy run of the text on as many threads", greedy, class_="greedy")]
+
+
+TIMED = "Each bar stands where the recorder's clock saw it. A gap is a thread that waited, slept, or was in the " \
+    "runtime."
+IN_ORDER = "The recorded run is drawn by the order of the replay and the costs of the text, and not by times. So " \
+    "each segment stands as early as its thread, in the recorded order, and the segments that it waits for allow. A " \
+    "gap is a wait for another segment; the runtime's own time is not shown, nor that a thread slept while something " \
+    "was ready."
+
+
+AFTER_THE_LAST = " of it after the last segment, while the threads came to the region's end."
+NOT_IN_THE_ORDER = " more than the costs in this order need: the runtime's own time, and that of threads that slept " \
+    "or had no processor."
+
+
+def how_to_read(view):
+    words = TIMED if view.run and view.run.is_timed else IN_ORDER
+    if not view.run:
+        words = tag("span", view.without_run + " So there is only the greedy run to show.", class_="given")
+    keys = join([join([tag("kbd", key), " ", what]) for key, what in KEYS], ", ")
+    return details("How to read it", note(words), note(HANDS), note("Keys, once a timeline has the focus: ", keys, "."))
+
+
+def timeline_part(view, program, name, title):
+    """`program` is the number of the program on the page."""
+    pieces = [*lanes_of(view, program), tag("div", class_="tip", role="status", aria_live="polite"),
+              how_to_read(view), tag("noscript", note("The timelines are drawn by the page's script."))]
+    return section(name, title, *pieces)

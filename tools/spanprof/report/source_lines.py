@@ -1,0 +1,108 @@
+"""Which lines of the source a place's segments run: from where they begin to the construct that ends them.
+
+Where the file is found, its text tells where the statement of a directive ends, by its braces and semicolons alone.
+"""
+import re
+from collections import Counter
+from typing import NamedTuple, Optional
+
+WHERE = re.compile(r"([^\s:/]+):(\d+)(?:,.*)?$")
+STRING = re.compile(r'"(?:\\.|[^"\\])*"|\'(?:\\.|[^\'\\])*\'|//.*|/\*.*?\*/')
+WITH_A_STATEMENT = ("task at ", "after creating a task at ", "after taskgroup at ")
+LONGEST = 2000      # lines of a statement
+
+
+class Line(NamedTuple):
+    file: str
+    number: int
+
+
+class Stretch(NamedTuple):
+    file: str
+    first: int
+    last: int
+
+    @property
+    def words(self):
+        return "line %d" % self.first if self.first == self.last else "lines %d to %d" % (self.first, self.last)
+
+
+def line_of(words) -> Optional[Line]:
+    """Of a construct's comment, such as `sort.c:33`, or of a place that ends so."""
+    found = WHERE.search(words)
+    return Line(found[1], int(found[2])) if found else None
+
+
+def ends_by_segment(code):
+    """Of each segment where the construct stands that ends it; nothing for the last of a task."""
+    out, running = [""] * len(code), {}
+    for s, segment in enumerate(code):
+        if segment.after:
+            out[running[segment.task]] = segment.after_place
+        running[segment.task] = s
+    return out
+
+
+def first_code(lines, number):
+    """The first line from one on that is neither empty nor a brace alone; lines are counted from 1."""
+    for here in range(number, min(len(lines), number + LONGEST) + 1):
+        if lines[here - 1].strip() not in ("", "{", "}", "});"):
+            return here
+    return number
+
+
+def after_directive(lines, number):
+    """The line after a directive, which may go on over several."""
+    while number < len(lines) and lines[number - 1].rstrip().endswith("\\"):
+        number += 1
+    return number + 1
+
+
+def statement_end(lines, number):
+    """The last line of the statement that begins there: where its braces close, or at its semicolon."""
+    braces = rounds = 0
+    for here in range(number, min(len(lines), number + LONGEST) + 1):
+        code = "" if lines[here - 1].lstrip().startswith("#") else STRING.sub("", lines[here - 1])
+        for sign in code:
+            braces += (sign == "{") - (sign == "}")
+            rounds += (sign == "(") - (sign == ")")
+            if braces < 0 or not braces and (sign == "}" or sign == ";" and not rounds):
+                return here
+    return number
+
+
+def code_lines(place, line, lines):
+    """The first line of a place's own code, and the last where the statement of its directive tells it."""
+    if not 0 < line.number <= len(lines):
+        return line.number, line.number
+    if not place.startswith(WITH_A_STATEMENT):
+        first = first_code(lines, line.number + 1)
+        return first, first
+    begin = after_directive(lines, line.number)
+    end = statement_end(lines, begin)
+    if place.startswith("task at "):
+        return min(first_code(lines, begin), end), end
+    first = first_code(lines, end + 1)
+    return first, first
+
+
+def stretch_of(place, segments, ends, lines=()):
+    """To the line at which most of its segments end that end below its first one."""
+    begin = line_of(place)
+    if not begin:
+        return None
+    first, last = code_lines(place, begin, lines)
+    counted = Counter(line_of(ends[s]) for s in segments)
+    below = Counter({line.number: count for line, count in counted.items()
+                     if line and line.file == begin.file and line.number >= first})
+    return Stretch(begin.file, first, below.most_common(1)[0][0] if below else last)
+
+
+def stretches(answers, places, sources):
+    """By the names of the places."""
+    ends, out = ends_by_segment(answers.code), {}
+    for place in places:
+        begin = line_of(place.name)
+        if begin:
+            out[place.name] = stretch_of(place.name, place.segments, ends, sources.lines_of(begin.file))
+    return out

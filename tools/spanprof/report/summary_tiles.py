@@ -1,0 +1,98 @@
+"""The tiles of the summary: work, span, parallelism, tasks, what the threads can give, and how many were busy."""
+from spanprof.claims import (against_parallelism, against_span, gain_may_be_less, gain_may_be_more, least_end,
+                             lock_binds, speaks_of)
+from spanprof.report.figures import MEASURED, PROVED, badge
+from spanprof.report.markup import join, tag
+
+
+def tile(label, figure, kinds, *below):
+    return tag("div", tag("span", label, class_="label"), tag("b", figure),
+               tag("span", join([badge(kind) for kind in kinds], " "), class_="kinds"),
+               *[tag("span", words, class_="below") for words in below if words], class_="tile")
+
+
+def moved(view, *names):
+    """What the recording remarks on one of these numbers, such as `span too low`; it leads to the remarks."""
+    effects = [remark.rpartition(": ")[2] for remark in view.answers.head.remarks]
+    own = dict.fromkeys(effect for effect in effects if any(name in effect for name in names))
+    return tag("a", "remarked: ", "; ".join(own), href="#remarks", class_="moved") if own else ""
+
+
+def spread(view, name):
+    """Between which numbers several runs were."""
+    head = view.answers.head
+    if name not in head.spread:
+        return ""
+    least, _, most = head.spread[name]
+    words = view.units.words
+    return tag("span", "%s to %s in %d runs" % (words(least), words(most), head.runs), class_="given")
+
+
+def work_tile(view):
+    head, show = view.answers.head, view.figures
+    on = "all costs, added up" if not head.is_measured else "code on one thread" if head.threads == 1 else \
+        "code on %s threads, added up" % (head.threads or "all")
+    return tile("Work", show.time(view.answers.work, "span work", PROVED), [view.cost_kind],
+                tag("span", on, class_="given"), spread(view, "work"), moved(view, "work"))
+
+
+def span_tile(view):
+    answers, against = view.answers, against_span(view.answers.head)
+    words = "a longest chain of the text; " + against if against else "it ends no sooner on any number of threads"
+    return tile("Span", view.figures.time(answers.span, "span span", PROVED),
+                [view.cost_kind] if against else [view.cost_kind, PROVED], words, spread(view, "span"),
+                moved(view, "span"))
+
+
+def parallelism_tile(view):
+    answers, against = view.answers, against_parallelism(view.answers.head)
+    words = "work / span of the text; " + against if against else \
+        "work / span; it gains no more on any number of threads"
+    return tile("Parallelism", view.figures.times_at_most(answers.work, answers.span, "span work / span span", PROVED),
+                [] if against else [PROVED], words, moved(view, "work", "span"))
+
+
+def tasks_tile(view):
+    answers, show = view.answers, view.figures
+    segments = show.number(answers.span_numbers["segments"], "span segments", view.shape_kind)
+    parts = [", and ", show.number(answers.parts, "parts", view.shape_kind), " parts of the region's own code"]
+    return tile("Tasks", show.number(answers.tasks - answers.parts, "tasks - parts", view.shape_kind),
+                [view.shape_kind], join([segments, " segments", *(parts if answers.parts else [])]))
+
+
+def least_source(view):
+    """Where the number comes from that no run of the text, or of the most held lock, is below."""
+    threads = view.answers.threads
+    return "head most held lock" if lock_binds(view.answers, threads) else "curve %d least" % threads
+
+
+def threads_tile(view):
+    """What the threads of the recording, or those asked for, can give the text."""
+    answers, show, threads = view.answers, view.figures, view.answers.threads
+    if threads == 1 or not speaks_of(answers.head, threads):
+        return ""
+    is_bound = lock_binds(answers, threads) or gain_may_be_more(answers.head)
+    at_least = show.times_at_least(answers.work, answers.curve[threads]["bound"],
+                                   "span work / curve %d bound" % threads, PROVED)
+    lower = [] if gain_may_be_less(answers.head) else ["; ", at_least, " or more if no thread idles beside a ready "
+                                                                       "segment"]
+    return tile(tag("span", "%d threads: up to" % threads, class_="given"),
+                show.times_at_most(answers.work, least_end(answers, threads), "span work / " + least_source(view),
+                                   PROVED), [] if is_bound else [PROVED],
+                join(["times as fast as its work in a row", *lower]))
+
+
+def busy_tile(view):
+    head, show = view.answers.head, view.figures
+    if not head.elapsed:
+        return ""
+    elapsed = show.time(head.elapsed, "elapsed", MEASURED)
+    return tile(tag("span", "Busy, of %s" % ("%d threads" % head.threads if head.threads else "the threads"),
+                    class_="given"),
+                show.times(view.answers.work, head.elapsed, "span work / elapsed", MEASURED), [MEASURED],
+                join(["on average, in this code; elapsed ", elapsed]))
+
+
+def tiles(view):
+    return tag("div", work_tile(view), span_tile(view), parallelism_tile(view), tasks_tile(view), threads_tile(view),
+               busy_tile(view), class_="tiles")

@@ -1,0 +1,30 @@
+"""Tables of the page. A column of numbers can be sorted by its head."""
+from spanprof.report.markup import Markup, breakable, markup, tag
+
+
+def cell(name, piece, is_number, **attributes):
+    return tag(name, markup(piece), class_="n" if is_number else None, **attributes)
+
+
+def table(heads, rows, numeric=(), is_sortable=False, class_=None):
+    """`numeric` are the columns that stand to the right. Heads and cells are words or markup."""
+    def head(i, words):
+        inner = tag("button", markup(words), type="button") if is_sortable else words
+        return cell("th", inner, i in numeric, scope="col")
+
+    top = tag("thead", tag("tr", *[head(i, words) for i, words in enumerate(heads)]))
+    lines = [tag("tr", *[cell("td", piece, i in numeric) for i, piece in enumerate(row)]) for row in rows]
+    words = " ".join(filter(None, ["sortable" if is_sortable else "", class_ or ""])) or None
+    return tag("div", tag("table", top, tag("tbody", *lines), class_=words), class_="wide")
+
+
+def place_cell(name, lines=(), colour=None):
+    """A place with the lines of its source, and the colour that stands for it in the timelines."""
+    key = tag("i", class_="key square c%d" % colour) if colour is not None else Markup("")
+    place = tag("span", breakable(name), class_="place")
+    return tag("span", key, place, *[tag("code", line) for line in lines], class_="where")
+
+
+def bar(percent, class_=""):
+    """A thin bar beside a share."""
+    return tag("span", tag("i", style="width:%.1f%%" % min(percent, 100)), class_=("bar " + class_).strip())

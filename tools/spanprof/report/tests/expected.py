@@ -1,0 +1,296 @@
+"""What each number of a page has to be, worked out again from the answers of spanprof alone."""
+import os
+import re
+from functools import cached_property
+from types import SimpleNamespace
+
+from spanprof.account import account_of
+from spanprof.changed_text import with_costs, without_costs
+from spanprof.client import segments
+from spanprof.head import read_head
+from spanprof.text import has_loops, statements, text_lines
+from spanprof.whatif.creating import costs_for
+from spanprof.whatif.requests import Request, applied, changes
+from spanprof.whatif.survey import survey
+
+ROWS_OF_A_CURVE = 64
+LEVELS = 12
+
+
+def unpacked(words):
+    return [None if word == "-" else int(word, 36) for word in words.split()]
+
+
+def table(text):
+    heads, *lines = [line.split(",") for line in text.split("\n") if line]
+    return [dict(zip(heads, line)) for line in lines]
+
+
+def recorded_waits(answer):
+    """Of each segment those that it has to wait for, from what `replay` prints."""
+    lines = [line.split()[1:] for line in answer.split("\n") if line.startswith("preds")]
+    return {int(s): [int(p) for p in rest] for s, *rest in lines}
+
+
+class Program:
+    """One program; `ask` gives what spanprof prints for words and a text. Sources begin with a method's name."""
+
+    def __init__(self, path, data, ask):
+        with open(path, encoding="utf-8") as file:
+            self.text = file.read()
+        self.base, self.ask = os.path.splitext(path)[0], ask
+        self.place_of, self.task_place_of = unpacked(data["place"]), unpacked(data["taskPlace"])
+        self.slack = table(ask(["slack"], self.text))
+        self.cost = [int(row["cost"]) for row in self.slack]
+        self.task_of = [int(row["task"]) for row in self.slack]
+        self.data, self.kept = data, {}
+
+    def answer(self, *words):
+        if words not in self.kept:
+            self.kept[words] = self.ask(list(words), self.text)
+        return self.kept[words]
+
+    def line(self, name, *words):
+        return int(re.search(r"(?m)^%s (\d+)$" % name, self.answer(*words))[1])
+
+    def segments(self, places=None, on_path=None):
+        return [s for s, row in enumerate(self.slack) if (places is None or self.place_of[s] in places)
+                and (on_path is None or (row["chain"] == "1") == on_path)]
+
+    def total(self, segments):
+        return sum(self.cost[s] for s in segments)
+
+    def span(self, name):
+        return self.line(name, "span")
+
+    def curve(self, threads, column):
+        """Of as many rows as are needed, and of many at once."""
+        upto = str(max(int(threads), ROWS_OF_A_CURVE))
+        return int(table(self.answer("curve", "--upto", upto))[int(threads) - 1][column])
+
+    def tasks(self):
+        return max(self.task_of)
+
+    def parts(self):
+        """Tasks that stand for a thread's own code, by the comments of the text."""
+        return len(re.findall(r"(?m)^\s*task\b.*\{.*# one of the region's threads$", self.text))
+
+    def head(self, *name):
+        return int(re.search(r"(?m)^# %s: (\d+)" % " ".join(name), self.text)[1])
+
+    def elapsed(self):
+        return self.head("elapsed")
+
+    def threads(self):
+        """Those of the head, and those that the recorded run needed."""
+        recorded = re.search(r"(?:threads|on) (\d+)", self.text.partition("omptasks")[0])
+        needed = 1 + max((int(worker) for _, _, worker in self.bars()), default=0)
+        return max(int(recorded[1]) if recorded else 1, needed)
+
+    def of_places(self, numbers, what):
+        own, path = self.segments(numbers), self.segments(numbers, True)
+        return {"cost": self.total(own), "segments": len(own), "path": self.total(path), "path-segments": len(path),
+                "count": len(numbers)}[what]
+
+    def place(self, number, what):
+        return self.of_places({int(number)}, what)
+
+    def places_from(self, number, what):
+        return self.of_places({n for n in self.place_of if n >= int(number)}, what)
+
+    def task_place(self, number, what):
+        members = {task for task, place in enumerate(self.task_place_of) if place == int(number)}
+        own = [s for s, task in enumerate(self.task_of) if task in members]
+        costs = sorted(self.total(s for s in own if self.task_of[s] == task) for task in members)
+        path = [s for s in own if self.slack[s]["chain"] == "1"]
+        firsts = {self.task_of[s]: s for s in reversed(own)}
+        return {"count": len(costs), "least": costs[0], "greatest": costs[-1], "cost": sum(costs),
+                "median": costs[(len(costs) - 1) // 2], "path": self.total(path),
+                "slack": min(int(self.slack[s]["slack"]) for s in own),
+                "critical": len({self.task_of[s] for s in path if self.cost[s]}),
+                "creating": sum(self.cost[s - 1] for s in firsts.values() if s)}[what]
+
+    @cached_property
+    def nested_sums(self):
+        """Of each chain of places the costs of its tasks and of all below them, and what of these is on the path."""
+        firsts, paths, out = {}, {}, {}
+        for s, task in enumerate(self.task_of):
+            firsts.setdefault(task, s)
+        for task in sorted(firsts):
+            above = paths[self.task_of[firsts[task] - 1]] if task else ()
+            paths[task] = above + (self.task_place_of[task],) if len(above) < LEVELS else above
+        for s, task in enumerate(self.task_of):
+            for i in range(len(paths[task])):
+                sums = out.setdefault("-".join(map(str, paths[task][:i + 1])), [0, 0])
+                sums[0] += self.cost[s]
+                sums[1] += self.cost[s] * (self.slack[s]["chain"] == "1")
+        return out
+
+    def nested(self, path, what):
+        return self.nested_sums[path][what == "path"]
+
+    def task(self, number, what):
+        own = [s for s, task in enumerate(self.task_of) if task == int(number)]
+        return {"number": int(number), "cost": self.total(own),
+                "slack": min(int(self.slack[s]["slack"]) for s in own)}[what]
+
+    def segment(self, number, _):
+        return int(self.slack[int(number)]["start"])
+
+    def path(self, what, *ends):
+        path = self.segments(on_path=True)
+        if not ends:
+            return {"segments": len(path), "costly": sum(self.cost[s] > 0 for s in path)}[what]
+        first, last = int(ends[0]), int(ends[-1])
+        if what == "end":
+            return int(self.slack[last]["start"]) + self.cost[last]
+        return self.total(s for s in path if first <= s <= last)
+
+    @cached_property
+    def found(self):
+        """The account of the run beside the text, asked anew."""
+        answers = SimpleNamespace(head=read_head(self.text), code=segments(self.text), work=self.line("work", "span"))
+        return account_of(answers, self.base + ".timed")
+
+    def account(self, what, number=None):
+        if number is None:
+            parts = {name.replace(" ", "-"): value for name, value in self.found.parts.items()}
+            return {**parts, "whole": self.found.whole, "elapsed": self.found.elapsed}[what]
+        name = self.found.places[self.segments({int(number)})[0]]
+        return {"delayed-at": self.found.delayed_by, "starved-at": self.found.starved_by}[what][name]
+
+    def changed(self, factors):
+        costs = {s: round(self.cost[s] * factor) for place, factor in factors for s in self.segments({place})
+                 if self.cost[s]}
+        return ["whatif"] + ["%d=%d" % pair for pair in sorted(costs.items())]
+
+    def whatif(self, place, factor, name, threads=None):
+        changes = self.changed([(int(place), float(factor))])
+        return self.line(name, *changes) if threads is None else self.end_with(changes[1:], threads)
+
+    def end_with(self, changes, threads):
+        """The end of the greedy run of a text that costs what the changes say, and is else this one."""
+        costs = list(self.cost)
+        for change in changes:
+            s, cost = map(int, change.split("="))
+            costs[s] = cost
+        text = with_costs(self.without_costs, costs)
+        rows = table(self.ask(["slack"], text))
+        assert [(int(row["cost"]), int(row["task"])) for row in rows] == list(zip(costs, self.task_of))
+        assert self.waits() == self.waits_of(text), "what waits for what has changed"
+        return max(int(row["end"]) for row in table(self.ask(["greedy", "--threads", threads], text)))
+
+    @cached_property
+    def without_costs(self):
+        return without_costs(self.answer("show"))
+
+    def trial(self, number, what, threads=None):
+        """Of the text with one change, which is made here again."""
+        if ("trial", number) not in self.kept:
+            self.kept["trial", number] = self.tried(Request(*self.data["tried"]["requests"][int(number)]))
+        span, curve = self.kept["trial", number]
+        return int(re.search(r"(?m)^%s (\d+)$" % what, span)[1]) if threads is None else \
+            int(curve[int(threads) - 1][what])
+
+    def tried(self, request):
+        made = changes([request], *self.surveyed)
+        text, upto = "".join(text_lines(applied(self.statements, made), 1)), max(self.data["tried"]["threads"])
+        return self.ask(["span"], text), table(self.ask(["curve", "--upto", str(upto)], text))
+
+    @cached_property
+    def statements(self):
+        text = self.answer("show") if has_loops(self.text) else self.text
+        return list(statements(line + "\n" for line in text.split("\n")))
+
+    @cached_property
+    def surveyed(self):
+        seen = survey(self.statements)
+        return seen, costs_for(read_head(self.text), seen)
+
+    def count(self, number):
+        """Of threads, as the page names them."""
+        return int(number)
+
+    def factors(self, *words):
+        pairs = [word.split("=") for word in words[:-1]]
+        return self.line(words[-1], *self.changed([(int(place), float(factor)) for place, factor in pairs]))
+
+    def greedy(self, _):
+        threads = self.data["runs"]["greedy"]["count"]
+        return threads * self.curve(str(threads), "end")
+
+    def waits(self):
+        """Of each segment what it has to wait for, by a run of all segments in their order."""
+        if "waits" not in self.kept:
+            self.kept["waits"] = self.waits_of(self.text)
+        return self.kept["waits"]
+
+    def waits_of(self, text):
+        events = "".join("start 0 %d finish 0 %d\n" % (s, s) for s in range(len(self.cost)))
+        return recorded_waits(self.ask(["replay"], text + "\n---\n" + events))
+
+    def edges_of_tasks(self, kind, a, b, of=None):
+        """Between two tasks, or between the tasks of two places: a task's first segment waits for its creation."""
+        of, count, seen = of or list(range(max(self.task_of) + 1)), 0, set()
+        for s, before in sorted(self.waits().items()):
+            is_first = self.task_of[s] not in seen
+            seen.add(self.task_of[s])
+            for p in before:
+                pair = (str(of[self.task_of[p]]), str(of[self.task_of[s]]))
+                own = "waits" if not is_first else "creates" if p == s - 1 else "depends"
+                count += self.task_of[p] != self.task_of[s] and (own, *pair) == (kind, a, b)
+        return count
+
+    def edges(self, kind, a, b):
+        return self.edges_of_tasks(kind, a, b, self.task_place_of)
+
+    def events(self):
+        with open(self.base + ".replay", encoding="utf-8") as file:
+            document = file.read()
+        return document, re.findall(r"(start|finish) (\d+) (\d+)", document.split("\n---\n")[1])
+
+    def by_clock(self):
+        unit = re.search(r"unit (?:(\d+) )?(\w+)", self.text)
+        scale = int(unit[1] or 1) * {"ns": 1, "us": 1000, "ms": 1000000}[unit[2]]
+        with open(self.base + ".times", encoding="utf-8") as file:
+            rows = table(file.read())
+        return [(int(row["start_ns"]) / scale, int(row["end_ns"]) / scale, row["thread"]) for row in rows]
+
+    def in_order(self):
+        """Each segment as early as its thread and what it waits for allow."""
+        document, events = self.events()
+        before, ends, free, out = recorded_waits(self.ask(["replay"], document)), {}, {}, []
+        for kind, worker, s in events:
+            if kind == "start":
+                start = max([free.get(worker, 0)] + [ends[p] for p in before[int(s)]])
+                ends[int(s)] = free[worker] = start + self.cost[int(s)]
+                out.append((start, free[worker], worker))
+        return out
+
+    def bars(self):
+        """Start, end and worker of each segment that ran, where there is a recorded run."""
+        if not os.path.exists(self.base + ".replay"):
+            return []
+        return self.by_clock() if os.path.exists(self.base + ".times") else self.in_order()
+
+    def run(self, what):
+        bars = self.bars()
+        end = max(end for _, end, _ in bars)
+        return {"end": round(end), "busy": sum(end - start for start, end, _ in bars),
+                "time": end * self.threads()}[what]
+
+    def term(self, words):
+        name, *rest = words.split()
+        return getattr(self, name.replace("-", "_"))(*rest)
+
+    def value(self, source):
+        """Of `[percent] A [+ B ..] [- B ..] [/ C]`."""
+        is_percent = source.startswith("percent ")
+        above, _, below = source.removeprefix("percent ").partition(" / ")
+        signed = re.split(r" ([+-]) ", "+ " + above)
+        first, rest = signed[0].removeprefix("+ "), zip(signed[1::2], signed[2::2])
+        value = self.term(first) + sum(self.term(other) * (1 if sign == "+" else -1) for sign, other in rest)
+        if below:
+            whole = self.term(below)
+            value = value / whole if whole else 0.0 if is_percent else 1.0
+        return 100 * value if is_percent else value

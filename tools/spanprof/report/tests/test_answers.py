@@ -1,0 +1,58 @@
+import unittest
+from unittest import mock
+
+from spanprof.answers import Answers, named_numbers
+from spanprof.report.tests import worked
+
+
+class OfTheWorkedProgram(unittest.TestCase):
+    def setUp(self):
+        patch = worked.patched()
+        patch.start()
+        self.addCleanup(patch.stop)
+        self.told = []
+        self.answers = Answers(worked.path("mesh.tasks"), tell=self.told.append)
+
+    def test_numbers_of_span(self):
+        self.assertEqual(self.answers.span_numbers, {"segments": 13, "work": 41, "span": 31})
+        self.assertEqual((self.answers.work, self.answers.span, self.answers.tasks), (41, 31, 5))
+
+    def test_each_command_is_asked_once_and_told(self):
+        for _ in range(2):
+            self.assertEqual(len(self.answers.rows), 13)
+        self.assertEqual(self.told, ["spanprof slack < mesh.tasks"])
+        self.assertEqual(self.answers.asked, self.told)
+
+    def test_rows(self):
+        row = self.answers.rows[8]
+        self.assertEqual((row.cost, row.task, row.start, row.slack, row.critical), (8, 4, 17, 3, False))
+
+    def test_threads_of_the_recording(self):
+        self.assertEqual(self.answers.threads, 2)
+        self.assertEqual(Answers(worked.path("mesh.tasks"), 7).threads, 7)
+        self.assertEqual(Answers(worked.path("plain.tasks")).threads, 4)
+
+    def test_curve(self):
+        self.assertEqual(max(self.answers.curve), 16)
+        self.assertEqual(self.answers.curve[1], {"threads": 1, "end": 41, "least": 41, "bound": 41})
+
+    def test_greedy(self):
+        self.assertEqual(self.answers.greedy[0], (0, 0))
+        self.assertIsNone(self.answers.greedy[9][1])
+
+    def test_predecessors(self):
+        self.assertEqual(self.answers.predecessors[2], [0])
+        self.assertIn(1, self.answers.predecessors[3])
+
+    def test_nothing_changed_needs_no_command(self):
+        self.assertEqual(self.answers.what_if({}), {"work": 41, "span": 31, "was": 31})
+
+    def test_a_text_read_otherwise_is_refused(self):
+        with mock.patch("spanprof.client.ask", return_value="segment,task,cost,start,slack,chain\n0,3,1,0,0,1\n"):
+            with self.assertRaises(AssertionError):
+                self.answers.rows
+
+
+class Lines(unittest.TestCase):
+    def test_named_numbers(self):
+        self.assertEqual(named_numbers("work 11\nspan 9\n"), {"work": 11, "span": 9})

@@ -1,0 +1,112 @@
+import contextlib
+import io
+import json
+import os
+import shutil
+import tempfile
+import unittest
+
+from spanprof.report.command import Progress, beside, main
+from spanprof.report.tests import worked
+
+
+class Command(unittest.TestCase):
+    def setUp(self):
+        patch = worked.patched()
+        patch.start()
+        self.addCleanup(patch.stop)
+        self.folder = tempfile.TemporaryDirectory()
+        self.addCleanup(self.folder.cleanup)
+
+    def out(self, name):
+        return os.path.join(self.folder.name, name)
+
+    def refused(self, *words):
+        told = io.StringIO()
+        with contextlib.redirect_stderr(told), self.assertRaises(SystemExit) as ended:
+            main(list(words))
+        self.assertIn(ended.exception.code, (1, 2))
+        return told.getvalue()
+
+    def test_all_that_can_be_written(self):
+        main([worked.path("mesh.tasks"), "-o", self.out("m.html"), "--trace", self.out("m.json"), "--speedscope",
+              self.out("m.scope"), "--with", worked.path("split.tasks"), "--source", worked.FOLDER])
+        with open(self.out("m.html"), encoding="utf-8") as file:
+            self.assertTrue(file.read().startswith("<!DOCTYPE html>"))
+        for name in ("m.json", "m.scope"):
+            with open(self.out(name), encoding="utf-8") as file:
+                self.assertTrue(json.load(file))
+
+    def test_a_name_that_is_no_text(self):
+        text = os.path.join(os.fsencode(self.folder.name), b"\xff.tasks")
+        shutil.copy(worked.path("plain.tasks"), text)
+        main([os.fsdecode(text), "-o", self.out("m.html")])
+        with open(self.out("m.html"), encoding="utf-8") as file:
+            self.assertIn("?.tasks", file.read())
+
+    def test_factors_alone_print_the_answer(self):
+        told = io.StringIO()
+        with contextlib.redirect_stdout(told):
+            main([worked.path("mesh.tasks"), "--factor", "task at mesh.c:8=0.5"])
+        self.assertEqual(told.getvalue(), "remark: mutexinoutset, 2 times at mesh.c:10: span too low\n"
+                         "lock critical at mesh.c:9: 3 times, 2 inside, 1 waiting\n"
+                         "1 segment changed\nwork 35\nspan 25\nwas 31\n")
+
+    def copied(self, name="mesh"):
+        for ending in (".tasks", ".replay"):
+            shutil.copy(worked.path(name + ending), self.folder.name)
+        return self.out(name + ".tasks")
+
+    def test_a_page_is_written_beside_the_text_and_named(self):
+        told = io.StringIO()
+        with contextlib.redirect_stderr(told):
+            main([self.copied()])
+        self.assertTrue(os.path.exists(self.out("mesh.html")))
+        self.assertEqual(told.getvalue(), "spanprof-report: written: %s\n" % self.out("mesh.html"))
+        self.assertEqual(beside("a/b.html"), "a/b.html.html")
+
+    def test_the_summary_as_json(self):
+        told = io.StringIO()
+        with contextlib.redirect_stdout(told):
+            main([self.copied(), "--json"])
+        found = json.loads(told.getvalue())
+        self.assertEqual((found["work"], found["recording"]["elapsed"]["value"]),
+                         ({"value": 41, "kind": "proved of the text"}, 40))
+        self.assertEqual(found["on threads"]["threads"], 2)
+        self.assertFalse(os.path.exists(self.out("mesh.html")))
+
+    def test_refusals(self):
+        mesh = worked.path("mesh.tasks")
+        self.assertIn("ask for one of them", self.refused(mesh, "--json", "--factor", "a=1"))
+        self.assertIn("--threads is from 1 to 1024", self.refused(mesh, "-o", "x", "--threads", "0"))
+        self.assertEqual(self.refused("no.tasks", "-o", "x"), "spanprof-report: no.tasks: no such file\n")
+        self.assertIn("no place of this name", self.refused(mesh, "--factor", "nowhere=2"))
+        self.assertIn("No such file or directory", self.refused(mesh, "-o", self.out("none/x.html")))
+
+
+class Words(io.StringIO):
+    def __init__(self, is_terminal):
+        super().__init__()
+        self.is_terminal = is_terminal
+
+    def isatty(self):
+        return self.is_terminal
+
+
+class ProgressTold(unittest.TestCase):
+    def told(self, is_terminal):
+        stream = Words(is_terminal)
+        progress = Progress(stream)
+        progress("spanprof span < a.tasks")
+        progress("spanprof " + "x" * 300)
+        progress.end(["a.html"])
+        return stream.getvalue()
+
+    def test_on_a_terminal(self):
+        told = self.told(True)
+        self.assertIn("1: spanprof span < a.tasks", told)
+        self.assertTrue(all(len(line) < 120 for line in told.split("\r")))
+        self.assertTrue(told.endswith("spanprof-report: written: a.html\n"))
+
+    def test_elsewhere_the_files_alone(self):
+        self.assertEqual(self.told(False), "spanprof-report: written: a.html\n")

@@ -1,0 +1,118 @@
+"""Whole pages of the worked programs, and that the comparison sees what is wrong on one."""
+import json
+import re
+import unittest
+from dataclasses import replace
+
+from spanprof.report.page import filled
+from spanprof.report.tests import worked
+from spanprof.report.tests.compare import differences, faults_of, is_seen, programs_of
+from spanprof.report.tests.page_reader import read_page
+
+
+def compared(text, names):
+    return differences(text, [worked.path(name + ".tasks") for name in names], worked.Kept())
+
+
+class Pages(unittest.TestCase):
+    def setUp(self):
+        patch = worked.patched()
+        patch.start()
+        self.addCleanup(patch.stop)
+
+    def test_every_number_is_an_answer_or_a_sum(self):
+        for names, factors in worked.pages():
+            wrong, count = compared(worked.page_text(names, factors), names)
+            self.assertEqual(wrong, [])
+            self.assertGreater(count, 100)
+
+    def test_no_other_file_is_needed(self):
+        text = worked.page_text(["mesh", "split"])
+        self.assertNotIn("light-dark(", text)   # which older browsers do not take
+        self.assertIsNone(re.search(r'(src|href)="(?!#)|@import|url\((?!#)|https?://', text))
+
+    def test_parts_and_what_leads_to_them(self):
+        text = worked.page_text(["mesh", "split"])
+        names = re.findall(r'<section id="(\S+)"', text)
+        self.assertEqual(names, ["summary", "compared", "speed-up", "timeline", "timeline-other", "path", "changes",
+                                 "what-if", "tasks", "nesting", "source", "graph", "sources"])
+        for name in names:
+            self.assertIn('<a href="#%s">' % name, text)
+
+    def test_words_of_a_text_are_words_on_the_page(self):
+        text = worked.page_text(["odd"])
+        self.assertNotIn("<img", text)
+        self.assertEqual(text.count("</script>"), 3)
+        self.assertIn("odd &lt;/script&gt; thing: span too low", text)
+
+    def test_names_cannot_end_the_data(self):
+        data = read_page(worked.page_text(["mesh"])).data
+        self.assertEqual(json.loads(data)["programs"][0]["name"], "mesh.tasks")
+        self.assertNotIn("<", data)
+
+
+class WrongNumbers(unittest.TestCase):
+    def setUp(self):
+        with worked.patched():
+            self.text = worked.page_text(["mesh", "split"])
+
+    def faults(self, old, new):
+        self.assertIn(old, self.text)
+        return compared(self.text.replace(old, new, 1), ["mesh", "split"])[0]
+
+    def test_each_wrong_value_is_found(self):
+        reader = read_page(self.text)
+        programs = programs_of(reader, [worked.path(name + ".tasks") for name in ("mesh", "split")], worked.Kept())
+        whole = [figure for figure in reader.figures if figure.exact.isdigit()]
+        self.assertGreater(len(whole), 100)
+        for figure in whole:
+            self.assertEqual(faults_of(figure, programs), [])
+            self.assertTrue(faults_of(replace(figure, exact=str(int(figure.exact) + 1)), programs))
+
+    def test_a_wrong_number_that_only_a_reader_sees(self):
+        self.assertEqual(len(self.faults(">41 µs<", ">42 µs<")), 1)
+
+    def test_a_wrong_tooltip(self):
+        self.assertTrue(self.faults("1.00 times; the greedy run ends at 41", "1.00 times; the greedy run ends at 40"))
+
+    def test_a_number_of_the_wrong_program(self):
+        self.assertTrue(self.faults('data-from="other span work"', 'data-from="span work"'))
+
+    def test_a_name_may_have_digits(self):
+        self.assertEqual(self.faults("<title>mesh", "<title>mesh_14"), [])
+
+    def test_a_number_without_a_source(self):
+        self.assertEqual(self.faults("lets the text end sooner.</p>", "lets the text end before 31.</p>"),
+                         ["'. With threads to spare, only a shorter chain lets the text end before 31.': "
+                          "a number without a source"])
+
+    def test_another_greedy_run(self):
+        data = json.loads(read_page(self.text).data)
+        starts = data["programs"][1]["runs"]["greedy"]["starts"]
+        self.assertEqual(self.faults('"greedy":{"starts":"%s"' % starts, '"greedy":{"starts":"1%s"' % starts),
+                         ["split.tasks: the greedy run that is drawn is another"])
+
+    def test_another_recorded_run(self):
+        for number, name in enumerate(("mesh", "split")):
+            lanes = json.loads(read_page(self.text).data)["programs"][number]["runs"]["recorded"]["lanes"]
+            other = lanes.replace("0", "2").replace("1", "0").replace("2", "1")
+            self.assertIn("%s.tasks: the recorded run that is drawn is another" % name,
+                          self.faults('"lanes":"%s"' % lanes, '"lanes":"%s"' % other))
+
+
+class Small(unittest.TestCase):
+    def test_a_template_is_filled(self):
+        self.assertEqual(filled("a {{ x }} b {{ y }}", {"x": "{1}", "y": "2"}), "a {1} b 2")
+
+    def test_as_many_digits_as_are_shown(self):
+        self.assertTrue(is_seen("1,234.5", 1234.52))
+        self.assertTrue(is_seen("−9.8", -9.756))
+        self.assertTrue(is_seen("+12.0", 12))
+        self.assertFalse(is_seen("1,234", 1235))
+
+    def test_a_bound_is_seen_rounded_its_way(self):
+        self.assertTrue(is_seen("1.33", 41 / 31, "up"))
+        self.assertTrue(is_seen("1.32", 41 / 31, "down"))
+        self.assertTrue(is_seen("1.10", 1.1, "up"))
+        self.assertFalse(is_seen("1.32", 41 / 31, "up"))
+        self.assertFalse(is_seen("1.33", 41 / 31, "down"))

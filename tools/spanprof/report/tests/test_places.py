@@ -1,0 +1,62 @@
+import unittest
+from types import SimpleNamespace
+
+from spanprof.report.graph import CREATES, DEPENDS, WAITS, critical_pairs, place_edges, task_edges
+from spanprof.report.places import places, task_places, tasks
+from spanprof.report.tests import worked
+
+
+class OfTheWorkedProgram(unittest.TestCase):
+    def setUp(self):
+        self.view = worked.view("mesh")
+
+    def test_sums_by_place(self):
+        found = {place.name: (place.cost, place.critical_cost, place.critical_segments, len(place.segments))
+                 for place in places(self.view.answers)}
+        self.assertEqual(found["task at mesh.c:8"], (12, 12, 1, 1))
+        self.assertEqual(found["task at mesh.c:10"], (14, 6, 1, 2))
+        self.assertEqual(sum(cost for cost, *_ in found.values()), 41)
+        self.assertEqual(sum(path for _, path, *_ in found.values()), 31)
+
+    def test_the_most_of_the_span_comes_first(self):
+        shares = [place.critical_cost for place in self.view.places]
+        self.assertEqual(shares, sorted(shares, reverse=True))
+        self.assertEqual([place.number for place in self.view.places], list(range(len(shares))))
+
+    def test_tasks(self):
+        found = tasks(self.view.answers)
+        self.assertEqual([task.cost for task in found], [10, 12, 7, 4, 8, 0])
+        self.assertEqual([task.is_critical for task in found], [True, True, True, True, False, False])
+        self.assertEqual(found[4].slack, 3)
+
+    def test_tasks_by_the_construct_that_creates_them(self):
+        found = {place.name: place for place in task_places(self.view.answers)}
+        both = found["mesh.c:10"]
+        self.assertEqual((both.tasks, both.costs, both.cost, both.median), ([2, 4], [7, 8], 15, 7))
+        self.assertEqual((both.critical_tasks, both.slack, both.creating), (1, 0, 2))
+        self.assertEqual(found["the root"].tasks, [0])
+
+    def test_edges(self):
+        answers = self.view.answers
+        edges = task_edges(answers.code, answers.predecessors)
+        self.assertEqual(edges[CREATES, 0, 1], 1)
+        self.assertEqual(edges[DEPENDS, 1, 2], 1)
+        self.assertEqual(edges[DEPENDS, 1, 4], 1)
+        self.assertEqual(edges[WAITS, 3, 2], 1)
+        self.assertEqual({kind for kind, _, b in edges if b == 0}, {WAITS})
+
+    def test_the_path_between_tasks(self):
+        self.assertEqual(critical_pairs(self.view.answers.code, self.view.answers.path_segments),
+                         {(0, 1), (1, 2), (2, 3), (3, 2), (2, 0)})
+
+
+class Edges(unittest.TestCase):
+    def test_a_creation_is_the_segment_before(self):
+        code = [SimpleNamespace(task=0, after=""), SimpleNamespace(task=1, after=""),
+                SimpleNamespace(task=0, after="creating a task"), SimpleNamespace(task=2, after="")]
+        self.assertEqual(task_edges(code, [[], [0], [0], [1, 2]]),
+                         {(CREATES, 0, 1): 1, (DEPENDS, 1, 2): 1, (CREATES, 0, 2): 1})
+
+    def test_sums_by_place(self):
+        self.assertEqual(place_edges({(CREATES, 0, 1): 2, (CREATES, 0, 2): 3}, {0: 5, 1: 6, 2: 6}),
+                         {(CREATES, 5, 6): 5})

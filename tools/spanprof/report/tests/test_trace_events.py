@@ -1,0 +1,101 @@
+"""Against what the JSON form of trace events requires, which ui.perfetto.dev and chrome://tracing read."""
+import json
+import unittest
+
+from spanprof.report.recorded_run import read_times
+from spanprof.report.tests import worked
+from spanprof.report.trace_events import Run, ready_counts, trace_text
+
+REQUIRED = {"M": {"name", "ph", "pid", "args"}, "X": {"name", "cat", "ph", "ts", "dur", "pid", "tid"},
+            "s": {"name", "cat", "ph", "ts", "pid", "tid", "id"},
+            "f": {"name", "cat", "ph", "ts", "pid", "tid", "id", "bp"},
+            "C": {"name", "ph", "ts", "pid", "args"}}
+
+
+def events_of(name):
+    return json.loads(trace_text(worked.view(name)))["traceEvents"]
+
+
+def of_kind(events, kind, process):
+    return [event for event in events if event["ph"] == kind and event["pid"] == process]
+
+
+class Form(unittest.TestCase):
+    def setUp(self):
+        self.events = events_of("mesh")
+
+    def test_required_fields(self):
+        for event in self.events:
+            self.assertLessEqual(REQUIRED[event["ph"]], set(event))
+
+    def test_threads_and_runs_have_names(self):
+        names = [event["args"]["name"] for event in self.events if event["name"] == "process_name"]
+        self.assertEqual(names, ["the recorded run, in the order of the replay", "the greedy run"])
+        threads = [event["tid"] for event in self.events if event["name"] == "thread_name" and event["pid"] == 2]
+        self.assertEqual(threads, [0, 1])
+
+    def test_bars_of_a_thread_do_not_overlap(self):
+        for process in (1, 2):
+            bars = sorted(of_kind(self.events, "X", process), key=lambda bar: (bar["tid"], bar["ts"]))
+            self.assertEqual(sum(bar["dur"] for bar in bars), 41)
+            for a, b in zip(bars, bars[1:]):
+                self.assertTrue(a["tid"] != b["tid"] or a["ts"] + a["dur"] <= b["ts"])
+
+    def test_an_arrow_begins_and_ends_in_bars(self):
+        for process in (1, 2):
+            bars = of_kind(self.events, "X", process)
+            begins = {flow["id"]: flow for flow in of_kind(self.events, "s", process)}
+            ends = {flow["id"]: flow for flow in of_kind(self.events, "f", process)}
+            self.assertTrue(begins)
+            self.assertEqual(set(begins), set(ends))
+            for flow in [*begins.values(), *ends.values()]:
+                self.assertTrue(any(bar["tid"] == flow["tid"] and bar["ts"] <= flow["ts"] < bar["ts"] + bar["dur"]
+                                    for bar in bars))
+            self.assertTrue(all(begins[one]["ts"] <= ends[one]["ts"] for one in begins))
+
+    def test_arrows_say_what_they_are(self):
+        self.assertEqual({flow["name"] for flow in of_kind(self.events, "s", 2)}, {"creates", "depends", "waits"})
+
+    def test_numbers_of_arrows_are_of_one_run_each(self):
+        numbers = [flow["id"] for flow in self.events if flow["ph"] == "s"]
+        self.assertEqual(len(numbers), len(set(numbers)))
+
+    def test_the_counter_ends_with_none_ready(self):
+        for process in (1, 2):
+            counts = [event["args"]["segments"] for event in of_kind(self.events, "C", process)]
+            self.assertGreaterEqual(min(counts), 0)
+            self.assertEqual(counts[-1], 0)
+
+
+class Times(unittest.TestCase):
+    def test_a_timed_run_is_in_true_microseconds(self):
+        events = events_of("split")
+        self.assertEqual(events[0]["args"]["name"], "the run as it was")
+        first = of_kind(events, "X", 1)[0]
+        self.assertAlmostEqual(first["ts"], 0.3)
+        self.assertAlmostEqual(first["dur"], 4.41)
+
+    def test_without_a_unit_a_cost_of_1_is_a_microsecond(self):
+        self.assertEqual(of_kind(events_of("plain"), "X", 2)[0]["dur"], 5)
+
+    def test_costs_in_any_unit_show_as_microseconds(self):
+        self.assertEqual([bar["dur"] for bar in of_kind(events_of("odd"), "X", 2)], [5 * 0.25, 7 * 0.25])
+        view = worked.view("plain")
+        for unit, length in (("ns", 0.005), ("us", 5), ("ms", 5000)):
+            view.answers.head.unit = unit
+            bars = of_kind(json.loads(trace_text(view))["traceEvents"], "X", 2)
+            self.assertEqual((bars[0]["ts"], bars[0]["dur"]), (0, length))
+
+    def test_times_are_nanoseconds_whatever_the_unit_of_costs(self):
+        view = worked.view("split")
+        for unit, cost in (("ns", 1), ("us", 1000), ("250 ns", 250)):
+            view.answers.head.unit = unit
+            with worked.patched():
+                run = read_times(worked.path("split.times"), view.answers)
+            self.assertEqual(run.nanoseconds(run.starts[7]), 25600)
+            self.assertAlmostEqual(run.starts[7] * cost, 25600)
+
+    def test_ready_segments(self):
+        view = worked.view("plain")
+        run = Run(1, "one thread", [0, 7, 5, 10], [5, 10, 7, 11], [0, 0, 0, 0], 1)
+        self.assertEqual(list(ready_counts(view, run)), [(5, 1), (7, 0)])

@@ -1,0 +1,49 @@
+import unittest
+
+from spanprof.errors import Fault
+from spanprof.report.figures import DECLARED, MEASURED, RECORDED
+from spanprof.report.tests import worked
+from spanprof.report.view import COLOURS, View
+
+
+class Reached(unittest.TestCase):
+    def test_by_the_clock(self):
+        reached = worked.view("split").reached
+        self.assertEqual((reached.threads, reached.end, reached.is_elapsed), (2, 30, True))
+        self.assertAlmostEqual(reached.speed_up, 37 / 30)
+
+    def test_by_the_head_alone(self):
+        view = worked.view("odd")
+        self.assertEqual((view.run, view.reached.threads, view.reached.end), (None, 2, 3))
+        self.assertEqual(view.unit, "× 250 ns")
+
+    def test_nothing_recorded(self):
+        view = worked.view("plain")
+        self.assertIsNone(view.reached)
+        self.assertEqual(view.without_run, "There is no replay document beside plain.tasks.")
+
+
+class Kinds(unittest.TestCase):
+    def test_costs_are_measured_where_the_head_says_so(self):
+        self.assertEqual((worked.view("mesh").cost_kind, worked.view("mesh").unit), (MEASURED, "µs"))
+        self.assertEqual((worked.view("plain").cost_kind, worked.view("plain").unit), (DECLARED, ""))
+
+    def test_the_shape_is_recorded_where_the_head_says_so(self):
+        self.assertEqual((worked.view("mesh").shape_kind, worked.view("plain").shape_kind), (RECORDED, DECLARED))
+
+    def test_places_of_segments_and_tasks(self):
+        view = worked.view("mesh")
+        self.assertEqual([view.places[view.place_of[s]].name for s in (1, 3, 8)],
+                         ["task at mesh.c:8", "task at mesh.c:10", "task at mesh.c:10"])
+        self.assertEqual(view.task_places[view.task_place_of[3]].name, "mesh.c:3")
+
+    def test_the_last_places_share_a_colour(self):
+        view = worked.view("mesh")
+        view.task_places[-1].number = 40
+        self.assertEqual(view.colour_of(view.task_places[-1]), COLOURS - 1)
+
+
+class ReplayByName(unittest.TestCase):
+    def test_a_named_replay_has_to_fit(self):
+        with worked.patched(), self.assertRaisesRegex(Fault, "split.replay is not a run of mesh.tasks"):
+            View(worked.path("mesh.tasks"), worked.path("split.replay"))

@@ -1,0 +1,153 @@
+"""Worked programs with spanprof's answers, so that the tests need no spanprof.
+
+    python3 -m spanprof.report.tests.worked record    in tools/: asks spanprof, and keeps its answers
+    python3 -m spanprof.report.tests.worked check     ends with status 1 where it answers otherwise than is kept
+"""
+import hashlib
+import json
+import os
+import sys
+from unittest import mock
+
+from spanprof.errors import Fault
+
+FOLDER = os.path.join(os.path.dirname(os.path.abspath(__file__)), "worked")
+KEPT = os.path.join(FOLDER, "answers.json")
+
+
+def path(name):
+    return os.path.join(FOLDER, name)
+
+
+def key(words, text):
+    """Words, and a short name of the text."""
+    return "%s < %s" % (" ".join(words), hashlib.sha256(text.encode()).hexdigest()[:12])
+
+
+def kept_answers():
+    with open(KEPT, encoding="utf-8") as file:
+        return json.load(file)
+
+
+def document(file):
+    with open(file, encoding="utf-8") as opened:
+        return opened.read()
+
+
+class Kept:
+    """Answers as spanprof gave them; an error line where that is what is kept."""
+
+    def __init__(self):
+        self.answers = kept_answers()
+
+    def __call__(self, words, text):
+        answer = self.answers[key(words, text)]
+        if answer.startswith("error"):
+            raise Fault("spanprof %s: %s" % (words[0], answer))
+        return answer
+
+    def of_times(self, words, file):
+        """What spanprof_account answers on a timed document."""
+        return self(["account", *words], document(file))
+
+
+class Patched:
+    """The kept answers in place of both programs."""
+
+    def __init__(self):
+        kept = Kept()
+        self.patches = [mock.patch("spanprof.client.ask", kept), mock.patch("spanprof.account.ask", kept.of_times)]
+
+    def start(self):
+        for patch in self.patches:
+            patch.start()
+
+    def stop(self):
+        for patch in self.patches:
+            patch.stop()
+
+    def __enter__(self):
+        self.start()
+
+    def __exit__(self, *_):
+        self.stop()
+
+
+def patched():
+    return Patched()
+
+
+def view(name="mesh", **more):
+    from spanprof.report.view import View
+    with patched():
+        made = View(path(name + ".tasks"), source=[FOLDER], **more)
+        from spanprof.report.page import page
+        page([made])    # asks for all that the page needs
+    return made
+
+
+def pages():
+    """Each page that the tests make, as names of texts and factors."""
+    return [(["mesh"], []), (["split"], []), (["plain"], []), (["odd"], []), (["mesh", "split"], []),
+            (["mesh"], ["task at mesh.c:8=0.5", "after taskwait at mesh.c:14=3"])]
+
+
+def page_text(names, factors=()):
+    from spanprof.report.page import page
+    from spanprof.report.view import View
+    from spanprof.report.what_if import read_factors
+    views = [View(path(name + ".tasks"), source=[FOLDER], prefix="other " if i else "")
+             for i, name in enumerate(names)]
+    return page(views, read_factors(factors, views[0].places))
+
+
+def noting(out, ask, key_of):
+    """A program's answers, which are kept by words and text."""
+    def asked(words, text):
+        try:
+            out[key_of(words, text)] = answer = ask(words, text)
+        except Fault as told:
+            out[key_of(words, text)] = str(told).partition(": ")[2]
+            raise
+        return answer
+    return asked
+
+
+def asked_now():
+    """All that the pages and their comparison ask of spanprof and spanprof_account, with what they answer."""
+    from spanprof import account, client
+    from spanprof.account_program import spanprof_account
+    from spanprof.report.tests.compare import differences
+    from spanprof.report.tests.recorded_runs import refused
+    out = {}
+    asked = noting(out, client.ask, key)
+    of_times = account.ask if spanprof_account() else Kept().of_times     # that program need not be there
+    times = noting(out, of_times, lambda words, file: key(["account", *words], document(file)))
+    with mock.patch("spanprof.client.ask", asked), mock.patch("spanprof.account.ask", times):
+        for names, factors in pages():
+            wrong, _ = differences(page_text(names, factors), [path(name + ".tasks") for name in names], asked)
+            if wrong:
+                sys.exit("\n".join(wrong))
+        refused()
+    return out
+
+
+def main(words):
+    if words == ["record"]:
+        now = asked_now()
+        with open(KEPT, "w", encoding="utf-8") as file:
+            json.dump(now, file, indent=1, sort_keys=True)
+            file.write("\n")
+    elif words == ["check"]:
+        kept, now = kept_answers(), asked_now()
+        wrong = [name for name in sorted(set(kept) | set(now)) if kept.get(name) != now.get(name)]
+        for name in wrong:
+            print("otherwise than kept:", name)
+        print("%d answers, %d wrong" % (len(now), len(wrong)))
+        sys.exit(bool(wrong))
+    else:
+        sys.exit(__doc__)
+
+
+if __name__ == "__main__":
+    main(sys.argv[1:])

@@ -1,0 +1,103 @@
+"""The runs in Chrome's trace format, for ui.perfetto.dev: threads, flows for what waits, a counter of ready tasks.
+
+Times of a trace are microseconds. Where the text names a unit they are true; else a cost of 1 shows as 1 microsecond.
+"""
+import json
+from dataclasses import dataclass
+from typing import Sequence
+
+from spanprof.report.graph import kind_of
+
+FLOWS_OF_A_RUN = 10 ** 7    # numbers of flows are of one run each
+
+
+@dataclass
+class Run:
+    """One run as a process of the trace."""
+    process: int
+    title: str
+    starts: Sequence
+    ends: Sequence
+    threads: Sequence
+    count: int
+
+    def shows(self, s):
+        return self.threads[s] is not None and self.ends[s] > self.starts[s]
+
+
+def runs_of(view):
+    answers, run, out = view.answers, view.run, []
+    if run:
+        title = "the run as it was" if run.is_timed else "the recorded run, in the order of the replay"
+        out.append(Run(1, title, run.starts, run.ends, run.workers, run.count))
+    starts, threads = zip(*answers.greedy)
+    ends = [start + row.cost for start, row in zip(starts, answers.rows)]
+    out.append(Run(2, "the greedy run", starts, ends, threads, answers.threads))
+    return out
+
+
+def names(run):
+    yield {"name": "process_name", "ph": "M", "pid": run.process, "tid": 0, "args": {"name": run.title}}
+    for thread in range(run.count):
+        yield {"name": "thread_name", "ph": "M", "pid": run.process, "tid": thread,
+               "args": {"name": "thread %d" % thread}}
+
+
+def bars(view, run, scale):
+    code = view.answers.code
+    for s, row in enumerate(view.answers.rows):
+        if run.shows(s):
+            length = (run.ends[s] - run.starts[s]) * scale
+            yield {"name": code[s].place(), "cat": "critical" if row.critical else "other", "ph": "X",
+                   "ts": run.starts[s] * scale, "dur": length, "pid": run.process, "tid": run.threads[s],
+                   "args": {"segment": s, "task": row.task, "cost": row.cost, "slack": row.slack,
+                            "critical": row.critical}}
+
+
+def flow(view, run, scale, p, s, number):
+    """An arrow from inside the bar of `p`, since it belongs to the bar that its moment lies in, to the start of `s`."""
+    shared = {"name": kind_of(view.answers.code, p, s), "cat": "edge", "id": run.process * FLOWS_OF_A_RUN + number,
+              "pid": run.process}
+    middle = (run.starts[p] + run.ends[p]) / 2
+    yield dict(shared, ph="s", ts=middle * scale, tid=run.threads[p])
+    yield dict(shared, ph="f", bp="e", ts=run.starts[s] * scale, tid=run.threads[s])
+
+
+def flows(view, run, scale):
+    """An arrow for each edge between tasks: a creation, a dependence or a wait."""
+    rows, number = view.answers.rows, 0
+    for s, before in enumerate(view.answers.predecessors):
+        for p in before:
+            if rows[p].task != rows[s].task and run.shows(p) and run.shows(s):
+                number += 1
+                yield from flow(view, run, scale, p, s, number)
+
+
+def ready_counts(view, run):
+    """Moments and how many segments are ready then and have not begun."""
+    changes = {}
+    for s, before in enumerate(view.answers.predecessors):
+        if run.shows(s):
+            ready = min(run.starts[s], max((run.ends[p] for p in before), default=0))
+            changes[ready] = changes.get(ready, 0) + 1
+            changes[run.starts[s]] = changes.get(run.starts[s], 0) - 1
+    count = 0
+    for moment in sorted(changes):
+        if changes[moment]:
+            count += changes[moment]
+            yield moment, count
+
+
+def counters(view, run, scale):
+    for moment, count in [(0, 0), *ready_counts(view, run)]:
+        yield {"name": "ready", "ph": "C", "ts": moment * scale, "pid": run.process, "args": {"segments": count}}
+
+
+def trace_text(view):
+    head, events = view.answers.head, []
+    scale = (head.nanoseconds or 1000) / 1000
+    for run in runs_of(view):
+        for part in (names(run), bars(view, run, scale), flows(view, run, scale), counters(view, run, scale)):
+            events += part
+    return json.dumps({"traceEvents": events, "displayTimeUnit": "ns",
+                       "metadata": {"program": view.name, "costs": head.unit_of_costs, "remarks": head.remarks}}) + "\n"

@@ -1,0 +1,50 @@
+"""Which part of the package imports which: none in a circle. And only commands end the process."""
+import ast
+import os
+import unittest
+
+PACKAGE = os.path.dirname(os.path.dirname(os.path.abspath(__file__)))
+ENDS = {"command.py", "convert_command.py", "version.py", "run.py"}  # run.py ends as the recorded program did
+SHARED = ""     # the modules of the package itself
+LAYERS = (SHARED, "conformance", "path", "whatif", "report", "record")     # each may import those before it
+
+
+def modules():
+    """Of each module, without tests, its part and its path."""
+    for folder, _, names in os.walk(PACKAGE):
+        part = os.path.relpath(folder, PACKAGE).replace(".", SHARED)
+        if "tests" not in part.split(os.sep) and not part.startswith("__"):
+            yield from ((part, os.path.join(folder, name)) for name in names if name.endswith(".py"))
+
+
+def imported(source):
+    """The parts of the package that a module imports."""
+    for node in ast.walk(ast.parse(source)):
+        if isinstance(node, ast.ImportFrom) and (node.module or "").split(".")[0] == "spanprof":
+            names = [node.module.split(".")[1]] if "." in node.module else [alias.name for alias in node.names]
+            yield from (name if name in LAYERS else SHARED for name in names)
+
+
+class Layers(unittest.TestCase):
+    def test_each_imports_those_before_it(self):
+        found = set()
+        for part, path in modules():
+            found.add(part)
+            with open(path, encoding="utf-8") as file:
+                for other in imported(file.read()):
+                    self.assertLessEqual(LAYERS.index(other), LAYERS.index(part), "%s imports %s" % (path, other))
+        self.assertEqual(found - {os.path.join("report", "template")}, set(LAYERS))
+
+    def test_only_commands_end_the_process(self):
+        for _, path in modules():
+            with open(path, encoding="utf-8") as file:
+                if os.path.basename(path) not in ENDS:
+                    self.assertNotRegex(file.read(), r"SystemExit|sys\.exit", path)
+
+    def test_what_is_imported(self):
+        self.assertEqual(list(imported("import os\nfrom spanprof import client\nfrom spanprof.record.run import run\n"
+                                       "def f():\n    from spanprof.path import found\n")), [SHARED, "record", "path"])
+
+
+if __name__ == "__main__":
+    unittest.main()

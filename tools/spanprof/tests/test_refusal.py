@@ -1,0 +1,100 @@
+"""Tests of refusal.py, with a stand-in for spanprof that refuses one token."""
+import tempfile
+import unittest
+
+from spanprof.refusal import AT_LINE, explained, meant, open_brace, picture, tokens, without_text
+
+TEXT = "omptasks 1\nwork 5  # tasks here\ntask { tasks { } work 3\n}\n"
+
+
+def refusing(wrong, kind):
+    """Answers as spanprof does of a text whose only fault is this token, or that it ends too early."""
+    def ask(words, text):
+        if words == ["span"] and wrong is None:
+            return "segments 4\nwork 11\nspan 9\n"
+        for number, line in enumerate(text.split("\n"), 1):
+            if any(token.group() == wrong for token in tokens(line)):
+                return "error: line %d: %s\n" % (number, kind)
+        return "error: line %d: Unclosed\n" % text.count("\n")
+    return ask
+
+
+def told(answer, wrong=None, words=("span",), text=TEXT):
+    kind = AT_LINE.match(answer)
+    return explained("mine.tasks", list(words), text, answer, refusing(wrong, kind[2] if kind else ""))
+
+
+class OfALine(unittest.TestCase):
+    def test_the_first_wrong_token_and_the_word_meant(self):
+        self.assertEqual(told("error: line 3: BadWord", "tasks").split("\n"), [
+            "mine.tasks:3: BadWord: `tasks` cannot stand here; did you mean `task`?",
+            "    3 | task { tasks { } work 3",
+            "      |        ^~~~~"])
+
+    def test_the_last_token_of_a_line(self):
+        self.assertTrue(told("error: line 3: BadNumber", "3").endswith("^"))
+        self.assertIn("an `if` or `final` 0 or 1", told("error: line 3: BadNumber", "3"))
+
+    def test_a_token_that_is_not_found(self):
+        self.assertIn("mine.tasks:2: BadWord: this cannot stand here\n    2 | work 5",
+                      told("error: line 2: BadWord", "x"))
+
+    def test_the_end_of_the_text(self):
+        self.assertIn("the text ends too early", told("error: line 5: BadWord", "x"))
+
+    def test_every_kind_of_a_line_has_words(self):
+        for kind in ("TooLong", "BadByte", "TooDeep", "TooManyTasks", "WorkTooLarge", "TooManyTurns", "Unopened"):
+            self.assertRegex(told("error: line 3: " + kind, "}"), "^mine.tasks:3: %s: .{10}" % kind)
+
+
+class Braces(unittest.TestCase):
+    def test_the_one_that_nothing_closes(self):
+        lines = "task { task {\n}".split("\n")
+        self.assertEqual(open_brace(lines, 1).start(), 5)
+        self.assertEqual(open_brace("task { task {\n} }".split("\n"), 1), None)
+        self.assertEqual(open_brace(["taskgroup { # {"], 1).start(), 10)
+
+
+class OfMore(unittest.TestCase):
+    def test_an_unknown_segment(self):
+        self.assertEqual(told("error: UnknownSegment", words=("whatif", "2=1", "9=4")),
+                         "mine.tasks: there is no segment 9; they are 0 to 3, and `spanprof slack` lists them")
+
+    def test_an_event(self):
+        log = TEXT + "---\nstart 0 0 finish 0 0\nstart 0 3\n"
+        self.assertEqual(told("error: event 2: NotReady 1", words=("replay",), text=log),
+                         "mine.tasks: `start 0 3`: segment 1, which has to come first, has not finished")
+        self.assertIn("workers are 0 to 63", told("error: event 0: UnknownWorker", words=("replay",), text=log))
+
+    def test_ranges(self):
+        self.assertEqual(told("error: ThreadCount"), "mine.tasks: a number of threads is 1 to 1,024")
+        self.assertIn("of different versions", told("error: wrong words"))
+
+    def test_other_lines_have_no_words(self):
+        self.assertEqual(told("error: Broken 1 3"), "")
+
+
+class OfAFile(unittest.TestCase):
+    def test_its_line_and_other_limits(self):
+        with tempfile.NamedTemporaryFile("w", suffix=".tasks") as file:
+            file.write(TEXT)
+            file.flush()
+            self.assertEqual(without_text(file.name, "error: line 3: TooDeep", {"TooDeep": "deep"}).split("\n"), [
+                file.name + ":3: TooDeep: deep", "    3 | task { tasks { } work 3", "      | ^"])
+            self.assertEqual(without_text(file.name, "error: out of memory", {}), "")
+
+
+class Parts(unittest.TestCase):
+    def test_words_that_are_like_none(self):
+        self.assertEqual(meant("zebra"), "")
+        self.assertEqual(meant("taskwiat"), "; did you mean `taskwait`?")
+
+    def test_a_long_line_is_cut_around_the_token(self):
+        line = "work 1 " * 100 + "bad"
+        shown, mark = picture(line, 7, tokens(line)[-1])
+        self.assertLess(len(shown), 120)
+        self.assertEqual(shown[mark.index("^"):], "bad")
+
+
+if __name__ == "__main__":
+    unittest.main()

@@ -1,0 +1,77 @@
+import glob
+import os
+import unittest
+from collections import Counter
+
+from spanprof import client, folders
+from spanprof.text import Statement, merged, statements, text_lines
+from spanprof.whatif.tests.made_up import ROW, SORT, changed, read
+
+RECORDED = os.path.join(folders.TOP, "examples", "openmp", "recorded")
+
+
+class Reading(unittest.TestCase):
+    def test_places(self):
+        self.assertEqual([one.name for one in read(SORT) if one.kind == "work"], [
+            "the beginning", "task at sort.c:8", "after creating a task at sort.c:8", "task at sort.c:8",
+            "task at sort.c:9", "after taskwait at sort.c:10", "after creating a task at sort.c:8",
+            "after taskgroup at sort.c:7"])
+
+    def test_constructs(self):
+        self.assertEqual([(one.kind, one.name or one.of) for one in read(SORT) if one.kind != "work"][:4], [
+            ("taskgroup", "taskgroup at sort.c:7"), ("task", "task at sort.c:8"), ("end", "task"),
+            ("task", "task at sort.c:8")])
+
+    def test_without_comments(self):
+        names = [one.name for one in read("omptasks 1 task { work 1 } taskwait work 2 taskgroup { } work 3")]
+        self.assertEqual(names, ["a task", "a task", "", "a taskwait", "after a taskwait", "a taskgroup", "",
+                                 "after a taskgroup"])
+
+    def test_clauses(self):
+        task = read("omptasks 1\ntask depend(in: a, in) if(00) depend(out: depend) { # x\n}\n")[0]
+        self.assertTrue(task.is_undeferred)
+        self.assertEqual(task.items, (("in", "a"), ("in", "in"), ("out", "depend")))
+        self.assertFalse(read("omptasks 1 task if(1) depend(in: if0) { }")[0].is_undeferred)
+
+    def test_locations_of_version_2(self):
+        task = read("omptasks 2\ntask depend(inout: x[-1], x[3], x) {\n}\n")[0]
+        self.assertEqual([name for _, name in task.items], ["x[-1]", "x[3]", "x"])
+
+    def test_what_follows_the_divider_is_left_out(self):
+        self.assertEqual(read("omptasks 1\nwork 2\n---\nstart 0 0\n"), [Statement("work", "the beginning", 2)])
+
+    def test_words_on_lines_of_their_own(self):
+        self.assertEqual([one.cost for one in read("omptasks\n1\nwork # 3\n\t12\rwork 5")], [12, 5])
+
+    def test_costs_by_place_are_those_of_the_reports(self):
+        paths = glob.glob(os.path.join(RECORDED, "*.tasks"))
+        self.assertGreater(len(paths), 5)
+        for path in paths:
+            with open(path, encoding="utf-8") as file:
+                text = file.read()
+            costs, expected = Counter(), Counter()
+            for one in read(text):
+                costs[one.name] += one.cost
+            for segment in client.segments(text):
+                expected[segment.place()] += segment.cost
+            self.assertEqual(+costs, +expected, path)
+
+
+class Writing(unittest.TestCase):
+    def test_a_text_stays(self):
+        for text in (SORT, ROW):
+            own = text[text.index("omptasks"):]
+            self.assertEqual("".join(text_lines(statements(text.splitlines(True)), 1)), own)
+
+    def test_clauses(self):
+        line = "task if(0) depend(in: a, b) depend(out: c) depend(in: d) {"
+        self.assertEqual(changed("omptasks 1\n%s\n}\n" % line), line + " }")
+
+    def test_neighbouring_work_is_one(self):
+        pieces = [Statement("work", "here", 2), Statement("work", "there", 3), Statement("taskwait"),
+                  Statement("work", "here", 0)]
+        self.assertEqual(list(merged(pieces)), [Statement("work", "here", 5), Statement("taskwait")])
+
+
+if __name__ == "__main__":
+    unittest.main()

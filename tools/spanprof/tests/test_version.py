@@ -1,0 +1,59 @@
+"""Tests of version.py: versions in a repository and where the tools are installed, and what scripts answer."""
+import contextlib
+import io
+import os
+import tempfile
+import unittest
+from unittest import mock
+
+from install import add_commit
+from spanprof import version
+
+
+class Versions(unittest.TestCase):
+    def setUp(self):
+        self.folder = tempfile.TemporaryDirectory()
+        self.addCleanup(self.folder.cleanup)
+        self.path = os.path.join(self.folder.name, "VERSION")
+        with open(self.path, "w", encoding="utf-8") as file:
+            file.write("1.2.3\nlogic 0123456789abcdef\n")
+
+    def at(self, name):
+        return mock.patch.object(version, name, self.path)
+
+    def test_in_a_clone(self):
+        with self.at("IN_REPOSITORY"), mock.patch.object(version, "commit_of", lambda folder: "abc+"):
+            self.assertEqual(version.version_of("mine"), "mine 1.2.3 (logic 0123456789abcdef, commit abc+)")
+
+    def test_without_a_clone(self):
+        with self.at("IN_REPOSITORY"), mock.patch.object(version, "commit_of", lambda folder: ""):
+            self.assertEqual(version.version_of("mine"), "mine 1.2.3 (logic 0123456789abcdef)")
+
+    def test_installed(self):
+        add_commit(self.path, "abc")
+        with self.at("INSTALLED"):
+            self.assertEqual(version.version_of("mine"), "mine 1.2.3 (logic 0123456789abcdef, commit abc)")
+
+    def test_no_clone_has_no_commit(self):
+        self.assertEqual(version.commit_of(self.folder.name), "")
+
+
+class Answers(unittest.TestCase):
+    def answered(self, *words):
+        out = io.StringIO()
+        with contextlib.redirect_stdout(out), self.assertRaises(SystemExit) as ended:
+            version.answer("usage of it\n", list(words))
+        self.assertEqual(ended.exception.code, 0)
+        return out.getvalue()
+
+    def test_help_and_version(self):
+        self.assertEqual(self.answered("--help"), "usage of it\n")
+        self.assertIn("(logic ", self.answered("--version"))
+
+    def test_other_words_go_on(self):
+        self.assertIsNone(version.answer("usage", ["mine.tasks"]))
+        self.assertIsNone(version.answer("usage", []))
+
+
+if __name__ == "__main__":
+    unittest.main()

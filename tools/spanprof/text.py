@@ -1,0 +1,250 @@
+"""A program text without loops as statements, one after the other, each with its place in the source; and back.
+
+A comment belongs to the construct that stands on its line.
+"""
+import re
+from dataclasses import dataclass
+from functools import lru_cache
+from itertools import islice
+from typing import Iterable, Iterator, NamedTuple, Tuple
+
+DIVIDER = "---"
+TOKEN = re.compile(r"[A-Za-z0-9_]+|[^\sA-Za-z0-9_]")
+DEPEND = re.compile(r"depend\((\w+):([^)]*)\)")
+UNDEFERRED = re.compile(r"if\(0+\)")
+WHOLE = re.compile(r"[ \t]*(?:(work) (\d+)|(taskwait|\})|(taskgroup|task)( [\w(): ,]*)?\{)[ \t]*(?:#(.*))?\s*")
+
+
+@dataclass
+class Segment:
+    task: int
+    task_place: str
+    after: str          # the construct that it follows; empty for a task's first
+    after_place: str
+    cost: int = 0
+
+    def place(self):
+        """Where its code stands: the construct that it follows, or the task that it begins."""
+        if self.after:
+            after = "after " + self.after if self.after_place or " " in self.after else "after a " + self.after
+            return after + " at " + self.after_place if self.after_place else after
+        if self.task == 0:
+            return "the beginning"
+        return "task at %s" % self.task_place if self.task_place else "a task"
+
+
+def lines_of(text):
+    """The tokens of each line, and its comment."""
+    for line in text.split("\n"):
+        code, _, comment = line.partition("#")
+        yield TOKEN.findall(code), comment.strip()
+
+
+def words_of(text):
+    """The tokens of a text, each with the comment of its line."""
+    for words, comment in lines_of(text):
+        yield from ((word, comment) for word in words)
+
+
+def has_loops(text):
+    """Whether the text is of version 2; its canonical text is of version 1."""
+    words = [word for word, _ in islice(words_of(text), 2)]
+    return len(words) > 1 and words[1].lstrip("0") == "2"
+
+
+class Statement(NamedTuple):
+    """`kind` is work, task, taskwait, taskgroup, or end. The name of a `work` is that of its segment's place."""
+    kind: str
+    name: str = ""
+    cost: int = 0
+    of: str = ""                # what an end closes
+    is_undeferred: bool = False
+    items: Tuple[Tuple[str, str], ...] = ()     # of a task: type and name
+    comment: str = ""
+
+
+def named(kind, comment):
+    return "%s at %s" % (kind, comment) if comment else "a " + kind
+
+
+@lru_cache(maxsize=None)
+def place_name(is_root, task_place, after="", after_place=""):
+    """As reports name it."""
+    return Segment(0 if is_root else 1, task_place, after, after_place).place()
+
+
+class Naming:
+    """The names of the running segments, and what the open blocks are."""
+
+    def __init__(self):
+        self.running = [("", place_name(True, ""))]     # of each open task: its comment, its segment's place
+        self.blocks = []
+
+    @property
+    def place(self):
+        return self.running[-1][1]
+
+    def go_on(self, after, comment):
+        task = self.running[-1][0]
+        self.running[-1] = task, place_name(len(self.running) == 1, task, after, comment)
+
+    def begin(self, kind, comment):
+        self.blocks.append((kind, comment))
+        if kind == "task":
+            self.running.append((comment, place_name(False, comment)))
+
+    def end(self):
+        kind, comment = self.blocks.pop()
+        if kind == "task":
+            self.running.pop()
+        self.go_on("creating a task" if kind == "task" else kind, comment)
+        return kind
+
+
+def statement(kind, code, comment, naming):
+    """Of a word, and what stands with it: a cost, or the clauses up to the body."""
+    if kind == "work":
+        return Statement(kind, naming.place, int(code))
+    if kind == "}":
+        return Statement("end", of=naming.end())
+    if kind == "taskwait":
+        naming.go_on(kind, comment)
+    else:
+        naming.begin(kind, comment)
+    if kind == "task" and code:
+        items = tuple((of, name) for of, names in DEPEND.findall(code) for name in names.split(","))
+        return Statement(kind, named(kind, comment), is_undeferred=bool(UNDEFERRED.search(code)), items=items,
+                         comment=comment)
+    return Statement(kind, named(kind, comment), comment=comment)
+
+
+def ending(tokens, first):
+    """Where the statement that begins there ends; 0 where it goes on behind these tokens."""
+    kind = tokens[first][0]
+    if kind in ("task", "taskgroup"):
+        return next((i + 1 for i in range(first + 1, len(tokens)) if tokens[i][0] == "{"), 0)
+    end = first + (2 if kind == "work" else 1)
+    return end if end <= len(tokens) else 0
+
+
+def lines_before_the_divider(lines):
+    for line in lines:
+        if line.rstrip("\r\n") == DIVIDER:
+            return
+        yield line
+
+
+def statements(lines: Iterable[str]) -> Iterator[Statement]:
+    """Of the lines of a text that spanprof has taken. A line that is one statement, as the recorder writes it, is read
+    at once."""
+    naming, pending, header = Naming(), [], 2
+    for line in lines_before_the_divider(lines):
+        whole = not pending and not header and WHOLE.fullmatch(line)
+        if whole:
+            work, cost, single, block, code, comment = whole.groups("")
+            yield statement(work or single or block, cost or code.replace(" ", ""), comment.strip(), naming)
+            continue
+        pending += words_of(line.rstrip("\n"))
+        skipped = min(header, len(pending))
+        header, first = header - skipped, skipped
+        while first < len(pending) and ending(pending, first):
+            end = ending(pending, first)
+            code = "".join(word for word, _ in pending[first + 1:end]).rstrip("{")
+            yield statement(pending[first][0], code, pending[end - 1][1], naming)
+            first = end
+        del pending[:first]
+
+
+class Cutter:
+    """Cuts a program into segments, statement by statement."""
+
+    def __init__(self):
+        self.out = [Segment(0, "", "", "")]
+        self.running = [(0, "", 0)]     # of each open task: its number, its place, its open segment
+        self.blocks = []                # of each open block: what it is, and its place
+        self.tasks = 0
+
+    @property
+    def current(self):
+        """The number of the open segment of the running task."""
+        return self.running[-1][2]
+
+    def take(self, one):
+        if one.kind == "work":
+            self.out[self.current].cost += one.cost
+        elif one.kind == "taskwait":
+            self.go_on(one.kind, one.comment)
+        elif one.kind == "end":
+            self.end()
+        else:
+            self.begin(one.kind, one.comment)
+
+    def begin(self, kind, place):
+        self.blocks.append((kind, place))
+        if kind == "task":
+            self.tasks += 1
+            self.running.append((self.tasks, place, len(self.out)))
+            self.out.append(Segment(self.tasks, place, "", ""))
+
+    def end(self):
+        kind, place = self.blocks.pop()
+        if kind == "task":
+            self.running.pop()
+        self.go_on("creating a task" if kind == "task" else kind, place)
+
+    def go_on(self, after, place):
+        """The running task's next segment."""
+        task, task_place, _ = self.running[-1]
+        self.running[-1] = (task, task_place, len(self.out))
+        self.out.append(Segment(task, task_place, after, place))
+
+
+def segments_of(text):
+    """The segments of a text without loops, in the order of their numbers."""
+    cutter = Cutter()
+    for one in statements(text.split("\n")):
+        cutter.take(one)
+    return cutter.out
+
+
+def clauses(task):
+    """Neighbouring items of one type share a clause."""
+    out, last = ["if(0)"] if task.is_undeferred else [], ""
+    for kind, name in task.items:
+        if kind == last:
+            out[-1] = "%s, %s)" % (out[-1][:-1], name)
+        else:
+            out.append("depend(%s: %s)" % (kind, name))
+        last = kind
+    return "".join(" " + clause for clause in out)
+
+
+def line(statement):
+    comment = "  # " + statement.comment if statement.comment else ""
+    if statement.kind == "work":
+        return "work %d\n" % statement.cost
+    if statement.kind == "task":
+        return "task%s {%s\n" % (clauses(statement), comment)
+    if statement.kind == "taskgroup":
+        return "taskgroup {%s\n" % comment
+    return "}\n" if statement.kind == "end" else "taskwait%s\n" % comment
+
+
+def merged(stream):
+    """Neighbouring pieces of work as one, and none that cost nothing."""
+    cost, name = 0, ""
+    for statement in stream:
+        if statement.kind == "work":
+            cost, name = cost + statement.cost, name or statement.name
+            continue
+        if cost:
+            yield Statement("work", name, cost)
+        cost, name = 0, ""
+        yield statement
+    if cost:
+        yield Statement("work", name, cost)
+
+
+def text_lines(stream, version):
+    yield "omptasks %d\n" % version
+    yield from map(line, merged(stream))

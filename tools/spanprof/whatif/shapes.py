@@ -1,0 +1,118 @@
+"""Changes of which tasks there are: more of them by a split, or fewer by joining neighbours or by a cutoff.
+
+`creating` is what the creation of a task costs: a new task brings so much, and one less takes away as much, or all of
+the code before it where that cost less.
+"""
+from spanprof.text import Statement
+from spanprof.whatif.changes import Change
+
+
+class Creating(Change):
+    def __init__(self, place, creating):
+        super().__init__(place)
+        self.creating = creating
+
+    def task(self, name, cost):
+        """A task of its own, and what creating it costs."""
+        comment = name.rpartition(" at ")[2] if " at " in name else ""
+        yield Statement("work", name, self.creating)
+        yield Statement("task", "a part of " + name, comment=comment and comment + ", a part")
+        yield Statement("work", "a part of " + name, cost)
+        yield Statement("end", of="task")
+
+
+class OfCode(Creating):
+    """Each piece of code at the place that costs enough becomes something else."""
+    least = 0
+
+    def __call__(self, stream):
+        for one in stream:
+            if one.kind == "work" and one.name == self.place and one.cost >= self.least:
+                self.count += 1
+                yield from self.instead(one)
+            else:
+                yield one
+
+
+class Split(OfCode):
+    """A piece of code that costs enough is so many tasks in a group, whose end waits for them."""
+    what = "%d piece%s of code split: %s"
+
+    def __init__(self, place, parts, creating, least):
+        super().__init__(place, creating)
+        self.parts, self.least = parts, max(least, parts)
+
+    def words(self):
+        return "%s in %d tasks each, where it costs %d or more" % (super().words(), self.parts, self.least)
+
+    def parts_of(self, _):
+        return self.parts
+
+    def instead(self, one):
+        yield Statement("taskgroup", "the group of the parts")
+        each, more = divmod(one.cost, self.parts_of(one.cost))
+        for i in range(self.parts_of(one.cost)):
+            yield from self.task(one.name, each + (i < more))
+        yield Statement("end", of="taskgroup")
+
+
+class Grain(Split):
+    """The same, in as many tasks as cost no more than a grain each."""
+
+    def __init__(self, place, grain, creating, least):
+        super().__init__(place, 2, creating, max(least, grain + 1))
+        self.grain = grain
+
+    def words(self):
+        return "%s in tasks that cost %d at most" % (Creating.words(self), self.grain)
+
+    def parts_of(self, cost):
+        return -(-cost // self.grain)
+
+
+class OwnTask(OfCode):
+    """A piece of code is a task of its own: the next `taskwait`, or the end of a group around it, waits for it."""
+    what = "%d piece%s of code made a task: %s"
+
+    def __init__(self, place, creating, least):
+        super().__init__(place, creating)
+        self.least = max(least, 1)
+
+    def instead(self, one):
+        return self.task(one.name, one.cost)
+
+
+class Cutoff(Creating):
+    """A task at this depth does all that is below it in its own code; tasks of the root have depth 1."""
+    what = "%d task%s left out: those below %s"
+
+    def __init__(self, depth, creating):
+        super().__init__("depth %d" % depth, creating)
+        self.depth = depth
+
+    def inside(self, first, stream):
+        """What the code of a task at the depth costs, with all below it, up to its end."""
+        depth, cost, last = 1, 0, 0     # `last`: the code before, of which a creation takes away
+        for one in stream:
+            if one.kind == "work":
+                last += one.cost
+                continue
+            if one.kind == "task":
+                self.count += 1
+                last = max(0, last - self.creating)
+            cost, last = cost + last, 0
+            depth += (one.kind == "task") - (one.of == "task")
+            if depth == 0:
+                break
+        yield first
+        yield Statement("work", first.name, cost)
+        yield Statement("end", of="task")
+
+    def __call__(self, stream):
+        depth, stream = 0, iter(stream)
+        for one in stream:
+            if one.kind == "task" and depth + 1 >= self.depth:
+                yield from self.inside(one, stream)
+                continue
+            depth += (one.kind == "task") - (one.of == "task")
+            yield one

@@ -1,0 +1,47 @@
+import unittest
+
+from spanprof.whatif.changes import DropDepend, DropName, DropWait, Factor
+from spanprof.whatif.tests.made_up import ROW, SORT, changed
+
+
+class OneThing(unittest.TestCase):
+    def test_a_factor(self):
+        half = Factor("task at sort.c:8", 0.25)
+        self.assertEqual(changed(SORT, half), "work 4 taskgroup { task { work 2 } work 1 task { work 5 task { work 6 } "
+                                              "taskwait work 3 } work 2 } work 30")
+        self.assertEqual(half.words(), "2 pieces of code changed: task at sort.c:8 times 0.25")
+
+    def test_a_taskwait_is_dropped(self):
+        drop = DropWait("taskwait at sort.c:10")
+        self.assertIn("task { work 20 task { work 6 } work 3 } work 2 }", changed(SORT, drop))
+        self.assertEqual(drop.words(), "1 wait dropped: taskwait at sort.c:10")
+
+    def test_a_group_is_dropped_with_its_end(self):
+        drop = DropWait("taskgroup at sort.c:7")
+        self.assertEqual(changed(SORT, drop), "work 4 task { work 10 } work 1 task { work 20 task { work 6 } taskwait "
+                                              "work 3 } work 32")
+        self.assertEqual(drop.count, 1)
+
+    def test_a_group_in_a_group_stays(self):
+        text = "omptasks 1\ntaskgroup { # a\ntaskgroup { # b\nwork 1\n}\n}\nwork 2\n"
+        self.assertEqual(changed(text, DropWait("taskgroup at a")), "taskgroup { work 1 } work 2")
+        self.assertEqual(changed(text, DropWait("taskgroup at b")), "taskgroup { work 1 } work 2")
+
+    def test_depend_items_of_a_place(self):
+        drop = DropDepend("task at row.c:3")
+        self.assertEqual(changed(ROW, drop), "task { work 5 } work 2 task { work 6 } work 1 task { work 7 } taskwait")
+        self.assertEqual(drop.words(), "4 depend items dropped: task at row.c:3")
+
+    def test_depend_items_of_a_name(self):
+        drop = DropName("a")
+        self.assertEqual(changed(ROW, drop), "task { work 5 } work 2 task depend(inout: b) { work 6 } work 1 "
+                                             "task depend(in: b) { work 7 } taskwait")
+        self.assertEqual(drop.words(), "2 depend items dropped: of the name a")
+
+    def test_changes_one_after_the_other_go_by_the_places_of_the_text(self):
+        after = changed(SORT, DropWait("taskwait at sort.c:10"), Factor("after taskwait at sort.c:10", 2))
+        self.assertIn("task { work 6 } work 6 } work 2 }", after)
+
+
+if __name__ == "__main__":
+    unittest.main()

@@ -1,0 +1,146 @@
+import json
+import os
+import unittest
+from unittest import mock
+
+from spanprof.tests.in_folder import InFolder, answered
+from spanprof.whatif import command
+from spanprof.whatif.tests.made_up import SORT
+
+SPANPROF = """\
+#!/bin/sh
+text=$(cat)
+case "$text" in
+    *refused*) echo "error: line 1: BadWord"; exit 1 ;;
+    *toolong*) echo "error: line 9: TooManyTasks"; exit 1 ;;
+esac
+[ "$1" = span ] && printf 'segments 8\\nwork %d\\nspan 60\\n' "$(echo "$text" | grep -c '^task')"
+[ "$1" = curve ] && echo threads,end,least,bound && seq "$3" | sed 's/$/,65,60,68/'
+exit 0
+"""
+LARGE = """\
+#!/bin/sh
+cat > /dev/null
+if [ $# -gt 0 ]; then printf 'threads,least,bound\\n1,76,76\\n2,60,68\\n'
+else printf 'tasks 3\\nsegments 9\\nwork 76\\nspan 60\\n'; fi
+"""
+
+
+class Commands(InFolder):
+    """spanprof counts lines with the word task, and spanprof_large tells always the same."""
+
+    def setUp(self):
+        super().setUp()
+        self.text = self.write("mine.tasks", SORT)
+        self.variables = {"SPANPROF": self.program("spanprof", SPANPROF),
+                          "SPANPROF_LARGE": self.program("large", LARGE)}
+
+    def told(self, *words):
+        """The exit status, and what stands on standard output and standard error."""
+        return answered(command.main, [self.text, *words], **self.variables)
+
+    def test_a_change(self):
+        self.assertEqual(self.told("--drop-wait", "taskwait"), (0, """\
+changed: 1 wait dropped: taskwait at sort.c:10
+whether the program stays right without it is yours to know: no text tells what its tasks read and write
+in us                                text       changed text
+segments                                8                  8    +0.0 %
+work                                    5                  4   -20.0 %
+span                                   60                 60    +0.0 %
+2 threads, least                       60                 60    +0.0 %
+2 threads, end                         65                 65    +0.0 %
+2 threads, bound                       68                 68    +0.0 %
+proved of the text, and of the changed text: spanprof has read both
+""", ""))
+
+    def test_json(self):
+        told = json.loads(self.told("--split", "the beginning=2", "--threads", "1", "--json")[1])
+        self.assertEqual(told["text"]["threads"], {"1": {"least": 60, "bound": 68, "end": 65}})
+        self.assertEqual(told["changed text"]["by"], "spanprof")
+        self.assertIn("a creation is taken to cost 1: a quarter of the 1 pieces of code between two creations cost at "
+                      "most that (measured)", told["notes"])
+
+    def test_the_changed_text_is_kept(self):
+        kept = os.path.join(self.folder, "kept.tasks")
+        self.assertEqual(self.told("--drop-wait", "taskgroup", "-o", kept)[0], 0)
+        with open(kept, encoding="utf-8") as file:
+            text = file.read()
+        self.assertTrue(text.startswith("# recorded: from sort, threads 2, clock cpu, unit us\n"
+                                        "# remark: a changed text, 1 wait dropped, taskgroup at sort.c:7: "
+                                        "work and span too low or too high\n"
+                                        "omptasks 1\nwork 4\ntask {  # sort.c:8\n"))
+        self.assertEqual(sorted(os.listdir(self.folder)), ["kept.tasks", "large", "mine.tasks", "spanprof"])
+
+    def test_a_text_beyond_the_limits(self):
+        self.text = self.write("mine.tasks", SORT + "task { # toolong\n}\n")
+        status, out, _ = self.told("--cutoff", "1")
+        self.assertEqual(status, 0)
+        self.assertNotIn("end  ", out)
+        self.assertIn("spanprof_large has read one beyond the limits", out)
+        self.variables["SPANPROF_LARGE"] = ""
+        with mock.patch("spanprof.whatif.numbers.spanprof_large", return_value=[]):
+            status, _, errors = self.told("--cutoff", "1")
+        self.assertEqual(status, 1)
+        self.assertIn("spanprof span: error: line 9: TooManyTasks; spanprof_large, which measures it, is not found",
+                      errors)
+
+    def test_a_place_list(self):
+        self.assertIn("waits (--drop-wait):", self.told("--places")[1])
+
+    def test_faults(self):
+        for words, told in ((["--drop-wait", "x"], "--drop-wait x: no taskwait or taskgroup of this name"),
+                            (["--cutoff", "7"], "nothing is changed by it: 0 tasks left out"),
+                            (["--cutoff", "1", "-o", self.text], "would be written over the text"),
+                            (["--cutoff", "1", "-o", "/nowhere/x"], "/nowhere/x.body: No such file")):
+            status, out, errors = self.told(*words)
+            self.assertEqual((status, out), (1, ""))
+            self.assertIn(told, errors)
+
+    def test_texts_that_are_none(self):
+        self.text = self.write("mine.tasks", "omptasks 1 refused")
+        status, out, errors = self.told("--cutoff", "1")
+        self.assertEqual((status, out), (1, ""))
+        self.assertIn("mine.tasks:1: BadWord: `refused` cannot stand here\n", errors)
+        self.assertTrue(errors.endswith("spanprof span: error: line 1: BadWord\n"))
+        self.text = os.path.join(self.folder, "none")
+        self.assertEqual(self.told("--places")[2], "spanprof-whatif: %s: no such file\n" % self.text)
+
+    def test_no_program(self):
+        self.variables["SPANPROF"] = "/nowhere/spanprof"
+        self.assertIn("/nowhere/spanprof: No such file or directory; README.md tells", self.told("--places")[2])
+
+    def test_advice(self):
+        status, out, errors = self.told("--advise", "--threads", "4")
+        self.assertEqual((status, errors), (0, ""))
+        self.assertIn("the greedy run of the text ends at 65 on 4 threads, at 65 on 16, in us; with one change:", out)
+        self.assertIn("as soon on 4 threads, to a thousandth:", out)
+        self.assertIn("proved of the text, and of each changed text", out)
+        told = json.loads(self.told("--advise", "--json")[1])
+        self.assertEqual({one["option"] for one in told["changes"]},
+                         {"factor", "drop-wait", "split", "task", "join", "cutoff"})
+
+    def test_advice_needs_the_ends_of_greedy_runs(self):
+        self.text = self.write("mine.tasks", SORT + "task { # toolong\n}\n")
+        status, out, errors = self.told("--advise")
+        self.assertEqual((status, out), (1, ""))
+        self.assertIn("TooManyTasks; --advise compares greedy runs, which only spanprof tells", errors)
+
+    def test_a_program_that_tells_no_table(self):
+        self.text = self.write("mine.tasks", SORT + "task { # toolong\n}\n")
+        script = "#!/bin/sh\necho work 3\necho segments 2\necho span 1\n"
+        self.variables["SPANPROF_LARGE"] = self.program("large", script)
+        self.assertEqual(self.told("--cutoff", "1")[2], "spanprof-whatif: no bounds are told on 2 threads\n")
+
+    def test_wrong_words(self):
+        for words in ([], ["--advise", "--cutoff", "1"], ["--threads", "0", "--places"],
+                      ["--creating", "x", "--places"]):
+            self.assertEqual(self.told(*words)[0], 2)
+
+    def test_a_text_that_says_nothing_of_more_threads(self):
+        self.text = self.write("mine.tasks", "# one thread: of it\n" + SORT)
+        self.assertIn("on 8 threads: it is of one thread, and says nothing of more",
+                      self.told("--cutoff", "1", "--threads", "8")[1])
+
+
+if __name__ == "__main__":
+    unittest.main()

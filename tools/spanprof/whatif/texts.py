@@ -1,0 +1,59 @@
+"""The text in a file, read as often as it is needed, and the changed one."""
+import os
+from itertools import islice
+
+from spanprof import client
+from spanprof.head import head_text, read_head
+from spanprof.text import has_loops, statements, text_lines
+
+ENCODING = {"encoding": "utf-8", "errors": "replace", "newline": "\n"}
+LINES_OF_A_HEAD = 1000
+OF_THE_RUN = ("covers", "not covered", "elapsed", "outside regions", "in other regions", "in parts without tasks",
+              "in tasks", "clocks differ", "runs", "work of the runs", "span of the runs")
+
+
+class Text:
+    """Of version 1, or the canonical text of one of version 2."""
+
+    def __init__(self, path, version):
+        self.path, self.version = path, version
+        self.head_text = head_text(path)
+        self.head = read_head(self.head_text)
+        self.canonical = client.ask(["show"], client.read(path)) if version == 2 else None
+
+    def statements(self):
+        if self.canonical is not None:
+            yield from statements(self.canonical.splitlines(True))
+            return
+        with open(self.path, **ENCODING) as lines:
+            yield from statements(lines)
+
+
+def version_of(path):
+    """By the header, which is looked for among the first lines."""
+    with open(path, **ENCODING) as lines:
+        return 2 if has_loops("".join(islice(lines, LINES_OF_A_HEAD))) else 1
+
+
+def changed_head(text, made):
+    """The head without what it tells of the recorded run alone, and what was changed."""
+    for words in text.head_text.splitlines():
+        words = words[1:].strip()
+        if words.partition(": ")[0] not in OF_THE_RUN:
+            yield words
+    for one in made:
+        yield "remark: a changed text, %s: work and span too low or too high" % one.words().replace(": ", ", ")
+
+
+def write(path, text, stream, made):
+    """The changed text. What was changed is counted while it is written, so its head is written last."""
+    body = path + ".body"
+    try:
+        with open(body, "w", **ENCODING) as file:
+            file.writelines(text_lines(stream, text.version))
+        with open(path, "w", **ENCODING) as file, open(body, **ENCODING) as lines:
+            file.writelines("# %s\n" % words for words in changed_head(text, made))
+            file.writelines(lines)
+    finally:
+        if os.path.exists(body):
+            os.remove(body)
