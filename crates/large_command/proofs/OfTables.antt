@@ -82,8 +82,8 @@ fits_or_not table =
     let work : ℕ = sum (costs_of table) in
     decided_by_equivalent
     ((segments ≤ MOST_ROWS) × ((tasks ≤ MOST_ROWS) × (work ≤ MOST_WORK))) (FitsRows table)
-    (λ h. record { segments = h.0; tasks = h.1; work = h.2 })
-    (λ h. (h.segments, h.tasks, h.work))
+    (λ h. record { segments = h.0; tasks = h.1.0; work = h.1.1 })
+    (λ h. (h.segments, (h.tasks, h.work)))
     (decide_both (segments ≤ MOST_ROWS) ((tasks ≤ MOST_ROWS) × (work ≤ MOST_WORK))
     (decide_most segments MOST_ROWS)
     (decide_both (tasks ≤ MOST_ROWS) (work ≤ MOST_WORK) (decide_most tasks MOST_ROWS)

@@ -1,6 +1,7 @@
 -- What a meter's calls answer is told in the report.
-use Rattle.std.proofs.Common.{◌≡◌, ◌+◌, ◌∙◌, ℕ, List, [], Option, inl, inr, ap}
+use Rattle.std.proofs.Common.{◌≡◌, ◌+◌, ◌∙◌, ℕ, List, [], Option, Some, inl, inr, ap}
 use Rattle.std.proofs.Common.{append-nil, arith, subst, sym}
+use Rattle.std.specs.Option.{IfSome}
 use Rattle.program_text.specs.declared.fault.ReadFault.{ReadFault}
 use Rattle.program_text.specs.Marks.{Mark}
 use Rattle.program_text.specs.Limits.{work_of}
@@ -82,7 +83,7 @@ accepts asked text meter report h tells = inl (record {
   says = tells h.marks h.tree.nested h.measures;
 })
 
-pub accepts_table : (asked : TableRequest) (text : List ℕ) (table : Table) (report : Report)
+accepts_table : (asked : TableRequest) (text : List ℕ) (table : Table) (report : Report)
     → IsTableOfText (tokens_of text) table
     → TellsTable asked table report
     → Answers (OfTable asked) text report
@@ -92,6 +93,17 @@ accepts_table asked text table report h tells = inl (record {
   right = h.right;
   says = subst (λ (t : Table). TellsTable asked t report) h.is tells;
 })
+
+-- the same where the table was found
+pub accepts_found : (asked : TableRequest) (text : List ℕ) (found : Option Table) (table : Table)
+    (report : Report)
+    → found ≡ Some table
+    → IfSome found (IsTableOfText (tokens_of text))
+    → TellsTable asked table report
+    → Answers (OfTable asked) text report
+accepts_found asked text found table report is h tells =
+    accepts_table asked text table report
+    (subst (λ (t : Option Table). IfSome t (IsTableOfText (tokens_of text))) is h) tells
 
 pub refuses : (asked : LargeRequest) (text : List ℕ) (fault : ReadFault) (report : Report)
     → IsLargeFirstFault (tokens_of text) (line_at_end 1 text) fault

@@ -45,7 +45,7 @@ fn tell_table(
     asked: &TableRequest,
     table: LargeTable,
 ) -> Result<Report, AllocError>
-    ensures { IfOk result (λ report. TellsTable asked.now table.entry report) }
+    ensures { IfOk result (λ report. TellsTable asked.now table report) }
 {
     // Does nothing when it runs: its clauses tell the proof how many rows there are at most.
     within_rows(&table);
@@ -59,7 +59,7 @@ fn say_of_table(
     asked: &TableRequest,
     table: LargeTable,
 ) -> Result<Report, AllocError>
-    ensures { IfOk result (λ report. SaysOfTable asked.now table.entry report) }
+    ensures { IfOk result (λ report. SaysOfTable asked.now table report) }
 {
     match asked {
         TableRequest::Slack => tell_slacks(alloc, &table),

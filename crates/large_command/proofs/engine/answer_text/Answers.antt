@@ -3,7 +3,7 @@ use Rattle.large_command.proofs.Told.{answers_length, answers_text, can_finish}
 use Rattle.large_command.proofs.engine.answer_text.Goals as goal
 
 pub answer-requires : goal.answer-requires
-answer-requires g c = can_finish _ _ c.take_input.new.text c.in-Ok.ensures.takes
+answer-requires g c = (search rules, can_finish _ _ c.take_input.new.text c.in-Ok.ensures.takes)
 
 pub returns-in-Ok-clause-report : goal.returns-in-Ok-clause-report
 returns-in-Ok-clause-report g c =
