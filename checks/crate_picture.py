@@ -22,8 +22,8 @@ LAYERS = (  # from the texts up to the programs; each crate has to stand in one
     ("questions about a graph", "#f6e6f7",
      ("span_analysis", "greedy_sim", "time_accounts", "whatif_costs", "span_cert")),
     ("words, devices, tables", "#eeeeee", ("counted_io", "command_words", "csv_table")),
-    ("programs", "#fbe3e0", ("spanprof_command", "large_command", "account_command", "spanprof", "spanprof_large",
-                             "spanprof_account")))
+    ("programs, a library for C", "#fbe3e0", ("spanprof_command", "large_command", "account_command", "spanprof",
+                                              "spanprof_large", "spanprof_account", "spanprof_c")))
 
 
 def read_crates(text):

@@ -12,7 +12,8 @@ import sys
 from clauses import BODY, CLAUSE
 
 TOP = pathlib.Path(__file__).resolve().parent.parent
-FUNCTION = re.compile(r"(?m)^((?: *///.*\n)*)((?: *#\[.*\n)*) *(pub )?(?:pub\([a-z]+\) )?(?:const )?fn (\w+)")
+FUNCTION = re.compile(r"(?m)^((?: *///.*\n)*)((?: *#\[.*\n)*) *(pub )?"
+                      r"(?:pub\([a-z]+\) )?(?:const )?(?:extern \S+ )?fn (\w+)")
 OWNER = re.compile(r"(?m)^impl(?:<[^{]*?>)? (?:\w+ for )?(\w+)")
 
 

@@ -4,6 +4,7 @@
     checks/refused_growths.py commands [PROGRAM]    the ten commands of crates/spanprof/out/spanprof, or of this program
     checks/refused_growths.py large [PROGRAM]       crates/spanprof_large/out/spanprof_large, or this program
     checks/refused_growths.py account [PROGRAM]     crates/spanprof_account/out/spanprof_account, or this program
+    checks/refused_growths.py library PROGRAM       the program of checks/library/ask.c, which calls libspanprof
     checks/refused_growths.py tests                 the tests of crates/refused_growths, as `rt test` there built them
     checks/refused_growths.py gate                  counts what the same tests refuse by themselves, as in the gate
 
@@ -178,6 +179,17 @@ def account(refuser, program):
         command(refuser, program, words.split(), text)
 
 
+def library(refuser, program):
+    """What calls libspanprof: each of its functions, and refusals."""
+    larger = (TOP / "examples/matrix_product.tasks").read_text()
+    for words in ("span", "slack", "greedy --threads 2", "curve --upto 3", "whatif 1=4"):
+        for text in (WORKED, LOOPS, larger):
+            command(refuser, program, words.split(), text)
+    for words, text in (("span", "omptasks 1\ntask {"), ("greedy --threads 0", WORKED), ("curve --upto 0", WORKED),
+                        (f"whatif 1={10 ** 15}", WORKED)):
+        command(refuser, program, words.split(), text)
+
+
 def named(program, module):
     """The tests of a module."""
     listed = subprocess.run([program, "--list"], capture_output=True, check=True).stdout.decode()
@@ -231,6 +243,7 @@ def main():
         "large": (large, "crates/spanprof_large/out/spanprof_large", "tools/prove_program.sh spanprof_large"),
         "account": (account, "crates/spanprof_account/out/spanprof_account",
                     "tools/prove_program.sh spanprof_account"),
+        "library": (library, "out/library/ask", "checks/library.sh"),
         "tests": (tests, "crates/refused_growths/out/refused_growths_tests", "`rt test` in crates/refused_growths"),
         "gate": (gate, "crates/refused_growths/out/refused_growths_tests", "`rt test` in crates/refused_growths"),
     }

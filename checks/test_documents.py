@@ -32,7 +32,7 @@ class Documents(unittest.TestCase):
     def test_what_is_left_out(self):
         with tempfile.TemporaryDirectory() as folder:
             commands_of = ("spanprof-record -- ./mine", "clang-19 mine.c", "spanprof span < none.tasks",
-                           "spanprof-report -o mine.html", "spanprof --help")
+                           "spanprof-report --threads 8", "spanprof --help")
             self.assertEqual([can_run(command, folder) for command in commands_of], [False] * 4 + [True])
 
 

@@ -24,6 +24,7 @@ class Faults(unittest.TestCase):
 
     def test_numbers_are_left_out(self):
         self.assertEqual(words_of_first_line("a 1,186.5 b2\nc"), "a N bN")
+        self.assertEqual(words_of_first_line("span   7,133  1\n"), words_of_first_line("span  12,133  1\n"))
 
     def test_remarks_are_passed_over(self):
         self.assertEqual(fault("work 12\n", "remark: asleep, 2 times at a.c:3\nwork 15\n", 0), "")

@@ -71,8 +71,10 @@ one 900 killed_runs.sh checks/killed_runs.sh
 one 1200 demo.sh checks/demo.sh
 one 600 release.sh checks/release.sh
 one 1800 'true_words.sh cpu' checks/true_words.sh cpu
+one 900 whole_program.sh checks/whole_program.sh
 one 600 'whatif.sh kept' checks/whatif.sh kept
 one 900 openmp.sh checks/openmp.sh
+one 2400 library.sh checks/library.sh
 one 900 'openmp_regions.sh 20' checks/openmp_regions.sh 20
 echo "$passed passed, $failed failed, $skipped skipped"
 [ "$failed" -eq 0 ]

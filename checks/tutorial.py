@@ -66,9 +66,9 @@ def run_all(pairs, folder):
 
 
 def words_of_first_line(text):
-    """But for what a recording on a busy machine remarks."""
+    """But for what a recording on a busy machine remarks; a column is as wide as its numbers."""
     lines = [line for line in text.split("\n") if not line.startswith(("remark: ", "lock "))]
-    return re.sub(r"[0-9][0-9,.]*", "N", (lines or [""])[0])
+    return re.sub(r" +", " ", re.sub(r"[0-9][0-9,.]*", "N", (lines or [""])[0]))
 
 
 def fault(expected, printed, status):

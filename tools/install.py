@@ -17,6 +17,7 @@ SPANPROF = os.path.join(TOOLS, "..", "crates", "spanprof", "out", "spanprof")
 LARGE = os.path.join(TOOLS, "..", "crates", "spanprof_large", "out", "spanprof_large")
 VERSION = "share/spanprof/VERSION"
 ACCOUNT = os.path.join(TOOLS, "..", "crates", "spanprof_account", "out", "spanprof_account")
+LIBRARY = os.path.join(TOOLS, "..", "out", "library")
 LIST = os.path.join("share", "spanprof", "installed")
 COMMANDS = ("spanprof-record", "spanprof-convert", "spanprof-report", "spanprof-path", "spanprof-whatif",
             "spanprof-conformance")
@@ -33,10 +34,21 @@ def shared_files():
             and not any(part in "/" + path for part in LEFT_OUT)]
 
 
-def plan(spanprof=SPANPROF, large=LARGE, account=ACCOUNT):
+def of_library(folder):
+    """libspanprof for callers in C and Python, with its header and page, where it is built."""
+    if not os.path.isfile(os.path.join(folder, "libspanprof.so")):
+        return []
+    shared = os.path.join(folder, "libspanprof.so")
+    return [(shared, "lib/libspanprof.so"), (shared, "lib/libspanprof.so.0"),
+            (os.path.join(folder, "libspanprof.a"), "lib/libspanprof.a"),
+            (os.path.join(TOOLS, "..", "include", "spanprof.h"), "include/spanprof.h"),
+            (os.path.join(TOOLS, "man", "spanprof.3"), "share/man/man3/spanprof.3")]
+
+
+def plan(spanprof=SPANPROF, large=LARGE, account=ACCOUNT, library=LIBRARY):
     """Where each file goes: pairs of a file and its path below the prefix. The programs for texts of any size and for
-    timed documents go there where they are built."""
-    pairs = [(spanprof, "bin/spanprof")]
+    timed documents go there where they are built, and so does the library."""
+    pairs = [(spanprof, "bin/spanprof")] + of_library(library)
     if os.path.isfile(large):
         pairs += [(large, "bin/spanprof_large"),
                   (os.path.join(TOOLS, "completion", "spanprof.bash"),

@@ -4,7 +4,7 @@ from dataclasses import dataclass
 
 from believed.definitions import imports_of
 
-FUNCTION = re.compile(r"^( *)pub fn (\w+)", re.M)
+FUNCTION = re.compile(r"^( *)pub (?:extern \S+ )?fn (\w+)", re.M)
 TYPE = re.compile(r"^impl(?:<[^\n]*?>)? (?:([\w]+)(?:<[^\n]*?>)? for )?(\w+)", re.M)
 BLANKED = re.compile(r'//[^\n]*|"(?:\\.|[^"\\\n])*"|b?\'(?:\\.|[^\'\\\n])\'')
 CLAUSE = re.compile(r"\b(requires|ensures|err|ok)\b")

@@ -1,5 +1,9 @@
 """Whether a text is the beginning of another: of each task that it has, the first steps that the other text has."""
-import re
+import os
+import sys
+
+sys.path.append(os.path.join(os.path.dirname(os.path.abspath(__file__)), "..", "..", "tools"))
+from spanprof.text import statements  # noqa: E402
 
 WAIT = "taskwait"
 
@@ -8,15 +12,14 @@ def read(text):
     """The program of a text as a list of steps: a wait is a word, and a task the list of its own steps. Work is left
     out, since its costs differ from run to run."""
     steps, open_tasks = [], []
-    for line in text.split("\n"):
-        words = line.partition("#")[0].strip()
-        if re.match(r"task\b", words):
+    for one in statements(text.split("\n")):
+        if one.kind == "task":
             open_tasks.append(steps)
             steps.append([])
             steps = steps[-1]
-        elif words == "}":
+        elif one.of == "task":
             steps = open_tasks.pop()
-        elif words == WAIT:
+        elif one.kind == WAIT:
             steps.append(WAIT)
     return steps
 

@@ -27,7 +27,7 @@ TRIED = "19,16"
 
 def build(source, program, by_gcc, version):
     compiler = ["gcc"] if by_gcc else version.compiler()
-    subprocess.run(compiler + ["-O2", "-g", "-fopenmp", source, "-o", program], check=True)
+    subprocess.run(compiler + ["-O2", "-g", "-fopenmp", source, "-o", program, "-lm"], check=True)
 
 
 def spanprof(command, text):
@@ -55,10 +55,10 @@ def refused_runs(files):
                 yield "%s: %s" % (name, done.stdout.strip() or done.stderr.strip())
 
 
-def run(program, folder, settings):
+def run(words, folder, settings):
     ours = {"OMP_NUM_THREADS": "4", "OMP_TOOL_LIBRARIES": RECORDER, "SPANPROF_OUT": os.path.join(folder, "out")}
     environment = {**os.environ, **ours, **settings}
-    done = subprocess.run([program], env=environment, capture_output=True, text=True, timeout=SECONDS)
+    done = subprocess.run(words, env=environment, capture_output=True, text=True, timeout=SECONDS)
     said = done.stderr + converted(folder, environment)
     files = {}
     for path in filter(os.path.isfile, glob.glob(os.path.join(folder, "out*"))):
@@ -83,13 +83,13 @@ def faults_of(wanted, program, folder, version):
             file.write("of an earlier run\n")
     settings = {"LD_PRELOAD": version.runtime} if is_of_gcc(wanted) else {}
     settings.update(words.split("=", 1) for words in wanted["env"])
-    left = run(program, folder, settings)
+    left = run([program], folder, settings)
     out = list(first_faults(wanted, left))
     for words in wanted["again"]:
         setting = second_setting(words, left.said)
         if not setting:
             return out + ["nothing is " + words]
-        left = run(program, folder, dict(settings, **dict([setting])))
+        left = run([program], folder, dict(settings, **dict([setting])))
     return out + list(last_faults(wanted, left))
 
 

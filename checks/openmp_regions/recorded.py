@@ -1,7 +1,12 @@
 """Reads the text that the recorder wrote, with the lines of the source that its comments tell."""
+import os
 import re
+import sys
 
 from structure import Node, Recorded, every_node, nodes
+
+sys.path.append(os.path.join(os.path.dirname(os.path.abspath(__file__)), "..", "..", "tools"))
+from spanprof.text import statements  # noqa: E402
 
 PART = "one of the region's threads"
 
@@ -11,23 +16,17 @@ def line_of(comment):
     return int(found.group(1)) if found else 0
 
 
-def items(words):
-    """The depend items of a task, one by one."""
-    return [(kind, name.strip()) for kind, names in re.findall(r"depend\((\w+): ([^)]*)\)", words)
-            for name in names.split(",")]
-
-
-def add(open_bodies, words, comment):
-    """Adds what a line says to the innermost open body."""
-    if words == "}":
+def add(open_bodies, one):
+    """Adds a statement to the innermost open body."""
+    if one.kind == "end":
         open_bodies.pop()
-    elif words.startswith("work "):
-        open_bodies[-1].append(int(words[5:]))
-    elif words:
-        node = Node(words.split(" ")[0], line_of(comment), [], " if(0)" in words, items(words))
-        node.is_part = PART in comment
+    elif one.kind == "work":
+        open_bodies[-1].append(one.cost)
+    else:
+        node = Node(one.kind, line_of(one.comment), [], one.is_undeferred, list(one.items))
+        node.is_part = PART in one.comment
         open_bodies[-1].append(node)
-        if words.endswith("{"):
+        if one.kind != "taskwait":
             open_bodies.append(node.body)
 
 
@@ -42,13 +41,12 @@ def read(text):
 
     Under gcc's code LLVM may tell the region's line for a construct in it; that counts as a line that is not known.
     """
-    head, _, rest = text.partition("omptasks 1\n")
+    head = text.partition("omptasks 1\n")[0]
     where = re.search(r"region: at \S*?:(\d+)", head)
     root = []
     open_bodies = [root]
-    for line in rest.split("\n"):
-        words, _, comment = line.partition("#")
-        add(open_bodies, words.strip(), comment)
+    for one in statements(text.split("\n")):
+        add(open_bodies, one)
     region = int(where.group(1)) if where else 0
     for node in every_node(root):
         node.line = 0 if node.line == region else node.line

@@ -4,8 +4,8 @@ import os
 import shlex
 import subprocess
 
-from timelines import (fingers_zoom, names_stand_in_bars, runs_zoom_by_themselves, search_finds, segments_are_chosen,
-                       stretches_are_marked)
+from timelines import (fingers_are_told, fingers_zoom, names_stand_in_bars, runs_zoom_by_themselves, search_finds,
+                       segments_are_chosen, stretches_are_marked)
 
 TOP = os.path.dirname(os.path.dirname(os.path.dirname(os.path.abspath(__file__))))
 WHATIF = os.path.join(TOP, "tools", "spanprof-whatif")
@@ -224,7 +224,7 @@ def drive(page, text, program):
     if has_timeline(page):
         trials += [focus_goes_through, keys_zoom_and_move, letters_zoom_and_move, keys_go_from_segment_to_segment,
                    mouse_tells, mouse_zooms_and_moves, names_stand_in_bars, segments_are_chosen, search_finds,
-                   stretches_are_marked, runs_zoom_by_themselves, fingers_zoom]
+                   stretches_are_marked, runs_zoom_by_themselves, fingers_are_told, fingers_zoom]
     for trial in trials:
         yield from trial(page)
     yield from factors_give_a_line(page, text, program)

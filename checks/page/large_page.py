@@ -12,6 +12,7 @@ import time
 
 from devtools import Browser, find_browser
 from million import main as write_million
+from visit import LOOKS, look_at, looks
 
 TOP = os.path.dirname(os.path.dirname(os.path.dirname(os.path.abspath(__file__))))
 REPORT = os.path.join(TOP, "tools", "spanprof-report")
@@ -48,7 +49,9 @@ def faults_in_the_browser(page):
                 yield "there is no part %s" % name
         if not tab.evaluate("!!document.querySelector('.lanes path')"):
             yield "the timeline is empty"
-        tab.screenshot(os.path.splitext(page)[0] + "-light.png")
+        tab.close()
+        for look in LOOKS:
+            yield from look_at(browser, page, look, looks())
 
 
 def main(folder):

@@ -101,6 +101,21 @@ def runs_zoom_by_themselves(page):
     show_all(page)
 
 
+def fingers_are_told(page):
+    """A tap on a number tells its title."""
+    number = page.evaluate("""(() => {
+      const number = document.querySelector('.tile data');
+      number.scrollIntoView({block: 'center'});
+      const box = number.getBoundingClientRect();
+      return {x: box.left + box.width / 2, y: box.top + box.height / 2, title: number.title};
+    })()""")
+    page.touch("touchStart", [{"x": number["x"], "y": number["y"], "id": 0}])
+    page.touch("touchEnd", [])
+    told = page.evaluate("fingerTip.classList.contains('shown') ? fingerTip.textContent : ''")
+    if told != number["title"]:
+        yield "a tap on a number tells %r, and not %r" % (told, number["title"])
+
+
 def fingers_zoom(page):
     """Two fingers that part zoom; one finger that taps a bar tells of it."""
     bar = widest(page)

@@ -60,8 +60,11 @@ def parts(lines):
             by_phase.setdefault(int(found.group(1)), []).append(opened[0])
         elif line == "}" and len(opened) == 1:
             end_group_of_earlier_part(opened[0])
+        elif line == "}":
+            opened.pop()
         else:
-            recorded.add(opened, line, "")
+            for one in recorded.statements(["omptasks 1", line]):
+                recorded.add(opened, one)
     return [by_phase[number] for number in sorted(by_phase)]
 
 

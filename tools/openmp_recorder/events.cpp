@@ -4,16 +4,15 @@
 #include <map>
 
 namespace {
-bool has_number(const Event &event) {
-  const std::vector<uint32_t> &numbers = event.task->numbers;
-  return !event.taken_back && event.segment < numbers.size() && numbers[event.segment] != none;
+// Of the segment in the text; none where it is not there by itself.
+uint32_t number_of(const Event &event, const Region &region) {
+  const Task &t = *event.task;
+  bool is_written = !event.taken_back && t.first_number != none && event.segment <= t.segment;
+  return is_written ? region.numbers[t.first_number + event.segment] : none;
 }
 
 size_t segments_of(const Region &region) {
-  size_t count = 0;
-  for (const Task &t : region.tasks)
-    for (uint32_t number : t.numbers) count += number != none;
-  return count;
+  return region.numbers.size() - static_cast<size_t>(std::count(region.numbers.begin(), region.numbers.end(), none));
 }
 
 std::string row(uint64_t segment, const SegmentTime &time, const char *between) {
@@ -28,9 +27,9 @@ Events event_lines(const Region &region) {
   std::map<unsigned, unsigned> workers;
   size_t finished = 0;
   for (auto &event : region.events) {
-    if (!has_number(event)) continue;
+    uint32_t number = number_of(event, region);
+    if (number == none) continue;
     unsigned worker = workers.emplace(event.worker, workers.size()).first->second;
-    uint32_t number = event.task->numbers[event.segment];
     SegmentTime &time = out.times[number];
     out.words += (event.start ? "start " : "finish ") + std::to_string(worker) + " " + std::to_string(number) + "\n";
     time.worker = worker;

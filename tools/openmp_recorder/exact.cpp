@@ -97,6 +97,7 @@ Task &Folder::fresh(const Task &like) {
   Task &t = made.tasks.emplace_back();
   t.part = like.part;
   t.code = like.code;
+  t.of_loop = like.of_loop;
   return t;
 }
 
@@ -168,6 +169,7 @@ void Folder::create(Open &o) {
   Task &to = child(*o.to, t);
   to.undeferred = t.undeferred;
   to.items = t.items;
+  to.pieces = t.pieces;
   open.push_back({&t, &to});
 }
 

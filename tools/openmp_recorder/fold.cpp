@@ -13,11 +13,11 @@ Fold fold_of(const Task &t, const Folds &folds) {
 
 // The largest `work` of a task that is shown with its steps.
 int64_t largest_piece(const Task &t, const Folds &folds) {
-  if (!folds.below && folds.chunk < 2) return t.largest;
+  bool tasks_in_pieces = folds.below || folds.chunk > 1;
   int64_t piece = t.joined, largest = piece;
   for (const Step &step : t.steps) {
     if (step.kind == Kind::Work) piece += step.cost();
-    else if (step.kind != Kind::Create) piece = 0;
+    else if (step.kind != Kind::Create || !tasks_in_pieces) piece = 0;
     else if (step.child()->fold != Fold::Joined)
       piece = fold_of(*step.child(), folds) == Fold::Whole ? piece + step.child()->total : 0;
     largest = std::max(largest, piece);
@@ -26,7 +26,7 @@ int64_t largest_piece(const Task &t, const Folds &folds) {
 }
 
 bool can_be_joined(const Task &t) {
-  return !t.part && !t.undeferred && t.items.empty() && !t.children && !t.segment;
+  return !t.part && !t.undeferred && t.items.empty() && !t.children && !t.segment && t.pieces < 2;
 }
 
 void join(Task &earlier, Task &later) {
@@ -59,17 +59,18 @@ void separate(Region &region) {
 // All but the largest piece.
 void count(const Task &t, Size &size) {
   if (t.parent) {
-    size.tasks++;
-    size.segments += 2;
+    size.tasks += tasks_for(t);
+    size.segments += 2 * tasks_for(t);
     size.items = std::max<uint64_t>(size.items, t.items.size());
   }
   bool steps = t.fold == Fold::No;
   size.blocks = std::max<uint64_t>(size.blocks, t.blocks + (steps ? t.inner_groups : 0));
-  size.segments += steps ? t.waits : 0;
+  size.segments += steps ? t.segment - t.children : 0;  // waits, and ends of groups
 }
 
 void count_piece(const Task &t, const Folds &folds, Size &size) {
-  size.largest = std::max(size.largest, t.fold == Fold::No ? largest_piece(t, folds) : t.total);
+  int64_t largest = t.fold == Fold::No ? largest_piece(t, folds) : t.total;
+  size.largest = std::max(size.largest, in_pieces(largest, t));
 }
 
 void separate_children(const Task &maker) {
@@ -106,14 +107,13 @@ void count_outer_groups(const Task &maker) {
 void add_up_steps(Task &t) {
   unsigned groups = 0;
   t.depth = t.part || !t.parent ? 0 : t.parent->depth + 1;
-  t.total = t.largest = 0;
-  t.size = 1;
-  t.waits = t.inner_groups = 0;
+  t.total = 0;
+  t.size = tasks_for(t);
+  t.inner_groups = 0;
   for (const Step &step : t.steps) {
-    if (step.kind == Kind::Work) t.total += step.cost(), t.largest = std::max(t.largest, step.cost());
+    if (step.kind == Kind::Work) t.total += step.cost();
     if (step.kind == Kind::GroupBegin) t.inner_groups = std::max(t.inner_groups, ++groups);
     if (step.kind == Kind::GroupEnd) groups--;
-    t.waits += step.kind == Kind::Wait || step.kind == Kind::GroupEnd;
   }
   if (t.inner_groups && t.children) count_outer_groups(t);
 }

@@ -1,8 +1,12 @@
 #include "head.hpp"
 
-#include <algorithm>
 #include <omp-tools.h>
+
+#include <algorithm>
+#include <set>
 #include <vector>
+
+#include "text.hpp"
 
 namespace {
 constexpr size_t most_locks = 10;
@@ -24,13 +28,16 @@ class Head {
   Head(const Options &chosen, const Places &known) : options(chosen), places(known) {}
   std::string words;
   void first_lines(const Region &region, const Recording &recording);
+  void whole(const WholeProgram &program);
   void covered(const Region &region, const ThreadTime &threads);
+  void covered_of_whole(const WholeProgram &program, const ThreadTime &threads);
   void divided(const Region &region);
   void clocks(const Region &region);
   void differing(const char *name, const char *by, const Differing &seen, int64_t work);
   void times(const Region &region, const Recording &recording);
   void locks(const Region &region);
   void remarks(const Region &region);
+  void functions(const Region &region);
 
  private:
   const Options &options;
@@ -48,9 +55,26 @@ class Head {
 void Head::first_lines(const Region &region, const Recording &recording) {
   line("recorded: from " + recording.program + ", " + recording.date + ", threads " + std::to_string(region.threads) +
        ", clock " + (options.processor_clock ? "cpu" : "wall") + ", unit " + options.unit_name);
+  if (recording.whole) return whole(*recording.whole);
   std::string at = places.at(region.code);
   line("region: " + (at.empty() ? "" : "at " + at + ", ") + std::to_string(region.place) + " of " +
        std::to_string(recording.regions));
+}
+
+std::string counted(uint64_t count, const std::string &what) {
+  return std::to_string(count) + " " + what + (count == 1 ? "" : "s");
+}
+
+// How loops are written, which on other threads would be cut otherwise.
+void Head::whole(const WholeProgram &program) {
+  std::string words = "whole program: " + counted(program.regions, "region");
+  if (program.pieces) {
+    words += ", " + counted(program.loops, "loop") + " in " + counted(program.pieces, "piece") +
+             "; a chunk of k turns is k equal pieces";
+    if (program.least_piece < INT64_MAX)
+      words += ", together where they are shorter than " + std::to_string(program.least_piece) + " ns";
+  }
+  line(words);
 }
 
 std::string in_percent(int64_t part, int64_t whole) {  // rounded down to a tenth
@@ -71,16 +95,32 @@ void Head::covered(const Region &region, const ThreadTime &threads) {
        " in other regions, " + std::to_string(own - text) + " of this region");
 }
 
-// What the parts of each phase cost with their tasks, but for the longest of it.
+// The thread-time in the text over that of the program.
+void Head::covered_of_whole(const WholeProgram &program, const ThreadTime &threads) {
+  int64_t all = in_units(threads.all()), text = std::min(in_units(program.root->total), all);
+  if (!all) return;
+  line("covers: " + std::string(threads.whole ? "" : "at most ") + in_percent(text, all) +
+       " of the program's thread-time (" + std::to_string(text) + " of " + std::to_string(all) + unit() + ")");
+  line("not covered: " + std::to_string(all - text) + " of the program");
+}
+
+// What the parts of each phase cost with their tasks, but for the longest of it, and without chunks of loops.
 struct Beside {
   size_t parts = 0;
   int64_t cost = 0;
 };
 
+int64_t without_chunks(const Task &part) {
+  int64_t cost = part.total;
+  for (const Step &step : part.steps)
+    if (step.kind == Kind::Create && step.child()->pieces) cost -= step.child()->total;
+  return cost;
+}
+
 Beside beside_each_other(const Region &region) {
   std::map<unsigned, std::vector<int64_t>> phases;
   for (const Part &part : region.parts)
-    if (part.task->parent) phases[part.phase].push_back(part.task->total);
+    if (part.task->parent && !part.task->pieces) phases[part.phase].push_back(without_chunks(*part.task));
   Beside out;
   for (auto &[number, costs] : phases) {
     if (costs.size() < 2) continue;
@@ -120,9 +160,14 @@ void Head::differing(const char *name, const char *by, const Differing &seen, in
 void Head::times(const Region &region, const Recording &recording) {
   int64_t elapsed = region.time.end - region.time.begin;
   line("elapsed: " + units(elapsed));
-  line("outside regions: " + units(recording.time.outside));
   int64_t others = recording.time.in_regions - (region.time.is_outermost ? elapsed : 0);
-  line("in other regions: " + units(std::max<int64_t>(others, 0)));
+  if (recording.whole) {
+    line("in serial code: " + units(recording.whole->serial));
+    line("in loops: " + units(recording.whole->in_loops));
+  } else {
+    line("outside regions: " + units(recording.time.outside));
+    line("in other regions: " + units(std::max<int64_t>(others, 0)));
+  }
   line("in parts without tasks: " + units(region.in_parts));
   line("in tasks: " + units(region.in_tasks));
   if (region.remarks.count(Remark::Folded))
@@ -150,6 +195,20 @@ void Head::locks(const Region &region) {
   if (others.times) lock(std::to_string(uses.size() - most_locks) + " others together", others);
 }
 
+std::string words_of(const std::vector<Frame> &frames) {
+  std::string words = "in " + frames[0].function;
+  for (size_t i = 1; i < frames.size(); i++) words += ", inlined into " + frames[i].function + " at " + frames[i].at;
+  return words;
+}
+
+// Of each place; a place that stands in several functions has a line for each.
+void Head::functions(const Region &region) {
+  std::set<std::string> lines;
+  for (const void *code : codes_of(region))
+    if (!places.frames(code).empty()) lines.insert("place " + places.at(code) + ": " + words_of(places.frames(code)));
+  for (const std::string &one : lines) line(one);
+}
+
 void Head::remarks(const Region &region) {
   for (auto &[what, seen] : region.remarks) line("remark: " + remark_line(what, seen, places));
 }
@@ -158,12 +217,14 @@ void Head::remarks(const Region &region) {
 std::string head_of(const Region &region, const Recording &recording, const Options &options, const Places &places) {
   Head head(options, places);
   head.first_lines(region, recording);
-  head.covered(region, recording.threads);
+  if (recording.whole) head.covered_of_whole(*recording.whole, recording.threads);
+  else head.covered(region, recording.threads);
   head.divided(region);
   head.clocks(region);
   head.times(region, recording);
   head.locks(region);
   head.remarks(region);
+  head.functions(region);
   return head.words;
 }
 

@@ -12,6 +12,7 @@ struct Recording {
   uint64_t regions = 0;  // with tasks
   ProgramTime time;
   ThreadTime threads{};
+  const WholeProgram *whole = nullptr;  // where the text is of the whole program
 };
 
 std::string head_of(const Region &region, const Recording &recording, const Options &options, const Places &places);

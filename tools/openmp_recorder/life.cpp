@@ -100,6 +100,7 @@ void begin_recording(void (*call)()) {
   life->call = call;
   life->options = read_recording_options();
   choose_clocks(life->options.time_stamp, life->options.processor_clock);
+  Moment began = moment_now();
   life->options.out = absolute(life->options.out);
   life->log.program_start = program_start();
   life->log.is_child = is_child_of_this_program();
@@ -111,6 +112,7 @@ void begin_recording(void (*call)()) {
   tell_beginning();
   pthread_atfork(nullptr, nullptr, after_fork);
   at_quick_exit(end_of_process);
+  set_time_of_beginning(time_since(began));
 }
 
 void expect_end_by_this_thread() { on_exit(on_end_by_exit, nullptr); }

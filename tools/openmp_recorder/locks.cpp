@@ -4,7 +4,7 @@
 #include <iterator>
 
 void Locks::ask(int kind, LockName name, const void *code, Called now) {
-  asked = {name, kind, code, now.clock, now.wall};
+  asked = {name, kind, code, now.own, now.wall};
 }
 
 void LockUse::add(const LockUse &more) {
@@ -16,10 +16,10 @@ void LockUse::add(const LockUse &more) {
 }
 
 // The thread's own clock stands still from when the lock was asked for.
-int64_t Locks::get(LockName name, Called now, int64_t stood_still, size_t records) {
+int64_t Locks::get(LockName name, Called now, size_t records) {
   if (asked.name != name) ask(0, name, nullptr, now);
   int64_t since = asked.since;
-  held.push_back({name, asked.kind, asked.code, since - stood_still, now.wall - asked.wall, records});
+  held.push_back({name, asked.kind, asked.code, since, now.wall - asked.wall, records});
   asked = {};
   return since;
 }

@@ -18,13 +18,13 @@ struct LockUse {
 using LockName = uint64_t;
 
 struct Called {  // when the runtime called
-  int64_t clock, wall;  // of costs; of the wall
+  int64_t own, wall;  // clock of the thread's code, which stands still where it runs none; wall clock
 };
 
 class Locks {
  public:
   void ask(int kind, LockName name, const void *code, Called now);
-  int64_t get(LockName name, Called now, int64_t stood_still, size_t records);  // when it was asked for
+  int64_t get(LockName name, Called now, size_t records);  // the own clock where it was asked for
   void leave(LockName name, uint32_t region, int64_t own_clock, size_t records);
   const std::map<std::pair<uint32_t, LockName>, LockUse> &uses() const { return used; }  // by region and name
 

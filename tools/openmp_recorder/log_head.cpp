@@ -12,6 +12,7 @@
 #include <cstring>
 #include <mutex>
 #include <new>
+#include <utility>
 
 #include "log_modules.hpp"
 #include "say.hpp"
@@ -34,6 +35,7 @@ bool is_made = false;
 log_form::Pair first{}, second{};
 double tick = 1;  // nanoseconds
 int64_t in_a_record = 0;
+uint64_t beginning_took = 0;  // and is not told yet
 __attribute__((tls_model("initial-exec"))) __thread uint32_t last_number = 0, numbers_end = 0;
 
 int64_t time_of_day() {
@@ -117,6 +119,8 @@ void begin_log(const Beginning &how, void (*call)()) {
   in_a_record = time_of_record(call);
 }
 
+void set_time_of_beginning(uint64_t took) { beginning_took = took; }
+
 ThreadLog *make_thread_log() {
   std::lock_guard<std::mutex> guard(making);
   if (!is_made && !make_log()) {
@@ -126,6 +130,7 @@ ThreadLog *make_thread_log() {
   is_made = true;
   thread_log = new ThreadLog(next_thread++);
   thread_log->is_slow = true;
+  if (beginning_took) thread_log->tell_stood_still(std::exchange(beginning_took, 0));
   return thread_log;
 }
 

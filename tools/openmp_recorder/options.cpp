@@ -69,6 +69,7 @@ Options read_options() {
   number("SPANPROF_FOLD_COST", chosen.fold_cost);
   number("SPANPROF_FOLD_CHUNK", chosen.fold_chunk);
   parts(chosen.parts);
+  flag("SPANPROF_WHOLE", "0", "1", chosen.whole);
   flag("SPANPROF_FOLD_EXACT", "0", "1", chosen.fold_exact);
   flag("SPANPROF_TIMES", "0", "1", chosen.times);
   return chosen;

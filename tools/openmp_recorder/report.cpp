@@ -13,6 +13,7 @@
 #include "span.hpp"
 #include "tell.hpp"
 #include "text.hpp"
+#include "whole_program.hpp"
 
 namespace {
 constexpr size_t most_workers = 64;
@@ -94,8 +95,12 @@ void Reporter::tell_remarks(const Region &region, const std::string &name) {
   for (auto &[what, seen] : region.remarks) Line("remark").put("name", name).put("remark", remark_line(what, seen, places));
 }
 
-// Which files hold the run; where there is no such document, why.
+// Which files hold the run; where there is no such document, why. Of the whole program there is none.
 void Reporter::write_run(const Region &region, const std::string &name, const Text &text, Line &line) {
+  if (recording.whole) {
+    if (options.times) line.put("no times", "whole");
+    return;
+  }
   if (region.remarks.count(Remark::FoldedExactly)) {
     line.put("no replay", "exact folds");
     if (options.times) line.put("no times", "folds");
@@ -238,7 +243,7 @@ WhichParts parts_asked(const Options &options) {
 // Thread-time outside of regions. Where the thread that ended the program met no region, it is not the one whose
 // processor time that is.
 int64_t outside_regions(const Job &job, const ProgramTime &time) {
-  bool by_processor = job.options.processor_clock && job.last && job.last->regions.size();
+  bool by_processor = job.options.processor_clock && job.last && (job.options.whole || job.last->regions.size());
   return by_processor ? processor_time_outside(*job.last, job.end_processor) : time.outside;
 }
 
@@ -253,13 +258,30 @@ std::vector<Region *> compose_all(Run &run, const Options &options) {
   for (auto &[number, region] : run.regions) remark_nested(*region);
   return with_tasks;
 }
+
+HowToRead how_to_read(const Job &job) {
+  bool by_processor = job.options.processor_clock;
+  return {most_to_replay(job.options), job.options.whole, by_processor ? 0 : job.start,
+          by_processor ? job.end_processor : job.end, job.last};
+}
+
+void report_whole(const Job &job, Run &run, Recording recording, int64_t end) {
+  finish_whole(run, {0, true, job.start, end}, job.options.unit);
+  recording.whole = run.whole.get();
+  recording.threads.outside -= std::min(run.whole->recorder, recording.threads.outside);
+  for (Remark remark : job.unseen) run.whole->remarks[remark];
+  Reporter(job.options, std::move(recording), job.modules).write(*run.whole, job.out);
+}
 }  // namespace
 
 void report(const Job &job, Ending &ending) {
-  Run &run = *new Run(read_run(job.threads, ending, most_to_replay(job.options)));  // given back by the end of the process
-  ProgramTime time = divide_time(job.threads, job.start, ending.killed ? ending.last : job.end);
+  Run &run = *new Run(read_run(job.threads, ending, how_to_read(job)));  // given back by the end of the process
+  int64_t end = ending.killed ? ending.last : job.end;
+  ProgramTime time = divide_time(job.threads, job.start, end);
+  ThreadTime threads{outside_regions(job, time), in_code(run), !ending.full && !ending.killed};
+  if (run.whole) return report_whole(job, run, {job.program, job.date, 0, time, threads}, end);
   std::vector<Region *> with_tasks = compose_all(run, job.options);
-  Recording recording{job.program, job.date, with_tasks.size(), time, {outside_regions(job, time), in_code(run), !ending.full && !ending.killed}};
+  Recording recording{job.program, job.date, with_tasks.size(), time, threads};
   Reporter reporter(job.options, std::move(recording), job.modules);
   if (with_tasks.empty() && !job.may_be_empty) Line("no tasks").put("inside", ending.wall != 0);
   for (Region *region : with_tasks)

@@ -57,49 +57,79 @@ struct DependWait {
   bool is_over = false;
 };
 
-// What passes over all tasks look at comes first, so that it lies together.
+constexpr uint32_t none = UINT32_MAX;
+
+// A run has millions of them. What is known while the records are read is not needed when it is written.
 struct Task {
   bool part = false;  // the code of an implicit task between two barriers
   bool undeferred = false, untied = false;
   bool auxiliary = false;  // of a taskloop's, made by the runtime to make others
-  unsigned segment = 0;  // the one that is open, counted within the task
+  bool of_loop = false;    // a taskloop's, or a chunk of a loop
+  bool shown = true;       // while it is written
+  Fold fold = Fold::No;
+  uint32_t pieces = 0;     // of a loop's chunk: so many tasks that share its cost stand for it; 0 for what is none
+  unsigned segment = 0;    // the one that is open, counted within the task
   unsigned children = 0;
   ShortList<Step> steps;
   ShortList<Item> items;
   const void *code = nullptr;
-
-  // while it is written
-  Fold fold = Fold::No;
-  bool shown = true;
-  bool of_loop = false;  // a taskloop's
-  unsigned depth = 0;         // of tasks within each other; 0 for a part
-  unsigned outer_groups = 0;  // of the parent, open where the task is created
-  unsigned joined_tasks = 0;
-  int64_t joined = 0;         // the cost of siblings that are `work` of it
-  int64_t total = 0;          // `work` with everything below it
   Task *parent = nullptr;
-  int64_t end = 0, end_below = 0;  // of its code and of all below it, from its start on as many threads as can be used
-  int64_t largest = 0;             // `work` of its own code
-  unsigned inner_groups = 0;  // the most that are open at once in its own code
-  unsigned blocks = 0;        // open in its own code outside its own groups
-  unsigned waits = 0;         // and ends of groups in its own code
-  unsigned size = 1;          // tasks, with all below it
-  unsigned stands_for = 0;    // tasks, where it or the row that it begins is an exact fold
-  unsigned open_groups = 0;   // of its own code, while the records are read
-  std::vector<uint32_t> numbers;  // of its segments in the text; none where a segment is part of a later one
+  union {
+    struct {  // while the records are read
+      Region *region;
+      const Log *on;         // of the thread that runs it, or last did
+      int64_t since;         // on that thread's clock
+      size_t started;        // the event with which the running segment began
+      DependWait *wait;      // for dependences, and not settled; its own
+      const void *loop;      // the taskloop that it is in
+      uint32_t interrupted;  // the task that the thread left for it, by number
+      unsigned open_groups;  // of its own code
+      bool running, waiting, over;
+    };
+    struct {  // while it is written
+      int64_t total;           // `work` with everything below it
+      int64_t end, end_below;  // of its code and of all below it, from its start on as many threads as can be used
+      int64_t joined;          // the cost of siblings that are `work` of it
+      unsigned joined_tasks;
+      unsigned depth;          // of tasks within each other; 0 for a part
+      unsigned outer_groups;   // of the parent, open where the task is created
+      unsigned inner_groups;   // the most that are open at once in its own code
+      unsigned blocks;         // open in its own code outside its own groups
+      unsigned size;           // tasks, with all below it
+      unsigned stands_for;     // tasks, where it or the row that it begins is an exact fold
+      uint32_t first_number;   // the place of its segments among the region's numbers; none where it is not written
+    };
+  };
+  Task() { begin_writing(); }
+  Task(const Task &) = delete;
+  void begin_reading(Region *of);
+  void end_reading();
 
-  // while the records are read
-  Region *region = nullptr;
-  bool running = false, waiting = false, over = false;
-  uint32_t interrupted = 0;    // the task that the thread left for it, by number
-  const Log *on = nullptr;     // of the thread that runs it, or last did
-  int64_t since = 0;           // on that thread's clock
-  size_t started = 0;          // the event with which the running segment began
-  std::unique_ptr<DependWait> wait;  // for dependences, and not settled
-  const void *loop = nullptr;  // the taskloop that it is in
+ private:
+  void begin_writing();
 };
 
-constexpr uint32_t none = UINT32_MAX;
+inline void Task::begin_reading(Region *of) {
+  region = of;
+  on = nullptr;
+  since = started = 0;
+  wait = nullptr;
+  loop = nullptr;
+  interrupted = open_groups = 0;
+  running = waiting = over = false;
+}
+
+inline void Task::end_reading() {
+  delete wait;
+  begin_writing();
+}
+
+inline void Task::begin_writing() {
+  total = end = end_below = joined = 0;
+  joined_tasks = depth = outer_groups = inner_groups = blocks = stands_for = 0;
+  size = 1;
+  first_number = none;
+}
 
 // Code of a region in which the wall clock and the processor's differ, as the clock that costs are read on must not.
 struct Differing {
@@ -126,6 +156,12 @@ struct Met {
   int64_t since = 0, passed = 0;  // on that thread's clock; until the end of its code in the region
 };
 
+static_assert(sizeof(Task) == 136, "a million of them are to take 200 MB with their steps");
+
+// How many tasks of the text it is, without those below it, and what of its cost the longest of them has.
+inline uint32_t tasks_for(const Task &t) { return std::max<uint32_t>(t.pieces, 1); }
+inline int64_t in_pieces(int64_t cost, const Task &t) { return t.pieces < 2 ? cost : (cost + t.pieces - 1) / t.pieces; }
+
 // Whether a task that its parent shows stands in the text.
 inline bool is_written(const Task &t) { return t.shown && t.fold != Fold::Whole && t.fold != Fold::Joined; }
 
@@ -142,6 +178,30 @@ struct Part {
   Task *task;
   unsigned phase;  // barriers before it
   size_t first;    // its first event
+};
+
+// The piece of a turn before a wait for another turn. Its cost may have the wait in it, whose beginning is not told.
+struct TurnWait {
+  Task *piece;
+  int64_t least, most;  // what the piece costs without the wait
+  bool is_none;         // the other turn was done long before, so nothing was waited for
+};
+
+// A worksharing loop, or sections, as the threads of a region met it.
+struct Loop {
+  Divided what = Divided::Loops;
+  const void *code = nullptr;
+  uint64_t count = 0, told = 0;  // turns: of the loop, and of the chunks that were told
+  bool kept = false;             // some of it, or all, is code of the parts, as this run divided it
+  uint32_t order = 0;            // of an `ordered` loop: the location that its turns take in order
+  std::vector<TurnWait> waits;
+  int64_t unwaited = INT64_MAX, inside = INT64_MAX;  // the shortest turn without waits, and after them
+};
+
+struct Chunk {
+  Task *task;  // without `pieces` where it is code of its part
+  Loop *loop;
+  uint64_t turns;
 };
 
 struct Region {
@@ -170,11 +230,31 @@ struct Region {
   Differing asleep;  // by the wall clock: code in which the thread gave its processor up
   int64_t untimed = 0;  // the wall clock in segments that were left in their midst, until they were
   std::map<Divided, Seen> divided;  // of the thread that met the most
+  std::vector<uint32_t> numbers;    // of the segments in the text, task by task; none where one is part of a later one
+
+  // where the whole program is one text
+  Region *whole = nullptr;  // that its tasks stand in
+  Task *owner = nullptr;    // met it, and it is not in its place yet
+  bool resumes = false;     // the owner ran on the same thread
+};
+
+// The region whose text has the tasks of this one.
+inline Region &home(Region &region) { return region.whole ? *region.whole : region; }
+
+// The whole program, where that is asked for.
+struct WholeProgram : Region {
+  uint64_t regions = 0, loops = 0, pieces = 0;
+  int64_t least_piece = 0;  // of loops, in nanoseconds
+  int64_t recorder = 0;     // its own time outside of regions, on the first thread
+  int64_t serial = 0, in_loops = 0;  // of the cost: outside of regions; in chunks of loops
 };
 
 struct Run {
   std::map<uint32_t, std::unique_ptr<Region>> regions;  // by number, so in order
   Seen outside;                                         // tasks created outside any region
+  std::unique_ptr<WholeProgram> whole;
+  std::deque<Loop> loops;      // of the whole program
+  std::vector<Chunk> chunks;
 };
 
 // When recording ended before the runtime's own end; the clock of the records and the wall clock, 0 where it did not.
@@ -185,5 +265,11 @@ struct Ending {
   int64_t last = 0;     // the wall clock at the last record
 };
 
-// Of a region with more tasks than these no events are kept.
-Run read_run(const std::vector<Records *> &threads, Ending &ending, uint64_t most_replayed = UINT64_MAX);
+struct HowToRead {
+  uint64_t most_replayed = UINT64_MAX;  // of a region with more tasks no events are kept
+  bool whole = false;                   // the whole program is to be one text
+  int64_t start = 0, end = 0;           // of the program, on the clock of costs; an end that is not known is 0
+  const Log *last = nullptr;            // of the thread that ended it, whose clock that is by the processor's
+};
+
+Run read_run(const std::vector<Records *> &threads, Ending &ending, const HowToRead &how = {});

@@ -10,4 +10,10 @@ struct Seen {
     if (!times++) code = at;
     else if (at != code) elsewhere = true;
   }
+  void add(const Seen &more) {
+    if (!more.times) return;
+    if (times) elsewhere = elsewhere || more.elsewhere || more.code != code;
+    else code = more.code, elsewhere = more.elsewhere;
+    times += more.times;
+  }
 };

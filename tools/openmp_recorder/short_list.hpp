@@ -29,11 +29,12 @@ class ShortList {
   const T &operator[](std::size_t at) const { return begin()[at]; }
   T &back() { return end()[-1]; }
   void clear() { count = 0; }
+  void pop_back() { count--; }
   void reserve(uint32_t entries) {
     if (entries > room) grow(entries);
   }
   void push_back(T value) {
-    if (count == room) grow(room < 4 ? 4 : 2 * room);
+    if (count == room) grow(2 * room + 1);  // with the eight bytes of the heap these are powers of two
     begin()[count++] = value;
   }
 

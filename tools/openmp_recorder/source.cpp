@@ -7,6 +7,8 @@
 #include <map>
 
 namespace {
+constexpr size_t most_at_once = 4000;  // addresses of one call
+
 std::string base_name(const std::string &path) { return path.substr(path.rfind('/') + 1); }
 
 std::string quoted(const std::string &word) {
@@ -31,10 +33,36 @@ std::string symbol(const void *code, const ModuleOfRun &module) {
   snprintf(text, sizeof text, "+0x%zx", static_cast<size_t>(found ? found->offset : in_file(code, module)));
   return (found ? std::string(found->name) : base_name(module.path)) + text;
 }
+// What a compiler makes of a construct's code: `main.omp_outlined`, `main._omp_fn.0`.
+std::string without_endings(std::string name) {
+  for (const char *ending : {".omp_outlined", "._omp_fn", ".omp_task_entry"})
+    if (size_t at = name.find(ending); at != std::string::npos) name.resize(at);
+  return name;
+}
+
+// The next line, without what is said beside it.
+bool next_line(FILE *answers, std::string &line) {
+  char text[4096];
+  if (!fgets(text, sizeof text, answers)) return false;
+  line.assign(text, strcspn(text, "\n"));
+  return true;
+}
+
+bool is_address(const std::string &line) { return !line.compare(0, 2, "0x"); }
 }  // namespace
 
+void Places::take(const void *code, std::vector<Frame> frames) {
+  if (!frames.empty() && is_known(frames[0].at)) known[code] = frames[0].at;
+  auto is_unknown = [](const Frame &one) { return one.function.empty() || one.function == "??" || !is_known(one.at); };
+  frames.erase(std::remove_if(frames.begin(), frames.end(), is_unknown), frames.end());
+  auto is_same = [](const Frame &one, const Frame &next) { return one.function == next.function; };
+  frames.erase(std::unique(frames.begin(), frames.end(), is_same), frames.end());
+  if (!frames.empty()) around[code] = std::move(frames);
+}
+
+// An answer is the address, and then a line for each function and one for each place.
 void Places::ask(const ModuleOfRun &module, const std::vector<const void *> &codes) {
-  std::string command = "addr2line -s -e " + quoted(module.path);
+  std::string command = "addr2line -a -f -i -C -s -e " + quoted(module.path);
   for (const void *code : codes) {
     char text[32];
     snprintf(text, sizeof text, " 0x%zx", static_cast<size_t>(in_file(code, module)));
@@ -42,10 +70,13 @@ void Places::ask(const ModuleOfRun &module, const std::vector<const void *> &cod
   }
   FILE *answers = popen((command + " 2>/dev/null").c_str(), "r");
   if (!answers) return;
-  char line[4096];
-  for (size_t i = 0; i < codes.size() && fgets(line, sizeof line, answers); i++) {
-    std::string answer(line, strcspn(line, " \n"));
-    if (is_known(answer)) known[codes[i]] = answer;
+  std::string line, at;
+  bool more = next_line(answers, line);
+  for (size_t i = 0; i < codes.size() && more && is_address(line); i++) {
+    std::vector<Frame> frames;
+    while ((more = next_line(answers, line)) && !is_address(line) && next_line(answers, at))
+      frames.push_back({without_endings(line), at.substr(0, at.find(' '))});
+    take(codes[i], std::move(frames));
   }
   pclose(answers);
 }
@@ -59,12 +90,18 @@ void Places::look_up(const std::vector<const void *> &codes) {
     by_module[module].push_back(code);
   }
   for (auto &[module, own] : by_module)
-    for (size_t i = 0; i < own.size(); i += 200)
-      ask(*module, {own.begin() + i, own.begin() + std::min(own.size(), i + 200)});
+    for (size_t i = 0; i < own.size(); i += most_at_once)
+      ask(*module, {own.begin() + i, own.begin() + std::min(own.size(), i + most_at_once)});
 }
 
 const std::string &Places::at(const void *code) const {
   static const std::string unknown;
   auto found = known.find(code);
   return found == known.end() ? unknown : found->second;
+}
+
+const std::vector<Frame> &Places::frames(const void *code) const {
+  static const std::vector<Frame> none;
+  auto found = around.find(code);
+  return found == around.end() ? none : found->second;
 }

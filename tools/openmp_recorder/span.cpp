@@ -102,7 +102,7 @@ void Timeline::follow() {
 }
 
 void follow(Task &task, Table &table) {
-  if (task.fold == Fold::Body || !task.children) task.end = task.end_below = task.total + task.joined;
+  if (task.fold == Fold::Body || !task.children) task.end = task.end_below = in_pieces(task.total, task) + task.joined;
   else Timeline(task, table).follow();
 }
 }  // namespace

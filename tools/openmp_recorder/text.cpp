@@ -25,10 +25,12 @@ struct Place {
 // Tasks may lie so deep within each other that the writer keeps the open ones in a list of its own.
 class Writer {
  public:
-  Writer(const Style &chosen, const Places &known, const Taker &to) : style(chosen), places(known), taker(to) {}
-  void tell(Task &root);
+  Writer(Region &of, const Style &chosen, const Places &known, const Taker &to)
+      : region(of), style(chosen), places(known), taker(to) {}
+  void tell();
 
  private:
+  Region &region;
   const Style &style;
   const Places &places;
   const Taker &taker;
@@ -45,10 +47,12 @@ class Writer {
   void line(unsigned indent, std::string_view words, std::string_view comment = {});
   void items(const Task &t);
   void flush(Place &p);
+  uint32_t &number(const Place &p) { return region.numbers[p.task.first_number + p.segment]; }
   void open(Place &p);
   void step(Place &p, const Step &step);
   void leave_out(Place &p, const Task &child);
   void create(Place &p, Task &child);
+  void pieces(Place &p, const Task &chunk);
   uint32_t name_of(const Item &item);
   std::string_view place_at(const void *code);
   std::string_view place_of(const Task &t);
@@ -147,7 +151,7 @@ void Writer::flush(Place &p) {
 }
 
 void Writer::open(Place &p) {
-  if (!style.large) p.task.numbers[p.segment] = opened++;
+  if (!style.large) number(p) = opened++;
 }
 
 // The segment goes on, under the number that it has.
@@ -158,8 +162,8 @@ void Writer::leave_out(Place &p, const Task &child) {
   }
   p.segment++;
   if (style.large) return;
-  p.task.numbers[p.segment] = p.task.numbers[p.segment - 1];
-  p.task.numbers[p.segment - 1] = none;
+  uint32_t &before = region.numbers[p.task.first_number + p.segment - 1];
+  number(p) = std::exchange(before, none);
 }
 
 std::string_view Writer::place_at(const void *code) {
@@ -176,9 +180,26 @@ void Writer::end_task_line(const Task &t) {
   end_line(at + (at.empty() ? "" : ", ") + std::to_string(t.stands_for) + " tasks folded exactly");
 }
 
+// What is left over of the cost, a unit for each of the first.
+void Writer::pieces(Place &p, const Task &chunk) {
+  uint64_t cost = static_cast<uint64_t>(rounded(chunk.total, style.unit)), longer = cost % chunk.pieces;
+  for (uint32_t i = 0; i < chunk.pieces; i++) {
+    line(p.indent, "task {", place_at(chunk.code));
+    begin_line(p.indent + 1);
+    piece.put("work ");
+    piece.number(cost / chunk.pieces + (i < longer));
+    end_line();
+    line(p.indent, "}");
+  }
+  p.segment++;
+  opened += 2 * chunk.pieces - 1;
+  open(p);
+}
+
 void Writer::create(Place &p, Task &child) {
   if (!is_written(child)) return leave_out(p, child);
   flush(p);
+  if (child.pieces > 1 && child.fold == Fold::No) return pieces(p, child);
   begin_line(p.indent);
   piece.put("task");
   if (child.undeferred) piece.put(" if(0)");
@@ -206,7 +227,10 @@ void Writer::step(Place &p, const Step &step) {
 }
 
 void Writer::enter(Task &t, unsigned indent) {
-  if (!style.large) t.numbers.assign(t.segment + 1, none);
+  if (!style.large) {
+    t.first_number = static_cast<uint32_t>(region.numbers.size());
+    region.numbers.resize(region.numbers.size() + t.segment + 1, none);
+  }
   Place &p = inside.emplace_back(Place{t, indent});
   if (t.fold == Fold::Body) {
     p.next = t.steps.size();
@@ -230,9 +254,10 @@ void Writer::leave() {
   open(maker);
 }
 
-void Writer::tell(Task &root) {
+void Writer::tell() {
+  region.numbers.clear();
   line(0, "omptasks 1");
-  enter(root, 0);
+  enter(*region.root, 0);
   while (!inside.empty()) {
     Place &p = inside.back();
     if (p.next < p.task.steps.size()) step(p, p.task.steps[p.next++]);
@@ -264,7 +289,7 @@ int64_t work_in_units(const Region &region, int64_t unit) {
 }
 
 void tell_program(Region &region, const Style &style, const Places &places, const Taker &taker) {
-  Writer(style, places, taker).tell(*region.root);
+  Writer(region, style, places, taker).tell();
 }
 
 Text program_text(Region &region, const Style &style, const Places &places) {

@@ -14,6 +14,8 @@
 #include "log_head.hpp"
 
 namespace {
+constexpr int64_t chunks_together = 10000;  // nanoseconds: what begins sooner after a chunk is part of it
+
 class KeepErrno {  // which the program may be about to read
  public:
   ~KeepErrno() { errno = kept; }
@@ -81,7 +83,8 @@ class Scratch : public ThreadLog {
 
 ThreadLog::ThreadLog(unsigned of)
     : number(of), bytes(costs_by_processor ? log_form::bytes_by_processor : log_form::bytes_by_wall),
-      far_ticks(static_cast<uint64_t>(far_apart / nanoseconds_of_tick())), both(costs_by_processor) {}
+      far_ticks(static_cast<uint64_t>(far_apart / nanoseconds_of_tick())),
+      near_ticks(static_cast<uint64_t>(chunks_together / nanoseconds_of_tick())), both(costs_by_processor) {}
 
 // What was in the block is in the file before it is cleared: who converts the log after a kill finds it in one of both.
 bool ThreadLog::write_block() {
@@ -136,11 +139,18 @@ void ThreadLog::wait_ends(const Moment &now) {
   both.wait_ends(times(now));
 }
 
+uint64_t time_since(const Moment &began) {
+  Moment now = moment_now();
+  return costs_by_processor ? static_cast<uint64_t>(now.processor - began.processor) : now.at - began.at;
+}
+
 void ThreadLog::tell_slow(const Moment &began) {
   is_slow = false;
-  Moment now = moment_now();
-  uint64_t took = costs_by_processor ? static_cast<uint64_t>(now.processor - began.processor) : now.at - began.at;
-  put(now, Told::StoodStill, static_cast<uint32_t>(took), static_cast<uint32_t>(took >> 32), 0, 0);
+  tell_stood_still(time_since(began));
+}
+
+void ThreadLog::tell_stood_still(uint64_t took) {
+  put(moment_now(), Told::StoodStill, static_cast<uint32_t>(took), static_cast<uint32_t>(took >> 32), 0, 0);
 }
 
 // The median of many, so that what else the machine does is in none of it.

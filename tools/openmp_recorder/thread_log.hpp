@@ -2,6 +2,7 @@
 // A full block goes to the end of another file.
 #pragma once
 #include <cstdint>
+#include <utility>
 #include <vector>
 
 #include "clocks.hpp"
@@ -47,9 +48,20 @@ class ThreadLog {
   void look_at_clocks(const Moment &now) {
     if (costs_by_processor || now.at - looked >= far_ticks) compare_clocks(now);
   }
+  // Whether a chunk is written as part of the one before, which began just now.
+  bool joins_chunk(uint64_t ticks, uint64_t turns) {
+    if (!chunk_began || ticks - chunk_began >= near_ticks) return false;
+    joined_turns += turns;
+    return true;
+  }
+  uint64_t begin_chunk(uint64_t ticks) {  // 0 where none begins; the turns that were joined to the last one
+    chunk_began = ticks;
+    return std::exchange(joined_turns, 0);
+  }
   void wait_begins(const Moment &now);
   void wait_ends(const Moment &now);
   void tell_slow(const Moment &began);  // how long until now
+  void tell_stood_still(uint64_t took);
 
  protected:
   char *next = nullptr, *end = nullptr;
@@ -57,6 +69,7 @@ class ThreadLog {
  private:
   uint32_t bytes;  // of a record
   uint64_t far_ticks, looked = 0;  // when both clocks were looked at last
+  uint64_t near_ticks, chunk_began = 0, joined_turns = 0;
   char *block = nullptr;
   uint64_t written = 0;  // bytes of full blocks
   BothClocks both;
@@ -66,6 +79,8 @@ class ThreadLog {
   bool write_block();
   Times times(const Moment &now) const;
 };
+
+uint64_t time_since(const Moment &began);  // on the clock of costs: in ticks, or nanoseconds of the processor
 
 // How long a call of the recorder takes that only makes a record, in nanoseconds of the clock of costs.
 int64_t time_of_record(void (*call)());

@@ -11,6 +11,11 @@ std::string first_bytes(FILE *file, uint64_t from, size_t count) {
   rewind(file);
   return bytes;
 }
+
+bool is_of_a_lock(Told told) { return told == Told::LockGot || told == Told::LockLeft; }
+
+// Records of code that is divided among threads: no other task runs there.
+bool divides(Told told) { return told == Told::Divided || told == Told::Chunk || told == Told::DividedEnd; }
 }  // namespace
 
 ThreadReader::ThreadReader(const std::string &path, unsigned worker, const log_form::Head &head)
@@ -74,12 +79,12 @@ void ThreadReader::end_region() {
 
 // The thread's own clock stands still from when it asks for a lock until it has it.
 void ThreadReader::use_lock() {
-  Called now{cost_clock(), time.wall(raw.record.at)};
+  Called now{cost_clock() - log.stood_still, time.wall(raw.record.at)};
   uint64_t name = raw.wide();
   switch (raw.told()) {
     case Told::LockAsked: return log.locks.ask(static_cast<int>(raw.detail()), name, raw.place(), now);
-    case Told::LockGot: log.stood_still += now.clock - log.locks.get(name, now, log.stood_still, told); break;
-    default: log.locks.leave(name, regions.empty() ? 0 : regions.back(), now.clock - log.stood_still, told);
+    case Told::LockGot: log.stood_still += now.own - log.locks.get(name, now, told); break;
+    default: log.locks.leave(name, regions.empty() ? 0 : regions.back(), now.own, told);
   }
   log.stood_still += in_a_record;
 }
@@ -91,13 +96,10 @@ bool ThreadReader::take() {
     case Told::StoodStill:
       log.stood_still += by_processor ? static_cast<int64_t>(raw.wide()) : time.nanoseconds(raw.wide());
       return false;
-    case Told::LockAsked:
+    case Told::LockAsked: use_lock(); return false;
     case Told::LockGot:
-    case Told::LockLeft: use_lock(); return false;
-    case Told::Divided:
-      log.divided[{raw.record.other, static_cast<Divided>(raw.detail())}].add(raw.place());
-      log.stood_still += in_a_record;
-      return false;
+    case Told::LockLeft: use_lock(); return raw.detail() == order_of_turns;
+    case Told::Divided: log.divided[{raw.record.other, static_cast<Divided>(raw.detail())}].add(raw.place()); return true;
     case Told::ParallelBegin: begin_region(); return true;
     case Told::ParallelEnd: end_region(); return true;
     case Told::ImplicitBegin: regions.push_back(raw.record.other); return true;
@@ -124,8 +126,9 @@ const Record &ThreadReader::tell() {
                      static_cast<int64_t>(raw.wide()), (raw.detail() & log_form::taken) != 0};
     return record;
   }
+  if (is_of_a_lock(raw.told())) return record;
   log.stood_still += in_a_record;
-  told++;
+  told += !divides(raw.told());
   if (raw.told() == Told::Dependences) record.other = 0, read_items(record.code), record.code = log.items.size();
   return record;
 }

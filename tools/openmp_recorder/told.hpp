@@ -24,7 +24,9 @@ enum class Told : uint8_t {
   LockLeft,
   Items,       // one or two of the dependences before
   Passed,      // how far both clocks went until the record that follows
-  StoodStill   // how long the recorder took beside what a record takes
+  StoodStill,  // how long the recorder took beside what a record takes
+  Chunk,       // a thread begins with turns of such code, or with a section
+  DividedEnd   // and is done with it
 };
 
 // Details of a record: of Create what is set of the first four, of ImplicitBegin and ParallelBegin the last two; of
@@ -37,5 +39,7 @@ enum Detail : uint8_t {
   is_initial = 1,
   is_runtimes = 1  // a region of threads that the runtime keeps for itself, as LLVM's hidden helpers
 };
+
+constexpr unsigned order_of_turns = 7;  // among the kinds of locks, as OMPT has them: `ordered`
 
 enum class Divided : uint8_t { Loops, Sections };

@@ -1,1 +1,12 @@
-"""The tools around spanprof: recordings, pages, changed programs, paths, tests of runtimes."""
+"""The tools around spanprof: recordings, pages, changed programs, paths, tests of runtimes.
+
+What `library` has for callers is here too, and loaded when it is asked for: `spanprof.read("mine.tasks").span`.
+"""
+OF_LIBRARY = ("MOST_THREADS", "NO_THREAD", "Bounds", "NoLibrary", "Program", "Refused", "Run", "parse", "read")
+
+
+def __getattr__(name):
+    if name not in OF_LIBRARY:
+        raise AttributeError("module 'spanprof' has no attribute %r" % name)
+    from spanprof import library
+    return getattr(library, name)

@@ -6,13 +6,15 @@ from typing import Dict, List, Optional, Tuple
 
 NANOSECONDS = {"ns": 1, "us": 1000, "ms": 1000000}
 NUMBERS = {"clock reading": "clock_reading", "most held lock": "most_held", "untimed": "untimed"}
-DIVISION = ("outside regions", "in other regions", "in parts without tasks", "in tasks")
+DIVISION = ("outside regions", "in other regions", "in serial code", "in loops", "in parts without tasks", "in tasks")
+COSTS = DIVISION[2:]  # of the text; the others are wall time of the program
 
 
 @dataclass
 class Head:
     program: str = ""
     region: str = ""        # the place of the parallel region
+    whole: str = ""         # where the text is of the whole program: how many regions and loops
     number: str = ""        # its place in time among the regions with tasks: `2 of 5`
     date: str = ""
     threads: Optional[int] = None
@@ -35,6 +37,7 @@ class Head:
     runs: Optional[int] = None         # where the program was recorded several times
     is_median: bool = False            # each cost is the median of those runs; else it is one of them
     spread: Dict[str, Tuple[int, int, int]] = field(default_factory=dict)  # of work, span: least, median, most
+    functions: Dict[str, str] = field(default_factory=dict)  # by a place: `in merge, inlined into sort at sort.c:9`
     remarks: List[str] = field(default_factory=list)
     locks: List[str] = field(default_factory=list)
 
@@ -155,8 +158,12 @@ def read_line(head, words):
     elif name == "region":
         place, _, head.number = value.rpartition(", ")
         head.region = place.removeprefix("at ")
+    elif name == "whole program":
+        head.whole = value
     elif name == "remark":
         head.remarks.append(value)
+    elif name.startswith("place "):
+        head.functions.setdefault(name[len("place "):], value)
     elif name.startswith("lock "):
         head.locks.append("%s: %s" % (name[len("lock "):], value))
     else:
@@ -168,6 +175,13 @@ def read_head(text):
     for words in comments(text):
         read_line(head, words)
     return head
+
+
+def with_function(head, name):
+    """A place's name, such as `task at sort.c:9`, with the function that it is in."""
+    found = re.search(r"(\S+:\d+)$", name)
+    function = head.functions.get(found[1]) if found else None
+    return "%s %s" % (name, function) if function else name
 
 
 def said(text):

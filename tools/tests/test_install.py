@@ -2,6 +2,7 @@
 import contextlib
 import io
 import os
+import tempfile
 import unittest
 
 import install
@@ -32,6 +33,15 @@ class Plan(unittest.TestCase):
         places = dict((path, source) for source, path in install.plan(large=__file__))
         self.assertEqual(places["bin/spanprof_large"], __file__)
         self.assertIn("share/man/man1/spanprof_large.1", places)
+
+    def test_the_library_where_it_is_built(self):
+        self.assertNotIn("include/spanprof.h", [path for _, path in install.plan(library="no such folder")])
+        with tempfile.TemporaryDirectory() as folder:
+            with open(os.path.join(folder, "libspanprof.so"), "w", encoding="utf-8"):
+                places = [path for _, path in install.plan(library=folder)]
+        for path in ("lib/libspanprof.so", "lib/libspanprof.so.0", "lib/libspanprof.a", "include/spanprof.h",
+                     "share/man/man3/spanprof.3"):
+            self.assertIn(path, places)
 
     def test_programs_can_be_run(self):
         self.assertEqual([oct(install.mode(path)) for path in (

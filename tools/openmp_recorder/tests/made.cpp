@@ -76,14 +76,14 @@ Made &Made::passed(unsigned thread, int64_t wall, int64_t processor, bool slept,
   return *this;
 }
 
-Run Made::read(Ending ending, uint64_t most_replayed) {
+Run Made::read(Ending ending, const HowToRead &how) {
   if (!ending.wall) threads[0]->log.regions[0].end = time;
   std::vector<Records *> all;
   for (auto &thread : threads) {
     thread->begin_again();
     all.push_back(thread.get());
   }
-  return read_run(all, ending, most_replayed);
+  return read_run(all, ending, how);
 }
 
 DependItem item(ompt_dependence_type_t type, uint64_t address) { return {address, static_cast<uint64_t>(type)}; }

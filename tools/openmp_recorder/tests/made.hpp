@@ -34,7 +34,8 @@ class Made {
   Made &sync(unsigned thread, uint32_t task, ompt_sync_region_t kind);            // begins and ends at once
   Made &barrier(unsigned thread, uint32_t task);                                  // begins
   Made &passed(unsigned thread, int64_t wall, int64_t processor, bool slept, bool taken = false);  // until the next record
-  Run read(Ending ending = {}, uint64_t most_replayed = UINT64_MAX);
+  int64_t now() const { return time; }
+  Run read(Ending ending = {}, const HowToRead &how = {});
 
  private:
   std::vector<std::unique_ptr<Kept>> threads;

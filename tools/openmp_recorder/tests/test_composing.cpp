@@ -149,7 +149,7 @@ TEST(events_of_more_tasks_than_a_replay_document_holds_are_given_up) {
   Made made(2);
   made.create(0, 1, 3).create(1, 2, 4).create(1, 2, 5).barrier(0, 1).barrier(1, 2);
   made.run(1, 2, 3, 5).run(0, 1, 4, 6).run(0, 1, 5, 7);
-  Run whole = made.read(), kept = made.read({}, 3), given_up = made.read({}, 2);
+  Run whole = made.read(), kept = made.read({}, {3}), given_up = made.read({}, {2});
   std::string text = text_of(only_region(whole));
   EXPECT(text_of(only_region(kept)), text);
   EXPECT(kept.regions.begin()->second->has_events, true);

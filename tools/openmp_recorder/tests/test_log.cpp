@@ -122,11 +122,12 @@ TEST(items_follow_their_dependences) {
 TEST(time_in_the_recorder_and_for_locks_is_not_the_threads) {
   MadeLog log;
   log.last({raw(10, Told::Schedule, 1, 2), raw(40, Told::StoodStill, 30), raw(50, Told::LockAsked, 7, 0, 99, 1),
-            raw(80, Told::LockGot, 7), raw(90, Told::LockLeft, 7), raw(100, Told::Schedule, 2, 1)});
+            raw(60, Told::StoodStill, 8), raw(80, Told::LockGot, 7), raw(90, Told::LockLeft, 7),
+            raw(100, Told::Schedule, 2, 1)});
   LogFolder folder = log.open();
   Records &thread = *folder.threads.at(0);
   thread.next();
-  EXPECT(thread.next()->stood_still, 3 * 5 + 30 + 30);  // three records outside of the wait
+  EXPECT(thread.next()->stood_still, 3 * 5 + 30 + 30);  // three records outside of the wait, and all of that once
   const LockUse &use = thread.log.locks.uses().at({0, 7});
   EXPECT(use.waiting, 30);
   EXPECT(use.times, 1u);

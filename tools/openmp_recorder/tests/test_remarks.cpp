@@ -37,15 +37,17 @@ TEST(the_direction_of_each_remark) {
     all.insert(remarks);
     for (Remark remark : remarks) EXPECT(effect_of(line_of(remark)).substr(0, begin.size()), begin);
   };
-  effects({Remark::OneThread, Remark::MutexAsInOut, Remark::UnknownItem, Remark::Folded}, "span too high");
-  effects({Remark::MutexInOutSet, Remark::AllMemory, Remark::Detach, Remark::UnseenDetach, Remark::HeldLock},
+  effects({Remark::OneThread, Remark::MutexAsInOut, Remark::UnknownItem, Remark::TurnsTogether, Remark::Folded},
+          "span too high");
+  effects({Remark::MutexInOutSet, Remark::AllMemory, Remark::Detach, Remark::UnseenDetach, Remark::EqualTurns,
+           Remark::HeldLock},
           "span too low");
   effects({Remark::Target, Remark::UnseenTarget, Remark::NestedWaits, Remark::LeftInside, Remark::RecordsFull, Remark::Unfinished,
-           Remark::ToldElsewhere, Remark::PartsLeftOut, Remark::Slept},
+           Remark::ToldElsewhere, Remark::PartsLeftOut, Remark::OtherThread, Remark::Slept},
           "work and span too low");
   effects({Remark::ToldLate, Remark::Preempted}, "work and span too high");
   effects({Remark::NestedRegion}, "work too low, span too high");
-  effects({Remark::Cancel}, "work and span too low or too high");
+  effects({Remark::Cancel, Remark::WaitsForTurns}, "work and span too low or too high");
   effects({Remark::RoundedDown}, "work too low, span too low or too high");
   effects({Remark::RoundedUp, Remark::BetweenTurns}, "work too high, span too low or too high");
   effects({Remark::FoldedExactly, Remark::LineOfAnother}, "work and span are ");

@@ -38,7 +38,7 @@ TEST(a_large_text_is_told_piece_by_piece_and_not_indented) {
   std::string words;
   tell_program(region, {1, false, true}, Places(), [&](std::string_view piece) { words += piece; });
   EXPECT(words, "omptasks 1\ntask {\nwork 3\ntask {\nwork 4\n}\n}\n");
-  EXPECT(region.tasks.back().numbers.empty(), true);
+  EXPECT(region.numbers.empty(), true);
 }
 
 TEST(the_work_is_that_of_the_lines) {
@@ -128,6 +128,16 @@ TEST(a_run_that_is_not_whole_says_so) {
   Region &region = only_region(run);
   text_of(region);
   EXPECT(event_lines(region).whole, false);
+}
+
+TEST(the_head_tells_the_functions_of_places) {
+  Run run = two_tasks();
+  Region &region = only_region(run);
+  const void *code = region.tasks.back().code;
+  Places places;
+  places.put(code, "sort.c:9");
+  places.put_frames(code, {{"merge", "sort.c:9"}, {"sort", "sort.c:30"}});
+  EXPECT_PART(head_of(region, {}, Options(), places), "# place sort.c:9: in merge, inlined into sort at sort.c:30\n");
 }
 
 TEST(the_head_tells_the_recording) {
@@ -263,7 +273,7 @@ TEST(records_come_in_their_common_order) {
 TEST(locks_count_times_inside_and_waiting) {
   Locks locks;
   locks.ask(ompt_mutex_critical, 7, nullptr, {100, 2000});
-  EXPECT(locks.get(7, {130, 2070}, 0, 5), 100);
+  EXPECT(locks.get(7, {130, 2070}, 5), 100);
   locks.leave(7, 1, 150, 5);  // on the thread's own clock, which stood still until 100
   const LockUse &use = locks.uses().at({1, 7});
   EXPECT(use.times, 1u);
@@ -275,7 +285,7 @@ TEST(locks_count_times_inside_and_waiting) {
 TEST(where_records_came_meanwhile_a_lock_may_have_held_another_task) {
   Locks locks;
   locks.ask(ompt_mutex_critical, 7, nullptr, {100, 100});
-  locks.get(7, {100, 100}, 0, 5);
+  locks.get(7, {100, 100}, 5);
   locks.leave(7, 1, 150, 6);
   EXPECT(locks.uses().at({1, 7}).inside, 50);
   EXPECT(locks.uses().at({1, 7}).alone, 0);

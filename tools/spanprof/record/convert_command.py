@@ -20,6 +20,7 @@ def parser():
     add = out.add_argument
     add("--out", metavar="NAME", help="the first name of the files, of one log; without it the log's")
     add("--unit", type=unit, help="what a cost of 1 is: ns (without it), us, ms, or a number of nanoseconds")
+    add("--whole", action="store_true", help="the whole program as one text: serial code, regions, chunks of loops")
     add("--fold", type=fold, action="append", default=[], metavar=FOLD_WORDS,
         help="where a recording is too large, write fewer tasks with the same work and span; or tasks at depth D with "
         "all below them as one cost; tasks cheaper than C as work of their parent; N neighbours as one task")
@@ -38,6 +39,7 @@ def variables(base, chosen):
     asked = {"SPANPROF_UNIT": chosen.unit, "SPANPROF_REGIONS": chosen.regions, "SPANPROF_PARTS": chosen.parts,
              "SPANPROF_TIMES": chosen.times}
     asked.update(("SPANPROF_FOLD_" + name.upper(), number) for name, number in chosen.fold)
+    asked["SPANPROF_WHOLE"] = 1 if chosen.whole else None
     return dict(base, **{name: str(value) for name, value in asked.items() if value is not None})
 
 

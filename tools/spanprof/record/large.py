@@ -5,14 +5,19 @@ from dataclasses import dataclass, field
 from itertools import islice
 
 from spanprof.errors import Fault
-from spanprof.head import Head, head_text, read_head
+from spanprof.head import Head, head_text, read_head, with_function
 from spanprof.measure import HOW, measure
 from spanprof.path.found import find_path, programs
 from spanprof.path.table import share
 from spanprof.record.console import tell
-from spanprof.record.summary import MOST_PLACES, first_lines, grouped, lock_lines, named, remark_lines, title
+from spanprof.record.summary import (MOST_PLACES, first_lines, grouped, lead_lines, lock_lines, named, remark_lines,
+                                     title)
+from spanprof.whatif.large_lead import Bounded, large_lead
 
 TOO_LARGE = "the text is beyond the limits of spanprof_account"
+ASK = "spanprof-whatif tells what a change brings, and --places what can be changed"
+
+
 
 @dataclass
 class LargeAnswers:
@@ -54,12 +59,15 @@ def answers(program, path):
 
 def place_lines(answered):
     return ["%.1f %% of the span, %.1f %% of the work: %s (measured)" % (
-        share(place.span, answered.span), share(place.work, answered.work), place.name) for place in answered.places]
+        share(place.span, answered.span), share(place.work, answered.work),
+        with_function(answered.head, place.name)) for place in answered.places]
 
 
 def large_summary(answered, news=()):
     tasks = "%s, in %s segments (recorded)" % (grouped(answered.tasks), grouped(answered.segments))
-    return first_lines(answered, tasks, takes_several=False) \
+    heading, *lines = first_lines(answered, tasks, takes_several=False)
+    bounded = Bounded(answered.head, answered.work, answered.span, answered.tasks)
+    return [heading] + lead_lines(large_lead(bounded, ASK)) + lines \
         + named("account", ["not told: " + TOO_LARGE] if answered.head.elapsed else []) \
         + named("locks", lock_lines(answered, answered.span)) \
         + named("span by place", place_lines(answered)) \

@@ -55,6 +55,7 @@ def parser():
     add("--threads", type=count(1, 1024), metavar="P", help="OMP_NUM_THREADS of the run; spanprof judges 64 at most")
     add("--runs", type=count(1, MOST_RUNS), default=1, metavar="N",
         help="run it N times, and take the median of each segment's costs")
+    add("--whole", action="store_true", help="the whole program as one text: serial code, regions, chunks of loops")
     add("--fold", type=fold, action="append", default=[], metavar=FOLD_WORDS,
         help="where a recording is too large, write fewer tasks with the same work and span; or tasks at depth D with "
         "all below them as one cost; tasks cheaper than C as work of their parent; N neighbours as one task")

@@ -8,6 +8,7 @@ import statistics
 from spanprof import client
 from spanprof.account import timed_beside
 from spanprof.errors import Fault
+from spanprof.head import head_text, read_head
 from spanprof.record.files import recordings, stem_of
 from spanprof.record.median import write_median
 
@@ -94,12 +95,19 @@ def replay_of(text, events_of, path):
         file.write(whole)
 
 
+def refuse_whole(text):
+    """What a thread did of a loop is another thread's in the next run, so costs at one place are not of one thing."""
+    if read_head(head_text(text)).whole:
+        raise Fault("%s is of a whole program, whose loops each run divides anew" % text)
+
+
 def combine(out, same_region):
     """Makes OUT.tasks and OUT.replay of the recordings of one region; answers what is to be remarked."""
     works, spans = zip(*[work_and_span(recording.text) for recording in same_region])
     middle_run = middle(same_region, works)
     take_times(middle_run, out)
     try:
+        refuse_whole(middle_run.text)
         write_median(out + ".tasks", [recording.text for recording in same_region])
     except (Fault, OSError) as differ:
         take(middle_run, out)

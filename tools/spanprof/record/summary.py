@@ -6,6 +6,7 @@ says of what, and where the head tells that the text is not the program the line
 from spanprof.claims import (OTHERWISE, against_parallelism, against_span, gain_may_be_less, gain_may_be_more,
                              is_divided, is_of_one_thread, is_partial, least_end, lock_binds, share_covered, tenths,
                              why_not_of_more_threads)
+from spanprof.head import with_function
 from spanprof.report.figures import rounded_down, rounded_up
 from spanprof.report.places import places
 
@@ -31,7 +32,7 @@ def costs(number, unit):
 def title(answers):
     head = answers.head
     only = "" if head.covers_at_most else "only "
-    parts = [answers.name, "region at %s" % head.region if head.region else "",
+    parts = [answers.name, "the whole program" if head.whole else "region at %s" % head.region if head.region else "",
              only + share_covered(head) if is_partial(head) else "", threads_of(head),
              "costs in %s%s" % (head.unit, CLOCKS.get(head.clock, ""))]
     return ", ".join(filter(None, parts))
@@ -166,7 +167,8 @@ def clock_lines(head):
 def place_lines(answers):
     heaviest = [place for place in places(answers) if place.critical_cost][:MOST_PLACES]
     return ["%.1f %% of the span, %.1f %% of the work: %s (measured)" % (
-        100 * place.critical_cost / answers.span, 100 * place.cost / answers.work, place.name) for place in heaviest]
+        100 * place.critical_cost / answers.span, 100 * place.cost / answers.work,
+        with_function(answers.head, place.name)) for place in heaviest]
 
 
 def remark_lines(answers, news):

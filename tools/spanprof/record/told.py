@@ -12,6 +12,7 @@ STOPPED = {"full": "the disk was full", "numbers": "there were more tasks than n
 NO_REPLAY = {"exact folds": "since tasks are folded exactly", "unfinished": "since tasks did not run to their ends",
              "workers": "since it holds 64 workers and the run had %(workers)d"}
 NO_TIMES = {"folds": "since tasks are folded", "unfinished": "since tasks did not run to their ends",
+            "whole": "since the pieces of loops were not timed one by one",
             "large": "since spanprof_account takes no text beyond the limits of spanprof"}
 
 

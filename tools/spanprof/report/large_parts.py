@@ -2,7 +2,6 @@
 import shlex
 
 from spanprof.report.figures import MEASURED, PROVED, badges
-from spanprof.report.large_view import TOGETHER
 from spanprof.report.markup import details, join, note, section, tag
 from spanprof.report.part_path import by_place
 from spanprof.report.part_tasks import MOST_PLACES, costs, creation
@@ -11,6 +10,7 @@ from spanprof.report.summary_rest import division, kinds_explained, remarks
 from spanprof.report.summary_tiles import tiles
 from spanprof.report.summary_words import covered, lead_words, lock_words, on_the_threads, recorded, which_binds
 from spanprof.report.tables import place_cell, table
+from spanprof.whatif.large_lead import TOGETHER
 
 PIECES = (recorded, covered, lead_words, tiles, on_the_threads, lock_words, which_binds, remarks, division,
           kinds_explained)

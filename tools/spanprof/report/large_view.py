@@ -2,7 +2,6 @@
 import os
 from functools import cached_property
 
-from spanprof.cause import cause
 from spanprof.report.figures import Figures
 from spanprof.report.large_answers import LargeAnswers
 from spanprof.report.large_times import NoTimes, levels_in, levels_of_greedy
@@ -10,19 +9,9 @@ from spanprof.report.places import Place
 from spanprof.report.source import Sources
 from spanprof.report.units import Units
 from spanprof.report.view import Kinds
-from spanprof.whatif.lead import Lead
+from spanprof.whatif.large_lead import Bounded, large_lead
 
 ASK = "the lines under Changes ask what one brings"
-TOGETHER = 8
-
-
-class Bounded:
-    """The answers as a cause reads them: in place of a greedy end what every greedy run reaches."""
-
-    def __init__(self, answers):
-        self.head, self.work, self.tasks = answers.head, answers.work, answers.tasks
-        self.curve = {threads: dict(row, end=row["bound"]) for threads, row in answers.curve.items()}
-        self.beside = "what every greedy run of the recorded text reaches"
 
 
 class LargeView(Kinds):
@@ -52,8 +41,8 @@ class LargeView(Kinds):
 
     @cached_property
     def lead(self):
-        found = cause(Bounded(self.answers))
-        return found and Lead(found.words, found.instead or (self.fewer_tasks if found.kind == "small" else ASK))
+        answers = self.answers
+        return large_lead(Bounded(answers.head, answers.work, answers.span, answers.tasks), ASK, self.most_tasks)
 
     @property
     def most_tasks(self):
@@ -61,11 +50,6 @@ class LargeView(Kinds):
         names = {place.name: len(place.costs) for place in self.task_places if place.name != "the root"}
         name = max(names, key=names.get, default="")
         return name if name in ("", "a task") else "task at " + name
-
-    @property
-    def fewer_tasks(self):
-        return "fewer, larger tasks, such as: %s, of which %d neighbours are one task; %s" % (
-            self.most_tasks, TOGETHER, ASK)
 
     @cached_property
     def levels(self):

@@ -83,7 +83,7 @@ def as_script(found):
 
 
 SCRIPTS = ("data.js", "level_run.js", "stretch.js", "ready.js", "drawing.js", "words.js", "chosen.js", "lanes.js",
-           "levels.js", "controls.js", "tables.js", "graph.js", "factors.js")
+           "levels.js", "controls.js", "tables.js", "graph.js", "factors.js", "titles.js")
 
 
 def filled(text, pieces):

@@ -45,7 +45,7 @@ def told_threads(view):
 
 
 def heads(threads):
-    ends = [[tag("span", "end on %d threads" % p, class_="given"), "less"] for p in threads]
+    ends = [[tag("span", "end on %d thread%s" % (p, "" if p == 1 else "s"), class_="given"), "less"] for p in threads]
     return ["change", *(words for pair in ends for words in pair), "span", "work"]
 
 

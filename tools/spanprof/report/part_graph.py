@@ -63,11 +63,11 @@ def place_box(view, place, loop):
     share, of_span = percent(place.cost, answers.work), percent(place.critical_cost, answers.span)
     count = show.told("tspan", grouped(len(place.tasks)), [named + "count"])
     lines = [[tag("tspan", place.name, class_="given")], [count, " tasks" if len(place.tasks) > 1 else " task"],
-             [show.told("tspan", "%.1f %% of the work" % share, ["percent " + named + "cost / span work"])]]
+             [show.told("tspan", "%.1f %% of the work" % share, ["percent " + named + "cost / span work"])],
+             [show.told("tspan", "%.1f %% of the span" % of_span, ["percent " + named + "path / span span"])]]
     if loop:
         lines.append([show.told("tspan", "among them: " + loop.words, loop.listed)])
-    title = show.told("title", "%.1f %% of the span" % of_span, ["percent " + named + "path / span span"])
-    return Box(lines, place.cost / answers.work if answers.work else 0, place.critical_cost > 0, title)
+    return Box(lines, place.cost / answers.work if answers.work else 0, place.critical_cost > 0)
 
 
 def edge_table(view, joined):

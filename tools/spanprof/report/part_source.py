@@ -3,6 +3,7 @@ from spanprof.report.figures import badges, percent
 from spanprof.report.markup import details, join, note, section, tag
 
 MOST_FILES, MOST_LINES, AROUND = 6, 800, 3
+DARKEST = 0.45      # so that words on it can be read
 
 
 def of_files(view):
@@ -25,9 +26,14 @@ def shown_lines(view, places, lines):
 
 
 def heat(view, places, number):
-    """The greatest part of the work that a place is whose segments run the line."""
-    return max((percent(place.cost, view.answers.work) for place in places
-                if view.stretches[place.name].first <= number <= view.stretches[place.name].last), default=0)
+    """The greatest parts of the work and of the span that a place is whose segments run the line; none without any."""
+    here = [place for place in places
+            if view.stretches[place.name].first <= number <= view.stretches[place.name].last]
+    if not here:
+        return None
+    work = max(percent(place.cost, view.answers.work) for place in here)
+    span = max(percent(place.critical_cost, view.answers.span) for place in here)
+    return "--heat:%.1f%%;--span:%.1f%%" % (DARKEST * work, span)
 
 
 def words_of(view, place):
@@ -41,10 +47,9 @@ def words_of(view, place):
 
 def line_row(view, places, lines, number):
     here = [place for place in places if view.stretches[place.name].first == number]
-    warm = heat(view, places, number)
     cells = [tag("td", number, class_="n given"), tag("td", tag("code", lines[number - 1] or " ")),
              tag("td", *[words_of(view, place) for place in here])]
-    return tag("tr", *cells, style="--heat:%.1f%%" % (0.45 * warm) if warm else None)
+    return tag("tr", *cells, style=heat(view, places, number))
 
 
 def gap_row():
@@ -69,7 +74,8 @@ def source_part(view, of=""):
     pieces = [details(tag("span", name, class_="place"), file_table(view, places, lines), is_open=i == 0)
               for i, (name, places, lines) in enumerate(found)]
     return section("source", "Source" + of, note(
-        "The darker a line, the more of the work a place is whose segments run it: from where they begin to the "
-        "construct that ends them. Where the statement of a directive ends, this page reads off the file's braces. "
+        "The darker a line, the more of the work a place is whose segments run it, and the redder the bar at its left, "
+        "the more of the span: from where they begin to the construct that ends them. Where the statement of a "
+        "directive ends, this page reads off the file's braces. "
         "Shares ",
         badges(view.cost_kind), "."), join(pieces))

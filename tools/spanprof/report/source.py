@@ -4,6 +4,7 @@ import re
 
 MOST_ENTRIES = 20000  # of the folders that are searched
 MOST_BLANK = 4        # lines between a directive and its statement
+STANDALONE = re.compile(r"\bomp\s+(taskwait|taskyield|barrier|flush)\b", re.IGNORECASE)    # without a statement
 DIRECTIVES = ("#pragma", "!$omp", "c$omp")
 
 
@@ -64,5 +65,5 @@ def snippet(lines, number):
     first = " ".join(line.strip().rstrip("\\").strip() for line in lines[number - 1:here])
     if not first.lower().startswith(DIRECTIVES):
         return [first] if first else []
-    following = (line.strip() for line in lines[here:here + MOST_BLANK])
+    following = () if STANDALONE.search(first) else (line.strip() for line in lines[here:here + MOST_BLANK])
     return [first, *[line for line in following if line not in ("", "{", "}")][:1]]

@@ -43,12 +43,15 @@ def ends_by_segment(code):
     return out
 
 
-def first_code(lines, number):
-    """The first line from one on that is neither empty nor a brace alone; lines are counted from 1."""
+def first_code(lines, number, otherwise):
+    """The first line of code from one on, counted from 1; `otherwise` where the block ends before, as in a loop."""
     for here in range(number, min(len(lines), number + LONGEST) + 1):
-        if lines[here - 1].strip() not in ("", "{", "}", "});"):
+        code = lines[here - 1].strip()
+        if code.startswith("}"):
+            break
+        if code not in ("", "{"):
             return here
-    return number
+    return otherwise
 
 
 def after_directive(lines, number):
@@ -76,13 +79,13 @@ def code_lines(place, line, lines):
     if not 0 < line.number <= len(lines):
         return line.number, line.number
     if not place.startswith(WITH_A_STATEMENT):
-        first = first_code(lines, line.number + 1)
+        first = first_code(lines, line.number + 1, line.number)
         return first, first
     begin = after_directive(lines, line.number)
     end = statement_end(lines, begin)
     if place.startswith("task at "):
-        return min(first_code(lines, begin), end), end
-    first = first_code(lines, end + 1)
+        return min(first_code(lines, begin, begin), end), end
+    first = first_code(lines, end + 1, line.number)
     return first, first
 
 

@@ -1,4 +1,5 @@
 """The rest of the summary: remarks, how the program's time divides, and what the words beside the numbers mean."""
+from spanprof.head import COSTS
 from spanprof.report.figures import MEANINGS, MEASURED, PROVED, RECORDED, badge
 from spanprof.report.markup import join, note, tag
 
@@ -33,14 +34,15 @@ def stack(view, title, parts):
 
 
 def division(view):
-    """How the whole program's time divides, and the region's costs, where the head tells it."""
+    """How the whole program's time divides, and the text's costs, where the head tells it."""
     head = view.answers.head
     wall = [(name, head.division[name]) for name in ("outside regions", "in other regions") if name in head.division]
-    costs = [(name, head.division[name]) for name in ("in parts without tasks", "in tasks") if name in head.division]
+    costs = [(name, head.division[name]) for name in COSTS if name in head.division]
     if head.elapsed and wall:
         wall.append(("elapsed", head.elapsed))
     return join([stack(view, "The whole program's time, by the clock", wall),
-                 stack(view, "This region's costs, all threads together", costs)])
+                 stack(view, "%s costs, all threads together" % ("The program's" if head.whole else "This region's"),
+                       costs)])
 
 
 def kinds_explained(view):

@@ -14,6 +14,7 @@ def recorded_words(view):
     runs = ("the median of %d runs" if head.is_median else "one of %d runs, which have no median") % head.runs \
         if head.runs else "one run" if head.is_measured else ""
     parts = ["recorded from %s" % head.program if head.program else "",
+             "the whole program: %s" % head.whole if head.whole else "",
              "the parallel region at %s" % head.region if head.region else "", head.date,
              "%d threads" % head.threads if head.threads else "", runs, unit]
     return ", ".join(filter(None, parts))

@@ -124,7 +124,7 @@ class View(Kinds):
     def snippet(self, place):
         """Lines of the source: of a task its directive and statement, else where the code begins."""
         stretch = self.stretches.get(place)
-        if not stretch or not place.startswith("after "):
+        if not stretch or not place.startswith("after ") or place.endswith(":%d" % stretch.first):
             return self.sources.snippet(place)
         lines = self.sources.lines_of(stretch.file)
         return [lines[stretch.first - 1].strip()] if 0 < stretch.first <= len(lines) else []

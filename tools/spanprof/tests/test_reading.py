@@ -5,7 +5,7 @@ from unittest import mock
 
 from spanprof import client
 from spanprof.errors import Fault
-from spanprof.head import read_head, said
+from spanprof.head import read_head, said, with_function
 from spanprof.text import has_loops
 
 TEXT = """\
@@ -91,6 +91,19 @@ class Heads(unittest.TestCase):
         head = read_head(TEXT)
         self.assertEqual((head.covered, head.thread_time, head.beside, head.most_held, head.runs), (None,) * 5)
         self.assertEqual((head.not_covered, head.divided, head.clocks_differ, head.spread), ({}, [], {}, {}))
+
+    def test_the_whole_program(self):
+        head = read_head("# whole program: 2 regions, 1 loop in 64 pieces; a chunk of k turns is k equal pieces\n"
+                         "# not covered: 19 of the program\nomptasks 1\n")
+        self.assertEqual((head.whole[:9], head.region), ("2 regions", ""))
+        self.assertEqual(head.not_covered, {"of the program": 19})
+
+    def test_functions_of_places(self):
+        head = read_head("# place sort.c:9: in merge, inlined into sort at sort.c:30\nomptasks 1\n")
+        self.assertEqual(with_function(head, "task at sort.c:9"),
+                         "task at sort.c:9 in merge, inlined into sort at sort.c:30")
+        self.assertEqual(with_function(head, "task at sort.c:10"), "task at sort.c:10")
+        self.assertEqual(with_function(head, "the beginning"), "the beginning")
 
     def test_a_region_without_place(self):
         head = read_head("# region: 1 of 1\nomptasks 1\n")

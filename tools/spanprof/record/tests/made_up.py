@@ -65,6 +65,8 @@ class Head:
     spread: dict = field(default_factory=dict)
     remarks: list = field(default_factory=list)
     locks: list = field(default_factory=list)
+    whole: str = ""
+    functions: dict = field(default_factory=dict)
 
     @property
     def nanoseconds(self):

@@ -42,6 +42,8 @@ class Logs(unittest.TestCase):
         chosen = convert_command.parser().parse_args(["--fold", "depth=3", "--unit", "us", "--regions", "2", "a.log"])
         self.assertEqual(convert_command.variables({"A": "b"}, chosen),
                          {"A": "b", "SPANPROF_UNIT": "us", "SPANPROF_REGIONS": "2", "SPANPROF_FOLD_DEPTH": "3"})
+        whole = convert_command.parser().parse_args(["--whole", "a.log"])
+        self.assertEqual(convert_command.variables({}, whole), {"SPANPROF_WHOLE": "1"})
 
 
 if __name__ == "__main__":

@@ -124,6 +124,12 @@ class Repeated(OfARecording):
             self.assertEqual(file.read(),
                              "# 3\n" + SPREAD % "and this is the one with the median work" + "omptasks 1\n")
 
+    def test_whole_programs_have_no_median(self):
+        text = self.write("mine.tasks", "# whole program: 1 region, 1 loop in 4 pieces\nomptasks 1\n")
+        with self.assertRaisesRegex(Fault, "whose loops each run divides anew"):
+            repeat.refuse_whole(text)
+        repeat.refuse_whole(self.write("mine.tasks", "# region: at sort.c:9, 1 of 1\nomptasks 1\n"))
+
     def test_the_spread_stands_before_the_remarks(self):
         text = self.write("mine.tasks", "# in tasks: 5\n# remark: folded\nomptasks 1\n# remark: no\n")
         repeat.add_to_head(text, repeat.spread_lines((30, 10, 20), (7, 9, 8), "so"))

@@ -184,6 +184,9 @@ class Large(unittest.TestCase):
         places = [Place(20, 50, 3, "task at mine.c:12"), Place(10, 10, 1, "the beginning")]
         self.assertEqual(self.told([program], return_value=places), """\
 mine.large.tasks, region at mine.c:9, 4 threads, costs in us of wall time
+cause         too few tasks: for 38 % of the threads' time they idled with nothing ready (measured, beside what every \
+greedy run of the recorded text reaches)
+first change  spanprof-whatif tells what a change brings, and --places what can be changed
 covers        95.1 % of the program's thread-time in code; not covered: 49 outside regions (measured)
 tasks         9,000, in 20,001 segments (recorded)
 runs          1: another run has other costs

@@ -43,6 +43,17 @@ class Lines(unittest.TestCase):
     def test_a_recording(self):
         self.assertEqual("\n".join(summary(Answers(), LEGAL)), EXPECTED)
 
+    def test_the_whole_program(self):
+        heading, *_ = summary(Answers(head=Head(region="", whole="2 regions")))
+        self.assertEqual(heading, "sort.tasks, the whole program, 4 threads, costs in us of wall time")
+
+    def test_functions_of_places(self):
+        lines = lines_of(functions={"sort.c:9": "in merge, inlined into sort at sort.c:30"})["span by place"]
+        self.assertNotIn("in merge", "".join(lines))
+        answers = Answers(head=Head(functions={"sort.c:9": "in merge"}))
+        answers.rows[1].critical = True
+        self.assertIn("task at sort.c:9 in merge (measured)", "".join(summary(answers)))
+
     def test_remarks_locks_and_news(self):
         head = Head(remarks=["folded task: span too high"], locks=["critical at a.c:3: 2 times"], elapsed=None)
         lines = summary(Answers(head=head), news=["mine.2 is not written"])

@@ -47,7 +47,7 @@ class Bars {
     if (this.pixel >= 0) {
       const [name] = Object.entries(this.parts).sort((a, b) => b[1] - a[1])[0];
       const busy = Math.min(1, Object.values(this.parts).reduce((a, b) => a + b, 0));
-      const high = Math.max(1, busy * this.height);
+      const high = Math.max(2, busy * this.height);
       this.paths.add(name, this.pixel, this.top + this.height - high, 1, high);
       if (this.isCritical) this.mark(this.pixel, 1);
     }

@@ -72,8 +72,14 @@ class Command(unittest.TestCase):
         found = json.loads(told.getvalue())
         self.assertEqual((found["work"], found["recording"]["elapsed"]["value"]),
                          ({"value": 41, "kind": "proved of the text"}, 40))
-        self.assertEqual(found["on threads"]["threads"], 2)
+        self.assertEqual((found["on threads"]["threads"], found["account"]), (2, None))
         self.assertFalse(os.path.exists(self.out("mesh.html")))
+
+    def test_the_account_is_in_it(self):
+        told = io.StringIO()
+        with contextlib.redirect_stdout(told):
+            main([worked.path("split.tasks"), "--json"])
+        self.assertEqual(json.loads(told.getvalue())["account"]["threads"], 2)
 
     def test_refusals(self):
         mesh = worked.path("mesh.tasks")

@@ -76,8 +76,7 @@ class OfAnySize(unittest.TestCase):
         view = self.view()
         self.assertTrue(view.lead.cause.startswith("too few tasks: "))
         self.assertEqual(view.lead.first, "the lines under Changes ask what one brings")
-        self.assertEqual(view.fewer_tasks, "fewer, larger tasks, such as: task at mesh.c:10, of which 8 neighbours are "
-                                           "one task; the lines under Changes ask what one brings")
+        self.assertEqual(view.most_tasks, "task at mesh.c:10")
         self.assertIn("--join &#x27;task at mesh.c:10=8&#x27; --threads 2", page(view))
 
     def test_a_lock_is_no_change_of_the_tasks(self):

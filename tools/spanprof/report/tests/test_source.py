@@ -13,6 +13,9 @@ class Snippets(unittest.TestCase):
         self.assertEqual(snippet(LINES, 1), ["#pragma omp task depend(in: x)", "f(x);"])
         self.assertEqual(snippet(LINES, 8), ["!$omp task", "call g"])
 
+    def test_a_directive_without_one(self):
+        self.assertEqual(snippet(["#pragma omp taskwait", "}", "int g() {"], 1), ["#pragma omp taskwait"])
+
     def test_a_line_alone(self):
         self.assertEqual(snippet(LINES, 6), ["plain();"])
 

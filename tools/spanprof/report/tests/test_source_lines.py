@@ -39,6 +39,11 @@ class Lines(unittest.TestCase):
         self.assertEqual(stretch_of("after taskwait at a.c:9", [3], ends, FILE), Stretch("a.c", 10, 10))
         self.assertEqual(stretch_of("task at a.c:99", [1], ends, FILE), Stretch("a.c", 99, 99))
 
+    def test_what_ends_a_block_goes_on_elsewhere(self):
+        lines = ["for (;;) {", "#pragma omp task", "    f();", "#pragma omp taskwait", "}", "", "int g() {"]
+        for place in ("after taskwait at a.c:4", "after creating a task at a.c:2"):
+            self.assertEqual(stretch_of(place, [0], [""], lines), Stretch("a.c", 4, 4))
+
     def test_statements(self):
         self.assertEqual(statement_end(["for (int i = 0; i < 3; i++) {", "  f(\"}\");  // }", "}", "g();"], 1), 3)
         self.assertEqual(statement_end(["f(a,", "  b);", "g();"], 1), 2)

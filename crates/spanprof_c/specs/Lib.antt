@@ -1,0 +1,4 @@
+pub mod Programs
+pub mod Refusals
+pub mod Steps
+pub mod Told

@@ -1,0 +1,29 @@
+#!/usr/bin/env bash
+# Proves the crate spanprof_c and builds libspanprof of it: out/library/libspanprof.a, and libspanprof.so. Both export
+# the functions of include/spanprof.h and nothing else, and take nothing from outside but malloc, realloc, free and
+# what copies bytes.
+#
+#     tools/library.sh [FOLDER]      where they go; out/library without it
+#
+# The proofs are those of `rt check` in the crate, over what earlier checks kept; the gate alone decides.
+set -euo pipefail
+case ${1:-} in -h | --help) sed -n '2,/^set/{/^set/!s/^# \{0,1\}//p}' "$0"; exit ;; esac
+top=$(cd "$(dirname "$0")/.." && pwd)
+out=$(realpath -m "${1:-$top/out/library}")
+kit=$(dirname "$(dirname "$(realpath "$(command -v rt)")")")
+cc=${CC:-cc}
+scratch=$(mktemp -d)
+trap 'rm -rf "$scratch"' EXIT
+
+(cd "$top/crates/spanprof_c" && rt lib) > "$scratch/told" 2>&1 ||
+    { tail -n 20 "$scratch/told" >&2; echo "$0: the crate is not built" >&2; exit 1; }
+# One object, in which all names but those of the header are its own.
+"$cc" -nostdlib -r -o "$scratch/spanprof.o" -Wl,--whole-archive "$top/crates/spanprof_c/out/libspanprof_c.a" \
+    "$kit/c/liblibc_c.a" -Wl,--no-whole-archive
+objcopy --wildcard --keep-global-symbol='spanprof_*' "$scratch/spanprof.o"
+mkdir -p "$out"
+rm -f "$out/libspanprof.a"
+ar rcs "$out/libspanprof.a" "$scratch/spanprof.o"
+"$cc" -shared -Wl,-soname,libspanprof.so.0 -Wl,-z,relro,-z,now -o "$out/libspanprof.so.new" "$scratch/spanprof.o"
+mv "$out/libspanprof.so.new" "$out/libspanprof.so"
+grep -o 'logic=[^ ]* ' "$scratch/told" | tail -n 1

@@ -1,0 +1,181 @@
+#include "pieces.hpp"
+
+#include <algorithm>
+#include <unordered_map>
+
+#include "fold.hpp"
+#include "span.hpp"
+
+namespace {
+constexpr int64_t shortest = 1000;             // of a piece, in nanoseconds
+constexpr uint64_t most_pieces = 1 << 20;
+constexpr int64_t share_that_moves_little = 50;  // of the span
+
+using Row = std::vector<Chunk *>;  // those of one loop that one part makes, one after the other
+
+// Of a loop that the compiler divides into chunks only the first of each thread is told.
+void count_all_turns(Run &run) {
+  for (Chunk &chunk : run.chunks) {
+    const Loop &loop = *chunk.loop;
+    if (chunk.task->children) chunk.turns = 1;  // regions in it
+    else if (loop.told && loop.told < loop.count)
+      chunk.turns = static_cast<uint64_t>(static_cast<double>(chunk.turns) * static_cast<double>(loop.count) /
+                                          static_cast<double>(loop.told) + 0.5);
+  }
+}
+
+std::vector<Row> rows_of(Run &run) {
+  std::vector<Row> rows;
+  std::unordered_map<const Task *, size_t> last;  // by the part
+  for (Chunk &chunk : run.chunks) {
+    if (!chunk.task->pieces) continue;
+    auto [row, is_new] = last.emplace(chunk.task->parent, rows.size());
+    if (!is_new && rows[row->second].back()->loop != chunk.loop) is_new = true, row->second = rows.size();
+    if (is_new) rows.emplace_back();
+    rows[row->second].push_back(&chunk);
+  }
+  return rows;
+}
+
+uint64_t pieces_of(const Chunk &chunk, int64_t least) {
+  auto most = static_cast<uint64_t>(std::max<int64_t>(chunk.task->total / least, 1));
+  return std::clamp<uint64_t>(chunk.turns, 1, std::min<uint64_t>(most, UINT32_MAX));
+}
+
+// What a row is written as: a chunk that is shorter than the least piece is one with those after it.
+template <class Take>
+void cut(const Row &row, int64_t least, const Take &take) {
+  for (size_t from = 0, to = 1; from < row.size(); from = to++) {
+    int64_t cost = row[from]->task->total;
+    for (; cost < least && to < row.size() && !row[to]->task->children && !row[from]->task->children; to++) {
+      if (row[to]->task->total >= least) break;
+      cost += row[to]->task->total;
+    }
+    take(from, to, cost);
+  }
+}
+
+class Chooser {
+ public:
+  explicit Chooser(Run &of) : run(of), rows(rows_of(of)) {}
+  int64_t least_for(uint64_t most, int64_t from) const;  // of which so many pieces are at most; 0 where none is
+  uint64_t pieces(int64_t least) const;
+  int64_t longer(int64_t least) const;  // all loops one after the other, than with a piece for each turn
+  uint64_t tasks() const;               // that are no pieces
+  void write(int64_t least);
+
+ private:
+  Run &run;
+  std::vector<Row> rows;
+  std::unordered_map<const Loop *, int64_t> longest(int64_t least) const;  // piece of each loop
+};
+
+uint64_t Chooser::pieces(int64_t least) const {
+  uint64_t sum = 0;
+  for (const Row &row : rows)
+    cut(row, least, [&](size_t from, size_t to, int64_t) { sum += to - from > 1 ? 1 : pieces_of(*row[from], least); });
+  return sum;
+}
+
+int64_t Chooser::least_for(uint64_t most, int64_t from) const {
+  if (pieces(INT64_MAX) > most) return 0;
+  int64_t too_short = from, fits = from;
+  while (pieces(fits) > most) too_short = std::exchange(fits, 2 * fits);
+  while (fits - too_short > fits / 64 + 1) {
+    int64_t middle = too_short + (fits - too_short) / 2;
+    (pieces(middle) > most ? too_short : fits) = middle;
+  }
+  return fits;
+}
+
+std::unordered_map<const Loop *, int64_t> Chooser::longest(int64_t least) const {
+  std::unordered_map<const Loop *, int64_t> found;
+  for (const Row &row : rows)
+    cut(row, least, [&](size_t from, size_t to, int64_t cost) {
+      auto pieces = static_cast<int64_t>(to - from > 1 ? 1 : pieces_of(*row[from], least));
+      int64_t &most = found[row[from]->loop];
+      most = std::max(most, cost / pieces);
+    });
+  return found;
+}
+
+int64_t Chooser::longer(int64_t least) const {
+  int64_t sum = 0;
+  for (auto &[loop, cost] : longest(least)) sum += cost;
+  for (auto &[loop, cost] : longest(1)) sum -= cost;
+  return sum;
+}
+
+uint64_t Chooser::tasks() const {
+  uint64_t count = 0;
+  for (const Task &t : run.whole->tasks) count += t.parent && !t.pieces;
+  return count;
+}
+
+void join(Chunk &chunk, Chunk &more) {
+  Step &work = chunk.task->steps.back();
+  for (const Step &step : more.task->steps) work.add_cost(step.cost());
+  chunk.turns += more.turns;
+  more.task->steps.clear();
+  more.task->parent = nullptr;
+  more.task->pieces = 0;
+}
+
+// The steps of a part, without the creation of what is no task any more.
+void leave_out_joined(Task &part) {
+  ShortList<Step> steps;
+  for (const Step &step : part.steps) {
+    bool is_left = step.kind != Kind::Create || step.child()->parent;
+    if (is_left) steps.push_back(step);
+    else part.segment--, part.children--;
+  }
+  part.steps = std::move(steps);
+}
+
+void Chooser::write(int64_t least) {
+  for (const Row &row : rows) {
+    Task &part = *row[0]->task->parent;
+    bool joins = false;
+    cut(row, least, [&](size_t from, size_t to, int64_t) {
+      Chunk &first = *row[from];
+      if (to - from > 1 && first.task->steps.empty()) first.task->steps.push_back(Step::work(0));
+      for (size_t i = from + 1; i < to; i++) joins = true, join(first, *row[i]);
+      first.task->pieces = to - from > 1 ? 1 : static_cast<uint32_t>(pieces_of(first, least));
+    });
+    if (joins) leave_out_joined(part);
+  }
+}
+
+// A least piece with which the text fits the ten commands, where that is as good as any.
+int64_t for_the_commands(const Chooser &chooser, int64_t from, int64_t span) {
+  uint64_t others = chooser.tasks();
+  int64_t least = others < most_tasks ? chooser.least_for(most_tasks - others, from) : 0;
+  return least && chooser.longer(least) <= span / share_that_moves_little ? least : 0;
+}
+
+void remark_pieces(Run &run, bool moves_span) {
+  for (const Chunk &chunk : run.chunks) {
+    if (!chunk.task->pieces) continue;
+    run.whole->pieces += chunk.task->pieces;
+    if (chunk.task->pieces > 1) run.whole->remarks[Remark::EqualTurns].add(chunk.task->code);
+    if (moves_span && chunk.task->pieces < chunk.turns) run.whole->remarks[Remark::TurnsTogether].add(chunk.task->code);
+  }
+}
+}  // namespace
+
+void choose_pieces(Run &run, int64_t unit) {
+  count_all_turns(run);
+  if (run.chunks.empty()) return;
+  Chooser chooser(run);
+  for (Chunk &chunk : run.chunks)
+    if (chunk.task->pieces) chunk.task->pieces = static_cast<uint32_t>(pieces_of(chunk, 1));
+  int64_t span = span_of(*run.whole), from = std::max(shortest, unit);
+  int64_t least = for_the_commands(chooser, from, span);
+  if (!least) least = chooser.least_for(most_pieces, from);
+  if (!least) least = INT64_MAX;
+  bool moves_span = chooser.longer(least) > span / share_that_moves_little;
+  chooser.write(least);
+  add_up(*run.whole);
+  run.whole->least_piece = least;
+  remark_pieces(run, moves_span);
+}

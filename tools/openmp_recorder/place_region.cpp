@@ -1,0 +1,59 @@
+#include "place_region.hpp"
+
+#include <algorithm>
+#include <utility>
+
+namespace {
+void add(Task &t, Step step) {
+  t.steps.push_back(step);
+  t.segment += step.kind != Kind::GroupBegin && step.kind != Kind::Work;
+  t.children += step.kind == Kind::Create;
+}
+
+// What costs nothing and makes nothing leaves no trace.
+bool is_empty(const Task &part) {
+  return part.items.empty() && std::all_of(part.steps.begin(), part.steps.end(), [](const Step &step) {
+    return step.kind == Kind::Work && !step.cost();
+  });
+}
+
+// The parts of each phase that make tasks come first, where none depends on another.
+std::vector<Part> in_order(const Region &region) {
+  std::vector<Part> parts;
+  auto depends = [](const Part &part) { return !part.task->items.empty(); };
+  bool by_time = std::any_of(region.parts.begin(), region.parts.end(), depends);
+  for (const Part &part : region.parts)
+    if (!is_empty(*part.task)) parts.push_back(part);
+  std::stable_sort(parts.begin(), parts.end(), [&](const Part &a, const Part &b) {
+    return std::pair(a.phase, !by_time && !a.task->children) < std::pair(b.phase, !by_time && !b.task->children);
+  });
+  return parts;
+}
+}  // namespace
+
+void place_region(Region &region) {
+  if (!region.owner) return;
+  Task &owner = *std::exchange(region.owner, nullptr);
+  std::vector<Part> parts = in_order(region);
+  for (size_t i = 0; i < parts.size();) {
+    unsigned phase = parts[i].phase;
+    add(owner, Step::at(Kind::GroupBegin, region.code));
+    for (; i < parts.size() && parts[i].phase == phase; i++) {
+      add(owner, Step::create(parts[i].task));
+      parts[i].task->parent = &owner;
+    }
+    add(owner, Step::at(Kind::GroupEnd, nullptr));
+  }
+}
+
+void take_over_steps(Task &into, Task &from) {
+  for (const Step &step : from.steps) {
+    bool joins = step.kind == Kind::Work && !into.steps.empty() && into.steps.back().kind == Kind::Work;
+    if (joins) into.steps.back().add_cost(step.cost());
+    else add(into, step);
+    if (step.kind == Kind::Create) step.child()->parent = &into;
+  }
+  from.steps.clear();
+  from.parent = nullptr;
+  from.pieces = from.children = from.segment = 0;
+}

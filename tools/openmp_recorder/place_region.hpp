@@ -1,0 +1,8 @@
+// A region of the whole program in the place where a task met it.
+#pragma once
+#include "run.hpp"
+
+// Each of its phases is a group, and each part a task there. Once: the task that met it is forgotten then.
+void place_region(Region &region);
+
+void take_over_steps(Task &into, Task &from);  // at its end: what the other one made is made there

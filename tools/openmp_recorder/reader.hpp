@@ -1,0 +1,161 @@
+// Reads the records in their order and makes tasks, steps and events of them. What the runtime tells at each construct,
+// and in which order, is written down in README.md. Its functions stand in run.cpp, waits.cpp and whole.cpp.
+#pragma once
+#include <cstdint>
+#include <map>
+#include <unordered_map>
+#include <utility>
+#include <vector>
+
+#include "run.hpp"
+
+// A task that goes on where another was left, unless the thread's next record is of that one.
+struct Resumed {
+  Task *task = nullptr;
+  const Task *left = nullptr;
+  int64_t since = 0, at = 0;  // on the thread's clock, and on the wall clock
+};
+
+struct Worker {
+  int64_t stood_still = 0;           // its clock, so far
+  int64_t worked = 0, compared = 0;  // in code so far, and when both clocks were compared last
+  std::vector<uint32_t> current;     // the task that runs, innermost region last
+  std::vector<Task *> waits;         // tasks whose wait for dependences it is in, innermost last
+  Resumed resumed;
+};
+
+// The turns of a loop that the thread runs: what comes before and after the loop, and the pieces of one turn, share a
+// location each, since what waits for each other is told by `depend`.
+struct Turns {
+  uint32_t around = 0, turn = 0;
+  int64_t since = 0;           // the running piece, on the wall clock
+  bool waited = false;         // in this turn
+  bool after_a_wait = false;   // the running piece began where a wait for other turns was over
+};
+
+struct ImplicitTask {
+  unsigned phase = 0;                // barriers before it
+  std::vector<const void *> groups;  // that are open around the barrier that it is at
+  unsigned loops = 0;                // that it met
+  Loop *loop = nullptr;              // that it is in
+  Task *chunk = nullptr;             // of it, that runs
+  size_t number = 0;                 // of the chunk
+  bool in_group = false;             // of the chunks
+  bool all_turns = false;            // are taken to be the chunk
+  bool kept = false;                 // the rest of the loop is code of the part
+  std::unique_ptr<Turns> turns;      // of the loop, where they wait for each other
+};
+
+class Reader {
+ public:
+  explicit Reader(const HowToRead &how);
+  Run run;
+  void read(const Record &record, const Log &log);
+  void stop(const Log &log, int64_t at);
+  void close(int64_t end);  // of the program, on the clock of costs
+
+ private:
+  HowToRead how;
+  const Record *r = nullptr;
+  const Log *log = nullptr;
+  int64_t now = 0;            // on the thread's own clock
+  std::vector<Task *> tasks;  // by number; of an implicit task its part
+  std::unordered_map<uint32_t, ImplicitTask> implicit;  // by number
+  std::vector<Worker> workers;
+
+  Task *find(uint32_t number) { return number < tasks.size() ? tasks[number] : nullptr; }
+  void put(uint32_t number, Task *task) {
+    if (!number) return;
+    if (number >= tasks.size()) tasks.resize(number + 1);
+    tasks[number] = task;
+  }
+  Worker &worker() { return workers[log->worker]; }
+  void turn_to(const Log &of) {
+    log = &of;
+    if (of.worker >= workers.size()) workers.resize(of.worker + 1);
+  }
+  std::vector<uint32_t> &current() { return worker().current; }
+  Task *running();
+  static void remark(Region *region, Remark what, const void *code) { region->remarks[what].add(code); }
+
+  // run.cpp: tasks, and what runs
+  Task *fresh(Region *region);
+  Task *add_part(uint32_t number, Region *region);
+  void charge(Task *t);
+  void begin(Task *t);
+  void begin(Task *t, int64_t since, int64_t at);
+  void end(Task *t);
+  void leave(Task *t);
+  bool can_go_on(const Task *t) const { return t && !t->waiting && !t->over && !t->wait; }
+  void take_up();
+  void end_unless_told();
+  void end_elsewhere(Task *t);
+  void count_task(Region &region);
+  Task *create(Task *parent, bool undeferred);
+  void settle(Task *parent);
+  void parallel_begin();
+  void implicit_begin();
+  void leave_region(Met &met);
+  void implicit_end();
+  void task_create();
+  void loop_begin();
+  void schedule();
+  void compare_clocks();
+  void close_tasks(Region &region);
+  void close_whole(int64_t end);
+  void end_tasks();
+
+  // waits.cpp: dependences, barriers, groups, `taskwait`
+  static void begin_group(Task *t, const void *code);
+  static void end_group(Task *t, const void *code);
+  bool is_between_turns();
+  void dependences();
+  void barrier_begin(Task *t);
+  void tell_empty_segment(Task *t);
+  void end_groups_at_barrier(Region &region, unsigned phase);
+  void barrier_end(Task *t);
+  void sync_begin();
+  void sync_end();
+  void group_end_begin();
+  void cancel();
+
+  // whole.cpp: the whole program as one text
+  std::map<std::pair<uint32_t, unsigned>, Loop *> loops;  // by region, and how many the threads met there before
+  std::vector<Task *> hosts;                              // the code outside of regions of threads but the first
+  unsigned in_loops = 0;                                  // implicit tasks
+  bool is_host(const Task *t) const { return run.whole && t->part && t->region == run.whole.get(); }
+  void begin_root();
+  void initial_begin();
+  void meet_region(Region &region);
+  void parallel_end();
+  bool is_to_divide(const Region &region) const;
+  Loop &loop_of(uint32_t region, unsigned number);
+  ImplicitTask *in_loop();
+  void divided_begin();
+  void chunk_begin();
+  void begin_chunk(ImplicitTask &own, uint64_t turns);
+  void join_turns(const ImplicitTask &own);
+  void end_chunk(ImplicitTask &own);
+  void divided_end();
+  bool is_construct_of_chunk(const ImplicitTask &own) const;
+  void keep_divided();
+  void put_chunk_back(ImplicitTask &own);
+  void take_chunk_out(ImplicitTask &own, Task &t);
+  void end_root(int64_t end);
+  void put_hosts_beside();
+
+  // turns.cpp: turns of loops that wait for each other
+  std::map<std::pair<const Loop *, std::vector<uint64_t>>, uint32_t> turn_locations;  // by the turn's numbers
+  std::unordered_map<uint32_t, int64_t> done;  // when a location's turn was, on the wall clock
+  uint64_t made_locations = 0;
+  uint32_t made_location();
+  uint32_t location_of_turn(const Loop &loop);
+  bool has_turns_apart(ImplicitTask &own);
+  void begin_piece(ImplicitTask &own, bool of_next_turn);
+  bool turn_done();
+  bool turn_awaited();
+  void order_got();
+  void order_left();
+  void end_turns(ImplicitTask &own);
+  void take_waits_off();
+};

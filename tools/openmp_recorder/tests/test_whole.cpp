@@ -1,0 +1,291 @@
+// The whole program as one text.
+#include "../exact.hpp"
+#include "../fold.hpp"
+#include "../head.hpp"
+#include "../program_time.hpp"
+#include "../span.hpp"
+#include "../whole_program.hpp"
+#include "check.hpp"
+#include "made.hpp"
+
+namespace {
+constexpr int64_t us = 1000;
+const std::string part = "task {  # one of the region's threads\n";
+
+// A program that began 100 before its region, which it meets with its first thread.
+class Program : public Made {
+ public:
+  using Made::Made;
+  Run &whole(Ending ending = {}) {
+    found = read(ending, {UINT64_MAX, true, began, ending.wall ? 0 : now()});
+    finish_whole(found, {0, true, began, now()}, 1);
+    fold(*found.whole, {});
+    return found;
+  }
+  std::string text() {
+    whole();
+    return text_of(*found.whole);
+  }
+  Run found;
+
+ private:
+  static constexpr int64_t began = 900;
+};
+
+void end_region(Made &made, unsigned many = 1, uint32_t region = 1) {
+  for (unsigned i = 0; i < many; i++) made.barrier(i, 1 + i);
+  made.add(0, Told::ParallelEnd, 0, region);
+}
+
+void loop(Made &made, unsigned thread, uint32_t count, const std::vector<std::pair<uint32_t, int64_t>> &chunks,
+          uint32_t region = 1) {
+  made.add(thread, Told::Divided, count, region, 0, 50);
+  for (auto &[turns, cost] : chunks) made.add(thread, Told::Chunk, turns).after(cost);
+  made.add(thread, Told::DividedEnd, 0, region);
+}
+
+std::string parts(int64_t cost, unsigned count = 1) {
+  std::string words;
+  for (unsigned i = 0; i < count; i++) words += "  " + part + "    work " + std::to_string(cost) + "\n  }\n";
+  return words;
+}
+
+std::string group(const std::string &within) { return "taskgroup {\n" + within + "}\n"; }
+
+std::string pieces(unsigned count, int64_t cost, const std::string &indent = "      ") {
+  std::string words;
+  for (unsigned i = 0; i < count; i++)
+    words += indent + "task {\n" + indent + "  work " + std::to_string(cost) + "\n" + indent + "}\n";
+  return words;
+}
+}  // namespace
+
+TEST(serial_code_is_work_of_the_root_and_a_region_a_group) {
+  Program made(2);
+  end_region(made.after(4), 2);
+  made.after(7);
+  EXPECT(made.text(), "work 100\n" + group(parts(4, 2)) + "work 7\n");
+  EXPECT(made.found.whole->root->total, 115);
+  EXPECT(made.found.whole->cost, 115);
+}
+
+TEST(a_region_that_is_met_again_stands_apart) {
+  Program made;
+  end_region(made.after(4));
+  made.after(7).add(0, Told::ParallelBegin, 0, 2).add(0, Told::ImplicitBegin, 9, 2, 0, 1).after(3);
+  made.add(0, Told::ImplicitEnd, 9).add(0, Told::ParallelEnd, 0, 2);
+  EXPECT(made.text(), "work 100\n" + group(parts(4)) + "work 7\n" + group(parts(3)));
+  EXPECT(made.found.whole->regions, 2u);
+}
+
+TEST(a_barrier_is_the_end_of_a_group_and_what_costs_nothing_leaves_no_trace) {
+  Program made(2);
+  made.after(4);
+  for (Told told : {Told::SyncBegin, Told::SyncEnd})
+    for (unsigned thread : {0, 1}) made.add(thread, told, 1 + thread, 0, ompt_sync_region_barrier_explicit);
+  made.barrier(1, 2);
+  end_region(made.after(5));
+  EXPECT(made.text(), "work 100\n" + group(parts(4, 2)) + group(parts(5)));
+}
+
+TEST(a_chunk_of_k_turns_is_k_pieces_of_its_cost) {
+  Program made;
+  loop(made.after(4), 0, 4, {{3, 6 * us}, {1, 5 * us}});
+  end_region(made);
+  std::string words = made.text();
+  EXPECT_PART(words, "  " + part + "    work 4\n    taskgroup {\n" + pieces(3, 2 * us) + pieces(1, 5 * us) +
+                         "    }\n  }\n");
+  EXPECT(made.found.whole->root->total, 104 + 11 * us);
+  EXPECT(span_of(*made.found.whole), 104 + 5 * us);
+  EXPECT(made.found.whole->pieces, 4u);
+  EXPECT(made.found.whole->remarks[Remark::EqualTurns].times, 1u);
+  EXPECT(made.found.whole->remarks.count(Remark::TurnsTogether), 0u);
+}
+
+TEST(the_head_tells_what_a_whole_programs_text_has) {
+  Program made(2);
+  loop(made.after(4 * us), 0, 4, {{4, 8 * us}});
+  end_region(made, 2);
+  WholeProgram &whole = *made.whole().whole;
+  Recording recording{"sort", "2026-11-24T00:10:02Z", 0, {100, 12 * us}, {100, 24 * us + 100, true}, &whole};
+  std::string head = head_of(whole, recording, Options(), Places());
+  EXPECT_PART(head, "# whole program: 1 region, 1 loop in 4 pieces; a chunk of k turns is k equal pieces, together "
+                    "where they are shorter than 1000 ns\n# covers: 99.5 % of the program's thread-time (24100 of 24200 ns)\n"
+                    "# not covered: 100 of the program\n");
+  EXPECT_PART(head, "# in serial code: 100\n# in loops: 8000\n# in parts without tasks: 12000\n# in tasks: 4000\n");
+  EXPECT_PART(head, "# divided among 2 threads: code of the region, 2 parts, 4000 ns beside the longest\n");
+  EXPECT_PART(head, "# remark: chunk of several turns of a loop, written as equal pieces, 1 time: span too low\n");
+}
+
+TEST(what_is_left_over_of_a_chunk_goes_to_its_first_pieces) {
+  Program made;
+  loop(made, 0, 3, {{3, 6 * us + 2}});
+  end_region(made);
+  EXPECT_PART(made.text(), pieces(2, 2 * us + 1) + pieces(1, 2 * us));
+}
+
+TEST(turns_of_less_than_a_microsecond_are_written_together) {
+  Program made;
+  loop(made, 0, 1000, {{1000, 20 * us}});
+  end_region(made);
+  EXPECT_PART(made.text(), "taskgroup {\n" + pieces(20, us) + "    }\n");
+  EXPECT(made.found.whole->remarks[Remark::TurnsTogether].times, 1u);  // of a span of 120 ns
+}
+
+TEST(turns_that_joined_a_chunk_are_told_after_it) {
+  Program made;
+  made.add(0, Told::Divided, 5, 1, 0, 50).add(0, Told::Chunk, 1).after(6 * us).add(0, Told::Chunk, 1, 0, 0, 2);
+  end_region(made.after(2 * us).add(0, Told::DividedEnd, 0, 0, 0, 1));
+  EXPECT_PART(made.text(), "taskgroup {\n" + pieces(3, 2 * us) + pieces(2, us));
+}
+
+// Of such a loop the compiler asks for the thread's first chunk alone.
+TEST(turns_that_are_not_told_are_counted_by_the_loop) {
+  Program made(2);
+  for (unsigned thread : {0, 1}) loop(made, thread, 8, {{1, 8 * us}});
+  end_region(made, 2);
+  std::string words = made.text();
+  EXPECT_PART(words, "taskgroup {\n" + pieces(4, 2 * us) + "    }\n");
+  EXPECT(made.found.whole->pieces, 8u);
+}
+
+TEST(a_chunk_that_makes_tasks_is_code_of_its_part) {
+  Program made;
+  made.add(0, Told::Divided, 2, 1, 0, 50).add(0, Told::Chunk, 1).after(2 * us).add(0, Told::Chunk, 1).after(3 * us);
+  made.create(0, 1, 3).after(4 * us).add(0, Told::DividedEnd, 0, 1);
+  end_region(made.run(0, 1, 3, 5 * us));
+  EXPECT_PART(made.text(), "    taskgroup {\n" + pieces(1, 2 * us) + "    }\n    work 3000\n" +
+                               "    task {\n      work 5000\n    }\n    work 4000\n");
+  EXPECT(made.found.whole->divided[Divided::Loops].times, 1u);
+  EXPECT(made.found.whole->loops, 0u);
+}
+
+TEST(of_one_thread_all_turns_are_one_chunk_where_none_is_told) {
+  Program made;
+  made.add(0, Told::Divided, 4, 1, 0, 50).after(8 * us).add(0, Told::DividedEnd, 0, 1);
+  end_region(made);
+  EXPECT_PART(made.text(), "    taskgroup {\n" + pieces(4, 2 * us) + "    }\n");
+}
+
+TEST(a_loop_whose_chunks_are_not_told_stays_as_it_was_divided) {
+  Program made(2);
+  loop(made.after(1), 0, 8, {});
+  end_region(made.after(2), 2);
+  EXPECT_PART(made.text(), "  " + part + "    work 3\n  }\n");
+  EXPECT(made.found.whole->divided[Divided::Loops].times, 1u);
+}
+
+TEST(a_region_in_a_task_stands_where_the_task_met_it) {
+  Program made;
+  made.create(0, 1, 3).barrier(0, 1).go(0, 1, 3).after(2).add(0, Told::ParallelBegin, 3, 2);
+  made.add(0, Told::ImplicitBegin, 9, 2, 0, 1).after(5).add(0, Told::ImplicitEnd, 9).add(0, Told::ParallelEnd, 0, 2);
+  made.after(3).go(0, 3, 1, ompt_task_complete).add(0, Told::ParallelEnd, 0, 1);
+  EXPECT_PART(made.text(), "    task {\n      work 2\n      taskgroup {\n        " + part +
+                               "          work 5\n        }\n      }\n      work 3\n    }\n");
+  EXPECT(made.found.whole->root->total, 110);
+  EXPECT(made.found.whole->remarks.count(Remark::NestedRegion), 0u);
+}
+
+TEST(a_region_without_a_place_in_another_is_the_programs) {
+  Program made;
+  made.after(2).add(0, Told::ParallelBegin, 1, 2, is_runtimes).add(0, Told::ImplicitBegin, 9, 2, 0, 1).after(5);
+  made.add(0, Told::ImplicitEnd, 9).add(0, Told::ParallelEnd, 0, 2);
+  end_region(made.after(3));
+  EXPECT_PART(made.text(), "    work 2\n    taskgroup {\n      " + part + "        work 5\n      }\n    }\n    work 3\n");
+  EXPECT(in_code(made.found), 10);
+}
+
+TEST(tasks_and_loops_outside_of_regions_are_code_of_the_root) {
+  Program made;
+  end_region(made.after(4));
+  made.add(0, Told::ImplicitBegin, 9, 0, is_initial).after(1).create(0, 9, 3, is_undeferred).run(0, 9, 3, 5).after(2);
+  loop(made, 0, 2, {{2, 4 * us}}, 0);
+  EXPECT_PART(made.text(), "work 1\ntask if(0) {\n  work 5\n}\nwork 4002\n");
+  EXPECT(made.found.outside.times, 0u);
+}
+
+TEST(a_program_that_was_killed_in_a_region_has_what_ran_until_then) {
+  Program made(2);
+  made.after(4).barrier(1, 2).after(3).add(0, Told::Cancel, 1);
+  made.whole({0, 1, false, true});
+  EXPECT(text_of(*made.found.whole), "work 100\n" + group(parts(7) + parts(4)));
+}
+
+TEST(a_thread_that_the_program_made_is_beside_the_first) {
+  Program made(2);
+  end_region(made.after(4), 2);
+  made.add(1, Told::ImplicitBegin, 9, 0, is_initial).add(1, Told::ParallelBegin, 9, 2);
+  made.add(1, Told::ImplicitBegin, 10, 2, 0, 1).after(6).add(1, Told::ImplicitEnd, 10).add(1, Told::ParallelEnd, 0, 2);
+  std::string words = made.text();
+  EXPECT(words.substr(0, 5), "task ");
+  EXPECT_PART(words, "  taskgroup {\n    " + part + "      work 6\n    }\n  }\n");
+  EXPECT(made.found.whole->remarks[Remark::OtherThread].times, 1u);
+}
+
+TEST(exact_folds_keep_work_and_span_of_pieces) {
+  Program made(2);
+  for (unsigned thread : {0, 1})
+    loop(made.after(3), thread, 200, {{50, 100 * us}, {1, 7 * us}, {49, 98 * us}});
+  end_region(made, 2);
+  Region &whole = *made.whole().whole;
+  int64_t span = span_of(whole);
+  for (uint64_t together : {0, 1, 2, 4, 60, 1000}) {
+    Region folded;
+    EXPECT(fold_together(whole, together, folded), true);
+    add_up(folded);
+    fold(folded, {});
+    EXPECT(folded.root->total, whole.root->total);
+    EXPECT(span_of(folded), span);
+  }
+}
+
+TEST(chunks_that_are_shorter_than_a_piece_are_one_with_those_after_them) {
+  Program made;
+  loop(made, 0, 7, {{1, 400}, {1, 400}, {1, 400}, {1, 3 * us}, {1, 100}, {1, 200}, {1, 2 * us}});
+  end_region(made);
+  EXPECT_PART(made.text(), "taskgroup {\n" + pieces(1, 1200) + pieces(1, 3 * us) + pieces(1, 300) + pieces(1, 2 * us) +
+                               "    }\n");
+  EXPECT(made.found.whole->root->total, 100 + 6500);
+  EXPECT(made.found.whole->pieces, 4u);
+}
+
+TEST(what_does_not_fit_the_commands_has_longer_pieces_where_the_span_stays) {
+  Program made;
+  loop(made.after(100000 * us), 0, 100000, {{100000, 100000 * us}});
+  end_region(made);
+  Run &run = made.whole();
+  EXPECT(run.whole->least_piece > us, true);
+  EXPECT(run.whole->pieces <= most_tasks, true);
+  EXPECT(run.whole->remarks.count(Remark::TurnsTogether), 0u);
+}
+
+// Of two threads: the second waits for the first, whose turn has no wait and costs one microsecond more.
+TEST(turns_that_wait_for_each_other_are_tasks_with_depend) {
+  Program made(2);
+  auto turn = [](uint64_t number, ompt_dependence_type_t type) { return std::vector<DependItem>{item(type, number)}; };
+  for (unsigned thread : {0, 1}) made.add(thread, Told::Divided, 2, 1, 0, 50).add(thread, Told::Chunk, 1);
+  made.after(5 * us).depend(0, 0, turn(0, ompt_dependence_type_source));
+  made.depend(1, 0, turn(0, ompt_dependence_type_sink));
+  made.after(4 * us).depend(1, 0, turn(1, ompt_dependence_type_source));
+  for (unsigned thread : {0, 1}) made.add(thread, Told::DividedEnd, 0, 1);
+  end_region(made, 2);
+  std::string words = made.text();
+  EXPECT(span_of(*made.found.whole), 100 + 9 * us);
+  EXPECT_PART(words, "  task depend(in: a0) depend(inout: a2) depend(out: a3) {\n    work 5000\n");
+  EXPECT(made.found.whole->root->total, 100 + 9 * us + 1 * us + 4 * us);  // the last: what the first thread does then
+  EXPECT(made.found.whole->remarks[Remark::WaitsForTurns].times, 1u);
+}
+
+TEST(turns_that_take_a_lock_in_order_are_a_chain_there) {
+  Program made(2);
+  for (unsigned thread : {0, 1}) made.add(thread, Told::Divided, 2, 1, 0, 50).add(thread, Told::Chunk, 1);
+  made.after(3 * us);
+  for (unsigned thread : {0, 1}) {
+    made.add(thread, Told::LockGot, 7, 0, order_of_turns).after(2 * us);
+    made.add(thread, Told::LockLeft, 7, 0, order_of_turns).add(thread, Told::DividedEnd, 0, 1);
+    made.barrier(thread, 1 + thread);
+  }
+  made.add(0, Told::ParallelEnd, 0, 1);
+  made.whole();
+  EXPECT(span_of(*made.found.whole), 100 + 5 * us + 2 * us);  // the second thread is told to come there after 5
+}

@@ -1,0 +1,223 @@
+// The whole program as one text: its root is the code outside of regions, and each region stands in the task that met
+// it. The chunks of a loop are tasks in a group of the part that ran them.
+#include <omp-tools.h>
+
+#include <algorithm>
+
+#include "place_region.hpp"
+#include "reader.hpp"
+
+Reader::Reader(const HowToRead &chosen) : how(chosen) {
+  if (!how.whole) return;
+  run.whole = std::make_unique<WholeProgram>();
+  run.whole->has_events = false;
+  run.whole->root = fresh(run.whole.get());
+  run.whole->root->part = true;
+}
+
+void Reader::begin_root() {
+  Task *root = run.whole->root;
+  root->on = log;
+  root->running = true;
+  root->since = how.start;
+  run.whole->recorder = worker().stood_still;
+}
+
+// A thread meets the runtime. Of all but the first what is outside of regions does not count: it may be waiting.
+void Reader::initial_begin() {
+  if (!run.whole) return;
+  Task *t = run.whole->root;
+  if (t->on && t->on != log) {
+    t = fresh(run.whole.get());
+    t->part = true;
+    hosts.push_back(t);
+  } else if (!t->on) {
+    begin_root();
+  }
+  put(r->task, t);
+}
+
+void Reader::meet_region(Region &region) {
+  Task *t = find(r->task), *root = run.whole->root;
+  region.whole = run.whole.get();
+  region.has_events = false;
+  if (ImplicitTask *own = in_loop(); own && own->chunk && t && t->part) {
+    t = own->chunk;  // whose turns are not told apart then
+    t->pieces = 1;
+  }
+  if (!t || t->over) t = root;
+  if (!root->on) begin_root();
+  region.owner = t;
+  region.resumes = t->running && t->on == log;
+  if (!region.resumes) return;
+  settle(t);
+  end(t);
+}
+
+void Reader::parallel_end() {
+  auto region = run.regions.find(r->other);
+  if (region == run.regions.end() || !region->second->owner) return;
+  Task *owner = region->second->owner;
+  place_region(*region->second);
+  if (region->second->resumes) begin(owner);
+}
+
+Loop &Reader::loop_of(uint32_t region, unsigned number) {
+  Loop *&known = loops[{region, number}];
+  if (!known) known = &run.loops.emplace_back();
+  return *known;
+}
+
+// The implicit task that the thread runs, if it is in a loop.
+ImplicitTask *Reader::in_loop() {
+  if (!in_loops || current().empty()) return nullptr;
+  auto own = implicit.find(current().back());
+  return own == implicit.end() || !own->second.loop ? nullptr : &own->second;
+}
+
+// On more threads a loop outside of regions is not divided, nor is one in a region of one thread inside another.
+bool Reader::is_to_divide(const Region &region) const {
+  bool is_outermost = region.owner && region.owner->region == run.whole.get();
+  return region.threads > 1 || is_outermost;
+}
+
+void Reader::divided_begin() {
+  Task *t = running();
+  if (!run.whole || !t || !t->part || is_host(t) || !is_to_divide(*t->region)) return;
+  divided_end();
+  ImplicitTask &own = implicit[current().back()];
+  in_loops++;
+  own.loop = &loop_of(r->other, own.loops++);
+  own.loop->what = static_cast<Divided>(r->detail);
+  own.loop->code = r->place();
+  own.loop->count = std::max<uint64_t>(own.loop->count, r->task);
+  if (t->region->threads > 1) return;
+  begin_chunk(own, r->task);  // all turns: for one thread no chunk may be told
+  own.all_turns = true;
+}
+
+// Of chunks that began one soon after the other the first is told, and the turns of the others later.
+void Reader::join_turns(const ImplicitTask &own) {
+  if (!r->code || !own.chunk) return;
+  run.chunks[own.number].turns += r->code;
+  own.loop->told += r->code;
+}
+
+void Reader::chunk_begin() {
+  ImplicitTask *own = in_loop();
+  if (!own || own->kept) return;
+  join_turns(*own);
+  if (own->turns) return begin_piece(*own, true);
+  if (own->chunk && std::exchange(own->all_turns, false)) {
+    own->loop->told = 0;
+    put_chunk_back(*own);
+  }
+  begin_chunk(*own, r->task | uint64_t{r->other} << 32);
+}
+
+void Reader::begin_chunk(ImplicitTask &own, uint64_t turns) {
+  Task *t = find(current().back());
+  end_chunk(own);
+  charge(t);
+  if (!std::exchange(own.in_group, true)) begin_group(t, own.loop->code);
+  Task *chunk = own.chunk = create(t, false);
+  own.loop->told += turns;
+  chunk->code = own.loop->code;
+  chunk->of_loop = true;
+  chunk->pieces = 1;
+  own.number = run.chunks.size();
+  run.chunks.push_back({chunk, own.loop, turns});
+  begin(chunk);
+}
+
+void Reader::end_chunk(ImplicitTask &own) {
+  Task *chunk = std::exchange(own.chunk, nullptr);
+  if (!chunk) return;
+  end(chunk);
+  chunk->over = true;
+}
+
+void Reader::divided_end() {
+  ImplicitTask *own = in_loop();
+  if (!own) return;
+  Task *t = find(current().back());
+  if (r->told() == Told::DividedEnd) join_turns(*own);
+  end_chunk(*own);
+  if (own->in_group) {
+    end_group(t, nullptr);
+    begin(t);
+  }
+  if (own->turns) end_turns(*own);
+  in_loops--;
+  own->loop = nullptr;
+  own->in_group = own->kept = own->all_turns = false;
+}
+
+// Whether the record is of a task that is made, or of a wait, in the code of a chunk.
+bool Reader::is_construct_of_chunk(const ImplicitTask &own) const {
+  if (!own.chunk || r->task != workers[log->worker].current.back()) return false;
+  switch (r->told()) {
+    case Told::Create:
+    case Told::LoopBegin:
+    case Told::WaitBegin:
+    case Told::Schedule: return true;
+    case Told::SyncBegin: return r->detail == ompt_sync_region_taskwait || r->detail == ompt_sync_region_taskgroup;
+    default: return false;
+  }
+}
+
+// Such tasks are those of the part, and such waits are for tasks of the part: so the chunk's code is code of the part.
+void Reader::keep_divided() {
+  ImplicitTask *own = in_loop();
+  if (!own || !is_construct_of_chunk(*own)) return;
+  own->loop->kept = own->kept = true;
+  put_chunk_back(*own);
+}
+
+// Its code is the part's.
+void Reader::put_chunk_back(ImplicitTask &own) {
+  Task *t = find(current().back()), *chunk = own.chunk;
+  end_chunk(own);
+  take_chunk_out(own, *t);
+  take_over_steps(*t, *chunk);
+  begin(t);
+}
+
+// Its creation is the part's last step, and so is the group, where it is the first.
+void Reader::take_chunk_out(ImplicitTask &own, Task &t) {
+  t.steps.pop_back();
+  t.children--;
+  t.segment--;
+  bool is_first = t.steps.back().kind == Kind::GroupBegin;
+  if (is_first) t.steps.pop_back(), t.open_groups--;
+  else end_group(&t, nullptr);
+  own.in_group = false;
+}
+
+// The program ends on the thread that began it, or nobody knows when.
+void Reader::end_root(int64_t end) {
+  Task *root = run.whole->root;
+  if (!root->running) return;
+  turn_to(*root->on);
+  now = end - worker().stood_still - (log->stood_still - log->told_still);
+  bool is_known = end && (!record_clock().of_processor || log == how.last);
+  if (is_known) charge(root);
+  root->running = false;
+}
+
+// When the threads that a program makes itself begin with their regions is not told.
+void Reader::put_hosts_beside() {
+  Task &root = *run.whole->root;
+  ShortList<Step> steps;
+  for (Task *host : hosts) {
+    if (!host->children) continue;
+    steps.push_back(Step::create(host));
+    host->parent = &root;
+    root.children++;
+    root.segment++;
+    run.whole->remarks[Remark::OtherThread].add(nullptr);
+  }
+  if (steps.empty()) return;
+  for (const Step &step : root.steps) steps.push_back(step);
+  root.steps = std::move(steps);
+}

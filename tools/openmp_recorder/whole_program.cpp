@@ -1,0 +1,66 @@
+#include "whole_program.hpp"
+
+#include <algorithm>
+
+#include "fold.hpp"
+#include "pieces.hpp"
+
+namespace {
+int64_t own_cost(const Task &t) {
+  int64_t cost = 0;
+  for (const Step &step : t.steps) cost += step.kind == Kind::Work ? step.cost() : 0;
+  return cost;
+}
+
+void add_differing(Differing &all, const Differing &more) {
+  all.cost += more.cost;
+  all.off += more.off;
+  all.slightly += more.slightly;
+  all.at.add(more.at);
+  all.slightly_at.add(more.slightly_at);
+}
+
+// Phases of different regions have different numbers.
+void take_over_parts(WholeProgram &whole, const Region &region) {
+  unsigned first = whole.parts.empty() ? 0 : whole.parts.back().phase + 1;
+  for (const Part &part : region.parts) {
+    whole.parts.push_back({part.task, first + part.phase, 0});
+    if (part.task->pieces) whole.in_loops += own_cost(*part.task);
+    else if (!part.task->children) whole.in_parts += own_cost(*part.task);
+  }
+}
+
+void take_over(WholeProgram &whole, const Region &region) {
+  whole.regions++;
+  whole.threads = std::max(whole.threads, region.threads);
+  whole.cost += region.cost;
+  whole.in_tasks += region.cost;
+  take_over_parts(whole, region);
+  for (auto &[name, use] : region.locks) whole.locks[name].add(use);
+  for (auto &[what, seen] : region.remarks) whole.remarks[what].add(seen);
+  add_differing(whole.differing, region.differing);
+  add_differing(whole.asleep, region.asleep);
+}
+
+// What stays as this run divided it: where chunks are not told, or make tasks.
+void count_loops(Run &run) {
+  for (const Loop &loop : run.loops)
+    if (loop.kept || (loop.count && !loop.told)) run.whole->divided[loop.what].add(loop.code);
+    else run.whole->loops++;
+}
+}  // namespace
+
+void finish_whole(Run &run, const RegionTime &time, int64_t unit) {
+  WholeProgram &whole = *run.whole;
+  whole.time = time;
+  whole.serial = whole.cost;
+  for (auto &[number, region] : run.regions)
+    if (region->whole) take_over(whole, *region);
+  for (const Chunk &chunk : run.chunks)
+    if (chunk.task->pieces) whole.in_loops += own_cost(*chunk.task);
+  whole.in_tasks -= whole.in_parts + whole.in_loops;
+  whole.threads = std::max(whole.threads, 1u);
+  count_loops(run);
+  add_up(whole);
+  choose_pieces(run, unit);
+}
