@@ -82,14 +82,15 @@ def main():
                 print("left out:", command)
                 continue
             done = subprocess.run(["bash", "-c", command], cwd=folder, env=environment, capture_output=True, text=True)
+            printed = done.stdout + done.stderr
             if "spanprof_large, which measures it, is not found" in done.stderr:
                 print("left out:", command)
-            elif done.stdout != expected and not done.stderr and "--write" in sys.argv:
-                put(document, command, expected, done.stdout)
+            elif printed != expected and done.returncode == 0 and "--write" in sys.argv:
+                put(document, command, expected, printed)
                 print("written:", command)
-            elif done.stdout != expected or done.stderr:
+            elif printed != expected:
                 wrong += 1
-                print("%s: %s\nprints\n%s%s" % (os.path.relpath(document, TOP), command, done.stdout, done.stderr))
+                print("%s: %s\nprints\n%s" % (os.path.relpath(document, TOP), command, printed))
             else:
                 print("right:", command)
     shutil.rmtree(folder)

@@ -1,18 +1,20 @@
 #!/usr/bin/env bash
-# Builds libspanprof (tools/library.sh), or takes the one in a folder that is named, and calls all of it from C and from
-# Python: on all examples, at the limits, on damaged texts, under AddressSanitizer, with each allocation refused, and
-# on many threads. What it answers is compared with the program. Build spanprof first.
+# Takes libspanprof from out/library, or from a folder that is named, and calls all of it from C and from Python: on all
+# examples, at the limits, on damaged texts, under AddressSanitizer, with each allocation refused, and on many threads.
+# What it answers is compared with the program. Build spanprof first, and the library by tools/library.sh: where it is
+# not built this is skipped, since that proves ten crates again. With LIBRARY=build it is built here.
 #
 #     checks/library.sh [PROGRAM [FOLDER]]
 set -euo pipefail
 cd "$(dirname "$0")/.."
 program=$(realpath "${1:-${SPANPROF:-crates/spanprof/out/spanprof}}")
 [ -x "$program" ] || { echo "no program $program"; exit 1; }
-for tool in rt cc objcopy; do command -v "$tool" > /dev/null || { echo "skipped: $tool is missing"; exit 0; }; done
+for tool in cc nm; do command -v "$tool" > /dev/null || { echo "skipped: $tool is missing"; exit 0; }; done
 folder=$(mktemp -d)
 trap 'rm -rf "$folder"' EXIT
-library=${2:-$folder/library}
-[ -n "${2:-}" ] || tools/library.sh "$library"
+library=$(realpath -m "${2:-out/library}")
+[ "${LIBRARY:-}" != build ] || tools/library.sh "$library"
+[ -f "$library/libspanprof.so" ] || { echo "skipped: tools/library.sh has not built the library"; exit 0; }
 export SPANPROF_LIBRARY=$library/libspanprof.so
 wrong=0
 fail() { echo "  $1"; wrong=$((wrong + 1)); }

@@ -2,7 +2,8 @@
 """Compares the man pages of tools/man with what they tell of, and has groff read them.
 
 spanprof.1 has every command, error line, kind of fault and exit status of docs/FORMATS.md, and no other; the pages of
-the tools have every option that --help lists, and no other.
+the tools have every option that --help lists, and no other. spanprof.3 has the functions of include/spanprof.h, and
+no name that the header has not.
 """
 import os
 import re
@@ -24,10 +25,11 @@ def read(*path):
         return file.read()
 
 
-def shown(name):
+def shown(name, part=1):
     """A page as man shows it, on long lines."""
     done = subprocess.run(["groff", "-man", "-ww", "-Tascii", "-P-cbou", "-rLL=900n", "-rHY=0",
-                           os.path.join(TOOLS, "man", name + ".1")], capture_output=True, text=True, check=False)
+                           os.path.join(TOOLS, "man", "%s.%d" % (name, part))],
+                          capture_output=True, text=True, check=False)
     return done.stdout, done.stderr
 
 
@@ -70,7 +72,20 @@ def differences(what, page, told):
         yield "%s: only the page has %s" % (what, word)
 
 
+def of_library():
+    """Where spanprof.3 and the header differ."""
+    page, complaints = shown("spanprof", 3)
+    yield from ("spanprof.3: " + line for line in complaints.splitlines())
+    header = read("include", "spanprof.h")
+    functions = set(re.findall(r"(?m)^uint32_t (spanprof_\w+)", header))
+    named = set(re.findall(r"(?<!/)\b(?:spanprof|SPANPROF)_\w+", page))
+    yield from differences("spanprof.3", named & functions, functions)
+    yield from ("spanprof.3: the header lacks %s" % word for word in sorted(named)
+                if not re.search(r"\b%s\b" % word, header))
+
+
 def faults():
+    yield from of_library()
     for name in ["spanprof"] + list(HELP):
         page, complaints = shown(name)
         yield from ("%s.1: %s" % (name, line) for line in complaints.splitlines())

@@ -24,8 +24,8 @@ tested() { passes "$1" python3 -B -m unittest discover -q -s "$1" -t "$2"; }
 for script in definitions proof_map; do
     passes "$script.py" python3 -B "checks/$script.py" --check
 done
-for script in crate_picture version signatures places clauses believed_lines left_edits sentences speed_numbers \
-    waiting/lines style; do
+for script in crate_picture version signatures places clauses believed_lines left_edits repeated_lines sentences \
+    speed_numbers waiting/lines style; do
     passes "$script.py" python3 -B "checks/$script.py"
 done
 if command -v pyflakes3 > /dev/null; then

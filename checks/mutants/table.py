@@ -2,14 +2,12 @@
 """What the tester caught of the mutants, by rule, as tables in Markdown: table.py FOLDER SEEN.json [OWN.json]
 
 FOLDER is what build.py made, SEEN.json the report of `spanprof-conformance mutants --built FOLDER`, and OWN.json what
-own_tests.py wrote.
+own_tests.py wrote. More campaigns on some of the mutants stand in other reports, which --more names.
 """
 import argparse
 import json
 import pathlib
 import sys
-
-OUTSIDE = ("detach", "mutexinoutset", "depobj", "grainsize")  # rules of what the text does not have
 
 
 def options_of(words=None):
@@ -18,15 +16,30 @@ def options_of(words=None):
     add("folder", type=pathlib.Path, help="what build.py made")
     add("seen", type=pathlib.Path, help="the report of the tester")
     add("own", type=pathlib.Path, nargs="?", help="what own_tests.py wrote")
+    add("--more", type=pathlib.Path, action="append", default=[], help="a report with more campaigns")
     add("--campaigns", type=int, default=5, help="as the tester was told (5)")
     add("--names", action="store_true", help="a row for each mutant too")
     return parser.parse_args(words)
 
 
+def put_together(reports):
+    """What was seen of each mutant in all reports."""
+    seen = {}
+    for report in reports:
+        for name, found in report.items():
+            before = seen.setdefault(name, {"campaigns": [], "ways": [], "seconds": 0})
+            before["campaigns"] += found["campaigns"]
+            before["ways"] = sorted({*before["ways"], *found["ways"]})
+            before["seconds"] += found["seconds"]
+            before["tried"] = before.get("tried", []) + found.get("tried", [])
+    return seen
+
+
 def is_caught(seen, campaigns):
-    """Whether two programs failed, or something did in half of the campaigns."""
+    """Whether two programs failed, or something did in half of the campaigns: of those it had, or was to have."""
     programs = set().union(*seen["campaigns"])
-    return len(programs) > 1 or 2 * sum(bool(some) for some in seen["campaigns"]) >= campaigns
+    most = max(campaigns, len(seen["campaigns"]))
+    return len(programs) > 1 or 2 * sum(bool(some) for some in seen["campaigns"]) >= most
 
 
 class Counts:
@@ -42,17 +55,19 @@ class Counts:
         self.false = [name for name, fields in mutants.items()
                       if fields["breaks"] != "yes" and any(seen.get(name, {"campaigns": []})["campaigns"])]
         self.own = sum(bool(own.get(name)) for name in wrong)
+        self.campaigns = sorted(len(seen[name]["campaigns"]) for name in mutants if name in seen)
 
     def cells(self, has_own):
         names = ", ".join(f"`{name}`" for name in self.escaped)
-        return [self.wrong, self.surely, self.once, names, *([self.own] if has_own else []), self.kept, len(self.false)]
+        given = " to ".join(map(str, dict.fromkeys(self.campaigns[:1] + self.campaigns[-1:])))
+        return [self.wrong, self.surely, self.once, names, *([self.own] if has_own else []), self.kept, len(self.false),
+                given]
 
 
 def rows(mutants, seen, own, campaigns):
-    """A row for each rule, for the rules of the text, and for all."""
-    rules = sorted({fields["rule"] for fields in mutants.values()}, key=lambda rule: (rule in OUTSIDE, rule))
-    inside = [rule for rule in rules if rule not in OUTSIDE]
-    groups = [*((rule, [rule]) for rule in rules), ("**rules of the text**", inside), ("**all**", rules)]
+    """A row for each rule, and for all."""
+    rules = sorted({fields["rule"] for fields in mutants.values()})
+    groups = [*((rule, [rule]) for rule in rules), ("**all**", rules)]
     for title, chosen in groups:
         some = {name: fields for name, fields in mutants.items() if fields["rule"] in chosen}
         yield [title, *Counts(some, seen, own, campaigns).cells(bool(own))]
@@ -77,10 +92,10 @@ def by_name(mutants, seen, own):
 def main():
     options = options_of()
     mutants = json.loads((options.folder / "mutants.json").read_text())
-    seen = json.loads(options.seen.read_text())
+    seen = put_together(json.loads(path.read_text()) for path in [options.seen, *options.more])
     own = json.loads(options.own.read_text()) if options.own else {}
     heads = ["rule", "break it", "caught", "caught once", "escaped", *(["own tests"] if own else []), "break nothing",
-             "of these refused"]
+             "of these refused", "campaigns"]
     print("\n".join(lines_of(heads, rows(mutants, seen, own, options.campaigns))))
     if options.names:
         heads = ["mutant", "rule", "breaks it", "programs", "seen as", "own tests"]

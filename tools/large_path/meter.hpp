@@ -22,7 +22,7 @@ struct NameEnds {
 struct OpenTask {
   bool undeferred = false;
   std::vector<Item> items;
-  End end;       // of its current segment, so far
+  End end;  // of its current segment, so far
   End children;  // the greatest
   std::unordered_map<std::string_view, NameEnds> names;
 };

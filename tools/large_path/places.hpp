@@ -38,7 +38,7 @@ class Places : public Listener {
   size_t segment = 0;
   std::vector<Place> list;
   std::array<std::unordered_map<std::string_view, size_t>, 5> numbers;
-  std::vector<size_t> running;           // of each open task, the place of its current segment
+  std::vector<size_t> running;  // of each open task, the place of its current segment
   std::vector<std::string_view> blocks;  // of each open block, where it stands
 
   size_t begin_segment(After after, std::string_view at);

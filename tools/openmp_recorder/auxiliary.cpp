@@ -32,7 +32,7 @@ class Maker {
   ShortList<Step> steps;
   std::vector<unsigned> numbers{0};  // of its segments, by the number that each had
   unsigned segment = 0, children = 0;
-  int64_t cost = 0;      // of auxiliary code, for what it makes next
+  int64_t cost = 0;  // of auxiliary code, for what it makes next
   Task *made = nullptr;  // by auxiliary tasks, last
 
   void put(const Step &step);

@@ -5,12 +5,12 @@
 
 struct Clock {
   bool of_processor = false;  // of the calling thread; else the wall's
-  int64_t reading = 0;        // what reading it takes, on itself
+  int64_t reading = 0;  // what reading it takes, on itself
   int64_t now() const;
 };
 
 int64_t wall_time();
-int64_t processor_time();                     // of the calling thread
+int64_t processor_time();  // of the calling thread
 int64_t time_of_reading(const Clock &clock);  // measured, on the clock itself
 
 // How far both clocks of a thread went until one of its records, since the thread read both before.

@@ -1,5 +1,5 @@
-// convert_log NAME.log [OUT]: the texts of a recorded run, OUT.tasks and so on; without OUT it is NAME. What is asked for
-// stands in the environment, and what is to be said comes as lines of JSON. Status 1: the log cannot be converted.
+// convert_log NAME.log [OUT]: the texts of a recorded run, OUT.tasks and so on; without OUT it is NAME. What is asked
+// for stands in the environment, and what is to be said comes as lines of JSON. Status 1: the log cannot be converted.
 #include <time.h>
 #include <unistd.h>
 
@@ -72,8 +72,17 @@ void convert(const std::string &folder, const std::string &out) {
   bool is_known = head.how_ended != HowEnded::Not && head.end_thread < threads.size();
   Ending ending = ending_of(log);
   remove_texts(out);
-  Job job{options, threads, log.modules, out, base_name(head.program), date_of(head.time_of_day), head.program_start,
-          log.wall(head.end), is_known ? &threads[head.end_thread]->log : nullptr, head.end_processor, head.is_child != 0,
+  Job job{options,
+          threads,
+          log.modules,
+          out,
+          base_name(head.program),
+          date_of(head.time_of_day),
+          head.program_start,
+          log.wall(head.end),
+          is_known ? &threads[head.end_thread]->log : nullptr,
+          head.end_processor,
+          head.is_child != 0,
           unseen(head)};
   report(job, ending);
   tell_ending(log, ending);

@@ -64,7 +64,8 @@ bool ElfFile::defines(std::string_view name) const {
 
 std::string_view ElfFile::import_at(uint64_t address) const {
   auto found = imports.find(address);
-  return found == imports.end() || found->second >= symbols.size() ? std::string_view() : name_of(symbols[found->second]);
+  return found == imports.end() || found->second >= symbols.size() ? std::string_view()
+                                                                   : name_of(symbols[found->second]);
 }
 
 std::string_view ElfFile::bytes_at(uint64_t address, uint64_t count) const {

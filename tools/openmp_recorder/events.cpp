@@ -16,8 +16,8 @@ size_t segments_of(const Region &region) {
 }
 
 std::string row(uint64_t segment, const SegmentTime &time, const char *between) {
-  return std::to_string(segment) + between + std::to_string(time.worker) + between + std::to_string(time.begin) + between +
-         std::to_string(time.end) + "\n";
+  return std::to_string(segment) + between + std::to_string(time.worker) + between + std::to_string(time.begin) +
+         between + std::to_string(time.end) + "\n";
 }
 }  // namespace
 

@@ -12,10 +12,10 @@ struct SegmentTime {
 };
 
 struct Events {
-  std::string words;               // as a replay document has them
+  std::string words;  // as a replay document has them
   std::vector<SegmentTime> times;  // by the number of a segment
   size_t workers = 0;
-  bool whole = false;              // every segment of the text began and ended
+  bool whole = false;  // every segment of the text began and ended
 };
 
 Events event_lines(const Region &region);

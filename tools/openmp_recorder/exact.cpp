@@ -20,14 +20,14 @@ bool is_worth_it(const Task &t) { return tasks_of_fold(t) < t.size; }
 
 // Neighbouring tasks of one place, with nothing between them but `work` of the task that makes them.
 struct Row {
-  size_t next = 0;      // the step after the last one
+  size_t next = 0;  // the step after the last one
   const Task *first = nullptr;
-  uint64_t tasks = 0;   // with all below them
-  uint64_t alone = 0;   // that are left if each is folded by itself
+  uint64_t tasks = 0;  // with all below them
+  uint64_t alone = 0;  // that are left if each is folded by itself
   int64_t between = 0;  // `work` from the first one's creation to the last one's
-  int64_t work = 0;     // of the tasks
-  int64_t end = 0;      // of the last one to end, from the first one's creation
-  int64_t at = 0;       // the creation of that one
+  int64_t work = 0;  // of the tasks
+  int64_t end = 0;  // of the last one to end, from the first one's creation
+  int64_t at = 0;  // the creation of that one
   void add(const Task &t, int64_t pause);
   int64_t longest() const { return end - at; }
   uint64_t tasks_of_fold() const { return 1 + static_cast<uint64_t>(up(work - longest(), end)); }
@@ -68,7 +68,7 @@ Row row_from(const Task &maker, size_t from, uint64_t most) {
 class Folder {
  public:
   Folder(const Region &of, uint64_t chosen, Region &to) : region(of), together(chosen), made(to) {}
-  bool copy();       // false where there are too many tasks
+  bool copy();  // false where there are too many tasks
   void fold_root();
 
  private:

@@ -88,8 +88,7 @@ void Head::covered(const Region &region, const ThreadTime &threads) {
   int64_t text = std::clamp<int64_t>(in_units(region.root->total - region.in_own_regions), 0, own);
   if (!all) return;
   line("covers: " + std::string(threads.whole ? "" : "at most ") + in_percent(text, all) +
-       " of the program's thread-time (" + std::to_string(text) + " of " + std::to_string(all) +
-       unit() + ")");
+       " of the program's thread-time (" + std::to_string(text) + " of " + std::to_string(all) + unit() + ")");
   int64_t outside = std::min(in_units(threads.outside), all - own);
   line("not covered: " + std::to_string(outside) + " outside regions, " + std::to_string(all - own - outside) +
        " in other regions, " + std::to_string(own - text) + " of this region");
@@ -133,7 +132,8 @@ Beside beside_each_other(const Region &region) {
 
 // What was divided among as many threads as this run had.
 void Head::divided(const Region &region) {
-  if (region.threads == 1) return line("one thread: every task is undeferred, so that this text says nothing of more threads");
+  if (region.threads == 1)
+    return line("one thread: every task is undeferred, so that this text says nothing of more threads");
   std::string divided = "divided among " + std::to_string(region.threads) + " threads: ";
   for (auto &[what, met] : region.divided)
     line(divided + (what == Divided::Loops ? "loops, " : "sections, ") + times_and_place(met, places));
@@ -153,8 +153,8 @@ void Head::clocks(const Region &region) {
 void Head::differing(const char *name, const char *by, const Differing &seen, int64_t work) {
   if (seen.off < least_difference) return;
   std::string times = std::to_string(seen.at.times) + (seen.at.times == 1 ? " time" : " times");
-  line(name + ("in " + units(seen.cost)) + " of " + with_unit(work) + " of the work, " + by + with_unit(seen.off) + ", " +
-       times);
+  line(name + ("in " + units(seen.cost)) + " of " + with_unit(work) + " of the work, " + by + with_unit(seen.off) +
+       ", " + times);
 }
 
 void Head::times(const Region &region, const Recording &recording) {

@@ -16,5 +16,5 @@ struct Recording {
 };
 
 std::string head_of(const Region &region, const Recording &recording, const Options &options, const Places &places);
-void remark_locks(Region &region);   // where they take a hundredth of the region's work
+void remark_locks(Region &region);  // where they take a hundredth of the region's work
 void remark_clocks(Region &region);  // where what they differ by is a twentieth of the work, or at once of the span

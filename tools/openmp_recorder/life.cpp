@@ -74,7 +74,8 @@ void after_fork() {
 void tell_beginning() {
   if (life->options.quiet) return;
   say("recording to " + life->log.folder);
-  if (life->log.unseen & log_form::unseen_detach) say("gcc's detach is not seen by LLVM's runtime, and the program may crash");
+  if (life->log.unseen & log_form::unseen_detach)
+    say("gcc's detach is not seen by LLVM's runtime, and the program may crash");
   if (life->log.unseen & log_form::unseen_target)
     say("gcc's target is run by its own runtime beside LLVM's: with nowait or depend the program's results may be wrong");
 }

@@ -3,4 +3,4 @@
 
 void begin_recording(void (*call)());  // of the recorder, that makes a record and nothing else
 void expect_end_by_this_thread();  // by `exit`, beside others perhaps
-void end_recording();              // the log has when, once
+void end_recording();  // the log has when, once

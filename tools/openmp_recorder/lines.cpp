@@ -25,8 +25,8 @@ std::set<std::string> lines_of(const std::set<const void *> &codes, const Places
 }
 }  // namespace
 
-// No `task` or `taskwait` stands on the line of its region, and no `taskwait` on a task's. A call of the runtime that is
-// its function's last may be a jump: then what is told is the place after the call of that function.
+// No `task` or `taskwait` stands on the line of its region, and no `taskwait` on a task's. A call of the runtime that
+// is its function's last may be a jump: then what is told is the place after the call of that function.
 void remark_lines(Region &region, const Places &places) {
   Constructs all = constructs_of(region);
   std::set<std::string> of_tasks = lines_of(all.tasks, places);

@@ -15,7 +15,7 @@ class Locations {
   using Line = std::array<uint32_t, in_line>;  // one more than the numbers, 0 where there is none
   struct Slot {
     uint64_t line = 0;  // its addresses divided by their number
-    uint32_t at = 0;    // one more than its place, 0 where the slot is free
+    uint32_t at = 0;  // one more than its place, 0 where the slot is free
   };
   std::vector<Slot> slots;  // a power of two, of which at most half are taken
   std::vector<Line> lines;

@@ -7,7 +7,7 @@
 #include <vector>
 
 struct LockUse {
-  int kind = 0;                // as OMPT has it
+  int kind = 0;  // as OMPT has it
   const void *code = nullptr;  // where it was first asked for
   uint64_t times = 0;
   int64_t inside = 0, waiting = 0;

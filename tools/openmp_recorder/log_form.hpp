@@ -1,6 +1,6 @@
-// The binary form of a log, which docs/FORMATS.md describes: what the recorder's library writes and `convert_log` reads.
-// NAME.log is a folder with a head, a list of modules, and two files of each thread: blocks of its records, and the last
-// block, which is mapped while the thread fills it.
+// The binary form of a log, which LOG.md describes: what the recorder's library writes and `convert_log` reads.
+// NAME.log is a folder with a head, a list of modules, and two files of each thread: blocks of its records, and the
+// last block, which is mapped while the thread fills it.
 #pragma once
 #include <cstdint>
 #include <string>
@@ -13,9 +13,9 @@ constexpr const char *head_file = "/head", *modules_file = "/modules", *thread_f
 // In machine order. Kinds are those of `Told`; what has the kind 0 is not written yet, and the thread's records end
 // there. A record by the processor's clock has eight bytes more: that clock of the thread, in nanoseconds.
 struct RawRecord {
-  uint64_t at;            // ticks when the runtime called
-  uint32_t task, other;   // numbers of tasks, 0 where there is none; `other` is also a region
-  uint64_t word;          // where in the program, 48 bits; the kind, 8; a detail, 8
+  uint64_t at;  // ticks when the runtime called
+  uint32_t task, other;  // numbers of tasks, 0 where there is none; `other` is also a region
+  uint64_t word;  // where in the program, 48 bits; the kind, 8; a detail, 8
 };
 static_assert(sizeof(RawRecord) == 24, "four of them are written for a task that waits for none");
 constexpr uint32_t bytes_by_wall = sizeof(RawRecord), bytes_by_processor = bytes_by_wall + sizeof(int64_t);
@@ -42,21 +42,21 @@ struct Head {
   char magic[8];
   uint32_t version, record_bytes;
   Counter counter;
-  uint32_t by_processor;   // whether costs are read on the processor's clock
-  Pair first, second;      // when recording began, and a millisecond or more later
-  int64_t time_of_day;     // of `first`, in nanoseconds since 1970
-  int64_t program_start;   // on CLOCK_MONOTONIC
-  int64_t in_a_record;     // nanoseconds that a record takes, on the clock of costs
+  uint32_t by_processor;  // whether costs are read on the processor's clock
+  Pair first, second;  // when recording began, and a millisecond or more later
+  int64_t time_of_day;  // of `first`, in nanoseconds since 1970
+  int64_t program_start;  // on CLOCK_MONOTONIC
+  int64_t in_a_record;  // nanoseconds that a record takes, on the clock of costs
   uint32_t process, is_child;
-  uint32_t unseen;         // bits: gcc's `detach`, and its `target`
+  uint32_t unseen;  // bits: gcc's `detach`, and its `target`
   HowEnded how_ended;
-  Pair end;                // when it ended, or recording stopped inside a region
-  int64_t end_processor;   // of the thread that ended it
+  Pair end;  // when it ended, or recording stopped inside a region
+  int64_t end_processor;  // of the thread that ended it
   uint32_t end_thread;
-  Stopped stopped;         // why, where recording stopped before the program did
+  Stopped stopped;  // why, where recording stopped before the program did
   Pair stop;
-  char program[256];      // its path
+  char program[256];  // its path
 };
-static_assert(sizeof(Head) == 400, "as docs/FORMATS.md has it");
+static_assert(sizeof(Head) == 400, "as LOG.md has it");
 enum Unseen : uint32_t { unseen_detach = 1, unseen_target = 2 };
 }  // namespace log_form

@@ -50,7 +50,8 @@ Head *map_head(const std::string &path) {
   if (file < 0) return nullptr;
   flock(file, LOCK_SH);
   void *page = MAP_FAILED;
-  if (!posix_fallocate(file, 0, sizeof(Head))) page = mmap(nullptr, sizeof(Head), PROT_READ | PROT_WRITE, MAP_SHARED, file, 0);
+  if (!posix_fallocate(file, 0, sizeof(Head)))
+    page = mmap(nullptr, sizeof(Head), PROT_READ | PROT_WRITE, MAP_SHARED, file, 0);
   return page == MAP_FAILED ? nullptr : static_cast<Head *>(page);
 }
 

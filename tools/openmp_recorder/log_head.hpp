@@ -7,7 +7,7 @@
 #include "thread_log.hpp"
 
 struct Beginning {
-  std::string folder;       // made with the first record
+  std::string folder;  // made with the first record
   bool is_child = false;
   uint32_t unseen = 0;
   int64_t program_start = 0;
@@ -17,19 +17,20 @@ void begin_log(const Beginning &how, void (*call)());  // which makes a record, 
 void set_time_of_beginning(uint64_t took);  // which is no code of the program
 void end_log(log_form::HowEnded how);
 void stop_log(log_form::Stopped why);  // the first reason stays
-void forget_log();                     // in the child after a fork
+void forget_log();  // in the child after a fork
 
 const Beginning &this_log();
 extern std::atomic<log_form::Stopped> log_stopped;
-extern __attribute__((tls_model("initial-exec"))) __thread ThreadLog *thread_log;  // the calling thread's, once it is made
-ThreadLog *make_thread_log();   // null where it cannot be made
-bool nothing_recorded();        // in this process
+extern
+    __attribute__((tls_model("initial-exec"))) __thread ThreadLog *thread_log;  // the calling thread's, once it is made
+ThreadLog *make_thread_log();  // null where it cannot be made
+bool nothing_recorded();  // in this process
 double nanoseconds_of_tick();
 int64_t wall_time_at(uint64_t ticks);
 void count_open_region(int more);
-bool inside_a_region();         // any thread of the program
-uint32_t new_number();          // of a task, from 1; each thread takes them in blocks
-uint32_t new_region();          // from 1, in the order of time
+bool inside_a_region();  // any thread of the program
+uint32_t new_number();  // of a task, from 1; each thread takes them in blocks
+uint32_t new_region();  // from 1, in the order of time
 
 inline bool is_stopped() { return log_stopped.load(std::memory_order_relaxed) != log_form::Stopped::Not; }
 inline ThreadLog *own_log() { return __builtin_expect(thread_log != nullptr, true) ? thread_log : make_thread_log(); }

@@ -2,5 +2,5 @@
 #pragma once
 #include <string>
 
-void tell_modules(const std::string &folder);        // all that are loaded
-void tell_new_modules(const std::string &folder);    // the same where others were loaded since
+void tell_modules(const std::string &folder);  // all that are loaded
+void tell_new_modules(const std::string &folder);  // the same where others were loaded since

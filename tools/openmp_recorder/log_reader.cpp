@@ -41,7 +41,8 @@ bool exists(const std::string &path) { return !access(path.c_str(), R_OK); }
 TickTime::TickTime(const Head &head) : first(head.first) {
   if (head.counter != log_form::Counter::TimeStamp) return;
   const log_form::Pair &other = head.how_ended == log_form::HowEnded::Not ? head.second : head.end;
-  if (other.ticks > first.ticks) tick = static_cast<double>(other.wall - first.wall) / static_cast<double>(other.ticks - first.ticks);
+  if (other.ticks > first.ticks)
+    tick = static_cast<double>(other.wall - first.wall) / static_cast<double>(other.ticks - first.ticks);
 }
 
 LogFolder::LogFolder(const std::string &path) : head(read_head(path + log_form::head_file)) {

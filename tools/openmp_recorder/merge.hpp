@@ -14,7 +14,9 @@ class InOrder {
   struct Next {
     const Record *record = nullptr;
     Records *of = nullptr;
-    bool operator<(const Next &other) const { return record->order > other.record->order; }  // the least is the top of the heap
+    bool operator<(const Next &other) const {
+      return record->order > other.record->order;
+    }  // the least is the top of the heap
   };
   std::vector<Next> others;  // a heap, without the thread which is read
   Next current;

@@ -31,11 +31,11 @@ class Module {
   const Entry *at(ElfW(Addr) address) const {
     return reinterpret_cast<const Entry *>(address < base ? base + address : address);
   }
-  void read(const ElfW(Dyn) *entry);
+  void read(const ElfW(Dyn) * entry);
   bool has(const Relocations &relocations, const std::string &name) const;
 };
 
-void Module::read(const ElfW(Dyn) *entry) {
+void Module::read(const ElfW(Dyn) * entry) {
   for (; entry->d_tag != DT_NULL; entry++) {
     switch (entry->d_tag) {
       case DT_SYMTAB: symbols = at<ElfW(Sym)>(entry->d_un.d_ptr); break;
@@ -51,7 +51,7 @@ void Module::read(const ElfW(Dyn) *entry) {
 bool Module::has(const Relocations &relocations, const std::string &name) const {
   if (!relocations.first || !symbols || !names) return false;
   const ElfW(Rela) *end = relocations.first + relocations.bytes / sizeof(ElfW(Rela));
-  return std::any_of(relocations.first, end, [&](const ElfW(Rela) &one) {
+  return std::any_of(relocations.first, end, [&](const ElfW(Rela) & one) {
     const ElfW(Sym) &symbol = symbols[ELF64_R_SYM(one.r_info)];
     return symbol.st_shndx == SHN_UNDEF && name == names + symbol.st_name;
   });

@@ -61,7 +61,8 @@ bool ModulesOfRun::follows_call_of_runtime(const void *code) const {
   };
   std::vector<unsigned char> before = bytes(after - longest_call, longest_call);
   if (before.size() < longest_call) return true;
-  if (before[0] == by_table && before[1] == call_by_table) return is_import_of_runtime(*module, relative(before, 2, after));
+  if (before[0] == by_table && before[1] == call_by_table)
+    return is_import_of_runtime(*module, relative(before, 2, after));
   if (before[1] != call) return true;
   uint64_t stub = relative(before, 2, after);
   if (in_runtime(reinterpret_cast<const void *>(stub + module->base))) return true;

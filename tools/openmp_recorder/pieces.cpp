@@ -7,7 +7,7 @@
 #include "span.hpp"
 
 namespace {
-constexpr int64_t shortest = 1000;             // of a piece, in nanoseconds
+constexpr int64_t shortest = 1000;  // of a piece, in nanoseconds
 constexpr uint64_t most_pieces = 1 << 20;
 constexpr int64_t share_that_moves_little = 50;  // of the span
 
@@ -19,8 +19,8 @@ void count_all_turns(Run &run) {
     const Loop &loop = *chunk.loop;
     if (chunk.task->children) chunk.turns = 1;  // regions in it
     else if (loop.told && loop.told < loop.count)
-      chunk.turns = static_cast<uint64_t>(static_cast<double>(chunk.turns) * static_cast<double>(loop.count) /
-                                          static_cast<double>(loop.told) + 0.5);
+      chunk.turns = static_cast<uint64_t>(
+          static_cast<double>(chunk.turns) * static_cast<double>(loop.count) / static_cast<double>(loop.told) + 0.5);
   }
 }
 
@@ -61,7 +61,7 @@ class Chooser {
   int64_t least_for(uint64_t most, int64_t from) const;  // of which so many pieces are at most; 0 where none is
   uint64_t pieces(int64_t least) const;
   int64_t longer(int64_t least) const;  // all loops one after the other, than with a piece for each turn
-  uint64_t tasks() const;               // that are no pieces
+  uint64_t tasks() const;  // that are no pieces
   void write(int64_t least);
 
  private:

@@ -12,9 +12,8 @@ void add(Task &t, Step step) {
 
 // What costs nothing and makes nothing leaves no trace.
 bool is_empty(const Task &part) {
-  return part.items.empty() && std::all_of(part.steps.begin(), part.steps.end(), [](const Step &step) {
-    return step.kind == Kind::Work && !step.cost();
-  });
+  return part.items.empty() && std::all_of(part.steps.begin(), part.steps.end(),
+                                           [](const Step &step) { return step.kind == Kind::Work && !step.cost(); });
 }
 
 // The parts of each phase that make tasks come first, where none depends on another.

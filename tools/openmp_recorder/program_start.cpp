@@ -18,8 +18,10 @@ int64_t age_in_ticks(int64_t tick) {
   FILE *file = fopen("/proc/self/stat", "r");
   if (!file) return 0;
   unsigned long long start = 0;
-  int fields = fscanf(file, "%*d (%*[^)]) %*c %*d %*d %*d %*d %*d %*u %*u %*u %*u %*u %*u %*u "
-                            "%*d %*d %*d %*d %*d %*d %llu", &start);
+  int fields = fscanf(file,
+                      "%*d (%*[^)]) %*c %*d %*d %*d %*d %*d %*u %*u %*u %*u %*u %*u %*u "
+                      "%*d %*d %*d %*d %*d %*d %llu",
+                      &start);
   fclose(file);
   return fields == 1 ? read(CLOCK_BOOTTIME) - static_cast<int64_t>(start) * tick : 0;
 }

@@ -17,10 +17,10 @@ struct Resumed {
 };
 
 struct Worker {
-  int64_t stood_still = 0;           // its clock, so far
+  int64_t stood_still = 0;  // its clock, so far
   int64_t worked = 0, compared = 0;  // in code so far, and when both clocks were compared last
-  std::vector<uint32_t> current;     // the task that runs, innermost region last
-  std::vector<Task *> waits;         // tasks whose wait for dependences it is in, innermost last
+  std::vector<uint32_t> current;  // the task that runs, innermost region last
+  std::vector<Task *> waits;  // tasks whose wait for dependences it is in, innermost last
   Resumed resumed;
 };
 
@@ -28,22 +28,22 @@ struct Worker {
 // location each, since what waits for each other is told by `depend`.
 struct Turns {
   uint32_t around = 0, turn = 0;
-  int64_t since = 0;           // the running piece, on the wall clock
-  bool waited = false;         // in this turn
-  bool after_a_wait = false;   // the running piece began where a wait for other turns was over
+  int64_t since = 0;  // the running piece, on the wall clock
+  bool waited = false;  // in this turn
+  bool after_a_wait = false;  // the running piece began where a wait for other turns was over
 };
 
 struct ImplicitTask {
-  unsigned phase = 0;                // barriers before it
+  unsigned phase = 0;  // barriers before it
   std::vector<const void *> groups;  // that are open around the barrier that it is at
-  unsigned loops = 0;                // that it met
-  Loop *loop = nullptr;              // that it is in
-  Task *chunk = nullptr;             // of it, that runs
-  size_t number = 0;                 // of the chunk
-  bool in_group = false;             // of the chunks
-  bool all_turns = false;            // are taken to be the chunk
-  bool kept = false;                 // the rest of the loop is code of the part
-  std::unique_ptr<Turns> turns;      // of the loop, where they wait for each other
+  unsigned loops = 0;  // that it met
+  Loop *loop = nullptr;  // that it is in
+  Task *chunk = nullptr;  // of it, that runs
+  size_t number = 0;  // of the chunk
+  bool in_group = false;  // of the chunks
+  bool all_turns = false;  // are taken to be the chunk
+  bool kept = false;  // the rest of the loop is code of the part
+  std::unique_ptr<Turns> turns;  // of the loop, where they wait for each other
 };
 
 class Reader {
@@ -58,7 +58,7 @@ class Reader {
   HowToRead how;
   const Record *r = nullptr;
   const Log *log = nullptr;
-  int64_t now = 0;            // on the thread's own clock
+  int64_t now = 0;  // on the thread's own clock
   std::vector<Task *> tasks;  // by number; of an implicit task its part
   std::unordered_map<uint32_t, ImplicitTask> implicit;  // by number
   std::vector<Worker> workers;
@@ -121,8 +121,8 @@ class Reader {
 
   // whole.cpp: the whole program as one text
   std::map<std::pair<uint32_t, unsigned>, Loop *> loops;  // by region, and how many the threads met there before
-  std::vector<Task *> hosts;                              // the code outside of regions of threads but the first
-  unsigned in_loops = 0;                                  // implicit tasks
+  std::vector<Task *> hosts;  // the code outside of regions of threads but the first
+  unsigned in_loops = 0;  // implicit tasks
   bool is_host(const Task *t) const { return run.whole && t->part && t->region == run.whole.get(); }
   void begin_root();
   void initial_begin();

@@ -50,8 +50,8 @@ struct RemarkLine {
   Remark remark;
   const char *what;
   Moved work, span;
-  const char *more;      // of the effect: a condition, or what else; may be empty
-  bool counted = true;   // how often and where it was seen
+  const char *more;  // of the effect: a condition, or what else; may be empty
+  bool counted = true;  // how often and where it was seen
 };
 
 const RemarkLine &line_of(Remark remark);
@@ -61,4 +61,4 @@ using Remarks = std::map<Remark, Seen>;
 
 class Places;
 std::string remark_line(Remark what, const Seen &seen, const Places &places);  // without `# remark: `
-std::string times_and_place(const Seen &seen, const Places &places);           // `3 times at file.c:10`
+std::string times_and_place(const Seen &seen, const Places &places);  // `3 times at file.c:10`

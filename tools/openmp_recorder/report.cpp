@@ -79,7 +79,8 @@ Size Reporter::fold_as_asked(Region &region) {
 // Of a text of this work, in units.
 std::string Reporter::head(Region &region, int64_t work) {
   int64_t lost = region.work - work * options.unit;
-  if (std::abs(lost) > region.work / 50) region.remarks[lost > 0 ? Remark::RoundedDown : Remark::RoundedUp].add(nullptr);
+  if (std::abs(lost) > region.work / 50)
+    region.remarks[lost > 0 ? Remark::RoundedDown : Remark::RoundedUp].add(nullptr);
   remark_clocks(region);
   if (options.lines) remark_lines(region, places);
   return head_of(region, recording, options, places);
@@ -92,7 +93,8 @@ Text Reporter::finish(Region &region, bool exclusion_as_order) {
 }
 
 void Reporter::tell_remarks(const Region &region, const std::string &name) {
-  for (auto &[what, seen] : region.remarks) Line("remark").put("name", name).put("remark", remark_line(what, seen, places));
+  for (auto &[what, seen] : region.remarks)
+    Line("remark").put("name", name).put("remark", remark_line(what, seen, places));
 }
 
 // Which files hold the run; where there is no such document, why. Of the whole program there is none.
@@ -161,7 +163,10 @@ void Reporter::write_large(Region &region, const std::string &name, const Size &
 }
 
 Line &Reporter::put_size(Line &line, const std::string &file, const Size &size, int64_t work) {
-  return line.put("file", file).put("tasks", size.tasks).put("segments", size.segments).put("work", work)
+  return line.put("file", file)
+      .put("tasks", size.tasks)
+      .put("segments", size.segments)
+      .put("work", work)
       .put("unit", options.unit_name);
 }
 
@@ -184,7 +189,10 @@ void Reporter::tell_advice(Region &region, const std::string &file, const Excess
   else {
     std::string offers;
     for (const Offer &offer : advice.offers) offers += (offers.empty() ? "" : ", ") + offer_in_json(offer);
-    line.put("advice", "folds").put("work", advice.work).put("span", advice.span).put("exact", advice.exact)
+    line.put("advice", "folds")
+        .put("work", advice.work)
+        .put("span", advice.span)
+        .put("exact", advice.exact)
         .put_bare("offers", "[" + offers + "]");
   }
 }
@@ -225,7 +233,9 @@ void keep_the_heaviest(std::vector<Region *> &regions, const Options &options) {
   std::stable_sort(regions.begin(), regions.end(), [](auto *a, auto *b) { return work_of(*a) > work_of(*b); });
   int64_t left_out = 0;
   for (size_t i = options.regions; i < regions.size(); i++) left_out += work_of(*regions[i]);
-  Line("more regions").put("regions", uint64_t{regions.size() - options.regions}).put("work", left_out / options.unit)
+  Line("more regions")
+      .put("regions", uint64_t{regions.size() - options.regions})
+      .put("work", left_out / options.unit)
       .put("unit", options.unit_name);
   regions.resize(options.regions);
   std::sort(regions.begin(), regions.end(), [](auto *a, auto *b) { return a->place < b->place; });
@@ -236,9 +246,7 @@ bool folds_asked(const Options &options) { return options.fold_depth || options.
 // The most tasks of a region that may get a replay document; with folds any number may.
 uint64_t most_to_replay(const Options &options) { return folds_asked(options) ? UINT64_MAX : most_tasks; }
 
-WhichParts parts_asked(const Options &options) {
-  return {options.parts, folds_asked(options) || options.fold_exact};
-}
+WhichParts parts_asked(const Options &options) { return {options.parts, folds_asked(options) || options.fold_exact}; }
 
 // Thread-time outside of regions. Where the thread that ended the program met no region, it is not the one whose
 // processor time that is.

@@ -24,8 +24,8 @@ class Step {
   static Step work(int64_t cost) { return {Kind::Work, static_cast<uint64_t>(cost)}; }
   static Step create(Task *child) { return {Kind::Create, reinterpret_cast<uint64_t>(child)}; }
   static Step at(Kind kind, const void *code) { return {kind, reinterpret_cast<uint64_t>(code)}; }
-  int64_t cost() const { return static_cast<int64_t>(value); }                          // of Work, in nanoseconds
-  Task *child() const { return reinterpret_cast<Task *>(uint64_t{value}); }             // of Create
+  int64_t cost() const { return static_cast<int64_t>(value); }  // of Work, in nanoseconds
+  Task *child() const { return reinterpret_cast<Task *>(uint64_t{value}); }  // of Create
   const void *code() const { return reinterpret_cast<const void *>(uint64_t{value}); }  // of Wait and the groups
   void add_cost(int64_t more) { value += static_cast<uint64_t>(more); }
 
@@ -37,7 +37,7 @@ static_assert(sizeof(Step) == 8, "a task has one to several");
 
 enum class Fold : uint8_t {
   No,
-  Body,   // the task's body is one `work`
+  Body,  // the task's body is one `work`
   Whole,  // the task is `work` of its parent
   Joined  // the task is `work` of the next of its siblings
 };
@@ -51,7 +51,7 @@ struct Item {
 // A wait for dependences: of the undeferred task that follows, or a `taskwait` with `depend`.
 struct DependWait {
   const void *code;
-  int64_t over;    // the clock of the thread when it was over, so far as is known
+  int64_t over;  // the clock of the thread when it was over, so far as is known
   const Log *log;  // of that thread
   ShortList<Item> items;
   bool is_over = false;
@@ -64,11 +64,11 @@ struct Task {
   bool part = false;  // the code of an implicit task between two barriers
   bool undeferred = false, untied = false;
   bool auxiliary = false;  // of a taskloop's, made by the runtime to make others
-  bool of_loop = false;    // a taskloop's, or a chunk of a loop
-  bool shown = true;       // while it is written
+  bool of_loop = false;  // a taskloop's, or a chunk of a loop
+  bool shown = true;  // while it is written
   Fold fold = Fold::No;
-  uint32_t pieces = 0;     // of a loop's chunk: so many tasks that share its cost stand for it; 0 for what is none
-  unsigned segment = 0;    // the one that is open, counted within the task
+  uint32_t pieces = 0;  // of a loop's chunk: so many tasks that share its cost stand for it; 0 for what is none
+  unsigned segment = 0;  // the one that is open, counted within the task
   unsigned children = 0;
   ShortList<Step> steps;
   ShortList<Item> items;
@@ -77,27 +77,27 @@ struct Task {
   union {
     struct {  // while the records are read
       Region *region;
-      const Log *on;         // of the thread that runs it, or last did
-      int64_t since;         // on that thread's clock
-      size_t started;        // the event with which the running segment began
-      DependWait *wait;      // for dependences, and not settled; its own
-      const void *loop;      // the taskloop that it is in
+      const Log *on;  // of the thread that runs it, or last did
+      int64_t since;  // on that thread's clock
+      size_t started;  // the event with which the running segment began
+      DependWait *wait;  // for dependences, and not settled; its own
+      const void *loop;  // the taskloop that it is in
       uint32_t interrupted;  // the task that the thread left for it, by number
       unsigned open_groups;  // of its own code
       bool running, waiting, over;
     };
     struct {  // while it is written
-      int64_t total;           // `work` with everything below it
+      int64_t total;  // `work` with everything below it
       int64_t end, end_below;  // of its code and of all below it, from its start on as many threads as can be used
-      int64_t joined;          // the cost of siblings that are `work` of it
+      int64_t joined;  // the cost of siblings that are `work` of it
       unsigned joined_tasks;
-      unsigned depth;          // of tasks within each other; 0 for a part
-      unsigned outer_groups;   // of the parent, open where the task is created
-      unsigned inner_groups;   // the most that are open at once in its own code
-      unsigned blocks;         // open in its own code outside its own groups
-      unsigned size;           // tasks, with all below it
-      unsigned stands_for;     // tasks, where it or the row that it begins is an exact fold
-      uint32_t first_number;   // the place of its segments among the region's numbers; none where it is not written
+      unsigned depth;  // of tasks within each other; 0 for a part
+      unsigned outer_groups;  // of the parent, open where the task is created
+      unsigned inner_groups;  // the most that are open at once in its own code
+      unsigned blocks;  // open in its own code outside its own groups
+      unsigned size;  // tasks, with all below it
+      unsigned stands_for;  // tasks, where it or the row that it begins is an exact fold
+      uint32_t first_number;  // the place of its segments among the region's numbers; none where it is not written
     };
   };
   Task() { begin_writing(); }
@@ -135,7 +135,7 @@ inline void Task::begin_writing() {
 struct Differing {
   int64_t cost = 0, off = 0;  // of the code where they do by more than a twentieth; off the processor there
   Seen at;
-  int64_t slightly = 0;       // off the processor in other code
+  int64_t slightly = 0;  // off the processor in other code
   Seen slightly_at;
   void add(const Passed &passed, int64_t code_cost, int64_t off_there, const void *code) {
     if (!passed.differ()) {
@@ -177,14 +177,14 @@ struct Event {
 struct Part {
   Task *task;
   unsigned phase;  // barriers before it
-  size_t first;    // its first event
+  size_t first;  // its first event
 };
 
 // The piece of a turn before a wait for another turn. Its cost may have the wait in it, whose beginning is not told.
 struct TurnWait {
   Task *piece;
   int64_t least, most;  // what the piece costs without the wait
-  bool is_none;         // the other turn was done long before, so nothing was waited for
+  bool is_none;  // the other turn was done long before, so nothing was waited for
 };
 
 // A worksharing loop, or sections, as the threads of a region met it.
@@ -192,8 +192,8 @@ struct Loop {
   Divided what = Divided::Loops;
   const void *code = nullptr;
   uint64_t count = 0, told = 0;  // turns: of the loop, and of the chunks that were told
-  bool kept = false;             // some of it, or all, is code of the parts, as this run divided it
-  uint32_t order = 0;            // of an `ordered` loop: the location that its turns take in order
+  bool kept = false;  // some of it, or all, is code of the parts, as this run divided it
+  uint32_t order = 0;  // of an `ordered` loop: the location that its turns take in order
   std::vector<TurnWait> waits;
   int64_t unwaited = INT64_MAX, inside = INT64_MAX;  // the shortest turn without waits, and after them
 };
@@ -207,35 +207,35 @@ struct Chunk {
 struct Region {
   const void *code = nullptr;
   unsigned threads = 0;
-  uint64_t place = 0;    // in the order of time, from 1
+  uint64_t place = 0;  // in the order of time, from 1
   RegionTime time{};
   Met met;
   std::deque<Task> tasks;  // in the order of creation, each before those that it makes
-  Locations locations;     // that its tasks name
+  Locations locations;  // that its tasks name
   std::vector<Part> parts;
   std::vector<Part> left_in_groups;  // parts at a barrier inside a group, until it is over
   std::vector<Event> events;
   bool has_events = true;  // else they are given up, since it has more tasks than a replay document holds
-  uint64_t created = 0;    // tasks
+  uint64_t created = 0;  // tasks
   bool of_program = true;  // else of the runtime, for threads that it keeps for itself
-  int64_t cost = 0;        // of all its code
+  int64_t cost = 0;  // of all its code
   std::map<LockName, LockUse> locks;
   Remarks remarks;
-  Task *root = nullptr;           // what is written
-  int64_t work = 0, span = 0;     // without folds, in nanoseconds
-  bool joined = false;            // tasks may be joined
+  Task *root = nullptr;  // what is written
+  int64_t work = 0, span = 0;  // without folds, in nanoseconds
+  bool joined = false;  // tasks may be joined
   int64_t in_parts = 0, in_tasks = 0;  // the costs of parts without tasks, and of all else
-  int64_t in_own_regions = 0;          // of the cost: what passed while a task was in a region of its own
+  int64_t in_own_regions = 0;  // of the cost: what passed while a task was in a region of its own
   Differing differing;
   Differing asleep;  // by the wall clock: code in which the thread gave its processor up
   int64_t untimed = 0;  // the wall clock in segments that were left in their midst, until they were
   std::map<Divided, Seen> divided;  // of the thread that met the most
-  std::vector<uint32_t> numbers;    // of the segments in the text, task by task; none where one is part of a later one
+  std::vector<uint32_t> numbers;  // of the segments in the text, task by task; none where one is part of a later one
 
   // where the whole program is one text
   Region *whole = nullptr;  // that its tasks stand in
-  Task *owner = nullptr;    // met it, and it is not in its place yet
-  bool resumes = false;     // the owner ran on the same thread
+  Task *owner = nullptr;  // met it, and it is not in its place yet
+  bool resumes = false;  // the owner ran on the same thread
 };
 
 // The region whose text has the tasks of this one.
@@ -245,31 +245,31 @@ inline Region &home(Region &region) { return region.whole ? *region.whole : regi
 struct WholeProgram : Region {
   uint64_t regions = 0, loops = 0, pieces = 0;
   int64_t least_piece = 0;  // of loops, in nanoseconds
-  int64_t recorder = 0;     // its own time outside of regions, on the first thread
+  int64_t recorder = 0;  // its own time outside of regions, on the first thread
   int64_t serial = 0, in_loops = 0;  // of the cost: outside of regions; in chunks of loops
 };
 
 struct Run {
   std::map<uint32_t, std::unique_ptr<Region>> regions;  // by number, so in order
-  Seen outside;                                         // tasks created outside any region
+  Seen outside;  // tasks created outside any region
   std::unique_ptr<WholeProgram> whole;
-  std::deque<Loop> loops;      // of the whole program
+  std::deque<Loop> loops;  // of the whole program
   std::vector<Chunk> chunks;
 };
 
 // When recording ended before the runtime's own end; the clock of the records and the wall clock, 0 where it did not.
 struct Ending {
   int64_t clock = 0, wall = 0;
-  bool full = false;    // there was no room for more records
+  bool full = false;  // there was no room for more records
   bool killed = false;  // the last record tells when; filled in where that was inside a region
-  int64_t last = 0;     // the wall clock at the last record
+  int64_t last = 0;  // the wall clock at the last record
 };
 
 struct HowToRead {
   uint64_t most_replayed = UINT64_MAX;  // of a region with more tasks no events are kept
-  bool whole = false;                   // the whole program is to be one text
-  int64_t start = 0, end = 0;           // of the program, on the clock of costs; an end that is not known is 0
-  const Log *last = nullptr;            // of the thread that ended it, whose clock that is by the processor's
+  bool whole = false;  // the whole program is to be one text
+  int64_t start = 0, end = 0;  // of the program, on the clock of costs; an end that is not known is 0
+  const Log *last = nullptr;  // of the thread that ended it, whose clock that is by the processor's
 };
 
 Run read_run(const std::vector<Records *> &threads, Ending &ending, const HowToRead &how = {});

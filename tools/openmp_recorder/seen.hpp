@@ -5,7 +5,7 @@
 struct Seen {
   uint64_t times = 0;
   const void *code = nullptr;  // of the first
-  bool elsewhere = false;      // too
+  bool elsewhere = false;  // too
   void add(const void *at) {
     if (!times++) code = at;
     else if (at != code) elsewhere = true;

@@ -18,7 +18,9 @@ std::string quoted(const std::string &word) {
 }
 
 // The address as the module's file has it, of the call and not of what follows it.
-uint64_t in_file(const void *code, const ModuleOfRun &module) { return reinterpret_cast<uint64_t>(code) - 1 - module.base; }
+uint64_t in_file(const void *code, const ModuleOfRun &module) {
+  return reinterpret_cast<uint64_t>(code) - 1 - module.base;
+}
 
 // `file:line`, where neither is unknown: addr2line then says `??` and `:0` or `:?`.
 bool is_known(const std::string &answer) {

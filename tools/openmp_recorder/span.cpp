@@ -36,8 +36,8 @@ class Timeline {
   Task &task;
   Table &table;
   int64_t now = 0;
-  int64_t children = 0;         // the end of the last child
-  int64_t below = 0;            // and of the last task below
+  int64_t children = 0;  // the end of the last child
+  int64_t below = 0;  // and of the last task below
   std::vector<int64_t> groups;  // of the last task in each group that is open
 
   void step(const Step &step);

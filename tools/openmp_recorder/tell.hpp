@@ -1,5 +1,5 @@
-// What the converter tells: a line of JSON on standard output for each thing. The words that people read are made of them
-// by record/told.py.
+// What the converter tells: a line of JSON on standard output for each thing. The words that people read are made of
+// them by record/told.py.
 #pragma once
 #include <cstdint>
 #include <string>

@@ -15,11 +15,11 @@ constexpr std::string_view of_a_thread = "one of the region's threads";
 struct Place {
   Task &task;
   unsigned indent;
-  size_t next = 0;       // of its steps
+  size_t next = 0;  // of its steps
   unsigned segment = 0;  // the open one, counted within the task
-  int64_t cost = 0;      // of the open segment, not written yet
-  unsigned folded = 0;   // tasks below whose cost is in it
-  unsigned joined = 0;   // siblings whose cost is in it
+  int64_t cost = 0;  // of the open segment, not written yet
+  unsigned folded = 0;  // tasks below whose cost is in it
+  unsigned joined = 0;  // siblings whose cost is in it
 };
 
 // Tasks may lie so deep within each other that the writer keeps the open ones in a list of its own.
@@ -34,7 +34,7 @@ class Writer {
   const Style &style;
   const Places &places;
   const Taker &taker;
-  Piece piece;                // not handed on yet
+  Piece piece;  // not handed on yet
   std::vector<Place> inside;  // the open tasks, innermost last
   uint32_t opened = 0;
   std::vector<uint32_t> names;  // by the number of a location

@@ -10,14 +10,14 @@
 #include "source.hpp"
 
 struct Style {
-  int64_t unit = 1;                 // nanoseconds
+  int64_t unit = 1;  // nanoseconds
   bool exclusion_as_order = false;  // `mutexinoutset` as `inout`, and not as `inoutset`
-  bool large = false;               // lines are not indented, and segments get no numbers
+  bool large = false;  // lines are not indented, and segments get no numbers
 };
 
 struct Text {
   std::string words;  // without a head
-  int64_t work = 0;   // in units
+  int64_t work = 0;  // in units
 };
 
 using Taker = std::function<void(std::string_view piece)>;

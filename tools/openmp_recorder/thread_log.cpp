@@ -82,9 +82,11 @@ class Scratch : public ThreadLog {
 }  // namespace
 
 ThreadLog::ThreadLog(unsigned of)
-    : number(of), bytes(costs_by_processor ? log_form::bytes_by_processor : log_form::bytes_by_wall),
+    : number(of),
+      bytes(costs_by_processor ? log_form::bytes_by_processor : log_form::bytes_by_wall),
       far_ticks(static_cast<uint64_t>(far_apart / nanoseconds_of_tick())),
-      near_ticks(static_cast<uint64_t>(chunks_together / nanoseconds_of_tick())), both(costs_by_processor) {}
+      near_ticks(static_cast<uint64_t>(chunks_together / nanoseconds_of_tick())),
+      both(costs_by_processor) {}
 
 // What was in the block is in the file before it is cleared: who converts the log after a kill finds it in one of both.
 bool ThreadLog::write_block() {
@@ -103,7 +105,8 @@ bool ThreadLog::grow() {
   is_slow = true;
   if (is_stopped()) return false;
   if (block && !write_block()) return false;
-  if (!block) block = map_block(this_log().folder + log_form::thread_file + std::to_string(number) + log_form::last_block);
+  if (!block)
+    block = map_block(this_log().folder + log_form::thread_file + std::to_string(number) + log_form::last_block);
   if (!block) {
     stop_log(log_form::Stopped::Unwritable);
     return false;
@@ -160,7 +163,8 @@ int64_t time_of_record(void (*call)()) {
   thread_log = &scratch;
   for (int i = 0; i < calls; i++) call();
   thread_log = nullptr;
-  std::vector<int64_t> apart = scratch.apart(costs_by_processor ? log_form::bytes_by_processor : log_form::bytes_by_wall);
+  std::vector<int64_t> apart =
+      scratch.apart(costs_by_processor ? log_form::bytes_by_processor : log_form::bytes_by_wall);
   auto middle = apart.begin() + static_cast<std::ptrdiff_t>(apart.size() / 2);
   std::nth_element(apart.begin(), middle, apart.end());
   double in_nanoseconds = costs_by_processor ? 1 : nanoseconds_of_tick();

@@ -1,5 +1,5 @@
-// What one thread appends to: a block that is mapped from a file, so what was recorded is there however the program ends.
-// A full block goes to the end of another file.
+// What one thread appends to: a block that is mapped from a file, so what was recorded is there however the program
+// ends. A full block goes to the end of another file.
 #pragma once
 #include <cstdint>
 #include <utility>
@@ -30,8 +30,8 @@ class ThreadLog {
   explicit ThreadLog(unsigned of);
   const unsigned number;
   std::vector<Implicit> implicit;  // the implicit tasks that the thread is in, innermost last
-  std::vector<Open> open;          // the regions that it began and that run, innermost last
-  bool is_slow = false;            // more was done than to write records
+  std::vector<Open> open;  // the regions that it began and that run, innermost last
+  bool is_slow = false;  // more was done than to write records
   uint32_t region() const { return implicit.empty() ? 0 : implicit.back().region; }
 
   void put(const Moment &now, Told told, uint32_t task, uint32_t other, uint64_t code, unsigned detail) {

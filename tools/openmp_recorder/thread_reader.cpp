@@ -19,14 +19,20 @@ bool divides(Told told) { return told == Told::Divided || told == Told::Chunk ||
 }  // namespace
 
 ThreadReader::ThreadReader(const std::string &path, unsigned worker, const log_form::Head &head)
-    : Records(worker), file(fopen(path.c_str(), "re")), last(fopen((path + log_form::last_block).c_str(), "re")),
-      bytes(head.record_bytes), by_processor(head.by_processor), in_a_record(head.in_a_record), time(head),
+    : Records(worker),
+      file(fopen(path.c_str(), "re")),
+      last(fopen((path + log_form::last_block).c_str(), "re")),
+      bytes(head.record_bytes),
+      by_processor(head.by_processor),
+      in_a_record(head.in_a_record),
+      time(head),
       buffer(block_bytes) {
   if (!file || fseek(file.get(), 0, SEEK_END)) return;
   left = static_cast<uint64_t>(ftell(file.get())) / block_bytes * block_bytes;
   rewind(file.get());
   // Killed before the block was cleared that it had written.
-  if (left && last && first_bytes(file.get(), left - block_bytes, bytes) == first_bytes(last.get(), 0, bytes)) last.reset();
+  if (left && last && first_bytes(file.get(), left - block_bytes, bytes) == first_bytes(last.get(), 0, bytes))
+    last.reset();
 }
 
 // The next block, where there is one.
@@ -64,7 +70,8 @@ void ThreadReader::read_items(uint64_t count) {
 
 void ThreadReader::begin_region() {
   bool is_outermost = !(raw.detail() & is_runtimes) && regions.size() < 2;
-  log.regions.push_back({raw.record.other, is_outermost, time.wall(raw.record.at), 0, by_processor ? -raw.processor : 0});
+  log.regions.push_back(
+      {raw.record.other, is_outermost, time.wall(raw.record.at), 0, by_processor ? -raw.processor : 0});
 }
 
 void ThreadReader::end_region() {
@@ -99,7 +106,9 @@ bool ThreadReader::take() {
     case Told::LockAsked: use_lock(); return false;
     case Told::LockGot:
     case Told::LockLeft: use_lock(); return raw.detail() == order_of_turns;
-    case Told::Divided: log.divided[{raw.record.other, static_cast<Divided>(raw.detail())}].add(raw.place()); return true;
+    case Told::Divided:
+      log.divided[{raw.record.other, static_cast<Divided>(raw.detail())}].add(raw.place());
+      return true;
     case Told::ParallelBegin: begin_region(); return true;
     case Told::ParallelEnd: end_region(); return true;
     case Told::ImplicitBegin: regions.push_back(raw.record.other); return true;

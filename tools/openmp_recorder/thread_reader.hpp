@@ -32,8 +32,8 @@ class ThreadReader : public Records {
   TickTime time;
   std::vector<char> buffer;
   size_t at = 0, filled = 0;
-  uint64_t left = 0;       // bytes of `file`
-  size_t told = 0;        // records so far that say what runs
+  uint64_t left = 0;  // bytes of `file`
+  size_t told = 0;  // records so far that say what runs
   std::vector<uint32_t> regions;  // of these tasks
   Raw raw{};
   Record record{};

@@ -18,15 +18,15 @@ enum class Told : uint8_t {
   WaitBegin,
   WaitEnd,
   Cancel,
-  Divided,     // code that is divided among a region's threads, each of which meets it
+  Divided,  // code that is divided among a region's threads, each of which meets it
   LockAsked,
   LockGot,
   LockLeft,
-  Items,       // one or two of the dependences before
-  Passed,      // how far both clocks went until the record that follows
+  Items,  // one or two of the dependences before
+  Passed,  // how far both clocks went until the record that follows
   StoodStill,  // how long the recorder took beside what a record takes
-  Chunk,       // a thread begins with turns of such code, or with a section
-  DividedEnd   // and is done with it
+  Chunk,  // a thread begins with turns of such code, or with a section
+  DividedEnd  // and is done with it
 };
 
 // Details of a record: of Create what is set of the first four, of ImplicitBegin and ParallelBegin the last two; of

@@ -41,7 +41,8 @@ bool Reader::is_between_turns() {
   if (type != ompt_dependence_type_source && type != ompt_dependence_type_sink) return false;
   if (type == ompt_dependence_type_source ? turn_done() : turn_awaited()) return true;
   Task *t = running();
-  if (t && type == ompt_dependence_type_sink) remark(t->region, Remark::BetweenTurns, t->part ? t->region->code : t->code);
+  if (t && type == ompt_dependence_type_sink)
+    remark(t->region, Remark::BetweenTurns, t->part ? t->region->code : t->code);
   return true;
 }
 
@@ -79,7 +80,8 @@ void Reader::barrier_begin(Task *t) {
 }
 
 // A barrier waits for all tasks of the region, so for those of the groups around it too: each such group ends there,
-// and what follows the barrier is a group of the next part. No part goes on before all that were left are at their ends.
+// and what follows the barrier is a group of the next part. No part goes on before all that were left are at their
+// ends.
 void Reader::end_groups_at_barrier(Region &region, unsigned phase) {
   std::vector<Part> &all = region.left_in_groups;
   auto at_this_barrier = [&](const Part &left) { return left.phase == phase; };

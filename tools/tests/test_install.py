@@ -2,7 +2,6 @@
 import contextlib
 import io
 import os
-import tempfile
 import unittest
 
 import install
@@ -34,21 +33,22 @@ class Plan(unittest.TestCase):
         self.assertEqual(places["bin/spanprof_large"], __file__)
         self.assertIn("share/man/man1/spanprof_large.1", places)
 
-    def test_the_library_where_it_is_built(self):
-        self.assertNotIn("include/spanprof.h", [path for _, path in install.plan(library="no such folder")])
-        with tempfile.TemporaryDirectory() as folder:
-            with open(os.path.join(folder, "libspanprof.so"), "w", encoding="utf-8"):
-                places = [path for _, path in install.plan(library=folder)]
-        for path in ("lib/libspanprof.so", "lib/libspanprof.so.0", "lib/libspanprof.a", "include/spanprof.h",
-                     "share/man/man3/spanprof.3"):
-            self.assertIn(path, places)
-
     def test_programs_can_be_run(self):
         self.assertEqual([oct(install.mode(path)) for path in (
             "bin/spanprof", "lib/spanprof/spanprof_path", "lib/spanprof/librecorder.so")], ["0o755", "0o755", "0o644"])
 
     def test_tests_and_the_installer_stay_behind(self):
         self.assertFalse([path for path in install.shared_files() if "tests/" in path or path.endswith("install.py")])
+
+
+class Library(InFolder):
+    def test_where_it_is_built(self):
+        self.assertNotIn("include/spanprof.h", [path for _, path in install.plan(library="no such folder")])
+        self.write("libspanprof.so")
+        places = [path for _, path in install.plan(library=self.folder)]
+        for path in ("lib/libspanprof.so", "lib/libspanprof.so.0", "lib/libspanprof.a", "include/spanprof.h",
+                     "share/man/man3/spanprof.3"):
+            self.assertIn(path, places)
 
 
 class Prefix(InFolder):

@@ -91,17 +91,24 @@ class Tables(unittest.TestCase):
         self.assertTrue(table.is_caught(self.seen(["a", "b"]), 5))
         self.assertTrue(table.is_caught(self.seen(["a"], [], ["a"], [], ["a"]), 5))
         self.assertFalse(table.is_caught(self.seen(["a"], [], ["a"], [], []), 5))
+        self.assertFalse(table.is_caught(self.seen(["a"]), 5))
+
+    def test_reports_are_put_together(self):
+        first = {"early": {"campaigns": [["a"]], "ways": ["hung"], "seconds": 3, "tried": [7]}}
+        more = {"early": {"campaigns": [["b"]], "ways": ["taskwait"], "seconds": 4, "tried": [9]}}
+        self.assertEqual(table.put_together([first, more]),
+                         {"early": {"campaigns": [["a"], ["b"]], "ways": ["hung", "taskwait"], "seconds": 7,
+                                    "tried": [7, 9]}})
 
     def test_rows(self):
-        seen = {"lost": self.seen(["a", "b"]), "slow": self.seen([]), "early": self.seen([]),
+        seen = {"lost": self.seen(["a", "b"]), "slow": self.seen([]), "early": self.seen([], []),
                 "detached": self.seen(["c"])}
-        self.assertEqual(self.row("once", seen), [1, 1, 0, "", 1, 0])
-        self.assertEqual(self.row("taskwait", seen, {"early": ["x"]}.items()), [1, 0, 0, "`early`", 1, 0, 0])
-        self.assertEqual(self.row("**rules of the text**", seen), [2, 1, 0, "`early`", 1, 0])
-        self.assertEqual(self.row("**all**", seen), [3, 1, 1, "`early`", 1, 0])
+        self.assertEqual(self.row("once", seen), [1, 1, 0, "", 1, 0, "1"])
+        self.assertEqual(self.row("taskwait", seen, {"early": ["x"]}.items()), [1, 0, 0, "`early`", 1, 0, 0, "2"])
+        self.assertEqual(self.row("**all**", seen), [3, 1, 1, "`early`", 1, 0, "1 to 2"])
 
     def test_what_breaks_nothing_and_was_refused(self):
-        self.assertEqual(self.row("once", {"slow": self.seen(["a"])}), [0, 0, 0, "", 1, 1])
+        self.assertEqual(self.row("once", {"slow": self.seen(["a"])}), [0, 0, 0, "", 1, 1, "1"])
 
     def test_a_row_for_each_mutant(self):
         rows = list(table.by_name(self.MUTANTS, {"lost": self.seen(["a"], ["b"])}, {"lost": ["x", "y"]}))
@@ -114,11 +121,15 @@ class OwnTests(unittest.TestCase):
             program = pathlib.Path(folder) / "prog"
             program.write_text('#!/bin/sh\n[ "$LD_PRELOAD" = good.so ]\n')
             program.chmod(0o755)
-            self.assertTrue(own_tests.passes(program, "good.so"))
-            self.assertFalse(own_tests.passes(program, "bad.so"))
+            test = own_tests.Test(program)
+            self.assertTrue(own_tests.passes(test, "good.so"))
+            fast = own_tests.Test(program, own_tests.LEAST)
+            self.assertEqual(own_tests.usable([test, test], "good.so", 2), [fast, fast])
+            self.assertEqual(own_tests.failed(3 * [test], "bad.so", 1), 3 * ["prog"])
+            self.assertEqual(own_tests.failed(3 * [test], "bad.so", 1, enough=2), 2 * ["prog"])
+            self.assertEqual(own_tests.usable([test], "bad.so", 1), [])
             program.write_text("#!/bin/sh\nexec sleep 9\n")
-            with unittest.mock.patch.object(own_tests, "SECONDS", .1):
-                self.assertFalse(own_tests.passes(program, ""))
+            self.assertFalse(own_tests.passes(own_tests.Test(program, .1), ""))
 
     def test_libraries(self):
         with tempfile.TemporaryDirectory() as folder:

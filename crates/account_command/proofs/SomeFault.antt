@@ -10,6 +10,7 @@ use Rattle.dispatch_core.specs.RecordedGraph.{IsGraph, Precedes, RecordedGraph, 
 use Rattle.greedy_sim.specs.declared.greedy.TheConstants.{MOST_THREADS}
 use Rattle.program_text.specs.declared.limits.TheConstants.{MOST_WORK}
 use Rattle.task_segments.specs.Schedule.{at}
+use Rattle.time_accounts.proofs.Checked.{timed_run}
 use Rattle.time_accounts.specs.Faults.{AreMoments, BeginsBefore, HasEach, IsCounted, IsFirstOverlap}
 use Rattle.time_accounts.specs.Faults.{IsFirstTooSoon, IsInRange, IsOverlap, IsRanged, IsThreadCount}
 use Rattle.time_accounts.specs.Faults.{IsTimesFault, IsUpTo}
@@ -295,18 +296,7 @@ module _ (graph : RecordedGraph) (is : IsGraph graph) (p first last : ℕ) (run 
   legal_within : IsRanged n p first last run → AreInOrder n R run → AreApart n run
       → IsLegalWithin n R p first last run
   legal_within ranged order separate = record {
-    legal = record {
-      each_thread = ranged.counted.each.each_thread;
-      each_begin = ranged.counted.each.each_begin;
-      each_end = ranged.counted.each.each_end;
-      in_time = ranged.counted.moments.in_time;
-      on_thread = λ s h. (ranged.ranges s h).on_thread;
-      after_first = λ s h. (ranged.ranges s h).after_first;
-      forward = λ s h. (ranged.ranges s h).forward;
-      before_last = λ s h. (ranged.ranges s h).before_last;
-      kept = order;
-      apart = separate;
-    };
+    legal = timed_run ranged order separate;
     within = ranged;
   }
 

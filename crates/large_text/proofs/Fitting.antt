@@ -17,7 +17,7 @@ use Rattle.task_segments.proofs.Grouping.{IsGrouped, Closes}
 use Rattle.task_segments.proofs.LastMoment.{last_of_nested, moment_after-append, count_read}
 use Rattle.task_segments.proofs.Walks.{grows}
 use Rattle.large_text.specs.declared.tally.Tally.{Tally}
-use Rattle.online_span.specs.Measuring.{Fits, groups_ended}
+use Rattle.task_segments.specs.MarkCutting.{groups_ended}
 use Rattle.large_text.specs.Tallied.{Tallies, FitsWork, CanTally}
 use Rattle.large_text.specs.declared.reader.MarkReader.{MarkReader}
 use Rattle.large_text.specs.LargeReading.{IsReadSoFar, state_of}

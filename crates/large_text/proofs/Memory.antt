@@ -1,5 +1,5 @@
 -- Out of memory: it has line 0, and no text has it as its first fault.
-use Rattle.std.proofs.Common.{◌≡◌, ℕ, ◌+◌, Bool, true, false, List, length, drop, Option}
+use Rattle.std.proofs.Common.{◌≡◌, ℕ, Bool, true, false, List, length, drop, Option}
 use Rattle.std.proofs.Common.{Result, Ok, Err, [], refl, ap}
 use Rattle.std.specs.Prelude.{IfErr, MatchBool, sum_by}
 use Rattle.program_text.specs.declared.fault.ReadKind.{ReadKind}

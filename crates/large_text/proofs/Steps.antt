@@ -161,68 +161,51 @@ abbrev pub NamesGrow : Place → State → List ℕ → ℕ → Type 0
 NamesGrow place state text line =
     length (after_at place state text line).names ≤ length state.names + items_coming place
 
-statement_names : (state : State) (text : List ℕ) (line : ℕ) → NamesGrow Statement state text line
-statement_names state text line =
-    bool_cases (is_text text (codes "work"))
-    (λ work. rw work (omega arith))
-    (λ no_work. bool_cases (is_text text (codes "task"))
-    (λ task. rw (no_work, task) (omega arith))
-    (λ no_task. bool_cases (is_text text (codes "taskwait"))
-    (λ wait. rw (no_work, no_task, wait) (omega arith))
-    (λ no_wait. bool_cases (is_text text (codes "taskgroup"))
-    (λ group. rw (no_work, no_task, no_wait, group) (omega arith))
-    (λ no_group. rw (no_work, no_task, no_wait, no_group) (omega arith)))))
-
-pub names_grow : (place : Place) (state : State) (text : List ℕ) (line : ℕ)
-    → NamesGrow place state text line
-names_grow Statement state text line = statement_names state text line
-names_grow Clause state text line =
-    bool_cases (is_text text (codes "{"))
-    (λ brace. rw brace (omega arith))
-    (λ no_brace. bool_cases (is_text text (codes "if"))
-    (λ if_word. rw (no_brace, if_word) (omega arith))
-    (λ no_if. rw (no_brace, no_if) (omega arith)))
-names_grow (DependMore kind) state text line =
-    bool_cases (is_text text (codes ","))
-    (λ comma. rw comma (omega arith))
-    (λ other. rw other (omega arith))
-names_grow (DependName kind) state text line = one_name_more state.names text
-names_grow _ state text line = omega arith
-
 abbrev pub ItemsGrow : Place → State → List ℕ → ℕ → Type 0
 ItemsGrow place state text line =
     length (after_at place state text line).head.items
     ≤ length state.head.items + items_coming place
 
-statement_items : (state : State) (text : List ℕ) (line : ℕ) → ItemsGrow Statement state text line
-statement_items state text line =
+statement_grows : (state : State) (text : List ℕ) (line : ℕ)
+    → NamesGrow Statement state text line × ItemsGrow Statement state text line
+statement_grows state text line =
     bool_cases (is_text text (codes "work"))
-    (λ work. rw work (omega arith))
+    (λ work. rw work (omega arith, omega arith))
     (λ no_work. bool_cases (is_text text (codes "task"))
-    (λ task. rw (no_work, task) (omega arith))
+    (λ task. rw (no_work, task) (omega arith, omega arith))
     (λ no_task. bool_cases (is_text text (codes "taskwait"))
-    (λ wait. rw (no_work, no_task, wait) (omega arith))
+    (λ wait. rw (no_work, no_task, wait) (omega arith, omega arith))
     (λ no_wait. bool_cases (is_text text (codes "taskgroup"))
-    (λ group. rw (no_work, no_task, no_wait, group) (omega arith))
-    (λ no_group. rw (no_work, no_task, no_wait, no_group) (omega arith)))))
+    (λ group. rw (no_work, no_task, no_wait, group) (omega arith, omega arith))
+    (λ no_group. rw (no_work, no_task, no_wait, no_group) (omega arith, omega arith)))))
+
+both_grow : (place : Place) (state : State) (text : List ℕ) (line : ℕ)
+    → NamesGrow place state text line × ItemsGrow place state text line
+both_grow Statement state text line = statement_grows state text line
+both_grow Clause state text line =
+    bool_cases (is_text text (codes "{"))
+    (λ brace. rw brace (omega arith, omega arith))
+    (λ no_brace. bool_cases (is_text text (codes "if"))
+    (λ if_word. rw (no_brace, if_word) (omega arith, omega arith))
+    (λ no_if. rw (no_brace, no_if) (omega arith, omega arith)))
+both_grow (DependMore kind) state text line =
+    bool_cases (is_text text (codes ","))
+    (λ comma. rw comma (omega arith, omega arith))
+    (λ other. rw other (omega arith, omega arith))
+both_grow (DependName kind) state text line = (
+  one_name_more state.names text,
+  omega (
+    arith,
+    length-append state.head.items
+        (record { kind = kind; name = number_of_name state.names text } ∷ []),
+  ),
+)
+both_grow _ state text line = (omega arith, omega arith)
+
+pub names_grow : (place : Place) (state : State) (text : List ℕ) (line : ℕ)
+    → NamesGrow place state text line
+names_grow place state text line = (both_grow place state text line).0
 
 pub items_grow : (place : Place) (state : State) (text : List ℕ) (line : ℕ)
     → ItemsGrow place state text line
-items_grow Statement state text line = statement_items state text line
-items_grow Clause state text line =
-    bool_cases (is_text text (codes "{"))
-    (λ brace. rw brace (omega arith))
-    (λ no_brace. bool_cases (is_text text (codes "if"))
-    (λ if_word. rw (no_brace, if_word) (omega arith))
-    (λ no_if. rw (no_brace, no_if) (omega arith)))
-items_grow (DependMore kind) state text line =
-    bool_cases (is_text text (codes ","))
-    (λ comma. rw comma (omega arith))
-    (λ other. rw other (omega arith))
-items_grow (DependName kind) state text line =
-    omega (
-      arith,
-      length-append state.head.items
-          (record { kind = kind; name = number_of_name state.names text } ∷ []),
-    )
-items_grow _ state text line = omega arith
+items_grow place state text line = (both_grow place state text line).1

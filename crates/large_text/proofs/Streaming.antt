@@ -1,11 +1,10 @@
 -- A text that is taken in pieces: how each piece goes on from those before it.
-use Rattle.std.proofs.Common.{◌≡◌, ◌+◌, ◌<◌, ◌≤◌, ◌^◌, ◌∙◌, ℕ, cond, false, List, [], ◌∷◌, ◌++◌}
+use Rattle.std.proofs.Common.{◌≡◌, ◌+◌, ◌<◌, ◌≤◌, ◌∙◌, ℕ, cond, false, List, [], ◌∷◌, ◌++◌}
 use Rattle.std.proofs.Common.{◌-◌, Result, Ok, Err, Option, Some, None, length, take, drop, get_or}
 use Rattle.std.proofs.Common.{append_assoc, length-append, refl, sym, ap, subst, arith}
-use Rattle.std.specs.Prelude.{OnOk, is_ok, count_by}
-use Rattle.std.proofs.lemmas.Bool.{ne_eqb}
-use Rattle.std.proofs.lemmas.List.{append-nil, drop_more, take_more, take-append-drop}
-use Rattle.std.proofs.lemmas.List.Sums.{sum_by-append, sum_by-cons, count_by-le-length}
+use Rattle.std.specs.Prelude.{OnOk, is_ok}
+use Rattle.std.proofs.lemmas.List.{append-nil, take_more, take-append-drop}
+use Rattle.std.proofs.lemmas.List.Sums.{sum_by-append}
 use Rattle.program_text.specs.declared.fault.ReadFault.{ReadFault}
 use Rattle.program_text.specs.Marks.{Mark}
 use Rattle.program_text.specs.Marks.Mark.{Begins}
@@ -21,8 +20,7 @@ use Rattle.large_text.specs.Streamed.{EndsLine, CutsTokens, HasTakenLines, HasFa
 use Rattle.large_text.specs.Streamed.{HasTakenBy, HasTaken, TakesBytes, FitsText, HasNoLineFeed}
 use Rattle.large_text.specs.Streamed.{CanTakeBytes}
 use Rattle.large_text.specs.declared.stream.TextMeter.{TextMeter}
-use Rattle.large_text.specs.declared.limits.TheConstants.{LARGEST_TEXT, LARGEST_LINE}
-use Rattle.large_text.specs.declared.limits.TheConstants.{LARGEST_PIECE}
+use Rattle.large_text.specs.declared.limits.TheConstants.{LARGEST_LINE}
 use Rattle.large_text.proofs.Cutting.{cut_behind}
 use Rattle.large_text.proofs.Measuring.{stops_early, is_measured}
 
@@ -103,6 +101,14 @@ keeps_more bytes tail more line reader meter h = record {
   line_is = h.line_is;
   so_far = h.so_far;
 }
+
+-- a text of which nothing is taken yet
+pub taken_none : (text : List ℕ) (reader : MarkReader) (meter : Tally)
+    → IsReadSoFar [] [] reader
+    → Tallies meter (Begins false [] ∷ [])
+    → HasTakenLines text text 1 reader meter
+taken_none text reader meter so_far measures =
+    keeps_more [] [] text 1 reader meter (taken_first reader meter so_far measures)
 
 -- and a fault stays the first
 pub stays_fault : (bytes more : List ℕ) (fault : ReadFault)

@@ -1,5 +1,5 @@
 -- What a tally holds after one more mark.
-use Rattle.std.proofs.Common.{ℕ, ◌≡◌, refl, arith, ◌≤◌, length, subst, List, Option, Some, None, sym, ◌∙◌, false, [], ◌∷◌}
+use Rattle.std.proofs.Common.{ℕ, ◌≡◌, arith, ◌≤◌, length, subst, List, Option, Some, None, ◌∙◌, false, [], ◌∷◌}
 use Rattle.std.specs.Option.{IfSome, is_some}
 use Rattle.task_program.specs.Nested.{IsNested}
 use Rattle.task_segments.specs.Moments.{last_moment}
@@ -8,12 +8,11 @@ use Rattle.program_text.specs.Tokens.{Token}
 use Rattle.large_text.specs.declared.tally.Tally.{Tally}
 use Rattle.large_text.specs.Measured.{FitsTable, MeasuresText, TalliesText, IsTableOfText}
 use Rattle.program_text.specs.Marks.{Mark}
-use Rattle.program_text.specs.Marks.Mark.{Begins, Ends, Works, Waits, GroupBegins, GroupEnds}
+use Rattle.program_text.specs.Marks.Mark.{Begins}
 use Rattle.task_segments.specs.MarkCutting.{AreWithin, CanTake, HasRoomForOne, Tables}
-use Rattle.task_segments.specs.MarkCutting as cutting
 use Rattle.task_segments.specs.declared.mark_cutter.MarkCutter.{MarkCutter}
 use Rattle.task_segments.proofs.MarkCutting.{room_for_one}
-use Rattle.online_span.specs.Measuring.{Measures, groups_ended}
+use Rattle.online_span.specs.Measuring.{Measures}
 use Rattle.std.specs.Prelude.{IsTrue, nat_le}
 use Rattle.std.proofs.lemmas.Bool.Decides.{nat_tests}
 use Rattle.program_text.specs.Limits.{work_of}
@@ -28,26 +27,16 @@ use Rattle.task_segments.proofs.Rows.{rows-length}
 use Rattle.task_segments.proofs.Cuts.{tasks-count}
 use Rattle.task_segments.proofs.LastMoment.{count_read}
 
-same_groups : (mark : Mark) → cutting.groups_ended mark ≡ groups_ended mark
-same_groups (Begins undeferred items) = refl
-same_groups Ends = refl
-same_groups (Works cost) = refl
-same_groups Waits = refl
-same_groups GroupBegins = refl
-same_groups GroupEnds = refl
-
 -- the rows can take a mark where there is room
 pub can_enter : (rows : MarkCutter) (mark : Mark) → CanEnter rows mark → HasRoomForOne rows
     → CanTake rows mark
-can_enter rows mark can room =
-    let grouped = can.fits.fits.grouped in
-    record {
-      moment = can.moment;
-      tables = can.tables;
-      some_open = can.fits.fits.some_open;
-      grouped = omega (arith, grouped, same_groups mark);
-      room = room_for_one rows can.moment mark can.tables room can.fits.work;
-    }
+can_enter rows mark can room = record {
+  moment = can.moment;
+  tables = can.tables;
+  some_open = can.fits.fits.some_open;
+  grouped = can.fits.fits.grouped;
+  room = room_for_one rows can.moment mark can.tables room can.fits.work;
+}
 
 -- ---- a whole text
 

@@ -106,6 +106,11 @@ pub record IsLargeWithin (reader : MarkReader) : Type 0 where
   pub items : length reader.items ≤ MOST_ITEMS
   pub work : reader.work ≤ MOST_WORK
 
+-- the work goes on by what this mark does, where there is one, and no item is counted
+pub record CountsOn (old new : MarkReader) (mark : Option TextMark) : Type 0 where
+  pub work : new.work ≡ old.work + work_of (marks_after [] mark)
+  pub all_items : new.all_items ≡ old.all_items
+
 -- the reader has taken these tokens, none of them wrong, and handed on these marks
 pub data IsReadSoFar : List Token → List Mark → MarkReader → Type 0 where
   AtFirst : (reader : MarkReader)

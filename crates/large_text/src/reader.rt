@@ -16,7 +16,7 @@ ghost use Rattle.task_program.specs.TokenCounts.{is_value_too_large, is_work_pas
 ghost use Rattle.task_program.specs.TreeSoFar.{without_innermost};
 ghost use Rattle.large_text.specs.LargeFaults.{large_limit_by, is_inside_at, items_coming};
 ghost use Rattle.large_text.specs.LargeReading.{state_of, marks_after, large_step, with_task};
-ghost use Rattle.large_text.specs.LargeReading.{IsLargeWithin, IsReadSoFar, CanGoOn, HasValue};
+ghost use Rattle.large_text.specs.LargeReading.{IsLargeWithin, IsReadSoFar, CanGoOn, CountsOn, HasValue};
 ghost use Rattle.large_text.specs.LargeReading.{block_seen, token_on};
 ghost use Rattle.large_text.specs.LargeTrees.{HasLargeTree, IsLargeRightWhole, IsLargeFirstFault};
 
@@ -188,9 +188,7 @@ impl MarkReader {
         ensures step { (marks : List Mark)
             → Gives (λ mark. state_of self.new (marks_after marks mark)) result
             (Ok (after_at self.old.place (state_of self.old marks) token.entry.text.now line)) }
-        ensures work { IfOk result (λ mark. self.new.work
-            ≡ self.old.work + work_of (marks_after [] mark)) }
-        ensures all_items { self.new.all_items ≡ self.old.all_items }
+        ensures counts { IfOk result (λ mark. CountsOn self.old self.new mark) }
     {
         match self.place {
             Place::Header => Ok(self.go_to(Place::Version)),
@@ -221,8 +219,7 @@ impl MarkReader {
     fn statement(&mut self, token: Token<'_>) -> Option<TextMark>
         ensures state { (marks : List Mark) → state_of self.new (marks_after marks result)
             ≡ after_statement (state_of self.old marks) token.entry.text.now }
-        ensures work { self.new.work ≡ self.old.work + work_of (marks_after [] result) }
-        ensures all_items { self.new.all_items ≡ self.old.all_items }
+        ensures counts { CountsOn self.old self.new result }
     {
         if is_work(token) {
             self.go_to(Place::WorkNumber)
@@ -243,8 +240,7 @@ impl MarkReader {
         ensures state { (marks : List Mark) → state_of self.new (marks_after marks result)
             ≡ at (record (state_of self.old marks)
             { tree = without_innermost (state_of self.old marks).tree }) Place.Statement }
-        ensures work { self.new.work ≡ self.old.work + work_of (marks_after [] result) }
-        ensures all_items { self.new.all_items ≡ self.old.all_items }
+        ensures counts { CountsOn self.old self.new result }
     {
         self.place = Place::Statement;
         match self.blocks.pop() {
@@ -261,8 +257,7 @@ impl MarkReader {
         ensures state { (marks : List Mark) → state_of self.new (marks_after marks result)
             ≡ after_at Place.WorkNumber (state_of self.old marks) token.entry.text.now
             token.entry.line }
-        ensures work { self.new.work ≡ self.old.work + work_of (marks_after [] result) }
-        ensures all_items { self.new.all_items ≡ self.old.all_items }
+        ensures counts { CountsOn self.old self.new result }
     {
         let cost = value_within(token.text, LARGEST_COST).unwrap();
         self.work += cost;
@@ -274,9 +269,7 @@ impl MarkReader {
         ensures state { (marks : List Mark)
             → Gives (λ mark. state_of self.new (marks_after marks mark)) result
             (Ok (after_at Place.GroupBrace (state_of self.old marks) token.entry.text.now line)) }
-        ensures work { IfOk result (λ mark. self.new.work
-            ≡ self.old.work + work_of (marks_after [] mark)) }
-        ensures all_items { self.new.all_items ≡ self.old.all_items }
+        ensures counts { IfOk result (λ mark. CountsOn self.old self.new mark) }
     {
         self.blocks.push(OpenBlock::OpenGroup(line))?;
         self.place = Place::Statement;
@@ -287,9 +280,7 @@ impl MarkReader {
         ensures state { (marks : List Mark)
             → Gives (λ mark. state_of self.new (marks_after marks mark)) result
             (Ok (after_clause (state_of self.old marks) token.entry.text.now line)) }
-        ensures work { IfOk result (λ mark. self.new.work
-            ≡ self.old.work + work_of (marks_after [] mark)) }
-        ensures all_items { self.new.all_items ≡ self.old.all_items }
+        ensures counts { IfOk result (λ mark. CountsOn self.old self.new mark) }
     {
         if is_sign(token, b'{') {
             self.open_task(line)
@@ -304,9 +295,7 @@ impl MarkReader {
         ensures state { (marks : List Mark)
             → Gives (λ mark. state_of self.new (marks_after marks mark)) result
             (Ok (with_task (state_of self.old marks) line)) }
-        ensures work { IfOk result (λ mark. self.new.work
-            ≡ self.old.work + work_of (marks_after [] mark)) }
-        ensures all_items { self.new.all_items ≡ self.old.all_items }
+        ensures counts { IfOk result (λ mark. CountsOn self.old self.new mark) }
     {
         self.blocks.push(OpenBlock::OpenTask(line))?;
         let undeferred = self.undeferred;
@@ -322,8 +311,7 @@ impl MarkReader {
         ensures state { (marks : List Mark) → state_of self.new (marks_after marks result)
             ≡ after_at Place.IfNumber (state_of self.old marks) token.entry.text.now
             token.entry.line }
-        ensures work { self.new.work ≡ self.old.work + work_of (marks_after [] result) }
-        ensures all_items { self.new.all_items ≡ self.old.all_items }
+        ensures counts { CountsOn self.old self.new result }
     {
         self.has_if = true;
         self.undeferred = value_within(token.text, 0) == Some(0);
@@ -341,9 +329,7 @@ impl MarkReader {
             → Gives (λ mark. state_of self.new (marks_after marks mark)) result
             (Ok (after_at (Place.DependName kind) (state_of self.old marks) token.entry.text.now
             token.entry.line)) }
-        ensures work { IfOk result (λ mark. self.new.work
-            ≡ self.old.work + work_of (marks_after [] mark)) }
-        ensures all_items { self.new.all_items ≡ self.old.all_items }
+        ensures counts { IfOk result (λ mark. CountsOn self.old self.new mark) }
     {
         let name = self.names.number_of(self.alloc, text_of(token.text))?;
         self.items.push(Item { kind, name })?;
@@ -354,8 +340,7 @@ impl MarkReader {
         ensures state { (marks : List Mark) → state_of self.new (marks_after marks result)
             ≡ after_at (Place.DependMore kind) (state_of self.old marks) token.entry.text.now
             token.entry.line }
-        ensures work { self.new.work ≡ self.old.work + work_of (marks_after [] result) }
-        ensures all_items { self.new.all_items ≡ self.old.all_items }
+        ensures counts { CountsOn self.old self.new result }
     {
         if is_sign(token, b',') {
             self.go_to(Place::DependName(kind))

@@ -5,7 +5,6 @@ use Rattle.std.specs.List.{sum}
 use Rattle.std.proofs.lemmas.List.Elements.{Contains-append_cases, Contains-push_cases}
 use Rattle.std.proofs.lemmas.List.Sums.{sum_by-cons, sum_by-append}
 use Rattle.program_text.specs.declared.statement.Item.{Item}
-use Rattle.task_program.specs.Conflict.{items_conflict}
 use Rattle.task_program.specs.Limits.{work_of, work_done}
 use Rattle.task_program.specs.Marks.{Mark}
 use Rattle.task_program.specs.Marks.Mark.{Begins, Ends, Works, GroupBegins, GroupEnds}
@@ -16,17 +15,12 @@ use Rattle.online_span.specs.Folded.{own_children, waits_itself, HasPlainChildre
 use Rattle.online_span.specs.Folded.{row_fold}
 use Rattle.online_span.specs.Awaiting.{any_items}
 use Rattle.online_span.specs.Spans.{IsSpanOf}
-use Rattle.online_span.proofs.Greatest.{conflicts_none}
+use Rattle.online_span.proofs.Greatest.{none_conflict}
 use Rattle.online_span.proofs.States.{Done, State, greatest, child_start}
 use Rattle.online_span.proofs.Shifted.{outcome, peak, child_over, ended_by_peak}
 use Rattle.online_span.proofs.Runs.{root_begun, run, run-nested, last_span}
 use Rattle.online_span.proofs.Standing.{by_itself, task_counts}
 use Rattle.online_span.proofs.Plain.{plain_counts}
-
--- a child without items starts where its maker is
-none_conflict : (tasks : List Done) → greatest (λ other. items_conflict other []) tasks ≡ 0
-none_conflict [] = refl
-none_conflict (task ∷ tasks) = rw (conflicts_none task.items) (none_conflict tasks)
 
 abbrev nested_tasks : (costs : List ℕ) (tail : List Mark) → IsNested tail → IsNested (tasks_of costs ++ tail)
 nested_tasks [] tail n = n

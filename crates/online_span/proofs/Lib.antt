@@ -1,10 +1,7 @@
 pub mod Stays
 pub mod Last
-pub mod Greatest
 pub mod Held
 pub mod Taken
-pub mod Measured
-pub mod Tasks
 pub mod Earliest
 pub mod Later
 pub mod Children
@@ -19,6 +16,8 @@ pub mod Sums
 pub mod Masking
 pub mod Hiding
 pub mod States
+pub mod Greatest
+pub mod Measured
 pub mod Shifted
 pub mod Runs
 pub mod Folding

@@ -16,8 +16,8 @@ use Rattle.online_span.specs.Awaiting.{Ended, any_items, greatest_of, end_of, en
 use Rattle.online_span.specs.Folded.{own_children, waits_itself, StandsApart, HasPlainChildren}
 use Rattle.online_span.specs.Folded.{own_end, end_of_wait}
 use Rattle.online_span.specs.Spans.{IsSpanOf}
-use Rattle.online_span.proofs.Greatest.{conflicts_none}
-use Rattle.online_span.proofs.States.{Done, greatest, child_start}
+use Rattle.online_span.proofs.Greatest.{none_conflict}
+use Rattle.online_span.proofs.States.{Done, greatest, child_start, done_of, greatest-done}
 use Rattle.online_span.proofs.Shifted.{outcome, peak, child_over}
 use Rattle.online_span.proofs.Folding.{children_skip}
 use Rattle.online_span.proofs.Standing.{by_itself, code_counts}
@@ -98,9 +98,9 @@ plain_wait b n h test =
 
 none_conflicts : (ends : ℕ → ℕ) (tasks : List Ended)
     → greatest_of ends (λ other. items_conflict other []) tasks ≡ 0
-none_conflicts ends [] = refl
-none_conflicts ends (task ∷ tasks) =
-    rw (conflicts_none task.items) (none_conflicts ends tasks)
+none_conflicts ends tasks =
+    sym (greatest-done ends (λ other. items_conflict other []) tasks)
+    ∙ none_conflict (done_of ends tasks)
 
 plain_apart : (before body : List Mark) → HasPlainChildren body
     → waits_itself zero body ≡ false

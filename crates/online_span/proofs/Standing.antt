@@ -14,6 +14,7 @@ use Rattle.task_program.specs.Conflict.{items_conflict}
 use Rattle.online_span.specs.Awaiting.{end_of, ended_of}
 use Rattle.online_span.specs.Folded.{StandsApart, with_task, own_end, end_of_wait}
 use Rattle.online_span.specs.Spans.{IsSpanOf}
+use Rattle.online_span.proofs.Greatest.{greatest-none}
 use Rattle.online_span.proofs.States.{Done, State, greatest, child_start, step}
 use Rattle.online_span.proofs.States.{raise_all, greatest-done, running-end}
 use Rattle.online_span.proofs.Shifted.{Outcome, outcome, peak, later, IsLater, over_none}
@@ -242,7 +243,12 @@ code_spans before body other after own n m whole apart apart_too waits span span
     → max r.end (greatest test r.ended) ≡ max q.end (greatest test q.ended) =
     λ test. sym (is.waits test) ∙ waits test ∙ is_too.waits test in
     let ends : r.end ≡ q.end =
-    omega (arith, same (λ items. false), nothing r.ended, nothing q.ended) in
+    omega (
+      arith,
+      same (λ items. false),
+      greatest-none (λ items. false) (λ items. refl) r.ended,
+      greatest-none (λ items. false) (λ items. refl) q.ended,
+    ) in
     let alike = after_code-alike s now now_too (omega (arith, one.end, two.end))
     (λ test. wait_moved r now t old test one
     ∙ ap (λ x. max (x + t) (greatest test old)) (same test)
@@ -257,10 +263,6 @@ code_spans before body other after own n m whole apart apart_too waits span span
     ap (λ (x : State). x.span) (code_run before body after n covered)
     ∙ (alike-run after (with_outcome s now) (with_outcome s now_too) alike).span
     ∙ sym (ap (λ (x : State). x.span) (code_run before other after m covered))
-  where
-    nothing : (tasks : List Done) → greatest (λ items. false) tasks ≡ 0
-    nothing [] = refl
-    nothing (task ∷ tasks) = nothing tasks
 
 work_of_code : (before body after : List Mark)
     → work_of (before ++ (body ++ after)) ≡ work_of before + (work_of body + work_of after)

@@ -13,7 +13,8 @@ use Rattle.task_segments.proofs.Walks.{grows}
 use Rattle.task_segments.specs.MarksTable.{IsReading}
 use Rattle.online_span.specs.declared.meter.Meter.{Meter}
 use Rattle.online_span.specs.Measuring.{Measures, CanTake}
-use Rattle.online_span.specs.Taking.{HasRoom, HasTaken, task_marks, group_marks}
+use Rattle.task_segments.specs.Cutting.{task_marks, group_marks}
+use Rattle.online_span.specs.Taking.{HasRoom, HasTaken}
 
 -- what is taken in two parts
 pub taken_more : (old new : Meter) (e xs ys : List Mark)

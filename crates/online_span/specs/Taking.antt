@@ -1,10 +1,8 @@
 -- Carried out: the meter over the statements of a program: what it has room for, and what it has
 -- taken.
-use Rattle.std.specs.Prelude.{◌+◌, ◌<◌, ◌≡◌, ◌^◌, List, [], ◌∷◌, ◌++◌, count_by}
-use Rattle.program_text.specs.declared.statement.TaskStmt.{TaskStmt}
+use Rattle.std.specs.Prelude.{◌+◌, ◌<◌, ◌≡◌, ◌^◌, List, count_by}
 use Rattle.task_program.specs.Limits.{work_of}
 use Rattle.task_program.specs.Marks.{Mark}
-use Rattle.task_program.specs.Marks.Mark.{Begins, Ends, GroupBegins, GroupEnds}
 use Rattle.task_segments.specs.Moments.{opens, begins_task, segments_so_far, tasks_so_far}
 use Rattle.task_segments.specs.Moments.{open_tasks, open_groups, moment_after}
 use Rattle.online_span.specs.declared.meter.Meter.{Meter}
@@ -23,9 +21,3 @@ pub record HasTaken (meter : Meter) (moment marks : List Mark) : Type 0 where
   pub measures : Measures meter (moment_after moment marks)
   pub tasks : open_tasks (moment_after moment marks) ≡ open_tasks moment
   pub groups : open_groups (moment_after moment marks) ≡ open_groups moment
-
-abbrev pub task_marks : TaskStmt → List Mark
-task_marks statement = Begins statement.undeferred statement.items ∷ (statement.body ++ Ends ∷ [])
-
-abbrev pub group_marks : List Mark → List Mark
-group_marks body = GroupBegins ∷ (body ++ GroupEnds ∷ [])

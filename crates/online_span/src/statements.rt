@@ -4,7 +4,8 @@ ghost use Rattle.program_text.specs.Statements.{marks_of, marks_of_one};
 ghost use Rattle.task_program.specs.Marks.{Mark};
 ghost use Rattle.task_segments.specs.Moments.{last_moment};
 ghost use Rattle.online_span.specs.Measuring.{Measures};
-ghost use Rattle.online_span.specs.Taking.{HasRoom, HasTaken, group_marks, task_marks};
+ghost use Rattle.task_segments.specs.Cutting.{group_marks, task_marks};
+ghost use Rattle.online_span.specs.Taking.{HasRoom, HasTaken};
 
 use crate::meter::Meter;
 use std::alloc::Global;

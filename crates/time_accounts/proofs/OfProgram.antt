@@ -8,7 +8,7 @@ use Rattle.task_segments.proofs.Schedules.{chain_within}
 use Rattle.greedy_sim.specs.Greedy.{ReadyBy}
 use Rattle.greedy_sim.proofs.SameGreedy.{ended_along}
 use Rattle.greedy_sim.proofs.Stopped.{BoundsChains}
-use Rattle.time_accounts.specs.TimedRun.{TimedRun, IsTimedRun, durations}
+use Rattle.time_accounts.specs.TimedRun.{TimedRun, IsTimedRun, AreInOrder, durations}
 use Rattle.time_accounts.proofs.TimedRuns.{is_schedule, ends_after, each_duration}
 
 -- what leads to t by a chain has ended when t begins
@@ -28,6 +28,24 @@ ended_before {n} {Q} {p} {first} {last} {run} asc timed r t inside less way =
           (omega (arith, inside, each_duration timed)),
     )
 
+-- the same run, where another relation is kept too
+in_order : {n : ℕ} {P Q : ℕ → ℕ → Type 0} {p first last : ℕ} {run : TimedRun}
+    → IsTimedRun n P p first last run
+    → AreInOrder n Q run
+    → IsTimedRun n Q p first last run
+in_order timed kept = record {
+  each_thread = timed.each_thread;
+  each_begin = timed.each_begin;
+  each_end = timed.each_end;
+  in_time = timed.in_time;
+  on_thread = timed.on_thread;
+  after_first = timed.after_first;
+  forward = timed.forward;
+  before_last = timed.before_last;
+  kept = kept;
+  apart = timed.apart;
+}
+
 module _ (R Q : ℕ → ℕ → Type 0) (forward : (s t : ℕ) → R s t → s < t)
     (within : (s t : ℕ) → Q s t → R s t)
     (ways : (s t : ℕ) → R s t → Reaches Q s t) where
@@ -36,33 +54,12 @@ module _ (R Q : ℕ → ℕ → Type 0) (forward : (s t : ℕ) → R s t → s <
 
   pub there : {n p first last : ℕ} {run : TimedRun} → IsTimedRun n R p first last run
       → IsTimedRun n Q p first last run
-  there timed = record {
-    each_thread = timed.each_thread;
-    each_begin = timed.each_begin;
-    each_end = timed.each_end;
-    in_time = timed.in_time;
-    on_thread = timed.on_thread;
-    after_first = timed.after_first;
-    forward = timed.forward;
-    before_last = timed.before_last;
-    kept = λ s t h pair. timed.kept s t h (within s t pair);
-    apart = timed.apart;
-  }
+  there timed = in_order timed (λ s t h pair. timed.kept s t h (within s t pair))
 
   pub back : {n p first last : ℕ} {run : TimedRun} → IsTimedRun n Q p first last run
       → IsTimedRun n R p first last run
-  back timed = record {
-    each_thread = timed.each_thread;
-    each_begin = timed.each_begin;
-    each_end = timed.each_end;
-    in_time = timed.in_time;
-    on_thread = timed.on_thread;
-    after_first = timed.after_first;
-    forward = timed.forward;
-    before_last = timed.before_last;
-    kept = λ s t h pair. ended_before asc timed s t h (forward s t pair) (ways s t pair);
-    apart = timed.apart;
-  }
+  back timed = in_order timed
+      (λ s t h pair. ended_before asc timed s t h (forward s t pair) (ways s t pair))
 
   pub ready_there : (run : TimedRun) (s m : ℕ) → ReadyBy (durations run) R run.begins s m
       → ReadyBy (durations run) Q run.begins s m

@@ -19,7 +19,16 @@ void program_root(int threads);                  /* generated: the body of the r
 /* 0 and 1, which the compiler cannot know: conditions with them are decided when the program runs. */
 extern volatile int conformance_no, conformance_yes;
 
+/* Ends the life of a depend object. clang 19 refuses both forms of `destroy` where it is told of OpenMP 5.2. */
+#if defined __clang__ && __clang_major__ > 16 && _OPENMP >= 202111
+#define END_OF_OBJECT(object)
+#else
+#define PRAGMA(words) _Pragma(#words)
+#define END_OF_OBJECT(object) PRAGMA(omp depobj(object) destroy)
+#endif
+
 void segment_start(unsigned segment); /* first in each segment's code */
 void segment_finish(void);            /* last in each segment's code */
+void expect(int is_right);            /* of a value that the runtime made */
 void segment_pass(unsigned segment);  /* a whole segment without code of its own */
 #endif

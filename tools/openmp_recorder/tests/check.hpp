@@ -16,8 +16,8 @@ struct Listed {
   Listed(const char *name, void (*body)()) { tests().push_back({name, body}); }
 };
 
-#define TEST(name)                        \
-  static void name();                     \
+#define TEST(name)                          \
+  static void name();                       \
   static Listed listed_##name(#name, name); \
   static void name()
 

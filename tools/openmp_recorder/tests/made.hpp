@@ -23,7 +23,7 @@ class Kept : public Records {  // records that are kept in a list
 class Made {
  public:
   explicit Made(unsigned many = 1);  // of region 1, whose implicit tasks have the numbers 1 and on
-  Made &after(int64_t nanoseconds);     // the next records are so much later
+  Made &after(int64_t nanoseconds);  // the next records are so much later
   Made &stood_still(uint32_t nanoseconds);  // of them the next record's thread was in the recorder
   Made &add(unsigned thread, Told told, uint32_t task, uint32_t other = 0, unsigned detail = 0, uint64_t code = 0);
   Made &begin_threads();
@@ -31,9 +31,10 @@ class Made {
   Made &depend(unsigned thread, uint32_t task, const std::vector<DependItem> &items);  // task 0: of a wait
   Made &go(unsigned thread, uint32_t from, uint32_t to, ompt_task_status_t why = ompt_task_switch);
   Made &run(unsigned thread, uint32_t from, uint32_t task, int64_t nanoseconds);  // begins, costs so much, and ends
-  Made &sync(unsigned thread, uint32_t task, ompt_sync_region_t kind);            // begins and ends at once
-  Made &barrier(unsigned thread, uint32_t task);                                  // begins
-  Made &passed(unsigned thread, int64_t wall, int64_t processor, bool slept, bool taken = false);  // until the next record
+  Made &sync(unsigned thread, uint32_t task, ompt_sync_region_t kind);  // begins and ends at once
+  Made &barrier(unsigned thread, uint32_t task);  // begins
+  Made &passed(unsigned thread, int64_t wall, int64_t processor, bool slept,
+               bool taken = false);  // until the next record
   int64_t now() const { return time; }
   Run read(Ending ending = {}, const HowToRead &how = {});
 
@@ -45,6 +46,6 @@ class Made {
 };
 
 DependItem item(ompt_dependence_type_t type, uint64_t address);
-Region &only_region(Run &run);                                       // composed and added up, without folds
-std::string text_of(Region &region, const Style &style = {});        // without its first line
-std::string events_of(Region &region);                               // after its text
+Region &only_region(Run &run);  // composed and added up, without folds
+std::string text_of(Region &region, const Style &style = {});  // without its first line
+std::string events_of(Region &region);  // after its text

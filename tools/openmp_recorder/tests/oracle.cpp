@@ -31,7 +31,7 @@ class Oracle {
   size_t next = 0;
   std::vector<int64_t> starts, costs;  // of segments
   std::vector<OneTask> tasks;
-  std::vector<size_t> running{0};      // tasks, innermost last
+  std::vector<size_t> running{0};  // tasks, innermost last
   std::vector<Block> blocks;
 
   int64_t end(size_t segment) const { return starts[segment] + costs[segment]; }

@@ -99,7 +99,7 @@ TEST(processor_time_outside_of_regions) {
   work_for(3000);
   int64_t now = processor_time();
   log.regions.push_back({1, true, 0, 1, now - 1000000});  // that many nanoseconds in it
-  log.regions.push_back({2, false, 0, 1, 500000});        // inside the first
+  log.regions.push_back({2, false, 0, 1, 500000});  // inside the first
   int64_t outside = processor_time_outside(log, processor_time());
   EXPECT(outside >= 1000000 && outside <= 2000000, true);
   log.regions.push_back({3, true, 0, 0, -processor_time()});  // which runs

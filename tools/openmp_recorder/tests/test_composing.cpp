@@ -21,8 +21,15 @@ TEST(the_only_part_with_tasks_is_the_root) {
 }
 
 TEST(several_parts_are_tasks_in_a_group) {
-  Run run = Made(2).after(4).create(0, 1, 3).create(1, 2, 4).barrier(0, 1).barrier(1, 2).run(1, 2, 3, 5)
-                .run(0, 1, 4, 6).read();
+  Run run = Made(2)
+                .after(4)
+                .create(0, 1, 3)
+                .create(1, 2, 4)
+                .barrier(0, 1)
+                .barrier(1, 2)
+                .run(1, 2, 3, 5)
+                .run(0, 1, 4, 6)
+                .read();
   Region &region = only_region(run);
   EXPECT(text_of(region), "taskgroup {\n" + part + "    work 4\n    task {\n      work 5\n    }\n  }\n" + part +
                               "    work 4\n    task {\n      work 6\n    }\n  }\n}\n");
@@ -34,9 +41,10 @@ TEST(a_barrier_ends_a_group) {
   made.create(0, 1, 3);
   explicit_barrier(made).run(0, 1, 3, 5).create(1, 2, 4).barrier(0, 1).barrier(1, 2).run(0, 1, 4, 6);
   Run run = made.read();
-  EXPECT(text_of(only_region(run)),
-         "taskgroup {\n" + part + "    task {\n      work 5\n    }\n  }\n}\n"
-         "taskgroup {\n" + part + "    work 5\n    task {\n      work 6\n    }\n  }\n}\n");
+  EXPECT(text_of(only_region(run)), "taskgroup {\n" + part +
+                                        "    task {\n      work 5\n    }\n  }\n}\n"
+                                        "taskgroup {\n" +
+                                        part + "    work 5\n    task {\n      work 6\n    }\n  }\n}\n");
 }
 
 TEST(a_long_part_without_tasks_is_written) {
@@ -88,8 +96,8 @@ TEST(which_parts_are_written) {
 
 TEST(parts_with_tasks_come_first) {
   Run run = Made(2).after(4).create(1, 2, 3).barrier(0, 1).barrier(1, 2).run(0, 1, 3, 5).read();
-  EXPECT(text_of(only_region(run)), "taskgroup {\n" + part + "    work 4\n    task {\n      work 5\n    }\n  }\n" +
-                                        part + "    work 4\n  }\n}\n");
+  EXPECT(text_of(only_region(run)),
+         "taskgroup {\n" + part + "    work 4\n    task {\n      work 5\n    }\n  }\n" + part + "    work 4\n  }\n}\n");
 }
 
 TEST(what_the_commands_have_no_room_for_is_left_out_and_remarked) {
@@ -98,7 +106,8 @@ TEST(what_the_commands_have_no_room_for_is_left_out_and_remarked) {
   made.create(0, 1, 2);
   for (unsigned i = 0; i < steps; i++)
     made.add(0, Told::SyncBegin, 1, 0, ompt_sync_region_barrier_explicit)
-        .add(0, Told::SyncEnd, 1, 0, ompt_sync_region_barrier_explicit).after(10);
+        .add(0, Told::SyncEnd, 1, 0, ompt_sync_region_barrier_explicit)
+        .after(10);
   Run run = made.barrier(0, 1).run(0, 1, 2, 5).read();
   Region &region = *run.regions.begin()->second;
   EXPECT(compose(region), true);
@@ -109,8 +118,12 @@ TEST(what_the_commands_have_no_room_for_is_left_out_and_remarked) {
 }
 
 TEST(the_runtimes_own_region_is_no_code) {
-  Run run = Made().add(0, Told::ParallelBegin, 0, 2, is_runtimes).add(0, Told::ImplicitBegin, 9, 2, 0, 1).after(50)
-                .add(0, Told::ImplicitEnd, 9).read();
+  Run run = Made()
+                .add(0, Told::ParallelBegin, 0, 2, is_runtimes)
+                .add(0, Told::ImplicitBegin, 9, 2, 0, 1)
+                .after(50)
+                .add(0, Told::ImplicitEnd, 9)
+                .read();
   EXPECT(run.regions.at(2)->cost, 50);
   EXPECT(in_code(*run.regions.at(2)), 0);
 }

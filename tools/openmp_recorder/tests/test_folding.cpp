@@ -63,8 +63,14 @@ TEST(a_chunk_is_one_task_where_its_last_was_made) {
 }
 
 TEST(chunks_do_not_cross_a_wait) {
-  Run run = Made().create(0, 1, 2).run(0, 1, 2, 3).sync(0, 1, ompt_sync_region_taskwait).create(0, 1, 3)
-                .run(0, 1, 3, 4).barrier(0, 1).read();
+  Run run = Made()
+                .create(0, 1, 2)
+                .run(0, 1, 2, 3)
+                .sync(0, 1, ompt_sync_region_taskwait)
+                .create(0, 1, 3)
+                .run(0, 1, 3, 4)
+                .barrier(0, 1)
+                .read();
   EXPECT(folded(run, {0, 0, 9}), "task {\n  work 3\n}\ntaskwait\ntask {\n  work 4\n}\n");
 }
 

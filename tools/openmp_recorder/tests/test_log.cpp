@@ -135,8 +135,8 @@ TEST(time_in_the_recorder_and_for_locks_is_not_the_threads) {
 
 TEST(regions_of_a_thread_have_their_times) {
   MadeLog log;
-  log.last({raw(10, Told::ParallelBegin, 0, 1, 99), raw(20, Told::ImplicitBegin, 1, 1, 2), raw(70, Told::ImplicitEnd, 1, 1),
-            raw(90, Told::ParallelEnd, 0, 1)});
+  log.last({raw(10, Told::ParallelBegin, 0, 1, 99), raw(20, Told::ImplicitBegin, 1, 1, 2),
+            raw(70, Told::ImplicitEnd, 1, 1), raw(90, Told::ParallelEnd, 0, 1)});
   LogFolder folder = log.open();
   while (folder.threads.at(0)->next()) {
   }

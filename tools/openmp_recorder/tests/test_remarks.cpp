@@ -42,8 +42,8 @@ TEST(the_direction_of_each_remark) {
   effects({Remark::MutexInOutSet, Remark::AllMemory, Remark::Detach, Remark::UnseenDetach, Remark::EqualTurns,
            Remark::HeldLock},
           "span too low");
-  effects({Remark::Target, Remark::UnseenTarget, Remark::NestedWaits, Remark::LeftInside, Remark::RecordsFull, Remark::Unfinished,
-           Remark::ToldElsewhere, Remark::PartsLeftOut, Remark::OtherThread, Remark::Slept},
+  effects({Remark::Target, Remark::UnseenTarget, Remark::NestedWaits, Remark::LeftInside, Remark::RecordsFull,
+           Remark::Unfinished, Remark::ToldElsewhere, Remark::PartsLeftOut, Remark::OtherThread, Remark::Slept},
           "work and span too low");
   effects({Remark::ToldLate, Remark::Preempted}, "work and span too high");
   effects({Remark::NestedRegion}, "work too low, span too high");

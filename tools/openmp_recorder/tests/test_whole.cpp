@@ -93,8 +93,8 @@ TEST(a_chunk_of_k_turns_is_k_pieces_of_its_cost) {
   loop(made.after(4), 0, 4, {{3, 6 * us}, {1, 5 * us}});
   end_region(made);
   std::string words = made.text();
-  EXPECT_PART(words, "  " + part + "    work 4\n    taskgroup {\n" + pieces(3, 2 * us) + pieces(1, 5 * us) +
-                         "    }\n  }\n");
+  EXPECT_PART(words,
+              "  " + part + "    work 4\n    taskgroup {\n" + pieces(3, 2 * us) + pieces(1, 5 * us) + "    }\n  }\n");
   EXPECT(made.found.whole->root->total, 104 + 11 * us);
   EXPECT(span_of(*made.found.whole), 104 + 5 * us);
   EXPECT(made.found.whole->pieces, 4u);
@@ -109,9 +109,10 @@ TEST(the_head_tells_what_a_whole_programs_text_has) {
   WholeProgram &whole = *made.whole().whole;
   Recording recording{"sort", "2026-11-24T00:10:02Z", 0, {100, 12 * us}, {100, 24 * us + 100, true}, &whole};
   std::string head = head_of(whole, recording, Options(), Places());
-  EXPECT_PART(head, "# whole program: 1 region, 1 loop in 4 pieces; a chunk of k turns is k equal pieces, together "
-                    "where they are shorter than 1000 ns\n# covers: 99.5 % of the program's thread-time (24100 of 24200 ns)\n"
-                    "# not covered: 100 of the program\n");
+  EXPECT_PART(head,
+              "# whole program: 1 region, 1 loop in 4 pieces; a chunk of k turns is k equal pieces, together "
+              "where they are shorter than 1000 ns\n# covers: 99.5 % of the program's thread-time (24100 of 24200 ns)\n"
+              "# not covered: 100 of the program\n");
   EXPECT_PART(head, "# in serial code: 100\n# in loops: 8000\n# in parts without tasks: 12000\n# in tasks: 4000\n");
   EXPECT_PART(head, "# divided among 2 threads: code of the region, 2 parts, 4000 ns beside the longest\n");
   EXPECT_PART(head, "# remark: chunk of several turns of a loop, written as equal pieces, 1 time: span too low\n");
@@ -191,7 +192,8 @@ TEST(a_region_without_a_place_in_another_is_the_programs) {
   made.after(2).add(0, Told::ParallelBegin, 1, 2, is_runtimes).add(0, Told::ImplicitBegin, 9, 2, 0, 1).after(5);
   made.add(0, Told::ImplicitEnd, 9).add(0, Told::ParallelEnd, 0, 2);
   end_region(made.after(3));
-  EXPECT_PART(made.text(), "    work 2\n    taskgroup {\n      " + part + "        work 5\n      }\n    }\n    work 3\n");
+  EXPECT_PART(made.text(),
+              "    work 2\n    taskgroup {\n      " + part + "        work 5\n      }\n    }\n    work 3\n");
   EXPECT(in_code(made.found), 10);
 }
 
@@ -224,8 +226,7 @@ TEST(a_thread_that_the_program_made_is_beside_the_first) {
 
 TEST(exact_folds_keep_work_and_span_of_pieces) {
   Program made(2);
-  for (unsigned thread : {0, 1})
-    loop(made.after(3), thread, 200, {{50, 100 * us}, {1, 7 * us}, {49, 98 * us}});
+  for (unsigned thread : {0, 1}) loop(made.after(3), thread, 200, {{50, 100 * us}, {1, 7 * us}, {49, 98 * us}});
   end_region(made, 2);
   Region &whole = *made.whole().whole;
   int64_t span = span_of(whole);
@@ -243,8 +244,8 @@ TEST(chunks_that_are_shorter_than_a_piece_are_one_with_those_after_them) {
   Program made;
   loop(made, 0, 7, {{1, 400}, {1, 400}, {1, 400}, {1, 3 * us}, {1, 100}, {1, 200}, {1, 2 * us}});
   end_region(made);
-  EXPECT_PART(made.text(), "taskgroup {\n" + pieces(1, 1200) + pieces(1, 3 * us) + pieces(1, 300) + pieces(1, 2 * us) +
-                               "    }\n");
+  EXPECT_PART(made.text(),
+              "taskgroup {\n" + pieces(1, 1200) + pieces(1, 3 * us) + pieces(1, 300) + pieces(1, 2 * us) + "    }\n");
   EXPECT(made.found.whole->root->total, 100 + 6500);
   EXPECT(made.found.whole->pieces, 4u);
 }

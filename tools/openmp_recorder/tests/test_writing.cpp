@@ -17,9 +17,7 @@
 #include "made.hpp"
 
 namespace {
-Run two_tasks() {
-  return Made(2).barrier(1, 2).after(1499).create(0, 1, 3).barrier(0, 1).run(1, 2, 3, 2500).read();
-}
+Run two_tasks() { return Made(2).barrier(1, 2).after(1499).create(0, 1, 3).barrier(0, 1).run(1, 2, 3, 2500).read(); }
 
 Run two_parts() { return Made(2).after(1499).create(0, 1, 3).barrier(0, 1).barrier(1, 2).run(1, 2, 3, 2500).read(); }
 }  // namespace
@@ -32,8 +30,15 @@ TEST(costs_are_in_the_unit_and_rounded) {
 }
 
 TEST(a_large_text_is_told_piece_by_piece_and_not_indented) {
-  Run run = Made().create(0, 1, 2).go(0, 1, 2).after(3).create(0, 2, 3).go(0, 2, 1, ompt_task_complete).run(0, 1, 3, 4)
-                .barrier(0, 1).read();
+  Run run = Made()
+                .create(0, 1, 2)
+                .go(0, 1, 2)
+                .after(3)
+                .create(0, 2, 3)
+                .go(0, 2, 1, ompt_task_complete)
+                .run(0, 1, 3, 4)
+                .barrier(0, 1)
+                .read();
   Region &region = only_region(run);
   std::string words;
   tell_program(region, {1, false, true}, Places(), [&](std::string_view piece) { words += piece; });
@@ -207,9 +212,9 @@ TEST(lengths_are_limited) {
 }
 
 TEST(files_of_a_run_are_known_by_their_names) {
-  for (const char *name : {"out.tasks", "out.replay", "out.times", "out.timed", "out.2.tasks", "out.inout.tasks",
-                           "out.2.inout.tasks", "out.4711.tasks", "out.4711.2.replay", "out.large.tasks",
-                           "out.2.large.tasks", "out.2.large.inout.tasks"})
+  for (const char *name :
+       {"out.tasks", "out.replay", "out.times", "out.timed", "out.2.tasks", "out.inout.tasks", "out.2.inout.tasks",
+        "out.4711.tasks", "out.4711.2.replay", "out.large.tasks", "out.2.large.tasks", "out.2.large.inout.tasks"})
     EXPECT(is_of_run(name, "out"), true);
   for (const char *name : {"out", "other.tasks", "out.csv", "out2.tasks", "out.x.tasks", "about.tasks"})
     EXPECT(is_of_run(name, "out"), false);

@@ -3,13 +3,17 @@ libraries, and `mutants.json` that says what each change breaks."""
 import json
 import pathlib
 import random
-from dataclasses import dataclass
+from dataclasses import dataclass, field
 
 from spanprof.conformance.campaign import directed_cases, random_cases, some_failing
 from spanprof.conformance.judge import Missing
 
 ENOUGH = 2        # programs that fail, after which a campaign ends
 SEEDS_APART = 10_000
+# Parts of the names of programs that try a rule, where those are not the rule's own.
+TRY = {"dependence": ("depend",), "taskgroup": ("group", "taskloop"), "undeferred": ("undeferred", "final"),
+       "taskwait": ("wait",), "taskwait depend": ("taskwait_depend",), "once": ("taskloop", "tree"),
+       "progress": ("pressure",), "region": ("threads", "tree"), "grainsize": ("num_tasks", "grainsize", "uneven")}
 
 
 @dataclass(frozen=True)
@@ -50,6 +54,7 @@ class Caught:
     campaigns: list
     ways: set
     seconds: float = 0
+    tried: list = field(default_factory=list)  # of each campaign, how many programs were tried
 
     def programs(self):
         return sorted(set().union(*self.campaigns))
@@ -63,25 +68,32 @@ class Caught:
         return len(self.programs()) > 1 or 2 * self.times() >= most
 
     def as_json(self):
-        return {"campaigns": self.campaigns, "ways": sorted(self.ways), "seconds": round(self.seconds)}
+        return {"campaigns": self.campaigns, "ways": sorted(self.ways), "seconds": round(self.seconds),
+                "tried": self.tried}
 
 
-def cases_of_campaign(options, kinds, number):
-    """The directed part, and random programs that no other campaign has."""
+def tries(case, rule):
+    """Whether a program's name says that it tries a rule."""
+    return any(part in case.name for part in TRY.get(rule, (rule,)))
+
+
+def cases_of_campaign(options, kinds, number, rule=""):
+    """The directed part, and random programs that no other campaign has; what tries the rule comes first."""
     first = options.seed + number * SEEDS_APART
     directed = directed_cases(kinds, ["tied"], options.match)[0] if options.directed else []
     cases = directed + random_cases(range(first, first + options.programs), kinds, ["tied"], options.without)
     random.Random(first).shuffle(cases)  # so that a campaign soon has some of each kind
-    return cases
+    return sorted(cases, key=lambda case: not tries(case, rule))
 
 
-def try_mutant(bench, options, plan_of_seed):
-    """Campaigns on the bench's runtime, until it is caught surely or all are over."""
+def try_mutant(bench, options, plan_of_seed, rule=""):
+    """Campaigns on the bench's runtime, which breaks a rule, until it is caught surely or all are over."""
     caught = Caught([], set())
     for number in range(options.campaigns):
-        cases = cases_of_campaign(options, bench.toolchain.kinds, number)
-        results = some_failing(bench, cases, plan_of_seed(options.seed + number), options.jobs, ENOUGH)
+        cases = cases_of_campaign(options, bench.toolchain.kinds, number, rule)
+        results = some_failing(bench, cases, plan_of_seed(options.seed + number), options.jobs, ENOUGH, options.seconds)
         caught.campaigns.append(results.failed_programs())
+        caught.tried.append(len(results.outcomes))
         caught.ways |= {f"{kind}: {rule}" if kind == "hung" else rule for _, kind, rule in results.groups}
         caught.seconds += results.seconds
         if len(caught.programs()) > 1:

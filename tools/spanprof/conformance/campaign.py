@@ -2,6 +2,7 @@
 import concurrent.futures
 import contextlib
 import fnmatch
+import math
 import sys
 import time
 
@@ -55,9 +56,9 @@ class Progress:
             sys.stderr.flush()
 
 
-def tried(bench, cases, plan, jobs):
+def tried(bench, cases, plan, jobs, until=math.inf):
     """Each of the cases with its tallies, as it ends; each is run as the plan says. What may only have been slow comes
-    last, after a second try."""
+    last, after a second try. No case is waited for after a time of the monotonic clock."""
     progress, pool, slow = Progress(len(cases)), concurrent.futures.ThreadPoolExecutor(jobs), []
     try:
         futures = {pool.submit(bench.try_case, case, plan.conditions(case)): case for case in cases}
@@ -67,6 +68,9 @@ def tried(bench, cases, plan, jobs):
                 slow.append((futures[future], future.result()))
             else:
                 yield futures[future], future.result()
+            if until < math.inf and time.monotonic() > until:
+                pool.shutdown(cancel_futures=True)
+                break
         tries = SecondTries(lambda case, conditions: bench.try_case(case, [conditions])[0])
         for case, tallies in slow:
             yield case, tries.settled(case, tallies)
@@ -74,10 +78,10 @@ def tried(bench, cases, plan, jobs):
         pool.shutdown(cancel_futures=True)
 
 
-def some_failing(bench, cases, plan, jobs, enough):
-    """The results of cases, which end once so many programs have failed."""
+def some_failing(bench, cases, plan, jobs, enough, seconds=math.inf):
+    """The results of cases, which end once so many programs have failed, or after so many seconds."""
     begun, outcomes, failed = time.monotonic(), [], set()
-    with contextlib.closing(tried(bench, cases, plan, jobs)) as running:
+    with contextlib.closing(tried(bench, cases, plan, jobs, begun + seconds)) as running:
         for case, tallies in running:
             outcomes.append((case, tallies))
             if any(tally.failures for tally in tallies):

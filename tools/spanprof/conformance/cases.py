@@ -8,6 +8,7 @@ from dataclasses import dataclass, field
 from spanprof.conformance.coverage import Coverage
 from spanprof.conformance.emit_c import c_text
 from spanprof.conformance.expected import Expectations
+from spanprof.conformance.exclusion import overlapping
 from spanprof.conformance.explain import explain
 from spanprof.conformance.judge import Verdict
 from spanprof.conformance.launch import Conditions, launch
@@ -15,6 +16,9 @@ from spanprof.conformance.segments import Table
 from spanprof.conformance.text import text_of
 from spanprof.conformance.tied import moved, unconstrained
 from spanprof.conformance.toolchain import BuildFailed
+
+# Settings that programs take for the first of every two numbers of threads, by how their names begin.
+FAVOURED = {"priority": "priorities", "memory": "perturbed"}
 
 
 @dataclass(frozen=True)
@@ -68,8 +72,9 @@ class Plan:
         """The conditions for a case; which setting goes with which number of threads differs from case to case."""
         first = zlib.crc32(case.name.encode()) + self.seed * len(self.threads)
         settings = [self.settings[(first + number) % len(self.settings)] for number in range(len(self.threads))]
-        if case.name.startswith("priority") and "priorities" in self.settings:
-            settings = ["priorities" if number % 2 else setting for number, setting in enumerate(settings)]
+        favoured = next((FAVOURED[begin] for begin in FAVOURED if case.name.startswith(begin)), "")
+        if favoured in self.settings:
+            settings = [setting if number % 2 else favoured for number, setting in enumerate(settings)]
         return [Conditions(threads, self.runs, self.seed, case.unit, self.timeout, setting)
                 for threads, setting in zip(self.threads, settings)]
 
@@ -88,12 +93,15 @@ class Examined:
         return c_text(self.case.body, self.table, self.record.preds)
 
     def judged(self, log, constrained):
-        """The verdict of spanprof, and on what it accepts whether tied tasks stayed on their threads and, where the
-        runtime was not told otherwise, whether threads began tied tasks only where they may."""
+        """The verdict of spanprof, and on what it accepts whether tied tasks stayed on their threads, whether tasks
+        that exclude one another ran one at a time and, where the runtime was not told otherwise, whether threads began
+        tied tasks only where they may."""
         verdict = self.judge.verdict(self.text, self.record, log)
         if not verdict.accepted or log.unlogged:
             return verdict
-        tests = {"moved": moved, "unconstrained": unconstrained} if constrained else {"moved": moved}
+        tests = {"moved": moved, "overlapping": overlapping}
+        if constrained:
+            tests["unconstrained"] = unconstrained
         told = {kind: test(self.table, log.events) for kind, test in tests.items()}
         return next((Verdict(kind, words) for kind, words in told.items() if words), verdict)
 

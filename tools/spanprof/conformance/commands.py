@@ -108,7 +108,7 @@ def try_built(options, bench):
     print("\n".join(tables.table(tables.BUILT_HEADS, [])))
     for mutant in built_in(options.built, options.only):
         bench.environment = mutant.environment(plain)
-        caught = try_mutant(bench, options, lambda seed: replace(plan, seed=seed))
+        caught = try_mutant(bench, options, lambda seed: replace(plan, seed=seed), mutant.rule)
         print(tables.built_line(mutant, caught), flush=True)
         seen[mutant.name] = caught.as_json()
         if options.report:

@@ -16,6 +16,7 @@ of.
 import collections
 import itertools
 
+from spanprof.conformance.program import KINDS
 from spanprof.conformance.segments import conflict, dependence_of
 
 TRIED_RULES = ("dependence", "undeferred", "taskwait", "taskgroup")
@@ -26,7 +27,8 @@ MOST_COUNTED = 1000  # segments of a program of which this is counted
 
 def all_waits(kinds):
     """The rules and constructs by which a segment can wait, in programs with these kinds of items."""
-    for undeferred, (kind, then) in itertools.product((False, True), itertools.product(sorted(kinds), repeat=2)):
+    pairs = itertools.product(sorted({*kinds} & {*KINDS}), repeat=2)
+    for undeferred, (kind, then) in itertools.product((False, True), list(pairs)):
         if conflict(((kind, "x"),), ((then, "x"),)):
             yield "dependence", dependence_of(kind, then, undeferred)
     yield from (("undeferred", "if(0)"), ("undeferred", "final"), ("taskwait", "taskwait"))

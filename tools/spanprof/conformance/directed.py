@@ -1,5 +1,6 @@
 """The directed programs: one file each in directed/, named for what it shows, with a comment that says it."""
 from spanprof.conformance.data import DATA
+from spanprof.conformance.forms import kind_in_c
 from spanprof.conformance.program import Task, nodes
 from spanprof.conformance.reader import read_program
 
@@ -18,5 +19,5 @@ def first_comment(name):
 
 
 def kinds_of(body):
-    """The kinds of depend items that a program has."""
-    return {item.kind for node in nodes(body) if isinstance(node, Task) for item in node.items}
+    """The kinds of depend items that a program has in C."""
+    return {kind_in_c(item.kind, node) for node in nodes(body) if isinstance(node, Task) for item in node.items}

@@ -1,12 +1,15 @@
 """Writes a program as C with OpenMP tasks. To test another language, write its like of this file and of harness/."""
 from spanprof.conformance.data import DATA
-from spanprof.conformance.forms import form_of, is_of_regions, is_wait_for_items
+from spanprof.conformance.emit_depend import Objects, clauses
+from spanprof.conformance.forms import (addends, adds, chunks_of, form_of, has_sum, is_detached, is_of_regions,
+                                         is_wait_for_items)
 from spanprof.conformance.locations import Locations
 from spanprof.conformance.program import Group, Loop, Task, Wait, Work, segment_count
-from spanprof.conformance.text import item_runs, text_of
+from spanprof.conformance.text import text_of
 
 TEMPLATE = DATA / "harness" / "program.c.in"
 WAITED_FOR, CREATES = 1, 2  # what the harness delays: see delays.c
+OF_TASKS = ("untied", "mergeable", "priority")  # clauses that are written in C as in the text's comments
 
 
 class Emitter:
@@ -15,6 +18,7 @@ class Emitter:
     def __init__(self, body):
         self.locations, self.regions = Locations(body), is_of_regions(body)
         self.lines, self.next, self.strides, self.tasks, self.finals = [], 0, [], 0, 0
+        self.sum, self.sums = "", 0  # the sum to which tasks add here, and how many sums there are
         self.start(1)
         self.body(body, 1)
         self.put(1, "segment_finish();")
@@ -52,17 +56,32 @@ class Emitter:
             self.put(indent, "segment_finish();")
             self.pragma("taskyield")
         elif form == "taskloop" and not self.finals:
-            self.task_loop(node.body[0], "", indent)
+            self.task_loop(node.body[0], chunks_of(node), indent, clause=" reduction" * has_sum(node))
+        elif form == "reduction":
+            self.summed(node, indent)
         else:
-            self.pragma("taskgroup")
-            self.block(node, indent)
+            self.block(node, "taskgroup", indent, "")
         self.start(indent)
 
-    def block(self, node, indent):
+    def block(self, node, pragma, indent, its_sum):
+        around, self.sum = self.sum, its_sum
+        self.pragma(pragma)
         self.put(indent, "{")
         self.body(node.body, indent + 1)
         self.put(indent + 1, "segment_finish();")
         self.put(indent, "}")
+        self.sum = around
+
+    def new_sum(self, indent):
+        self.sums += 1
+        self.put(indent, f"{{ long sum_{self.sums} = 0;")
+        return f"sum_{self.sums}"
+
+    def summed(self, node, indent):
+        """A group whose tasks each add one to a sum."""
+        name = self.new_sum(indent)
+        self.block(node, f"taskgroup task_reduction(+: {name})", indent, name)
+        self.put(indent, f"expect({name} == {addends(node.body)}); }}")
 
     def region(self, node, indent):
         """The tasks of a group as the implicit tasks of a parallel region, whose end waits as a group's does."""
@@ -88,7 +107,7 @@ class Emitter:
         if not node.turns:
             return
         if form_of(node) == "taskloop" and not self.finals:
-            self.task_loop(node, " nogroup", indent)
+            self.task_loop(node, chunks_of(node), indent, " nogroup")
             self.start(indent)
             return
         stride, first = segment_count(node.body), self.next
@@ -102,20 +121,25 @@ class Emitter:
     def for_head(self, node):
         return f"for (int v_{node.var} = {node.first}; v_{node.var} <= {node.last}; v_{node.var}++) {{"
 
-    def task_loop(self, node, nogroup, indent):
-        """A loop of tasks as a taskloop. It may make its tasks in any order, so all segments from which it makes them
-        come before it; without a group the last one is left to go on after it."""
-        task, stride, first = node.body[0], segment_count(node.body), self.next
+    def task_loop(self, node, chunks, indent, clause=""):
+        """A loop of tasks as a taskloop, each turn a task where nothing is said of chunks. It may make its tasks in any
+        order, so all segments from which it makes them come before it; without a group the last one is left to go on
+        after it."""
+        task, stride, first, nogroup = node.body[0], segment_count(node.body), self.next, clause == " nogroup"
         last = node.turns - 1 if nogroup else node.turns
         self.put(indent, "segment_finish();")
         self.put(indent, f"for (unsigned turn = 1; turn <= {last}; turn++) "
                          f"segment_pass({self.segment(first - 1)} + {stride}u * turn);")
-        self.pragma(f"taskloop num_tasks({node.turns}){nogroup}{self.clauses(task)}")
+        name = self.new_sum(indent) if clause == " reduction" else ""
+        words = f"{clause}(+: {name})" if name else clause
+        self.pragma(f"taskloop {chunks or f'num_tasks({node.turns})'}{words}{self.clauses(task)}")
         self.put(indent, self.for_head(node))
         self.strides.append((node, stride))
-        self.task_body(task, indent + 1)
+        self.task_body(task, indent + 1, name)
         self.strides.pop()
         self.put(indent, "}")
+        if name:
+            self.put(indent, f"expect({name} == {node.turns}); }}")
         self.next = first + stride * node.turns - (1 if nogroup else 0)
 
     def task(self, node, indent):
@@ -126,34 +150,75 @@ class Emitter:
             self.next += 1
             self.start(indent)
             return
-        self.pragma("task" + self.clauses(node))
-        self.put(indent, "{")
-        self.task_body(node, indent + 1)
-        self.put(indent, "}")
+        if is_detached(node) and not self.finals:
+            self.detached(node, indent)
+        elif "depobj" in node.clauses and node.items:
+            self.by_objects(node, indent)
+        else:
+            self.plain_task(node, self.depend(node), indent)
         self.start(indent)
 
-    def task_body(self, node, indent):
+    def plain_task(self, node, depend, indent):
+        its_sum = self.sum if adds(node) else ""
+        self.pragma("task" + self.clauses(node) + depend + (f" in_reduction(+: {its_sum})" if its_sum else ""))
+        self.put(indent, "{")
+        self.task_body(node, indent + 1, its_sum)
+        self.put(indent, "}")
+
+    def by_objects(self, node, indent):
+        """A task whose items are depend objects."""
+        objects = Objects(node, self.locations.of)
+        self.put(indent, f"{{ {objects.declaration}")
+        for words in objects.before:
+            self.pragma(words)
+        self.plain_task(node, objects.clause, indent)
+        for words in objects.after:
+            self.put(indent, words)
+        self.put(indent, "}")
+
+    def detached(self, node, indent):
+        """A task that an event completes. The task that fulfils it runs the inner one's part and the last one."""
+        self.put(indent, "{ omp_event_handle_t event = (omp_event_handle_t)0;")
+        self.pragma(f"task detach(event){self.clauses(node)}{self.depend(node)}")
+        self.put(indent, "{")
+        self.start(indent + 1)
+        self.put(indent + 1, "segment_finish();")
+        self.pragma("task firstprivate(event)")
+        self.put(indent + 1, "{")
+        self.start(indent + 2)
+        self.put(indent + 2, "segment_finish();")
+        self.put(indent + 2, f"segment_pass({self.segment(self.next)});")
+        self.next += 1
+        self.put(indent + 2, "omp_fulfill_event(event);")
+        self.put(indent + 1, "}")
+        self.put(indent, "}")
+        self.put(indent, "}")
+
+    def task_body(self, node, indent, its_sum=""):
+        around, self.sum = self.sum, ""
         self.finals += node.final
         self.start(indent)
+        if its_sum:
+            self.put(indent, f"{its_sum} += 1;")
         self.body(node.body, indent)
         self.put(indent, "segment_finish();")
         self.finals -= node.final
+        self.sum = around
 
     def clauses(self, node):
         """Conditions are constants in every other task, since a compiler translates those in another way."""
         self.tasks += 1
         variable = self.tasks % 2
-        words = "".join(f" {clause}" for clause in node.clauses if clause != "taskwait")
+        words = "".join(f" {clause}" for clause in node.clauses if clause.partition("(")[0] in OF_TASKS)
         if node.undeferred:
             words += " if(conformance_no)" if variable else " if(0)"
         if node.final:
             words += " final(conformance_yes)" if variable else " final(1)"
-        return words + self.depend(node)
+        return words
 
     def depend(self, node):
         """The `depend` clauses of a task."""
-        return "".join(f" depend({kind}: {', '.join(self.locations.of(item) for item in items)})"
-                       for kind, items in item_runs(node.items))
+        return clauses(node, self.locations.of)
 
 
 def roles_of(table):

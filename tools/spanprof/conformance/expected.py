@@ -3,20 +3,21 @@
     family=gomp kind=crashed setting=priorities : found/priority_child_above_parent.md
 
 A failure is expected where each of a line's patterns, as the shell has them, fits it. Names are family (gomp or kmp),
-runtime (its file), kind, rule, tasks, program, setting and threads; a word with blanks stands in quotes. Lines that
-begin with # are comments.
+runtime (its file), kind, rule, tasks, program, setting, threads, and has, which fits where one of the constructs of the
+program does. A word with blanks stands in quotes. Lines that begin with # are comments.
 """
 import fnmatch
 import pathlib
 import shlex
 from dataclasses import dataclass
 
+from spanprof.conformance.constructs import constructs
 from spanprof.conformance.data import DATA
 from spanprof.conformance.mutants import family_of
 from spanprof.errors import Fault
 
 USUAL = DATA / "expected.txt"
-NAMES = ("family", "runtime", "kind", "rule", "tasks", "program", "setting", "threads")
+NAMES = ("family", "runtime", "kind", "rule", "tasks", "program", "setting", "threads", "has")
 
 
 class WrongLine(Fault):
@@ -33,7 +34,9 @@ class Expected:
         traits = {"family": family_of(runtime), "runtime": runtime, "kind": failure.verdict.kind, "rule": failure.rule,
                   "tasks": failure.case.variant, "program": failure.case.name, "setting": failure.conditions.setting,
                   "threads": str(failure.conditions.threads)}
-        return all(fnmatch.fnmatchcase(traits[name], pattern) for name, pattern in self.patterns)
+        traits = {**{name: [trait] for name, trait in traits.items()}, "has": constructs(failure.case.body)}
+        return all(any(fnmatch.fnmatchcase(trait, pattern) for trait in traits[name])
+                   for name, pattern in self.patterns)
 
 
 def read_line(line):

@@ -1,7 +1,7 @@
-"""How groups and loops are written in C: as the constructs that they ask for, where their bodies allow that."""
+"""How statements are written in C: as the constructs that they ask for, where their bodies allow that."""
 from spanprof.conformance.program import Group, Loop, Task, Work
 
-GROUP_FORMS = ("taskgroup", "taskyield", "taskloop", "parallel")
+GROUP_FORMS = ("taskgroup", "taskyield", "taskloop", "parallel", "reduction")
 LOOP_FORMS = ("for", "taskloop")
 
 
@@ -16,6 +16,37 @@ def is_wait_for_items(node):
         not node.body and not node.final
 
 
+def kind_in_c(kind, task):
+    """The kind of an item of a task in C. Tasks of one `inoutset` may run in any order, and so may those of one
+    `mutexinoutset`, one at a time."""
+    return "mutexinoutset" if kind == "inoutset" and "mutexinoutset" in task.clauses else kind
+
+
+def only_works(body):
+    return all(isinstance(node, Work) for node in body)
+
+
+def is_detached(node):
+    """Whether a statement is a task that an event completes: it works, it has an undeferred task that works, and it
+    works. In C the undeferred task is one that is deferred, and its end fulfils the event."""
+    if not isinstance(node, Task) or "detach" not in node.clauses or "mergeable" in node.clauses:
+        return False
+    tasks = [inner for inner in node.body if not isinstance(inner, Work)]
+    return not node.undeferred and not node.final and len(tasks) == 1 and isinstance(tasks[0], Task) and \
+        tasks[0].undeferred and not tasks[0].items and not tasks[0].final and only_works(tasks[0].body)
+
+
+def adds(node):
+    """Whether a statement is a task that adds to the sum of a group around it, if that has one."""
+    return isinstance(node, Task) and not is_wait_for_items(node) and "detach" not in node.clauses
+
+
+def addends(body):
+    """How many tasks of a body add to its group's sum."""
+    loops = sum(node.turns * addends(node.body) for node in body if isinstance(node, Loop) and form_of(node) == "for")
+    return loops + sum(map(adds, body))
+
+
 def is_task_loop(node):
     """Whether a statement is a loop of plain tasks and nothing else."""
     return isinstance(node, Loop) and node.turns > 0 and len(node.body) == 1 and is_plain(node.body[0])
@@ -24,12 +55,29 @@ def is_task_loop(node):
 def form_of(node):
     """The construct that a group or loop is written as: the one that it asks for, where its body allows that."""
     if isinstance(node, Loop):
-        return node.form if is_task_loop(node) else "for"
+        return construct_of(node) if is_task_loop(node) else "for"
     allowed = {"taskgroup": True,
                "taskyield": not node.body,
                "taskloop": len(node.body) == 1 and is_task_loop(node.body[0]),
+               "reduction": addends(node.body) > 0,
                "parallel": bool(node.body) and all(is_plain(task) and not task.final for task in node.body)}
-    return node.form if allowed[node.form] else "taskgroup"
+    return construct_of(node) if allowed[construct_of(node)] else "taskgroup"
+
+
+def construct_of(node):
+    """The construct that a group or loop asks for."""
+    return node.form.partition(" ")[0]
+
+
+def chunks_of(node):
+    """The clause by which a taskloop puts several turns into a task, or nothing."""
+    clause = node.form.partition(" ")[2] if form_of(node) == "taskloop" else ""
+    return clause if clause != "reduction" else ""
+
+
+def has_sum(node):
+    """Whether a taskgroup or a taskloop with its group has a sum, to which its tasks add."""
+    return form_of(node) == "reduction" or form_of(node) == "taskloop" and node.form.endswith(" reduction")
 
 
 def is_of_regions(body):

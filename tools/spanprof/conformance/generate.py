@@ -1,14 +1,16 @@
 """Random programs. One seed, one program."""
 import random
-from dataclasses import dataclass
+from dataclasses import dataclass, replace
 
+from spanprof.conformance.forms import addends
 from spanprof.conformance.program import Group, Index, Item, Loop, Task, Wait, Work, segment_count
 
 NAMES = ("a", "b", "c", "d")
 MOST_ITEMS = 6
 # What random programs may be told to do without, beside the kinds of items.
 CONSTRUCTS = ("if(0)", "final", "loop", "repeated item", "mergeable", "priority", "taskyield", "taskloop", "parallel",
-              "taskwait with depend")
+              "taskwait with depend", "depobj", "iterator", "detach", "depend(mutexinoutset)", "num_tasks",
+              "grainsize", "reduction")
 
 
 @dataclass(frozen=True)
@@ -58,6 +60,7 @@ class Generator:
     def __init__(self, rng, shape, kinds, without):
         self.rng, self.shape, self.without = rng, shape, without
         self.kinds = [kind for kind in ("in", "out", "inout", "inoutset", "in", "inoutset") if kind in kinds]
+        self.knows_exclusion = "mutexinoutset" in kinds
         self.names = NAMES[:rng.choice((1, 2, 2, 4))]
         self.left = rng.choice((10, 25, 60, 120))
 
@@ -98,7 +101,8 @@ class Generator:
         return Group((), "taskyield" if self.chance("taskyield", .8) else "taskgroup")
 
     def group(self, depth, loops):
-        return Group(self.body(depth + 1, loops))
+        body = self.body(depth + 1, loops)
+        return Group(body, "reduction" if addends(body) and self.chance("reduction", .2) else "taskgroup")
 
     def loop(self, depth, loops):
         if self.chance("taskloop", .3):
@@ -115,17 +119,39 @@ class Generator:
         var, first, last = self.turns(loops)
         task = Task(False, self.chance("final", self.shape.final), (), self.body(depth + 1, (*loops, var)),
                     self.clauses())
+        form = "taskloop" + self.chunks()
         if self.rng.random() < .5:
-            return Loop(var, first, last, (task,), "taskloop")
-        return Group((Loop(var, first, last, (task,)),), "taskloop")
+            return Loop(var, first, last, (task,), form)
+        form += " reduction" * (form == "taskloop" and self.chance("reduction", .3))
+        return Group((Loop(var, first, last, (task,)),), form)
+
+    def chunks(self):
+        """How many turns the tasks of a taskloop get: one each where nothing is said."""
+        clause = next((clause for clause in ("num_tasks", "grainsize") if self.chance(clause, .25)), "")
+        return clause and f" {clause}({self.rng.choice((1, 2, 3, 5, 8))})"
 
     def task(self, depth, loops):
         undeferred = self.chance("if(0)", self.shape.undeferred)
         items = self.items(loops)
         if undeferred and items and self.chance("taskwait with depend", .3):
             return Task(True, False, items, (), ("taskwait",))
+        if not undeferred and "if(0)" not in self.without and self.chance("detach", .04):
+            return self.detached(items)
         final = self.chance("final", self.shape.final)
-        return Task(undeferred, final, items, self.body(depth + 1, loops), self.clauses())
+        clauses = self.clauses()
+        if items and self.knows_exclusion and self.chance("depend(mutexinoutset)", .15):
+            items, clauses = (replace(items[0], kind="inoutset"), *items[1:]), (*clauses, "mutexinoutset")
+        return Task(undeferred, final, items, self.body(depth + 1, loops), clauses + self.way_of_items(items))
+
+    def detached(self, items):
+        """A task that an event completes."""
+        inner = Task(True, False, (), (self.work(0, ()),))
+        return Task(False, False, items, (self.work(0, ()), inner, self.work(0, ())), ("detach",))
+
+    def way_of_items(self, items):
+        """By which construct the items of a task are written in C."""
+        way = next((way for way in ("depobj", "iterator") if items and self.chance(way, .08)), None)
+        return (way,) if way else ()
 
     def clauses(self):
         """Clauses that change nothing of what must precede what."""

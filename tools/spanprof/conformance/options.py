@@ -1,5 +1,6 @@
 """The words of the command line."""
 import argparse
+import math
 import os
 
 from spanprof.conformance.campaign import DIRECTED_UNIT
@@ -116,6 +117,7 @@ def add_mutant_options(parser):
     add("--programs", type=natural, default=30, help="random programs of a campaign on each of them (30)")
     add("--campaigns", type=positive, default=5,
         help="campaigns on each of them, until two programs have failed (5)")
+    add("--seconds", type=positive, default=math.inf, help="of a campaign at most, what is slow apart (no limit)")
     add("--no-directed", dest="directed", action="store_false", help="leave the directed part out of campaigns")
     add("--without", type=some_of(CONSTRUCTS), default=[], metavar="CONSTRUCT,..",
         help="constructs that random programs do not have")

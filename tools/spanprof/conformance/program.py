@@ -5,6 +5,7 @@ A program is the body of the root: a tuple of statements. docs/FORMATS.md says w
 from dataclasses import dataclass, replace
 
 KINDS = ("in", "out", "inout", "inoutset")
+C_KINDS = (*KINDS, "mutexinoutset")  # of depend items in C
 
 
 @dataclass(frozen=True)
@@ -20,7 +21,7 @@ class Wait:
 @dataclass(frozen=True)
 class Group:
     body: tuple
-    form: str = "taskgroup"  # the construct in C, where the body allows it: see `form_of`
+    form: str = "taskgroup"  # the construct in C, and its clauses, where the body allows it: see `form_of`
 
 
 @dataclass(frozen=True)
@@ -69,7 +70,7 @@ class Task:
     final: bool
     items: tuple
     body: tuple
-    clauses: tuple = ()  # of C alone: untied, mergeable, priority(3), taskwait
+    clauses: tuple = ()  # how it is written in C: untied, mergeable, priority(3), and the words of tester/forms.py
 
 
 def nodes(body):

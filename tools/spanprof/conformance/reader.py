@@ -6,7 +6,8 @@ from spanprof.conformance.program import KINDS, Group, Index, Item, Loop, Task, 
 from spanprof.errors import Fault
 from spanprof.text import lines_of
 
-CLAUSE = re.compile(r"untied|mergeable|taskwait|priority\([0-9]+\)")
+CLAUSE = re.compile(r"untied|mergeable|priority\([0-9]+\)|taskwait|detach|depobj|iterator|mutexinoutset")
+OF_TASKLOOP = re.compile(r"(num_tasks|grainsize)\([1-9][0-9]*\)|reduction")
 
 
 class Unreadable(Fault):
@@ -123,12 +124,13 @@ class Reader:
 
 
 def form_in(words, forms):
-    """The form that the words after `#:` name: the plain one if there are none."""
+    """The form that the words after `#:` name, with its clause: the plain one if there are none."""
     if not words:
         return forms[0]
-    if len(words) > 1 or words[0] not in forms:
+    is_known = words[0] in forms and len(words) == 1
+    if not is_known and not (words[0] == "taskloop" and len(words) == 2 and OF_TASKLOOP.fullmatch(words[1])):
         raise Unreadable(f"{' '.join(words)!r} after #:")
-    return words[0]
+    return " ".join(words)
 
 
 def read_program(text):

@@ -5,7 +5,7 @@ has tried, so it follows the table of docs/MODEL.md pair by pair and not the kep
 """
 from dataclasses import dataclass, field
 
-from spanprof.conformance.forms import form_of, is_of_regions
+from spanprof.conformance.forms import chunks_of, form_of, is_detached, is_of_regions, kind_in_c
 from spanprof.conformance.program import Group, Loop, Wait, Work
 from spanprof.conformance.text import head_of
 
@@ -20,7 +20,8 @@ class Made:
     items: tuple          # pairs of a kind and a location
     head: str
     final_inside: bool
-    tied: bool = True
+    tied: bool = True       # as far as the log tells: not where parts of the text run in another task's place
+    exclusive: frozenset = frozenset()  # the locations on which other tasks must not run at the same time
     implicit: bool = False  # whether it stands for a part of an implicit task of a region
     children: list = field(default_factory=list)
     segments: list = field(default_factory=list)
@@ -80,22 +81,32 @@ class Table:
             elif isinstance(node, Group):
                 before = len(task.children)
                 self.walk(node.body, task, loops)
+                self.chunk(node, task.children[before:])
                 for child in task.children[before:]:
                     child.implicit = self.regions and task.parent is None
                 inside = [t for child in task.children[before:] for t in child.family()]
                 self.open(task, Cut("taskgroup", form_of(node), tuple(inside)))
             elif isinstance(node, Loop):
+                before = len(task.children)
                 for turn in range(node.first, node.last + 1):
                     self.walk(node.body, task, {**loops, node.var: turn})
+                self.chunk(node, task.children[before:])
             else:
                 self.task(node, task, loops)
+
+    @staticmethod
+    def chunk(node, tasks):
+        """Turns that one task of a taskloop runs: while it waits in one of them, it may run what is below another."""
+        for task in tasks if chunks_of(node) else ():
+            task.tied = False
 
     def task(self, node, parent, loops):
         items = tuple((i.kind, i.name if i.index is None else f"{i.name}[{i.index.value(loops)}]") for i in node.items)
         undeferred = "if(0)" if node.undeferred else "final" if parent.final_inside else ""
         child = self.begin(parent, parent.segments[-1], undeferred, items, head_of(node),
                            node.final or parent.final_inside)
-        child.tied = "untied" not in node.clauses
+        child.tied = "untied" not in node.clauses and not (is_detached(node) and not parent.final_inside)
+        child.exclusive = frozenset(place for kind, place in items if kind_in_c(kind, node) == "mutexinoutset")
         self.walk(node.body, child, loops)
         self.open(parent, Cut("undeferred", undeferred, (child,) if undeferred else ()))
 

@@ -3,6 +3,7 @@ import re
 
 MOST_SEARCHED = 1000  # segments of a program whose ready segments are looked for
 MOST_NAMED = 3        # constructs that tell hangs apart
+BELOW = " below its waiter"
 
 
 class Standing:
@@ -11,6 +12,8 @@ class Standing:
     def __init__(self, table, events):
         self.table = table
         pairs = [line.split() for line in events if line != "overflow"]
+        self.last = {table.task_of[int(s)].number: (place, worker) for place, (_, worker, s) in enumerate(pairs)
+                     if int(s) < len(table.task_of)}  # of each task, its last event's place and thread
         self.started = [int(segment) for what, _, segment in pairs if what == "start"]
         self.finished = {int(segment) for what, _, segment in pairs if what == "finish"}
         self.running = [s for s in self.started if s not in self.finished]
@@ -28,12 +31,25 @@ class Standing:
         """The construct at which a segment that might have been started is held up."""
         task, cut = self.table.task_of[segment], self.table.cut[segment]
         if segment != task.segments[0]:
-            return cut.construct if cut.construct else "after a task"
+            return cut.construct + BELOW * self.is_below_waiter(task) if cut.construct else "after a task"
         return "begin of a task with depend" if task.items else "begin of a task"
+
+    def is_below_waiter(self, task):
+        """Whether the thread that has left a task has gone on with an untied one that waits for it: then the first lies
+        below the second on the stack, and neither goes on."""
+        place, thread = self.last[task.number]
+        waiter = task.parent
+        while waiter:
+            later, there = self.last.get(waiter.number, (-1, ""))
+            if not waiter.tied and later > place and there == thread and waiter.segments[-1] not in self.finished:
+                return True
+            waiter = waiter.parent
+        return False
 
     def places(self):
         """In a few words, the constructs at which a run hangs: the same for hangs that are taken for the same."""
-        found = sorted({self.place_of(segment) for segment in self.ready})
+        found = {self.place_of(segment) for segment in self.ready}
+        found = sorted(found, key=lambda place: (not place.endswith(BELOW), place))
         if found:
             return ", ".join(found[:MOST_NAMED])
         if self.running:

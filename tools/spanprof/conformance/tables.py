@@ -2,8 +2,8 @@
 from spanprof.conformance.coverage import MEASURES, TRIED_RULES, all_waits, never
 from spanprof.conformance.results import EXPECTED, SEEN_ONCE
 
-COUNTS = ("programs", "runs", "events", "refused", "incomplete", "values", "moved", "unconstrained", "hung",
-          SEEN_ONCE, "crashed", "not built", EXPECTED)
+COUNTS = ("programs", "runs", "events", "refused", "incomplete", "values", "moved", "unconstrained",
+          "overlapping", "hung", SEEN_ONCE, "crashed", "not built", EXPECTED)
 
 
 def table(heads, rows):

@@ -37,7 +37,7 @@ def head_of(node):
 
 def hint_of(node):
     """The comment that tells how a statement is written in C, where that is not the plain way."""
-    words = node.clauses if isinstance(node, Task) else (node.form,)
+    words = node.clauses if isinstance(node, Task) else node.form.split()
     return f" #: {' '.join(words)}" if words and words[0] not in ("taskgroup", "for") else ""
 
 

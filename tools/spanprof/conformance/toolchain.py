@@ -8,7 +8,7 @@ import shutil
 import subprocess
 
 from spanprof.conformance.data import DATA
-from spanprof.conformance.program import KINDS
+from spanprof.conformance.program import C_KINDS
 from spanprof.errors import Fault
 
 HARNESS = DATA / "harness"
@@ -76,7 +76,7 @@ class Toolchain:
     def kept_kinds(self):
         """The kinds of depend items that the compiler knows, as another process may have found out."""
         self.kept.mkdir(parents=True, exist_ok=True)
-        path = self.kept / (self.digest("kinds") + ".txt")
+        path = self.kept / (self.digest("kinds in C") + ".txt")
         if not path.exists():
             path.write_text(" ".join(sorted(self.known_kinds())))
         return set(path.read_text().split())
@@ -84,7 +84,7 @@ class Toolchain:
     def known_kinds(self):
         """The kinds of depend items that the compiler knows; not so `inoutset` in older ones."""
         kinds, complaint = set(), ""
-        for kind in KINDS:
+        for kind in C_KINDS:
             try:
                 self.build_text(PROBE % kind, "probe", ["-ldl"])
                 kinds.add(kind)

@@ -40,7 +40,8 @@ class Folder(unittest.TestCase):
 
 class Campaigns(unittest.TestCase):
     def caught(self, fails):
-        options = types.SimpleNamespace(campaigns=5, programs=2, seed=1, jobs=1, directed=False, without=[], match="*")
+        options = types.SimpleNamespace(campaigns=5, programs=2, seed=1, jobs=1, directed=False, without=[], match="*",
+                                        seconds=60)
         bench, seeds = StubBench(fails), []
         caught = built.try_mutant(bench, options, lambda seed: seeds.append(seed) or PLAN)
         return caught, seeds, {case.name for case in bench.tried}
@@ -56,6 +57,13 @@ class Campaigns(unittest.TestCase):
         self.assertEqual((len(caught.programs()), seeds), (2, [1]))
         self.assertTrue(caught.surely(5))
         self.assertEqual(caught.ways, {"taskwait"})
+
+    def test_programs_of_the_rule_come_first(self):
+        options = types.SimpleNamespace(programs=2, seed=1, directed=True, without=[], match="*wait*")
+        names = [case.name for case in built.cases_of_campaign(options, {"in", "out"}, 0, "taskwait depend")]
+        first = [name for name in names if name.startswith("taskwait_depend")]
+        self.assertEqual(names[:len(first)], first)
+        self.assertEqual(len(first), 2)
 
     def test_half_of_the_campaigns_are_enough(self):
         self.assertTrue(built.Caught([["a"], [], ["a"], [], ["a"]], set()).surely(5))

@@ -5,7 +5,7 @@ from unittest import mock
 
 from spanprof.conformance.campaign import Progress, cases_of, directed_cases, random_cases, run_cases
 from spanprof.conformance.cases import Plan
-from spanprof.conformance.program import KINDS
+from spanprof.conformance.program import C_KINDS
 from spanprof.conformance.tests.helpers import PLAN, StubBench, body_of, case_of
 
 ALL = ["tied", "untied", "mixed"]
@@ -19,19 +19,19 @@ class Cases(unittest.TestCase):
         self.assertEqual([case.variant for case in cases_of("x", body_of("taskwait"), ALL, 1)], ["tied"])
 
     def test_directed_programs_by_their_names(self):
-        names = {case.name for case in directed_cases(set(KINDS), ["tied"], "taskwait_depend_*")[0]}
+        names = {case.name for case in directed_cases(set(C_KINDS), ["tied"], "taskwait_depend_*")[0]}
         self.assertEqual(names, {f"taskwait_depend_{which}" for which in ("in", "out", "several")})
 
     def test_directed_programs_that_need_an_unknown_kind(self):
         cases, skipped = directed_cases({"in", "out", "inout"}, ["tied"])
         self.assertIn("depend_two_sets", skipped)
         self.assertNotIn("depend_two_sets", [case.name for case in cases])
-        self.assertEqual(directed_cases(set(KINDS), ["tied"])[1], [])
+        self.assertEqual(directed_cases(set(C_KINDS), ["tied"])[1], [])
 
     def test_random_programs_are_named_for_their_seeds(self):
-        cases = random_cases(range(5, 8), set(KINDS), ["tied"], [])
+        cases = random_cases(range(5, 8), set(C_KINDS), ["tied"], [])
         self.assertEqual([case.name.split("-")[1] for case in cases], ["5", "6", "7"])
-        self.assertEqual(cases, random_cases(range(5, 8), set(KINDS), ["tied"], []))
+        self.assertEqual(cases, random_cases(range(5, 8), set(C_KINDS), ["tied"], []))
 
 
 class Conditions(unittest.TestCase):

@@ -5,10 +5,10 @@ import pathlib
 import tempfile
 import unittest
 
-from spanprof.conformance.cases import Bench
+from spanprof.conformance.cases import Bench, Plan
 from spanprof.conformance.judge import Record, Verdict
-from spanprof.conformance.tests.helpers import PLAN, case_of
 from spanprof.conformance.toolchain import BuildFailed
+from spanprof.conformance.tests.helpers import PLAN, case_of
 
 LOG = "start 0 0\nfinish 0 0\nstart 1 1\nstart 0 2\nfinish 0 2\nfinish 1 1\nstart 0 3\nfinish 0 3\n"
 EARLY = "start 0 0\nfinish 0 0\nstart 1 1\nstart 0 2\nfinish 0 2\nstart 0 3\nfinish 0 3\nfinish 1 1\n"
@@ -89,6 +89,12 @@ class Cases(unittest.TestCase):
     def test_equal_logs_are_judged_once(self):
         bench, _ = self.tallies(LOG, LOG, EARLY, LOG)
         self.assertEqual(bench.judge.asked, 4)  # two logs on two numbers of threads
+
+    def test_settings_that_names_ask_for(self):
+        plan = Plan((1, 2, 4), 1, 1, 1, ("free", "perturbed", "priorities"))
+        for name, setting in (("memory_of_parents", "perturbed"), ("priority_flat", "priorities")):
+            self.assertEqual([plan.conditions(case_of(name))[at].setting for at in (0, 2)], [setting, setting])
+        self.assertEqual({at.setting for at in Plan((1, 2), 1, 1, 1).conditions(case_of("memory_x"))}, {"free"})
 
     def test_not_built(self):
         bench, tallies = self.tallies()

@@ -3,7 +3,7 @@ import unittest
 
 from spanprof.conformance.constructs import constructs
 from spanprof.conformance.generate import CONSTRUCTS, SHAPES, random_program
-from spanprof.conformance.program import KINDS, Task, nodes, segment_count
+from spanprof.conformance.program import C_KINDS, Task, nodes, segment_count
 from spanprof.conformance.reader import read_program
 from spanprof.conformance.text import text_of
 
@@ -12,24 +12,24 @@ SEEDS = range(300)
 
 class Generation(unittest.TestCase):
     def test_one_seed_one_program(self):
-        self.assertEqual(random_program(17, KINDS), random_program(17, KINDS))
-        self.assertNotEqual(random_program(17, KINDS), random_program(18, KINDS))
+        self.assertEqual(random_program(17, C_KINDS), random_program(17, C_KINDS))
+        self.assertNotEqual(random_program(17, C_KINDS), random_program(18, C_KINDS))
 
     def test_programs_are_small_enough_and_come_back_from_their_texts(self):
         for seed in SEEDS:
-            shape, body = random_program(seed, KINDS)
+            shape, body = random_program(seed, C_KINDS)
             least, most = SHAPES[shape].sizes
             self.assertTrue(least <= segment_count(body) <= most)
             self.assertEqual(read_program(text_of(body)), body)
 
     def test_every_construct_turns_up(self):
-        found = set().union(*(constructs(random_program(seed, KINDS)[1]) for seed in SEEDS))
+        found = set().union(*(constructs(random_program(seed, C_KINDS)[1]) for seed in SEEDS))
         self.assertLessEqual({*CONSTRUCTS, "taskwait", "taskgroup", "if(0) with depend", "created by several threads",
-                              *(f"depend({kind})" for kind in KINDS)}, found)
+                              *(f"depend({kind})" for kind in C_KINDS)}, found)
 
     def test_what_is_left_out(self):
         for left_out in CONSTRUCTS:
-            found = set().union(*(constructs(random_program(seed, KINDS, [left_out])[1]) for seed in SEEDS))
+            found = set().union(*(constructs(random_program(seed, C_KINDS, [left_out])[1]) for seed in SEEDS))
             self.assertNotIn(left_out, found)
 
     def test_kinds_of_items(self):

@@ -49,6 +49,19 @@ class Segments(unittest.TestCase):
         self.assertEqual(table.need(1, 3).rule, "dependence")
         self.assertEqual(table.need(1, 5), None)
 
+    def test_tasks_in_whose_place_others_run_count_as_untied(self):
+        tied = {"task { #: detach\n task if(0) { } }": [True, False, True], "task { task if(0) { } }": 3 * [True],
+                "task final(1) { task { #: detach\n task if(0) { } } }": 4 * [True],
+                "for i 1 2 { #: taskloop grainsize(2)\n task { } }": [True, False, False],
+                "taskgroup { #: taskloop num_tasks(1)\n for i 1 2 { task { } } }": [True, False, False],
+                "taskgroup { #: taskloop reduction\n for i 1 2 { task { } } }": 3 * [True]}
+        for text, wanted in tied.items():
+            self.assertEqual([task.tied for task in table_of(text).tasks], wanted, text)
+
+    def test_exclusive_locations(self):
+        table = table_of("task depend(inoutset: a, b) depend(in: c) { #: mutexinoutset\n} task depend(inoutset: a) { }")
+        self.assertEqual([task.exclusive for task in table.tasks], [frozenset(), {"a", "b"}, frozenset()])
+
     def test_conflicts(self):
         pairs = {("in", "in"): False, ("inoutset", "inoutset"): False, ("in", "inoutset"): True, ("out", "out"): True,
                  ("in", "out"): True, ("inout", "in"): True}

@@ -28,6 +28,18 @@ class Places(unittest.TestCase):
         text = "task { task { } taskwait } taskgroup { task { } }"
         self.assertEqual(standing(text, 0, 1, 2, 3, 5, 6, 7).places(), "taskgroup, taskwait")
 
+    def test_a_task_below_one_that_waits_for_it(self):
+        # Segments: 0 the root, 1 and 4 the outer task, 2 and 3 the inner one; 5 the end of the outer one.
+        text = "task { #: untied\n task { taskgroup { #: taskyield\n} } taskwait } taskwait"
+        begun = ["start 1 1", "finish 1 1", "start 2 2", "finish 2 2"]
+
+        def places(text, *events):
+            return Standing(Table(body_of(text)), ["start 0 0", "finish 0 0", *begun, *events]).places()
+
+        self.assertEqual(places(text, "start 2 4", "finish 2 4"), "taskyield below its waiter, after a task")
+        self.assertEqual(places(text, "start 1 4", "finish 1 4"), "after a task, taskyield")
+        self.assertEqual(places(text.replace("#: untied", ""), "start 2 4", "finish 2 4"), "after a task, taskyield")
+
     def test_without_anything_ready(self):
         self.assertEqual(standing("work 1", 0).places(), "end of the region")
         self.assertEqual(standing("work 1", running=[0]).places(), "inside a segment")

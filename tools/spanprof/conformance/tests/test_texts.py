@@ -43,7 +43,9 @@ class Texts(unittest.TestCase):
 
     def test_what_is_refused(self):
         for text in ("omptasks 3", "omptasks 1 }", "omptasks 1 task {", "omptasks 1 taskgroup { #: for\n}",
-                     "omptasks 1 task { #: detach\n}", "omptasks 1 task x { }"):
+                     "omptasks 1 task { #: shared\n}", "omptasks 1 task x { }",
+                     "omptasks 2 for i 1 3 { #: taskloop num_tasks(0)\n task { } }",
+                     "omptasks 2 for i 1 3 { #: for grainsize(2)\n}"):
             with self.assertRaises(Unreadable, msg=text):
                 read_program(text)
 

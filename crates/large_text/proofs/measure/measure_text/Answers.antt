@@ -1,10 +1,9 @@
-use Rattle.std.proofs.Common.{◌≡◌, ◌≢◌, [], None, refl, rules, subst, sym}
+use Rattle.std.proofs.Common.{◌≡◌, ◌≢◌, None, refl, rules, subst, sym}
 use Rattle.large_text.specs.Measured.{MeasuresText}
 use Rattle.program_text.specs.declared.fault.ReadKind.TheVariants.{OutOfMemory}
 use Rattle.program_text.specs.Tokens.{tokens_of, line_at_end}
 use Rattle.large_text.specs.LargeTrees.{IsLargeFirstFault}
-use Rattle.large_text.specs.Streamed.{HasTakenLines}
-use Rattle.large_text.proofs.Streaming.{taken_first, keeps_more, fault_last, ends_early, ends_whole}
+use Rattle.large_text.proofs.Streaming.{taken_none, fault_last, ends_early, ends_whole}
 use Rattle.large_text.proofs.Memory.{line_of_first}
 use Rattle.large_text.proofs.Tallying.{of_tally}
 use Rattle.large_text.proofs.measure.measure_text.Goals as goal
@@ -15,9 +14,7 @@ returns-in_err-line-clause-refused c =
     let reader = c.new-reader.result in
     let meter = c.new-meter.result in
     let fault = c.in_err-line.field-0.0 in
-    let h : HasTakenLines text text 1 reader meter =
-    keeps_more [] [] text 1 reader meter
-    (taken_first reader meter c.new-reader.ensures c.new-meter.ensures) in
+    let h = taken_none text reader meter c.new-reader.ensures c.new-meter.ensures in
     let stops : fault.kind ≢ OutOfMemory
     → IsLargeFirstFault (tokens_of text) (line_at_end 1 text) fault =
     λ some. fault_last None text text text 1 reader meter fault refl refl h
@@ -30,9 +27,7 @@ returns-in_err-finish-clause-refused c =
     let reader = c.new-reader.result in
     let meter = c.new-meter.result in
     let fault = c.in_err-finish.field-0.0 in
-    let h : HasTakenLines text text 1 reader meter =
-    keeps_more [] [] text 1 reader meter
-    (taken_first reader meter c.new-reader.ensures c.new-meter.ensures) in
+    let h = taken_none text reader meter c.new-reader.ensures c.new-meter.ensures in
     let stops : IsLargeFirstFault (tokens_of text) (line_at_end 1 text) fault =
     ends_early None text text text 1 c.in_ok-line.line reader c.take_tokens.new.reader meter
     c.take_tokens.new.meter fault refl refl h c.in_ok-line.ensures.line c.in_ok-line.ensures.reads
@@ -44,9 +39,7 @@ returns-clause-measured c =
     let text = c.args.text.now in
     let reader = c.new-reader.result in
     let meter = c.new-meter.result in
-    let h : HasTakenLines text text 1 reader meter =
-    keeps_more [] [] text 1 reader meter
-    (taken_first reader meter c.new-reader.ensures c.new-meter.ensures) in
+    let h = taken_none text reader meter c.new-reader.ensures c.new-meter.ensures in
     subst (MeasuresText (tokens_of text)) (sym c.into_meter.ensures)
     (of_tally (tokens_of text) c.take_tokens.new.meter
     (ends_whole None text text text 1 reader c.take_tokens.new.reader meter
@@ -58,9 +51,7 @@ returns-in_err-finish-clause-memory c =
     let reader = c.new-reader.result in
     let meter = c.new-meter.result in
     let fault = c.in_err-finish.field-0.0 in
-    let h : HasTakenLines text text 1 reader meter =
-    keeps_more [] [] text 1 reader meter
-    (taken_first reader meter c.new-reader.ensures c.new-meter.ensures) in
+    let h = taken_none text reader meter c.new-reader.ensures c.new-meter.ensures in
     let line_is : fault.kind ≡ OutOfMemory → fault.line ≡ 0 =
     line_of_first (tokens_of text) (line_at_end 1 text) fault
     (ends_early None text text text 1 c.in_ok-line.line reader c.take_tokens.new.reader meter

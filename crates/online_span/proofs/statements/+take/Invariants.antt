@@ -2,7 +2,8 @@ use Rattle.std.proofs.Common.{◌+◌, ◌*◌, List, length, take}
 use Rattle.task_program.specs.Marks.{Mark}
 use Rattle.program_text.specs.Statements.{marks_of, marks_of_one}
 use Rattle.online_span.specs.Measuring.{Measures}
-use Rattle.online_span.specs.Taking.{HasTaken, group_marks, task_marks}
+use Rattle.task_segments.specs.Cutting.{group_marks, task_marks}
+use Rattle.online_span.specs.Taking.{HasTaken}
 use Rattle.online_span.proofs.statements.+take.Given as goal
 
 abbrev pub invariant-take_all-loop-statement : goal.invariant-take_all-loop-statement
