@@ -1,7 +1,8 @@
 #!/usr/bin/env python3
-"""Compares spanprof_large with `spanprof span` on the examples and on random programs, and with numbers known
-beforehand on programs of a million tasks, of which it also tells time and memory. The rows of `--upto` are compared
-with a plain computation, and on the smaller programs with the bounds of `spanprof curve`.
+"""Compares spanprof_large with the commands of spanprof on the examples and on random programs, and with numbers known
+beforehand on programs of a million tasks, of which it also tells time and memory. `slack`, `greedy`, `curve` and
+`whatif` of the two programs agree to the byte. The rows of `bounds` are compared with a plain computation, and on the
+smaller programs with the bounds of `spanprof curve`.
 
     checks/any_size.py [COUNT [LARGE [SPANPROF]]]     COUNT random programs (300); the built programs if none are given
 
@@ -111,15 +112,33 @@ def without_ends(told):
     return re.sub(r"^(\w+),\w+,", r"\1,", told, flags=re.MULTILINE)
 
 
+def same_words(span, rng):
+    """Words that the two programs answer alike; `span` tells how many segments there are."""
+    found = re.match(r"segments (\d+)\n", span)
+    segments = int(found[1]) if found else 1
+    changes = [f"{rng.randrange(segments)}={rng.randint(0, 20)}" for _ in range(rng.randint(1, 4))]
+    if rng.random() < 0.1:
+        changes.append(rng.choice((f"{segments}=1", "0=1000000000000001", "0=1000000000000000")))
+    yield ("slack",)
+    yield ("greedy", "--threads", str(rng.randint(1, 5)))
+    yield ("curve", f"--upto={UPTO}")
+    yield ("whatif", *changes)
+
+
 def compare(what, text, large, spanprof):
     wanted = ask(spanprof, text)
     told = without_tasks(*ask(large, text))
     if told != wanted:
         raise Wrong(f"{what}: spanprof_large {told}, and span {wanted}")
     status, curve = ask(spanprof, text, "curve", f"--upto={UPTO}")
-    told = ask(large, text, "--upto", str(UPTO))
-    if told != (status, curve if status else without_ends(curve)):
-        raise Wrong(f"{what}: spanprof_large {told}, and curve {curve!r}")
+    for words in (("--upto", str(UPTO)), ("bounds", f"--upto={UPTO}")):
+        told = ask(large, text, *words)
+        if told != (status, curve if status else without_ends(curve)):
+            raise Wrong(f"{what}: spanprof_large {' '.join(words)} {told}, and curve {curve!r}")
+    for words in same_words(wanted[1], random.Random(what)):
+        one, other = ask(spanprof, text, *words), ask(large, text, *words)
+        if one != other:
+            raise Wrong(f"{what}: {' '.join(words)}: spanprof {one}, and spanprof_large {other}")
 
 
 def compare_examples(large, spanprof):
@@ -132,21 +151,72 @@ def compare_examples(large, spanprof):
     return count
 
 
-def measure(name, made, large):
-    """Compares a large program with its numbers, and tells how long it took."""
-    text, numbers = made
+def columns(table, *names):
+    """The columns of these names of a table of numbers, row by row. A field may be empty."""
+    header, *rows = table.splitlines()
+    places = [header.split(",").index(name) for name in names]
+    for row in rows:
+        fields = row.split(",")
+        yield tuple(int(fields[place] or 0) for place in places)
+
+
+def wrong_slacks(table, numbers):
+    """What is wrong with a table of slacks: the chain has the span, and nothing ends later."""
+    _, segments, _, span = numbers
+    rows = list(columns(table, "cost", "start", "slack", "chain"))
+    if len(rows) != segments:
+        return f"{len(rows)} rows"
+    if sum(cost for cost, _, _, chain in rows if chain) != span:
+        return "another chain"
+    return "a row beyond the span" if any(sum(row[:3]) > span for row in rows) else None
+
+
+def wrong_run(table, numbers, threads):
+    """What is wrong with a greedy run: as many rows, and an end between the two bounds."""
+    _, segments, work, span = numbers
+    ends = [end for end, in columns(table, "end")]
+    least, bound = max(span, -(-work // threads)), (work + (threads - 1) * span) // threads
+    return None if len(ends) == segments and least <= max(ends) <= bound else f"{len(ends)} rows to {max(ends)}"
+
+
+def timed(large, text, *words):
+    """What is told of a text that is not refused, and in how many seconds."""
     began = time.monotonic()
-    status, told = ask(large, text)
-    seconds = time.monotonic() - began
+    status, told = ask(large, text, *words)
+    if status:
+        raise Wrong(f"{' '.join(words)}: status {status}, {told[:80]!r}")
+    return told, time.monotonic() - began
+
+
+def measure(name, made, large):
+    """Compares a large program with its numbers, and tells how long each command took."""
+    text, numbers = made
+    told, seconds = timed(large, text)
     wanted = "tasks {}\nsegments {}\nwork {}\nspan {}\n".format(*numbers)
-    if (status, told) != (0, wanted):
-        raise Wrong(f"{name}: status {status}, {told!r}, and not {wanted!r}")
+    if told != wanted:
+        raise Wrong(f"{name}: {told!r}, and not {wanted!r}")
     _, _, work, span = numbers
     if ask(large, text, "--upto=1024") != (0, bounds(work, span, 1_024)):
         raise Wrong(f"{name}: other bounds")
-    most = resource.getrusage(resource.RUSAGE_CHILDREN).ru_maxrss // 1024
-    print(f"{name}: {numbers[0]:,} tasks, {len(text) / 1e6:.1f} MB of text, {seconds:.2f} s; "
-          f"at most {most} MB in any run so far (measured)")
+    print(f"{name}: {numbers[0]:,} tasks, {len(text) / 1e6:.1f} MB of text, {seconds:.2f} s, at most {most_memory()}")
+    measure_tables(name, made, large)
+
+
+def measure_tables(name, made, large):
+    """The same of the commands that take the table. The first segment has cost 0."""
+    text, numbers = made
+    _, _, work, span = numbers
+    slacks, of_slack = timed(large, text, "slack")
+    run, of_run = timed(large, text, "greedy", "--threads", "64")
+    change, of_change = timed(large, text, "whatif", "0=5")
+    wrong = wrong_slacks(slacks, numbers) or wrong_run(run, numbers, 64)
+    if wrong or change != f"work {work + 5}\nspan {span + 5}\nwas {span}\n":
+        raise Wrong(f"{name}: {wrong or change!r}")
+    print(f"{name}: slack {of_slack:.2f} s, greedy {of_run:.2f} s, whatif {of_change:.2f} s, at most {most_memory()}")
+
+
+def most_memory():
+    return f"{resource.getrusage(resource.RUSAGE_CHILDREN).ru_maxrss // 1024} MB in any run so far (measured)"
 
 
 def main():
@@ -160,7 +230,7 @@ def main():
         examples = compare_examples(large, spanprof)
         for seed in range(count):
             compare(f"random program {seed}", draw(seed), large, spanprof)
-        print(f"{examples} examples and {count} random programs: as `spanprof span` and `curve` tell")
+        print(f"{examples} examples and {count} random programs: as span, slack, greedy, curve and whatif tell")
         for name, made in (("nested", nested(MILLION)), ("tree", tree(20)), ("chain", chain(MILLION)),
                            ("independent", independent(MILLION))):
             measure(name, made, large)

@@ -40,6 +40,8 @@ spanprof greedy --|--threads
 spanprof curve --|--upto
 spanprof run --|--workers
 spanprof_large --|--upto
+spanprof_large bo|bounds
+spanprof_large greedy --|--threads
 spanprof-record --uni|--unit
 spanprof-record --clock c|cpu
 spanprof-record --html mi|mine.html

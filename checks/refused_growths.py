@@ -143,9 +143,9 @@ def commands(refuser, program):
 
 
 def large(refuser, program):
-    """The program for texts of any size: both its reports, and every kind of refusal."""
+    """The program for texts of any size: each of its reports, and every kind of refusal."""
     larger = (TOP / "examples/matrix_product.tasks").read_text()
-    for words in ("", "--upto 2"):
+    for words in ("", "--upto 2", "slack", "greedy --threads 2", "curve --upto 2", "whatif 2=4 1=5"):
         for text in (WORKED, DEEP, larger):
             command(refuser, program, words.split(), text)
     for words, text in (
@@ -156,6 +156,9 @@ def large(refuser, program):
         ("help", WORKED),
         ("--upto 0", WORKED),
         ("--upto 1025", WORKED),
+        ("slack", "omptasks 1\ntask {"),
+        ("greedy --threads 0", WORKED),
+        ("whatif 2=4 4=1", WORKED),
     ):
         command(refuser, program, words.split(), text)
 

@@ -1,4 +1,5 @@
 """Tests of any_size.py that need no program: python3 -m unittest test_any_size in checks/."""
+import random
 import unittest
 
 import any_size
@@ -41,6 +42,29 @@ class Comparing(unittest.TestCase):
     def test_line_of_tasks_is_left_out(self):
         self.assertEqual(any_size.without_tasks(0, "tasks 1\nsegments 3\n"), (0, "segments 3\n"))
         self.assertEqual(any_size.without_tasks(1, "error: line 1: BadHeader\n"), (1, "error: line 1: BadHeader\n"))
+
+    def test_words_for_both_programs(self):
+        for seed in range(50):
+            *others, changes = any_size.same_words("segments 3\nwork 5\nspan 4\n", random.Random(seed))
+            self.assertEqual([words[0] for words in others], ["slack", "greedy", "curve"])
+            self.assertEqual(changes[0], "whatif")
+            self.assertTrue(all(0 <= int(change.split("=")[0]) <= 3 for change in changes[1:]))
+
+
+class Tables(unittest.TestCase):
+    SLACKS = "segment,task,cost,start,slack,chain\n0,0,5,0,0,1\n1,1,3,5,0,1\n2,0,2,5,1,0\n3,0,1,8,0,1\n"
+    RUN = "segment,start,end,thread\n0,0,5,0\n1,5,8,0\n2,5,7,1\n3,8,8,\n"
+
+    def test_slacks(self):
+        self.assertIsNone(any_size.wrong_slacks(self.SLACKS, (1, 4, 11, 9)))
+        self.assertEqual(any_size.wrong_slacks(self.SLACKS, (1, 5, 11, 9)), "4 rows")
+        self.assertEqual(any_size.wrong_slacks(self.SLACKS, (1, 4, 11, 8)), "another chain")
+        late = self.SLACKS.replace("2,0,2,5,1,0", "2,0,2,5,3,0")
+        self.assertEqual(any_size.wrong_slacks(late, (1, 4, 11, 9)), "a row beyond the span")
+
+    def test_run(self):
+        self.assertIsNone(any_size.wrong_run(self.RUN, (1, 4, 10, 8), 2))
+        self.assertEqual(any_size.wrong_run(self.RUN, (1, 4, 20, 8), 2), "4 rows to 8")
 
 
 if __name__ == "__main__":

@@ -5,7 +5,7 @@ use crate::cut::{Table, cut};
 use crate::edges::Graph;
 use crate::jobs;
 use crate::precede::Relation;
-use crate::read::{Program, read};
+use crate::read::{COMMANDS, Program, read};
 use crate::scan::Fault;
 use std::io::Write;
 
@@ -85,7 +85,7 @@ fn broken(table: &Table, relation: &Relation, starts: &[(u64, u64)], jobs: usize
 
 pub fn check(document: &[u8], jobs: usize) -> Result<Vec<u8>, Fault> {
     let (text, rest) = split(document);
-    let program = read(text)?;
+    let program = read(text, &COMMANDS)?;
     let table = cut(&program);
     let claim = claim(rest).ok_or("BadForm")?;
     let count = table.segments.len() as u64;

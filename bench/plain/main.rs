@@ -1,11 +1,12 @@
 //! The yardstick of the benchmarks: a plain Rust program that prints what spanprof prints for these commands on texts
 //! of version 1 that are accepted, without proofs. Its limits are those of the texts.
 //!
-//!     plain COMMAND [--jobs N] < TEXT
+//!     plain COMMAND [--jobs N] [--any-size] < TEXT
 //!
 //! COMMAND is span, show, slack, greedy --threads P, curve --upto P, whatif SEG=COST .., run --workers N, certify,
 //! check or replay.
-//! `--jobs N` lets `curve` and `check` use N threads; without it everything is done on one, and `run` always is.
+//! `--jobs N` lets `curve` and `check` use N threads; without it everything is done on one, and `run` always is. With
+//! `--any-size` the limits are those of texts of any size, for the commands that spanprof_large has.
 
 mod analysis;
 mod certificate;
@@ -21,6 +22,7 @@ mod run;
 mod scan;
 mod siblings;
 
+use read::Limits;
 use std::io::{Read, Write};
 use std::process::ExitCode;
 
@@ -77,13 +79,20 @@ fn jobs(words: &mut Vec<String>) -> Option<usize> {
     number
 }
 
-fn answer(command: &Command, jobs: usize, input: &[u8]) -> Result<Vec<u8>, String> {
+/// Takes `--any-size` out of the words.
+fn limits(words: &mut Vec<String>) -> &'static Limits {
+    let all = words.len();
+    words.retain(|word| word != "--any-size");
+    if words.len() < all { &read::ANY_SIZE } else { &read::COMMANDS }
+}
+
+fn answer(command: &Command, jobs: usize, limits: &Limits, input: &[u8]) -> Result<Vec<u8>, String> {
     match command {
         Command::Check => return certificate::check(input, jobs),
         Command::Replay => return replay::replay(input),
         _ => {}
     }
-    let program = read::read(input)?;
+    let program = read::read(input, limits)?;
     if let Command::Show = command {
         return Ok(program.text());
     }
@@ -103,6 +112,7 @@ fn answer(command: &Command, jobs: usize, input: &[u8]) -> Result<Vec<u8>, Strin
 
 fn main() -> ExitCode {
     let mut words: Vec<String> = std::env::args().skip(1).collect();
+    let limits = limits(&mut words);
     let asked = jobs(&mut words).and_then(|jobs| Some((jobs, command(&words)?)));
     let Some((jobs, command)) = asked else {
         println!("error: wrong words");
@@ -110,7 +120,7 @@ fn main() -> ExitCode {
     };
     let mut input = Vec::new();
     std::io::stdin().read_to_end(&mut input).expect("standard input can be read");
-    let (text, status) = match answer(&command, jobs, &input) {
+    let (text, status) = match answer(&command, jobs, limits, &input) {
         Ok(text) => (text, ExitCode::SUCCESS),
         Err(why) => (format!("error: {why}\n").into_bytes(), ExitCode::from(1)),
     };

@@ -44,12 +44,32 @@ pub struct Program<'a> {
     pub names: Vec<&'a [u8]>,
 }
 
+pub struct Limits {
+    pub text: usize,
+    pub tokens: usize,
+    pub depth: usize,
+    pub tasks: usize,
+    pub segments: usize,
+}
+
+pub const COMMANDS: Limits =
+    Limits { text: 4_194_304, tokens: 1_048_576, depth: 64, tasks: 4_096, segments: 16_384 };
+
+pub const ANY_SIZE: Limits = Limits {
+    text: usize::MAX,
+    tokens: usize::MAX,
+    depth: 1_048_576,
+    tasks: 4_000_000_000,
+    segments: 4_000_000_000,
+};
+
 struct Block {
     ends_as: Mark,
     line: usize,
 }
 
 struct Reader<'a> {
+    limits: &'a Limits,
     scanner: Scanner<'a>,
     program: Program<'a>,
     numbers: HashMap<&'a [u8], u32>,
@@ -58,13 +78,14 @@ struct Reader<'a> {
     work: u64,
 }
 
-pub fn read(text: &[u8]) -> Result<Program<'_>, Fault> {
-    if text.len() > 4_194_304 {
+pub fn read<'a>(text: &'a [u8], limits: &'a Limits) -> Result<Program<'a>, Fault> {
+    if text.len() > limits.text {
         return Err(fault(1, "TooLong"));
     }
     let root = Clauses { undeferred: false, items: 0..0 };
     let mut reader = Reader {
-        scanner: Scanner::new(text),
+        limits,
+        scanner: Scanner::new(text, limits.tokens),
         program: Program { marks: Vec::new(), tasks: vec![root], items: Vec::new(), names: Vec::new() },
         numbers: HashMap::new(),
         open: Vec::new(),
@@ -152,11 +173,11 @@ impl<'a> Reader<'a> {
     /// Counts the segments that a word brings.
     fn cut(&mut self, token: Token, segments: usize) -> Result<(), Fault> {
         self.segments += segments;
-        if self.segments > 16_384 { Err(fault(token.line, "TooManySegments")) } else { Ok(()) }
+        if self.segments > self.limits.segments { Err(fault(token.line, "TooManySegments")) } else { Ok(()) }
     }
 
     fn open(&mut self, brace: Token, ends_as: Mark) -> Result<(), Fault> {
-        if self.open.len() == 64 {
+        if self.open.len() == self.limits.depth {
             return Err(fault(brace.line, "TooDeep"));
         }
         self.open.push(Block { ends_as, line: brace.line });
@@ -165,7 +186,7 @@ impl<'a> Reader<'a> {
 
     fn task(&mut self, word: Token) -> Result<(), Fault> {
         let number = self.program.tasks.len();
-        if number > 4096 {
+        if number > self.limits.tasks {
             return Err(fault(word.line, "TooManyTasks"));
         }
         self.cut(word, 2)?;

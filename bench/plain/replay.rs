@@ -4,7 +4,7 @@ use crate::certificate::split;
 use crate::cut::{Table, cut};
 use crate::edges::{self, Graph};
 use crate::precede::Relation;
-use crate::read::read;
+use crate::read::{COMMANDS, read};
 use crate::scan::Fault;
 use std::io::Write;
 
@@ -83,7 +83,7 @@ fn events(rest: &[u8]) -> Option<Vec<(bool, u64, u64)>> {
 
 pub fn replay(document: &[u8]) -> Result<Vec<u8>, Fault> {
     let (text, rest) = split(document);
-    let program = read(text)?;
+    let program = read(text, &COMMANDS)?;
     let table = cut(&program);
     let graph = edges::graph(&program, &table);
     let events = rest.and_then(events).ok_or("BadForm")?;

@@ -15,6 +15,7 @@ pub struct Scanner<'a> {
     at: usize,
     line: usize,
     spent: usize,
+    most: usize,
 }
 
 pub fn fault(line: usize, kind: &str) -> Fault {
@@ -40,8 +41,9 @@ impl Token<'_> {
 }
 
 impl<'a> Scanner<'a> {
-    pub fn new(text: &'a [u8]) -> Scanner<'a> {
-        Scanner { text, at: 0, line: 1, spent: 0 }
+    /// The tokens have at most so many bytes together.
+    pub fn new(text: &'a [u8], most: usize) -> Scanner<'a> {
+        Scanner { text, at: 0, line: 1, spent: 0, most }
     }
 
     /// The line of what comes next; at the end of the text that of the end.
@@ -88,7 +90,7 @@ impl<'a> Scanner<'a> {
         }
         self.at += length;
         self.spent += length;
-        if self.spent > 1_048_576 {
+        if self.spent > self.most {
             return Err(fault(self.line, "TooLong"));
         }
         Ok(Some(Token { text, line: self.line }))

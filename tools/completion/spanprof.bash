@@ -36,7 +36,10 @@ _spanprof_large() {
     local current=${COMP_WORDS[COMP_CWORD]} before=${COMP_WORDS[COMP_CWORD - 1]}
     case $before in
         '<' | '>') _spanprof_files "$current" ;;
-        spanprof_large | */spanprof_large) _spanprof_among "$current" --upto ;;
+        spanprof_large | */spanprof_large)
+            _spanprof_among "$current" span bounds slack greedy curve whatif --upto ;;
+        greedy) _spanprof_among "$current" --threads ;;
+        bounds | curve) _spanprof_among "$current" --upto ;;
     esac
 }
 

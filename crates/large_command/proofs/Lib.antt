@@ -1,6 +1,7 @@
 mod Bounds
 mod Lengths
 mod Lines
+mod OfTables
 mod OneReport
 mod OneTree
 mod SomeReport

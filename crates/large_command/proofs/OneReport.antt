@@ -3,11 +3,14 @@ use Rattle.std.proofs.Common.{◌≡◌, ◌∙◌, ℕ, true, false, List, ◌+
 use Rattle.std.proofs.Common.{inr, ap, sym, subst, arith, append-nil}
 use Rattle.command_words.specs.LargeWords.{large_request_of}
 use Rattle.command_words.specs.declared.large.LargeRequest.{LargeRequest}
-use Rattle.command_words.specs.declared.large.LargeRequest.TheVariants.{Bounds, Numbers}
+use Rattle.command_words.specs.declared.large.LargeRequest.TheVariants.{OfMeter, OfTable}
+use Rattle.command_words.specs.declared.large.MeterRequest.{MeterRequest}
+use Rattle.command_words.specs.declared.large.MeterRequest.TheVariants.{Bounds, Numbers}
 use Rattle.program_text.specs.Limits.{work_of}
 use Rattle.program_text.specs.Marks.{Mark}
 use Rattle.program_text.specs.Tokens.{line_at_end, texts, tokens_of}
 use Rattle.task_program.proofs.FirstFaults.{no_fault}
+use Rattle.task_program.specs.Nested.{IsNested}
 use Rattle.task_segments.proofs.Schedules.{span-unique}
 use Rattle.task_segments.specs.Moments.{last_moment, segments_so_far}
 use Rattle.task_segments.specs.Precedence.{MustPrecede}
@@ -19,11 +22,13 @@ use Rattle.large_text.specs.Streamed.{FitsText}
 use Rattle.spanprof_command.specs.Report.{Report}
 use Rattle.large_command.specs.LargeCommand.{AnswersWords, IsReport, ReadsText, is_in_range}
 use Rattle.large_command.specs.LargeReports.{AcceptsText, Answers, AnswersWithin, RefusesText}
-use Rattle.large_command.specs.LargeReports.{Tells, bounds_report, numbers_report, text_refusal}
+use Rattle.large_command.specs.LargeReports.{Tells, TellsMarks, bounds_report}
+use Rattle.large_command.specs.LargeReports.{numbers_report, text_refusal}
 use Rattle.large_command.specs.Lengths.{IsTooLong}
 use Rattle.large_command.specs.OneReport.{HasOneReport}
 use Rattle.large_command.proofs.Lengths.{not_both, stays_too_long}
 use Rattle.large_command.proofs.OneTree.{one_tree}
+use Rattle.large_command.proofs.OfTables.{one_of_table}
 
 same_told : (a b one other : Report) → a ≡ b → one ≡ a → other ≡ b → one ≡ other
 same_told a b one other same h g = h ∙ (same ∙ sym g)
@@ -35,12 +40,11 @@ one_span marks a b h g =
     span-unique (costs_of (table_of marks)) (MustPrecede (table_of marks)) a b h.greatest_sum
     g.greatest_sum
 
--- of the same marks the same is told
-one_told : (asked : LargeRequest) (marks : List Mark) (one other : Report)
-    → Tells asked marks one
-    → Tells asked marks other
+one_of_marks : (asked : MeterRequest) (marks : List Mark) (one other : Report)
+    → TellsMarks asked marks one
+    → TellsMarks asked marks other
     → one ≡ other
-one_told Numbers marks one other a b =
+one_of_marks Numbers marks one other a b =
     let last = last_moment marks in
     let told : ℕ → ℕ → Report = λ tasks span.
     numbers_report tasks (segments_so_far last) (work_of last) span in
@@ -48,10 +52,19 @@ one_told Numbers marks one other a b =
     let spans : a.span ≡ b.span = one_span marks a.span b.span a.is_span b.is_span in
     same_told (told a.tasks a.span) (told b.tasks b.span) one other
     (ap (λ (n : ℕ). told n a.span) tasks ∙ ap (λ (n : ℕ). told b.tasks n) spans) a.says b.says
-one_told (Bounds upto) marks one other a b =
+one_of_marks (Bounds upto) marks one other a b =
     let told : ℕ → Report = λ span. bounds_report upto (work_of (last_moment marks)) span in
     same_told (told a.span) (told b.span) one other
     (ap told (one_span marks a.span b.span a.is_span b.is_span)) a.says b.says
+
+-- of the same marks the same is told
+one_told : (asked : LargeRequest) (marks : List Mark) (one other : Report)
+    → IsNested marks
+    → Tells asked marks one
+    → Tells asked marks other
+    → one ≡ other
+one_told (OfMeter asked) marks one other nested a b = one_of_marks asked marks one other a b
+one_told (OfTable asked) marks one other nested a b = one_of_table asked marks one other nested a b
 
 -- ---- of a text
 
@@ -62,7 +75,7 @@ one_accepted : (asked : LargeRequest) (text : List ℕ) (one other : Report)
 one_accepted asked text one other a b =
     let same : b.marks ≡ a.marks =
     one_tree (texts (tokens_of text)) b.marks a.marks b.tree a.tree in
-    one_told asked a.marks one other a.says
+    one_told asked a.marks one other a.tree.nested a.says
     (subst (λ (marks : List Mark). Tells asked marks other) same b.says)
 
 one_refused : (text : List ℕ) (one other : Report)

@@ -4,7 +4,9 @@ use Rattle.std.proofs.Common.{Option, Some, None, inl, inr, sym, refl, subst, ar
 use Rattle.std.proofs.Common.{append-nil, length-append}
 use Rattle.command_words.specs.LargeWords.{large_request_of}
 use Rattle.command_words.specs.declared.large.LargeRequest.{LargeRequest}
-use Rattle.command_words.specs.declared.large.LargeRequest.TheVariants.{Bounds, Numbers}
+use Rattle.command_words.specs.declared.large.LargeRequest.TheVariants.{OfMeter, OfTable}
+use Rattle.command_words.specs.declared.large.MeterRequest.{MeterRequest}
+use Rattle.command_words.specs.declared.large.MeterRequest.TheVariants.{Bounds, Numbers}
 use Rattle.program_text.proofs.Bools.{bool_cases}
 use Rattle.program_text.specs.Limits.{work_of}
 use Rattle.program_text.specs.Marks.{Mark}
@@ -21,12 +23,13 @@ use Rattle.large_text.specs.declared.limits.TheConstants.{LARGEST_TEXT}
 use Rattle.spanprof_command.specs.GreedyRuns.{thread_count}
 use Rattle.spanprof_command.specs.Report.{Report, input_too_long, wrong_words}
 use Rattle.large_command.specs.LargeCommand.{AnswersText, is_in_range}
-use Rattle.large_command.specs.LargeReports.{Answers, Tells, bounds_report, numbers_report}
-use Rattle.large_command.specs.LargeReports.{text_refusal}
+use Rattle.large_command.specs.LargeReports.{Answers, Tells, TellsMarks, bounds_report}
+use Rattle.large_command.specs.LargeReports.{numbers_report, text_refusal}
 use Rattle.large_command.specs.Lengths.{IsReadInTime, IsTooLong}
 use Rattle.large_command.specs.OneReport.{HasReport}
 use Rattle.large_command.proofs.Lengths.{fits_none, fits_or_too_long, is_in_time, not_both}
 use Rattle.large_command.proofs.Lengths.{piece_in_time}
+use Rattle.large_command.proofs.OfTables.{some_of_table}
 
 -- ---- of a text
 
@@ -42,10 +45,10 @@ root_begun : (marks : List Mark) → 0 < tasks_so_far (last_moment marks)
 root_begun marks =
     some_begun marks (Begins false [] ∷ []) (omega (arith, tasks_begins false [] []))
 
-some_tells : (asked : LargeRequest) (marks : List Mark)
+some_of_marks : (asked : MeterRequest) (marks : List Mark)
     → IsNested marks
-    → (output : Report) × Tells asked marks output
-some_tells Numbers marks nested =
+    → (output : Report) × TellsMarks asked marks output
+some_of_marks Numbers marks nested =
     let last = last_moment marks in
     let span : ℕ = (span_exists marks nested).0 in
     let tasks : ℕ = tasks_so_far last - 1 in (
@@ -58,11 +61,17 @@ some_tells Numbers marks nested =
         says = refl;
       },
     )
-some_tells (Bounds upto) marks nested =
+some_of_marks (Bounds upto) marks nested =
     let span : ℕ = (span_exists marks nested).0 in (
       bounds_report upto (work_of (last_moment marks)) span,
       record { span = span; is_span = (span_exists marks nested).1; says = refl },
     )
+
+some_tells : (asked : LargeRequest) (marks : List Mark)
+    → IsNested marks
+    → (output : Report) × Tells asked marks output
+some_tells (OfMeter asked) marks nested = some_of_marks asked marks nested
+some_tells (OfTable asked) marks nested = some_of_table asked marks nested
 
 some_answer : (asked : LargeRequest) (text : List ℕ) → (output : Report) × Answers asked text output
 some_answer asked text = elim (right_or_fault (tokens_of text) (line_at_end 1 text)) [

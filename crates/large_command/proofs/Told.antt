@@ -1,26 +1,32 @@
 -- What a meter's calls answer is told in the report.
-use Rattle.std.proofs.Common.{◌≡◌, ◌+◌, ◌∙◌, ℕ, List, [], Option, inl, inr, ap}
+use Rattle.std.proofs.Common.{◌≡◌, ◌+◌, ◌∙◌, ℕ, List, [], Option, Some, inl, inr, ap}
 use Rattle.std.proofs.Common.{append-nil, arith, subst, sym}
+use Rattle.std.specs.Option.{IfSome}
 use Rattle.program_text.specs.declared.fault.ReadFault.{ReadFault}
 use Rattle.program_text.specs.Marks.{Mark}
 use Rattle.program_text.specs.Limits.{work_of}
 use Rattle.program_text.specs.Tokens.{line_at_end, tokens_of}
 use Rattle.task_program.specs.Nested.{IsNested}
 use Rattle.task_segments.specs.Moments.{last_moment, segments_so_far, tasks_so_far}
+use Rattle.task_segments.specs.Table.{Table}
 use Rattle.online_span.specs.declared.meter.Meter.{Meter}
 use Rattle.online_span.specs.Measuring.{Measures}
 use Rattle.online_span.specs.Spans.{IsSpanOf}
 use Rattle.large_text.specs.LargeTrees.{IsLargeFirstFault}
-use Rattle.large_text.specs.Measured.{MeasuresText}
+use Rattle.large_text.specs.Measured.{IsTableOfText, MeasuresText}
 use Rattle.large_text.specs.Streamed.{CanTakeBytes, FitsText, HasTaken}
 use Rattle.large_text.specs.declared.stream.TextMeter.{TextMeter}
 use Rattle.spanprof_command.specs.Report.{Report, input_too_long}
 use Rattle.command_words.specs.declared.large.LargeRequest.{LargeRequest}
-use Rattle.command_words.specs.declared.large.LargeRequest.TheVariants.{Bounds, Numbers}
+use Rattle.command_words.specs.declared.large.LargeRequest.TheVariants.{OfMeter, OfTable}
+use Rattle.command_words.specs.declared.large.MeterRequest.{MeterRequest}
+use Rattle.command_words.specs.declared.large.MeterRequest.TheVariants.{Bounds, Numbers}
+use Rattle.command_words.specs.declared.large.TableRequest.{TableRequest}
 use Rattle.large_command.proofs.Lengths.{is_in_time, not_both}
 use Rattle.large_command.specs.LargeCommand.{AnswersText}
 use Rattle.large_command.specs.LargeReports.{Answers, IsOfProgram, TellsMeter, bounds_report}
 use Rattle.large_command.specs.LargeReports.{numbers_report, text_refusal}
+use Rattle.large_command.specs.TableReports.{TellsTable}
 use Rattle.large_command.specs.TextInput.{ReadsTooLong, TakesText}
 
 pub tells_meter : (meter : Meter) (tasks segments work span : ℕ) (report : Report)
@@ -66,16 +72,38 @@ is_of_program text meter h = record {
   measures = h.measures;
 }
 
-pub accepts : (asked : LargeRequest) (text : List ℕ) (meter : Meter) (report : Report)
+pub accepts : (asked : MeterRequest) (text : List ℕ) (meter : Meter) (report : Report)
     → MeasuresText (tokens_of text) meter
     → TellsMeter asked meter report
-    → Answers asked text report
+    → Answers (OfMeter asked) text report
 accepts asked text meter report h tells = inl (record {
   marks = h.marks;
   tree = h.tree;
   right = h.right;
   says = tells h.marks h.tree.nested h.measures;
 })
+
+accepts_table : (asked : TableRequest) (text : List ℕ) (table : Table) (report : Report)
+    → IsTableOfText (tokens_of text) table
+    → TellsTable asked table report
+    → Answers (OfTable asked) text report
+accepts_table asked text table report h tells = inl (record {
+  marks = h.marks;
+  tree = h.tree;
+  right = h.right;
+  says = subst (λ (t : Table). TellsTable asked t report) h.is tells;
+})
+
+-- the same where the table was found
+pub accepts_found : (asked : TableRequest) (text : List ℕ) (found : Option Table) (table : Table)
+    (report : Report)
+    → found ≡ Some table
+    → IfSome found (IsTableOfText (tokens_of text))
+    → TellsTable asked table report
+    → Answers (OfTable asked) text report
+accepts_found asked text found table report is h tells =
+    accepts_table asked text table report
+    (subst (λ (t : Option Table). IfSome t (IsTableOfText (tokens_of text))) is h) tells
 
 pub refuses : (asked : LargeRequest) (text : List ℕ) (fault : ReadFault) (report : Report)
     → IsLargeFirstFault (tokens_of text) (line_at_end 1 text) fault

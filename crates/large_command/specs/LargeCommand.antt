@@ -4,7 +4,12 @@ use Rattle.std.specs.Prelude.{nat_le, ◌+◌, ◌≤◌, length}
 use Rattle.std.specs.Io.KnownBytes.{Consumes, IsAtEnd, Keeps}
 use Rattle.command_words.specs.LargeWords.{large_request_of}
 use Rattle.command_words.specs.declared.large.LargeRequest.{LargeRequest}
-use Rattle.command_words.specs.declared.large.LargeRequest.TheVariants.{Bounds, Numbers}
+use Rattle.command_words.specs.declared.large.LargeRequest.TheVariants.{OfMeter, OfTable}
+use Rattle.command_words.specs.declared.large.MeterRequest.{MeterRequest}
+use Rattle.command_words.specs.declared.large.MeterRequest.TheVariants.{Bounds, Numbers}
+use Rattle.command_words.specs.declared.large.TableRequest.{TableRequest}
+use Rattle.command_words.specs.declared.large.TableRequest.TheVariants.{Curve, Greedy, Slack}
+use Rattle.command_words.specs.declared.large.TableRequest.TheVariants.{WhatIf}
 use Rattle.greedy_sim.specs.declared.greedy.TheConstants.{MOST_THREADS}
 use Rattle.large_text.specs.declared.limits.TheConstants.{LARGEST_TEXT}
 use Rattle.large_text.specs.Streamed.{FitsText}
@@ -13,10 +18,24 @@ use Rattle.spanprof_command.specs.Report.{Report, wrong_words}
 use Rattle.large_command.specs.LargeReports.{AnswersWithin}
 use Rattle.large_command.specs.Lengths.{IsReadInTime}
 
--- bounds are told for 1 to MOST_THREADS threads
+-- there are 1 to MOST_THREADS threads
+abbrev pub is_thread_count : ℕ → Bool
+is_thread_count threads = nat_le 1 threads && nat_le threads MOST_THREADS
+
+abbrev pub is_meter_in_range : MeterRequest → Bool
+is_meter_in_range Numbers = true
+is_meter_in_range (Bounds upto) = is_thread_count upto
+
+abbrev pub is_table_in_range : TableRequest → Bool
+is_table_in_range Slack = true
+is_table_in_range (Greedy threads) = is_thread_count threads
+is_table_in_range (Curve upto) = is_thread_count upto
+is_table_in_range (WhatIf changes) = true
+
+-- what is asked names no other number of threads
 abbrev pub is_in_range : LargeRequest → Bool
-is_in_range Numbers = true
-is_in_range (Bounds upto) = nat_le 1 upto && nat_le upto MOST_THREADS
+is_in_range (OfMeter asked) = is_meter_in_range asked
+is_in_range (OfTable asked) = is_table_in_range asked
 
 -- the words ask for something of a text
 abbrev pub wants_text : Option LargeRequest → Bool
@@ -30,7 +49,7 @@ pub record RefusesWords (words : List (List ℕ)) (before after : Option (List �
   pub kept : Keeps before after
   pub says : output ≡ wrong_words
 
--- they ask for bounds on a number of threads that is out of range, and nothing is read
+-- they name a number of threads that is out of range, and nothing is read
 pub record RefusesCount (words : List (List ℕ)) (before after : Option (List ℕ)) (output : Report)
     : Type 0 where
   pub asked : LargeRequest

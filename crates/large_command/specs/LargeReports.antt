@@ -3,7 +3,9 @@ use Rattle.std.specs.Prelude.{◌≡◌, ◌⊎◌, ◌+◌, ℕ, List, [], ◌�
 use Rattle.std.specs.Prelude.{Option, Some}
 use Rattle.std.specs.Fmt.{decimal}
 use Rattle.command_words.specs.declared.large.LargeRequest.{LargeRequest}
-use Rattle.command_words.specs.declared.large.LargeRequest.TheVariants.{Bounds, Numbers}
+use Rattle.command_words.specs.declared.large.LargeRequest.TheVariants.{OfMeter, OfTable}
+use Rattle.command_words.specs.declared.large.MeterRequest.{MeterRequest}
+use Rattle.command_words.specs.declared.large.MeterRequest.TheVariants.{Bounds, Numbers}
 use Rattle.program_text.specs.declared.fault.ReadFault.{ReadFault}
 use Rattle.program_text.specs.declared.fault.ReadKind.{ReadKind}
 use Rattle.program_text.specs.declared.fault.ReadKind.TheVariants.{BadHeader}
@@ -12,6 +14,7 @@ use Rattle.program_text.specs.Tokens.{texts, tokens_of, line_at_end}
 use Rattle.task_program.specs.Nested.{IsNested}
 use Rattle.task_program.specs.Limits.{work_of}
 use Rattle.task_segments.specs.Moments.{last_moment, segments_so_far, tasks_so_far}
+use Rattle.task_segments.specs.Table.{table_of}
 use Rattle.online_span.specs.declared.meter.Meter.{Meter}
 use Rattle.online_span.specs.Measuring.{Measures}
 use Rattle.online_span.specs.Spans.{IsSpanOf}
@@ -23,6 +26,7 @@ use Rattle.spanprof_command.specs.Report.{Report, input_too_long, line, number_l
 use Rattle.spanprof_command.specs.Report.{program_refusal}
 use Rattle.spanprof_command.specs.declared.report.Status.TheVariants.{Done, Refused}
 use Rattle.large_command.specs.Lengths.{IsTooLong}
+use Rattle.large_command.specs.TableReports.{TellsTable}
 
 -- a number each for the tasks beside the root, the segments, the work and the span
 abbrev pub numbers_report : (tasks segments work span : ℕ) → Report
@@ -76,10 +80,14 @@ pub record TellsBounds (upto : ℕ) (marks : List Mark) (output : Report) : Type
 
 -- ---- what is asked of a text
 
+abbrev pub TellsMarks : MeterRequest → List Mark → Report → Type 0
+TellsMarks Numbers marks output = TellsNumbers marks output
+TellsMarks (Bounds upto) marks output = TellsBounds upto marks output
+
 -- of a program with these marks this is told
 abbrev pub Tells : LargeRequest → List Mark → Report → Type 0
-Tells Numbers marks output = TellsNumbers marks output
-Tells (Bounds upto) marks output = TellsBounds upto marks output
+Tells (OfMeter asked) marks output = TellsMarks asked marks output
+Tells (OfTable asked) marks output = TellsTable asked (table_of marks) output
 
 -- a meter has taken the marks of a whole program
 pub record IsOfProgram (meter : Meter) : Type 0 where
@@ -88,10 +96,10 @@ pub record IsOfProgram (meter : Meter) : Type 0 where
   pub measures : Measures meter (last_moment marks)
 
 -- of the marks that a meter has taken this is told
-abbrev pub TellsMeter : LargeRequest → Meter → Report → Type 0
+abbrev pub TellsMeter : MeterRequest → Meter → Report → Type 0
 TellsMeter asked meter output =
     (marks : List Mark) → (nested : IsNested marks)
-    → Measures meter (last_moment marks) → Tells asked marks output
+    → Measures meter (last_moment marks) → TellsMarks asked marks output
 
 -- the text has a tree, and no token of it is wrong: what is asked is told
 pub record AcceptsText (asked : LargeRequest) (text : List ℕ) (output : Report) : Type 0 where

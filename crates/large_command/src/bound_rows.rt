@@ -1,6 +1,6 @@
 //! The table of bounds.
 ghost use Rattle.std.specs.Prelude.{◌≡◌, ◌+◌, ◌<◌, ◌≤◌, ◌^◌, IfOk};
-ghost use Rattle.command_words.specs.declared.large.LargeRequest.TheVariants.{Bounds};
+ghost use Rattle.command_words.specs.declared.large.MeterRequest.TheVariants.{Bounds};
 ghost use Rattle.spanprof_command.specs.Tables.{numbered_table};
 ghost use Rattle.large_command.specs.LargeReports.{IsOfProgram, TellsMeter, bounds_header};
 ghost use Rattle.large_command.specs.LargeReports.{bounds_report, bounds_row};

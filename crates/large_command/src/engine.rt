@@ -1,6 +1,6 @@
 //! Words, text, report and status, in that order.
 ghost use Rattle.std.specs.Prelude.{◌≡◌, ◌≢◌, ◌+◌, ◌-◌, ◌^◌, ◌<◌, ◌≤◌, List, ℕ, Err, map};
-ghost use Rattle.std.specs.Prelude.{string_bytes, IfOk, false, true};
+ghost use Rattle.std.specs.Prelude.{string_bytes, IfOk, false, true, []};
 ghost use Rattle.counted_io.specs.Counted.{inner_of, faults_of, flushes_of, is_flushed};
 ghost use Rattle.counted_io.specs.Input.{ConsumesAtMost};
 ghost use Rattle.command_words.specs.LargeWords.{large_request_of};
@@ -8,26 +8,29 @@ ghost use Rattle.spanprof_command.specs.Command.{EndsWith, HadFaults};
 ghost use Rattle.spanprof_command.specs.Report.{out_of_memory, read_fault};
 ghost use Rattle.spanprof_command.specs.declared.engine.TheConstants.{MOST_RETRIES};
 ghost use Rattle.large_command.specs.LargeCommand.{AnswersText, IsReport, is_in_range};
-ghost use Rattle.large_command.specs.LargeCommand.{wants_text};
+ghost use Rattle.large_command.specs.LargeCommand.{is_table_in_range, is_thread_count, wants_text};
+ghost use Rattle.large_text.specs.Streamed.{HasTaken};
 ghost use Rattle.large_command.specs.declared.engine.NoReport.TheVariants.{OutOfMemory};
 ghost use Rattle.large_text.specs.declared.limits.TheConstants.{LARGEST_TEXT};
 
 use crate::numbers::answer;
 use crate::text_input::take_input;
-use command_words::large::{LargeRequest, read_large_words};
+use command_words::large::{LargeRequest, MeterRequest, TableRequest, read_large_words};
 use command_words::request::WordsFault;
 use counted_io::{Counted, InputFault};
 use greedy_sim::greedy::MOST_THREADS;
 use large_text::TextMeter;
 use spanprof_command::{MOST_RETRIES, Report, Status, send};
-use std::alloc::{AllocError, Global};
+use std::alloc::{AllocError, AllocGlobal, Global};
 use std::io::{Read, Write};
+use std::thread::Threads;
 use task_program::name_key::NameKey;
 
-/// Reads a text of version 1 of any size to its end, and writes how many tasks and segments it has,
-/// its work and its span, each on a line of its own. With the words `--upto P` it writes a table of
-/// bounds in their place, as CSV: a row for one thread, two, and so on up to P, from 1 to 1,024.
-/// Other words, and another P, are refused before anything is read.
+/// Reads a text of version 1 of any size to its end. Without a further word it writes how many tasks
+/// and segments the text has, its work and its span, each on a line of its own. `bounds --upto P`
+/// writes a table of bounds, as CSV: a row for one thread, two, and so on up to P. `slack`, `greedy`,
+/// `curve` and `whatif` write what the commands of `spanprof` of these names write. Other words, and
+/// numbers of threads but those from 1 to 1,024, are refused before anything is read.
 ///
 /// A text with a line of more than [`LARGEST_LINE`] bytes is refused, and so is one of more than
 /// [`LARGEST_TEXT`] bytes. Reads and writes that are interrupted are tried again, together at most
@@ -37,8 +40,8 @@ use task_program::name_key::NameKey;
 ///
 /// The names are hashed under this key. No answer depends on it, but whoever knows it can make up a
 /// text that takes time quadratic in its names.
-pub fn command<R: Read, W: Write>(
-    alloc: Global,
+pub fn command<H: AllocGlobal + Threads + Sync, R: Read, W: Write>(
+    rt: &H,
     key: NameKey,
     words: &[String],
     reader: &mut Counted<R>,
@@ -65,7 +68,7 @@ pub fn command<R: Read, W: Write>(
     ensures flushes { flushes_of writer.new ≤ flushes_of writer.old + 1 }
 {
     let mut retries = MOST_RETRIES;
-    match prepare(alloc, key, words, reader, &mut retries) {
+    match prepare(rt, key, words, reader, &mut retries) {
         Ok(report) => send(writer, report.text(), report.status(), &mut retries),
         Err(NoReport::OutOfMemory) => {
             let line = b"error: out of memory\n";
@@ -94,8 +97,8 @@ impl From<AllocError> for NoReport {
 }
 
 /// Makes the report of the words and the text.
-fn prepare<R: Read>(
-    alloc: Global,
+fn prepare<H: AllocGlobal + Threads + Sync, R: Read>(
+    rt: &H,
     key: NameKey,
     words: &[String],
     reader: &mut Counted<R>,
@@ -115,9 +118,14 @@ fn prepare<R: Read>(
     ensures failed { result ≡ Err NoReport.ReadFault
         → faults_of reader.new + retries.new ≡ faults_of reader.old + retries.old + 1 }
 {
+    let alloc = rt.alloc();
     match read_large_words(alloc, words) {
-        Ok(asked) if is_in_range(asked) => answer_text(alloc, key, asked, reader, retries),
-        Ok(_) => Ok(Report::of_line(alloc, b"error: ThreadCount\n", Status::Refused)?),
+        Ok(asked) => {
+            if !is_in_range(&asked) {
+                return Ok(Report::of_line(alloc, b"error: ThreadCount\n", Status::Refused)?);
+            }
+            answer_text(rt, key, &asked, reader, retries)
+        }
         Err(WordsFault::WrongWords) => {
             Ok(Report::of_line(alloc, b"error: wrong words\n", Status::Usage)?)
         }
@@ -125,24 +133,42 @@ fn prepare<R: Read>(
     }
 }
 
-fn is_in_range(asked: LargeRequest) -> bool
-    ensures { result ≡ is_in_range asked }
+fn is_in_range(asked: &LargeRequest) -> bool
+    ensures { result ≡ is_in_range asked.now }
 {
     match asked {
-        LargeRequest::Numbers => true,
-        LargeRequest::Bounds { upto } => 1 <= upto && upto <= MOST_THREADS,
+        LargeRequest::OfMeter(MeterRequest::Numbers) => true,
+        LargeRequest::OfMeter(MeterRequest::Bounds { upto }) => is_thread_count(*upto),
+        LargeRequest::OfTable(asked) => is_table_in_range(asked),
     }
 }
 
-fn answer_text<R: Read>(
-    alloc: Global,
+fn is_table_in_range(asked: &TableRequest) -> bool
+    ensures { result ≡ is_table_in_range asked.now }
+{
+    match asked {
+        TableRequest::Slack => true,
+        TableRequest::Greedy { threads } => is_thread_count(*threads),
+        TableRequest::Curve { upto } => is_thread_count(*upto),
+        TableRequest::WhatIf { changes: _ } => true,
+    }
+}
+
+fn is_thread_count(threads: u32) -> bool
+    ensures { result ≡ is_thread_count threads }
+{
+    1 <= threads && threads <= MOST_THREADS
+}
+
+fn answer_text<H: AllocGlobal + Threads + Sync, R: Read>(
+    rt: &H,
     key: NameKey,
-    asked: LargeRequest,
+    asked: &LargeRequest,
     reader: &mut Counted<R>,
     retries: &mut u32,
 ) -> Result<Report, NoReport>
     requires { faults_of reader.old + retries.old < 2 ^ 64 - 1 }
-    ensures report { IfOk result (λ report. AnswersText asked (R.remaining (inner_of reader.old))
+    ensures report { IfOk result (λ report. AnswersText asked.now (R.remaining (inner_of reader.old))
         (R.remaining (inner_of reader.new)) report) }
 
     ensures reads_so_much { ConsumesAtMost (LARGEST_TEXT + 1) (R.remaining (inner_of reader.old))
@@ -153,13 +179,24 @@ fn answer_text<R: Read>(
     ensures failed { result ≡ Err NoReport.ReadFault
         → faults_of reader.new + retries.new ≡ faults_of reader.old + retries.old + 1 }
 {
-    let mut text = TextMeter::new(alloc, key);
+    let alloc = rt.alloc();
+    let mut text = text_meter(alloc, key, asked)?;
     match take_input(reader, &mut text, retries) {
-        Ok(()) => Ok(answer(alloc, asked, text)?),
+        Ok(()) => Ok(answer(rt, alloc, asked, text)?),
         Err(InputFault::TooLong) => {
             Ok(Report::of_line(alloc, b"error: input too long\n", Status::Refused)?)
         }
         Err(InputFault::ReadFailed) => Err(NoReport::ReadFault),
         Err(InputFault::OutOfMemory) => Err(NoReport::OutOfMemory),
+    }
+}
+
+/// A meter that has taken nothing. It keeps the rows of the table where they are wanted.
+fn text_meter(alloc: Global, key: NameKey, asked: &LargeRequest) -> Result<TextMeter, AllocError>
+    ensures { IfOk result (λ text. HasTaken [] text) }
+{
+    match asked {
+        LargeRequest::OfMeter(_) => Ok(TextMeter::new(alloc, key)),
+        LargeRequest::OfTable(_) => TextMeter::with_rows(alloc, key),
     }
 }

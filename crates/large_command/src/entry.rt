@@ -18,22 +18,25 @@ ghost use Rattle.std.specs.declared.io.ErrorKind.TheVariants.{OutOfMemory};
 use crate::engine::command;
 use counted_io::Counted;
 use spanprof_command::{given_words, without_words};
-use std::alloc::{AllocGlobal, Global};
+use std::alloc::AllocGlobal;
 use std::env::Env;
 use std::hash::{BuildHasher, Hasher, RandomState};
 use std::io;
 use std::io::{Input, Print, Read, Write};
 use std::process::ExitCode;
 use std::random::RandomSource;
+use std::thread::Threads;
 use task_program::name_key::NameKey;
 
 /// The whole program: hands the words, standard input and standard output of the process to
 /// `start`, and answers what it answers.
-pub fn run_program<H: AllocGlobal + Env + Input + Print + RandomSource>(rt: &H) -> ExitCode {
+pub fn run_program<H: AllocGlobal + Env + Input + Print + RandomSource + Threads + Sync>(
+    rt: &H,
+) -> ExitCode {
     let mut reader = Counted::new(rt.reader());
     let mut writer = Counted::new(io::writer(rt));
     start(
-        rt.alloc(),
+        rt,
         key_of_names(rt),
         given_words(rt),
         &mut reader,
@@ -50,11 +53,11 @@ fn key_of_names(rt: &impl RandomSource) -> NameKey {
 }
 
 /// Does what `command` does with the words that the system handed over, and answers the exit
-/// status: 0 where the report was written, 1 where the text or P was refused, 2 for wrong words, and 3
+/// status: 0 where the report was written, 1 where the text or what is asked of it was refused, 2 for wrong words, and 3
 /// where memory ran out, a read failed or a write failed. Where there are no words, nothing is
 /// read: words that are not text are wrong words.
-pub fn start<R: Read, W: Write>(
-    alloc: Global,
+pub fn start<H: AllocGlobal + Threads + Sync, R: Read, W: Write>(
+    rt: &H,
     key: NameKey,
     words: io::Result<Vec<String>>,
     reader: &mut Counted<R>,
@@ -87,7 +90,7 @@ pub fn start<R: Read, W: Write>(
     ensures flushes { flushes_of writer.new ≤ flushes_of writer.old + 1 }
 {
     let status = match words {
-        Ok(words) => command(alloc, key, words.as_slice(), reader, writer),
+        Ok(words) => command(rt, key, words.as_slice(), reader, writer),
         Err(error) => without_words(error.kind(), writer),
     };
     ExitCode::from(status.exit_status())

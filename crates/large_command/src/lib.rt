@@ -1,5 +1,5 @@
-//! The program `spanprof_large`: work, span and bounds of a text of any size, from words and
-//! bytes to a text and a status.
+//! The program `spanprof_large`: what is asked of a text of any size, from words and bytes to a text
+//! and a status.
 #![tactic(auto)]
 
 mod bound_rows;
@@ -8,6 +8,7 @@ mod entry;
 pub mod laws;
 mod numbers;
 mod room;
+mod table_answers;
 mod text_input;
 
 pub use engine::command;

@@ -1,29 +1,44 @@
 //! What the program answers to a text.
 ghost use Rattle.std.specs.Prelude.{◌≡◌, [], List, ℕ, IfOk};
-ghost use Rattle.command_words.specs.declared.large.LargeRequest.TheVariants.{Numbers};
+ghost use Rattle.command_words.specs.declared.large.LargeRequest.TheVariants.{OfMeter};
+ghost use Rattle.command_words.specs.declared.large.MeterRequest.TheVariants.{Numbers};
 ghost use Rattle.large_text.specs.Streamed.{CanTakeBytes, HasTaken};
 ghost use Rattle.spanprof_command.specs.Report.{program_refusal};
 ghost use Rattle.large_command.specs.LargeReports.{Answers, IsOfProgram, TellsMeter};
 ghost use Rattle.large_command.specs.LargeReports.{numbers_report, header_refusal, text_refusal};
 
 use crate::bound_rows::bounds;
-use command_words::large::LargeRequest;
+use crate::table_answers::answer_table;
+use command_words::large::{LargeRequest, MeterRequest};
 use large_text::TextMeter;
 use large_text::fault::LargeFault;
 use online_span::Meter;
 use spanprof_command::{Report, Status, kind_name};
 use std::alloc::{AllocError, Global};
+use std::thread::Threads;
 use task_program::fault::ReadKind;
 
 /// What is asked of a text that a meter has taken, or the line of its first fault.
 pub(crate) fn answer(
+    rt: &(impl Threads + Sync),
     alloc: Global,
-    asked: LargeRequest,
+    asked: &LargeRequest,
     text: TextMeter,
 ) -> Result<Report, AllocError>
     requires { CanTakeBytes [] text }
     ensures { IfOk result (λ report. (bytes : List ℕ) → HasTaken bytes text
-        → Answers asked bytes report) }
+        → Answers asked.now bytes report) }
+{
+    match asked {
+        LargeRequest::OfMeter(asked) => answer_meter(alloc, *asked, text),
+        LargeRequest::OfTable(asked) => answer_table(rt, alloc, asked, text),
+    }
+}
+
+fn answer_meter(alloc: Global, asked: MeterRequest, text: TextMeter) -> Result<Report, AllocError>
+    requires { CanTakeBytes [] text }
+    ensures { IfOk result (λ report. (bytes : List ℕ) → HasTaken bytes text
+        → Answers (OfMeter asked) bytes report) }
 {
     match text.finish() {
         Ok(meter) => tell(alloc, asked, &meter),
@@ -37,7 +52,7 @@ pub(crate) fn answer(
 }
 
 /// The line of a text that is no program of version 1.
-fn text_refusal(alloc: Global, fault: LargeFault) -> Result<Report, AllocError>
+pub(crate) fn text_refusal(alloc: Global, fault: LargeFault) -> Result<Report, AllocError>
     ensures { IfOk result (λ report. report ≡ text_refusal fault) }
 {
     match fault.kind {
@@ -65,13 +80,13 @@ fn header_refusal(alloc: Global, line: u64) -> Result<Report, AllocError>
 }
 
 /// What is asked of a program that a meter has taken.
-fn tell(alloc: Global, asked: LargeRequest, meter: &Meter) -> Result<Report, AllocError>
+fn tell(alloc: Global, asked: MeterRequest, meter: &Meter) -> Result<Report, AllocError>
     requires { IsOfProgram meter.now }
     ensures { IfOk result (λ report. TellsMeter asked meter.now report) }
 {
     match asked {
-        LargeRequest::Numbers => numbers(alloc, meter),
-        LargeRequest::Bounds { upto } => bounds(alloc, upto, meter),
+        MeterRequest::Numbers => numbers(alloc, meter),
+        MeterRequest::Bounds { upto } => bounds(alloc, upto, meter),
     }
 }
 

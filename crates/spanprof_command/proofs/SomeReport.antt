@@ -79,7 +79,7 @@ use Rattle.spanprof_command.specs.declared.report.Status.TheVariants.{Done}
 use Rattle.counted_io.specs.declared.input.TheConstants.{LARGEST_INPUT}
 
 -- of each program a command says something
-abbrev SaysSome : (ProgramMarks → Report → Type 0) → Type 0
+abbrev pub SaysSome : (ProgramMarks → Report → Type 0) → Type 0
 SaysSome Says =
     (program : ProgramMarks) → IsWhole (table_of program.marks)
     → (output : Report) × Says program output
@@ -121,7 +121,7 @@ some_show : SaysSome Shows
 some_show program whole = (record { text = canonical_text program; status = Done }, refl)
 
 -- and to `slack`
-some_slacks : SaysSome Slacks
+pub some_slacks : SaysSome Slacks
 some_slacks program whole =
     let table : Table = table_of program.marks in
     let analysed : IsAnalysed table = some_analysed table whole in (
@@ -265,7 +265,7 @@ some_greedy_run table p whole some =
     (run.0, run.1, of_graph table graph.0 p run.0 run.1 whole.sound graph.1 run.2)
 
 -- and to a greedy run
-some_greedy : (count : ℕ) → SaysSome (GreedyRuns count)
+pub some_greedy : (count : ℕ) → SaysSome (GreedyRuns count)
 some_greedy count program whole =
     let table : Table = table_of program.marks in
     elim (thread_count_or_not count) [
@@ -323,7 +323,7 @@ some_ends costs R (suc n) some_end_on =
     )
 
 -- every program has an answer to `curve`
-some_curve : (upto : ℕ) → SaysSome (Curves upto)
+pub some_curve : (upto : ℕ) → SaysSome (Curves upto)
 some_curve upto program whole =
     let table : Table = table_of program.marks in
     elim (thread_count_or_not upto) [
@@ -436,7 +436,7 @@ tries table graph changes (Ok tried) whole of all =
           (sum tried.costs) span.0 was.0 of refl all spans span.1 was.1 refl output refl,
     )
 
-some_trial : (changes : List Change) → SaysSome (Trials changes)
+pub some_trial : (changes : List Change) → SaysSome (Trials changes)
 some_trial changes program whole =
     let table : Table = table_of program.marks in
     let graph : (graph : RecordedGraph) × IsGraphOf table graph = some_graph table whole.sound in

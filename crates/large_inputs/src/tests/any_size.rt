@@ -6,11 +6,12 @@ use spanprof_command::Status;
 use std::alloc::{AllocGlobal, Global};
 use std::process::Abort;
 use std::test::Fail;
+use std::thread::Threads;
 use task_program::name_key::NameKey;
 
 /// These words write this text with this status.
-fn assert_ends(
-    rt: &(impl AllocGlobal + Abort),
+fn assert_ends<H: AllocGlobal + Threads + Abort + Sync>(
+    rt: &H,
     words: &[&str],
     input: &[u8],
     wanted: (Status, &[u8]),
@@ -22,7 +23,7 @@ fn assert_ends(
         taken: Vec::new(alloc),
     });
     let status = command(
-        alloc,
+        rt,
         NameKey::fixed(),
         line.as_slice(),
         &mut reader,
@@ -128,7 +129,12 @@ const BOUNDS: &[(&[&str], &str)] = &[
         "threads,least,bound\n1,10,10\n2,5,7\n3,4,6\n",
     ),
     (&["--upto", "1"], "threads,least,bound\n1,10,10\n"),
+    (
+        &["bounds", "--upto", "2"],
+        "threads,least,bound\n1,10,10\n2,5,7\n",
+    ),
     (&[], "tasks 2\nsegments 5\nwork 10\nspan 4\n"),
+    (&["span"], "tasks 2\nsegments 5\nwork 10\nspan 4\n"),
 ];
 
 #[test]
@@ -140,20 +146,96 @@ fn bounds(rt: HostRuntime) -> Result<(), Fail> {
     Ok(())
 }
 
+/// Words, and the status and what is written.
+const OF_TABLES: &[(&[&str], (Status, &str))] = &[
+    (
+        &["slack"],
+        (
+            Status::Done,
+            "segment,task,cost,start,slack,chain\n0,0,5,0,0,1\n1,1,3,5,0,1\n2,0,2,5,1,0\n\
+            3,0,1,8,0,1\n",
+        ),
+    ),
+    (
+        &["greedy", "--threads", "2"],
+        (
+            Status::Done,
+            "segment,start,end,thread\n0,0,5,0\n1,5,8,0\n2,5,7,1\n3,8,9,0\n",
+        ),
+    ),
+    (
+        &["curve", "--upto=2"],
+        (
+            Status::Done,
+            "threads,end,least,bound\n1,11,11,11\n2,9,9,10\n",
+        ),
+    ),
+    (
+        &["whatif", "2=4", "1=5"],
+        (Status::Done, "work 15\nspan 11\nwas 9\n"),
+    ),
+    (
+        &["whatif", "2=4", "4=1"],
+        (Status::Refused, "error: UnknownSegment\n"),
+    ),
+    (
+        &["whatif", "2=1000000000000000"],
+        (Status::Refused, "error: WorkTooLarge\n"),
+    ),
+];
+
+/// As the commands of the same names tell.
+#[test]
+fn tables(rt: HostRuntime) -> Result<(), Fail> {
+    let input = b"omptasks 1\nwork 5 task { work 3 } work 2 taskwait work 1";
+    for (words, (status, text)) in OF_TABLES {
+        assert_ends(&rt, *words, input, (*status, text.as_bytes()))?;
+    }
+    Ok(())
+}
+
+/// A text with a fault has no table.
+#[test]
+fn no_tables(rt: HostRuntime) -> Result<(), Fail> {
+    for (words, _) in OF_TABLES {
+        let fault = (Status::Refused, b"error: line 3: Unopened\n".as_slice());
+        assert_ends(&rt, *words, b"omptasks 1\nwork 1\n}\n", fault)?;
+    }
+    Ok(())
+}
+
+/// More rows than 16 bits can number.
+#[test]
+fn large_table(rt: HostRuntime) -> Result<(), Fail> {
+    let text = children(rt.alloc(), 70_000)?;
+    let spans = b"work 140004\nspan 6\nwas 5\n";
+    let words = ["whatif", "140000=3"];
+    assert_ends(&rt, &words, text.as_bytes(), (Status::Done, spans))
+}
+
 const WRONG_WORDS: (Status, &str) = (Status::Usage, "error: wrong words\n");
 
 const THREAD_COUNT: (Status, &str) = (Status::Refused, "error: ThreadCount\n");
 
 /// Words, and the status and what is written.
 const WORDS: &[(&[&str], (Status, &str))] = &[
-    (&["span"], WRONG_WORDS),
+    (&["show"], WRONG_WORDS),
+    (&["help"], WRONG_WORDS),
     (&["--help"], WRONG_WORDS),
+    (&["--upto=3", "slack"], WRONG_WORDS),
+    (&["slack", "--upto=3"], WRONG_WORDS),
+    (&["greedy"], WRONG_WORDS),
+    (&["bounds"], WRONG_WORDS),
+    (&["whatif", "1"], WRONG_WORDS),
     (&["--upto"], WRONG_WORDS),
     (&["--upto=4294967296"], WRONG_WORDS),
     (&["--upto=1", "--upto=1"], WRONG_WORDS),
     (&["--upto", "0"], THREAD_COUNT),
     (&["--upto", "1025"], THREAD_COUNT),
     (&["--upto", "4294967295"], THREAD_COUNT),
+    (&["bounds", "--upto", "0"], THREAD_COUNT),
+    (&["greedy", "--threads", "1025"], THREAD_COUNT),
+    (&["curve", "--upto", "0"], THREAD_COUNT),
 ];
 
 #[test]

@@ -4,11 +4,12 @@ use super::{Sink, line_of};
 use counted_io::Counted;
 use large_command::command;
 use spanprof_command::{MOST_RETRIES, Status};
-use std::alloc::{AllocGlobal, Global};
+use std::alloc::AllocGlobal;
 use std::io;
 use std::io::{ErrorKind, Read};
 use std::process::Abort;
 use std::test::Fail;
+use std::thread::Threads;
 use task_program::name_key::NameKey;
 
 /// Gives the bytes of a text, a few in each call. Once so few are left, it fails for some calls.
@@ -48,14 +49,19 @@ impl Read for Stream<'_> {
 }
 
 /// What the program writes of this text, with this status.
-fn is_told(alloc: Global, stream: Stream<'_>, wanted: (Status, &str)) -> Result<bool, Fail> {
+fn is_told<H: AllocGlobal + Threads + Sync>(
+    rt: &H,
+    stream: Stream<'_>,
+    wanted: (Status, &str),
+) -> Result<bool, Fail> {
+    let alloc = rt.alloc();
     let line = line_of(alloc, &[])?;
     let mut reader = Counted::new(stream);
     let mut writer = Counted::new(Sink {
         taken: Vec::new(alloc),
     });
     let status = command(
-        alloc,
+        rt,
         NameKey::fixed(),
         line.as_slice(),
         &mut reader,
@@ -87,7 +93,7 @@ fn cut_anywhere(rt: HostRuntime) -> Result<(), Fail> {
     for (text, wanted) in ENDS {
         for piece in 1..100 {
             let stream = Stream::of(text.as_bytes(), piece);
-            assert!(rt; is_told(rt.alloc(), stream, *wanted)?, "{piece} {text}");
+            assert!(rt; is_told(&rt, stream, *wanted)?, "{piece} {text}");
         }
     }
     Ok(())
@@ -101,14 +107,14 @@ fn interrupted(rt: HostRuntime) -> Result<(), Fail> {
         stream.kind = ErrorKind::Interrupted;
         stream.failures = MOST_RETRIES;
         assert!(rt;
-            is_told(rt.alloc(), stream, (Status::Done, NUMBERS))?,
+            is_told(&rt, stream, (Status::Done, NUMBERS))?,
             "{fails_at}"
         );
         let mut stream = Stream::of(TEXT.as_bytes(), 7);
         stream.fails_at = fails_at;
         stream.kind = ErrorKind::Interrupted;
         stream.failures = MOST_RETRIES + 1;
-        assert!(rt; is_told(rt.alloc(), stream, READ_FAULT)?, "{fails_at}");
+        assert!(rt; is_told(&rt, stream, READ_FAULT)?, "{fails_at}");
     }
     Ok(())
 }
@@ -121,10 +127,7 @@ fn failing(rt: HostRuntime) -> Result<(), Fail> {
             let mut stream = Stream::of(text.as_bytes(), 7);
             stream.fails_at = fails_at;
             stream.failures = 1;
-            assert!(rt;
-                is_told(rt.alloc(), stream, READ_FAULT)?,
-                "{fails_at} {text}"
-            );
+            assert!(rt; is_told(&rt, stream, READ_FAULT)?, "{fails_at} {text}");
         }
     }
     Ok(())

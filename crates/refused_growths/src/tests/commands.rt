@@ -31,7 +31,16 @@ const LOGGED: &str =
     "omptasks 1\nwork 5 task { work 3 } work 2 taskwait work 1\n---\nstart 0 0\nfinish 0 0\n\
     start 0 2\nfinish 0 2\nstart 1 1\nfinish 1 1\nstart 0 3\nfinish 0 3\n";
 
-/// Each command, and what the program for a text of any size is asked.
+const SLACKS: &str = "segment,task,cost,start,slack,chain\n0,0,5,0,0,1\n1,1,3,5,0,1\n2,0,2,5,1,0\n\
+    3,0,1,8,0,1\n";
+
+const GREEDY_RUN: &str = "segment,start,end,thread\n0,0,5,0\n1,5,8,0\n2,5,7,1\n3,8,9,0\n";
+
+const CURVE: &str = "threads,end,least,bound\n1,11,11,11\n2,9,9,10\n";
+
+const CHANGED: &str = "work 15\nspan 11\nwas 9\n";
+
+/// Each command, and those of the program for a text of any size.
 #[derive(Clone, Copy)]
 pub(super) enum Command {
     Span,
@@ -44,8 +53,18 @@ pub(super) enum Command {
     Run,
     Check,
     Replay,
-    LargeNumbers,
-    LargeBounds,
+    AnySize(AnySize),
+}
+
+/// What the program for a text of any size is asked.
+#[derive(Clone, Copy)]
+pub(super) enum AnySize {
+    Numbers,
+    Bounds,
+    Slack,
+    Greedy,
+    Curve,
+    WhatIf,
 }
 
 fn on_worked(words: &'static [&'static str], text: &'static str) -> Example {
@@ -63,23 +82,10 @@ fn example_of(command: Command) -> Example {
             &["spanprof", "show"],
             "omptasks 1\nwork 5\ntask {\nwork 3\n}\nwork 2\ntaskwait\nwork 1\n",
         ),
-        Command::Slack => on_worked(
-            &["spanprof", "slack"],
-            "segment,task,cost,start,slack,chain\n0,0,5,0,0,1\n1,1,3,5,0,1\n2,0,2,5,1,0\n\
-            3,0,1,8,0,1\n",
-        ),
-        Command::Greedy => on_worked(
-            &["spanprof", "greedy", "--threads", "2"],
-            "segment,start,end,thread\n0,0,5,0\n1,5,8,0\n2,5,7,1\n3,8,9,0\n",
-        ),
-        Command::Curve => on_worked(
-            &["spanprof", "curve", "--upto", "2"],
-            "threads,end,least,bound\n1,11,11,11\n2,9,9,10\n",
-        ),
-        Command::WhatIf => on_worked(
-            &["spanprof", "whatif", "2=4", "1=5"],
-            "work 15\nspan 11\nwas 9\n",
-        ),
+        Command::Slack => on_worked(&["spanprof", "slack"], SLACKS),
+        Command::Greedy => on_worked(&["spanprof", "greedy", "--threads", "2"], GREEDY_RUN),
+        Command::Curve => on_worked(&["spanprof", "curve", "--upto", "2"], CURVE),
+        Command::WhatIf => on_worked(&["spanprof", "whatif", "2=4", "1=5"], CHANGED),
         Command::Certify => on_worked(&["spanprof", "certify"], CERTIFICATE),
         Command::Run => on_worked(
             &["spanprof", "run", "--workers", "2"],
@@ -95,15 +101,25 @@ fn example_of(command: Command) -> Example {
             input: LOGGED,
             text: "events 8\nfinished 4\npreds 0\npreds 1 0\npreds 2 0\npreds 3 1 2\n",
         },
-        Command::LargeNumbers => Example {
+        Command::AnySize(asked) => large_example_of(asked),
+    }
+}
+
+fn large_example_of(asked: AnySize) -> Example {
+    match asked {
+        AnySize::Numbers => Example {
             words: &["spanprof_large"],
             input: NAMED,
             text: "tasks 2\nsegments 6\nwork 5\nspan 5\n",
         },
-        Command::LargeBounds => on_worked(
+        AnySize::Bounds => on_worked(
             &["spanprof_large", "--upto", "2"],
             "threads,least,bound\n1,11,11\n2,9,10\n",
         ),
+        AnySize::Slack => on_worked(&["spanprof_large", "slack"], SLACKS),
+        AnySize::Greedy => on_worked(&["spanprof_large", "greedy", "--threads", "2"], GREEDY_RUN),
+        AnySize::Curve => on_worked(&["spanprof_large", "curve", "--upto", "2"], CURVE),
+        AnySize::WhatIf => on_worked(&["spanprof_large", "whatif", "2=4", "1=5"], CHANGED),
     }
 }
 
@@ -139,8 +155,8 @@ fn answer_to<H: AllocGlobal + Threads + Wait + Abort + Sync>(
     let mut reader = Counted::new(Taking { left, supply });
     let mut writer = empty_room();
     let status = match asked {
-        Command::LargeNumbers | Command::LargeBounds => {
-            large_command::command(rt.alloc(), NameKey::fixed(), line, &mut reader, &mut writer)
+        Command::AnySize(_) => {
+            large_command::command(rt, NameKey::fixed(), line, &mut reader, &mut writer)
         }
         _ => command(rt, line, &mut reader, &mut writer),
     };

@@ -1,6 +1,6 @@
 //! All allocations from one on are refused. Which one is first differs from turn to turn.
 use super::Calls;
-use super::commands::Command;
+use super::commands::{AnySize, Command};
 use super::turns::refuse_each;
 use std::test::Fail;
 
@@ -166,10 +166,30 @@ fn command_replay(rt: HostRuntime) -> Result<(), Fail> {
 
 #[test]
 fn command_large_numbers(rt: HostRuntime) -> Result<(), Fail> {
-    refuse_each(&rt, Calls::Of(Command::LargeNumbers))
+    refuse_each(&rt, Calls::Of(Command::AnySize(AnySize::Numbers)))
 }
 
 #[test]
 fn command_large_bounds(rt: HostRuntime) -> Result<(), Fail> {
-    refuse_each(&rt, Calls::Of(Command::LargeBounds))
+    refuse_each(&rt, Calls::Of(Command::AnySize(AnySize::Bounds)))
+}
+
+#[test]
+fn command_large_slack(rt: HostRuntime) -> Result<(), Fail> {
+    refuse_each(&rt, Calls::Of(Command::AnySize(AnySize::Slack)))
+}
+
+#[test]
+fn command_large_greedy(rt: HostRuntime) -> Result<(), Fail> {
+    refuse_each(&rt, Calls::Of(Command::AnySize(AnySize::Greedy)))
+}
+
+#[test]
+fn command_large_curve(rt: HostRuntime) -> Result<(), Fail> {
+    refuse_each(&rt, Calls::Of(Command::AnySize(AnySize::Curve)))
+}
+
+#[test]
+fn command_large_whatif(rt: HostRuntime) -> Result<(), Fail> {
+    refuse_each(&rt, Calls::Of(Command::AnySize(AnySize::WhatIf)))
 }

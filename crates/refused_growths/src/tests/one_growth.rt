@@ -1,6 +1,6 @@
 //! One allocation is refused, which `checks/refused_growths.py tests` does from outside: the first, the
 //! second, and so on.
-use super::commands::Command;
+use super::commands::{AnySize, Command};
 use super::supply::Supply;
 use super::{Calls, make};
 use std::alloc::AllocGlobal;
@@ -179,10 +179,30 @@ fn command_replay(rt: HostRuntime) -> Result<(), Fail> {
 
 #[test]
 fn command_large_numbers(rt: HostRuntime) -> Result<(), Fail> {
-    make_once(&rt, Calls::Of(Command::LargeNumbers))
+    make_once(&rt, Calls::Of(Command::AnySize(AnySize::Numbers)))
 }
 
 #[test]
 fn command_large_bounds(rt: HostRuntime) -> Result<(), Fail> {
-    make_once(&rt, Calls::Of(Command::LargeBounds))
+    make_once(&rt, Calls::Of(Command::AnySize(AnySize::Bounds)))
+}
+
+#[test]
+fn command_large_slack(rt: HostRuntime) -> Result<(), Fail> {
+    make_once(&rt, Calls::Of(Command::AnySize(AnySize::Slack)))
+}
+
+#[test]
+fn command_large_greedy(rt: HostRuntime) -> Result<(), Fail> {
+    make_once(&rt, Calls::Of(Command::AnySize(AnySize::Greedy)))
+}
+
+#[test]
+fn command_large_curve(rt: HostRuntime) -> Result<(), Fail> {
+    make_once(&rt, Calls::Of(Command::AnySize(AnySize::Curve)))
+}
+
+#[test]
+fn command_large_whatif(rt: HostRuntime) -> Result<(), Fail> {
+    make_once(&rt, Calls::Of(Command::AnySize(AnySize::WhatIf)))
 }

@@ -1,4 +1,4 @@
-use Rattle.std.proofs.Common.{◌∙◌, ap, subst, sym, rules}
+use Rattle.std.proofs.Common.{◌∙◌, ap, ap₂, subst, sym, rules}
 use Rattle.clap.specs.Words.{app_of, is_simple, is_simple_and_free}
 use Rattle.command_words.proofs.Parse.{large_accepted, large_is_free, large_is_simple}
 use Rattle.command_words.proofs.Parse.{large_refused}
@@ -11,9 +11,9 @@ returns-in-Ok-try_get_matches_from c =
     let parse = c.in-Ok-try_get_matches_from.ensures in
     let made = c.in-Ok.ensures in
     let none = parse.kinds (ap is_simple_and_free made ∙ large_is_free) in
-    let rows = (parse.matches (ap is_simple made ∙ large_is_simple)).0 in
+    let read = parse.matches (ap is_simple made ∙ large_is_simple) in
     subst (λ wanted. Gives wanted c.large_request_in.result)
-    (ap large_request_in rows ∙ sym (large_accepted (app_of c.in-Ok.program) _ made none))
+    (ap₂ large_request_in read.0 read.1 ∙ sym (large_accepted (app_of c.in-Ok.program) _ made none))
     c.large_request_in.ensures
 
 pub returns-in-Err-2 : goal.returns-in-Err-2

@@ -1,0 +1,70 @@
+//! What the program answers where it takes the table of a text.
+ghost use Rattle.std.specs.Prelude.{[], IfOk, List, ℕ};
+ghost use Rattle.command_words.specs.declared.large.LargeRequest.TheVariants.{OfTable};
+ghost use Rattle.large_text.specs.Streamed.{CanTakeBytes, HasTaken};
+ghost use Rattle.large_command.specs.LargeReports.{Answers};
+ghost use Rattle.large_command.specs.TableReports.{SaysOfTable, TellsTable};
+
+use crate::numbers::text_refusal;
+use command_words::large::TableRequest;
+use large_text::TextMeter;
+use spanprof_command::{Report, tell_curve, tell_greedy, tell_slacks, try_changes};
+use std::alloc::{AllocError, Global};
+use std::thread::Threads;
+use task_program::fault::ReadKind;
+use task_segments::laws::within_rows;
+use task_segments::table::LargeTable;
+
+/// What is asked of the table of a text that a meter has taken, or the line of its first fault.
+pub(crate) fn answer_table(
+    rt: &(impl Threads + Sync),
+    alloc: Global,
+    asked: &TableRequest,
+    text: TextMeter,
+) -> Result<Report, AllocError>
+    requires { CanTakeBytes [] text }
+    ensures { IfOk result (λ report. (bytes : List ℕ) → HasTaken bytes text
+        → Answers (OfTable asked.now) bytes report) }
+{
+    match text.finish_table() {
+        Ok(Some(table)) => tell_table(rt, alloc, asked, table),
+        // There are more rows than are numbered.
+        Ok(None) => Err(AllocError),
+        Err(fault) => {
+            if fault.kind == ReadKind::OutOfMemory {
+                return Err(AllocError);
+            }
+            text_refusal(alloc, fault)
+        }
+    }
+}
+
+fn tell_table(
+    rt: &(impl Threads + Sync),
+    alloc: Global,
+    asked: &TableRequest,
+    table: LargeTable,
+) -> Result<Report, AllocError>
+    ensures { IfOk result (λ report. TellsTable asked.now table report) }
+{
+    // Does nothing when it runs: its clauses tell the proof how many rows there are at most.
+    within_rows(&table);
+    say_of_table(rt, alloc, asked, table)
+}
+
+/// What is asked of a table.
+fn say_of_table(
+    rt: &(impl Threads + Sync),
+    alloc: Global,
+    asked: &TableRequest,
+    table: LargeTable,
+) -> Result<Report, AllocError>
+    ensures { IfOk result (λ report. SaysOfTable asked.now table report) }
+{
+    match asked {
+        TableRequest::Slack => tell_slacks(alloc, &table),
+        TableRequest::Greedy { threads } => tell_greedy(alloc, *threads, table),
+        TableRequest::Curve { upto } => tell_curve(rt, alloc, *upto, table),
+        TableRequest::WhatIf { changes } => try_changes(alloc, changes.as_slice(), table),
+    }
+}
