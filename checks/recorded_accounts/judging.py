@@ -4,8 +4,8 @@ import re
 
 EXPECTED = {
     "small": {"delayed": 0.25},
-    "serial": {"starved": 0.45, "asleep": 0.15},
-    "wait": {"starved": 0.4, "asleep": 0.15},
+    "serial": {"starved": 0.35, "asleep": 0.1},
+    "wait": {"starved": 0.35, "asleep": 0.1},
     "lock": {"at locks": 0.3},
     "machine": {"preempted": 0.4},
     "balanced": {"asleep": 0.6},
