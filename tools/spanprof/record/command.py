@@ -1,5 +1,6 @@
 """spanprof-record: a program's run as a program text, and what it could gain from more threads."""
 import os
+import re
 import signal
 import subprocess
 import sys
@@ -104,10 +105,17 @@ def report(session, found, said, scale=None):
         try_page(session.options, recording)
 
 
+def scale_file(session, scale):
+    """Beside the text that it is of; under the first name of all where there is none."""
+    region = scale.regions.get(scale.most)
+    stem = os.path.join(os.path.dirname(session.out), re.sub(r"\.tasks$", "", region.name)) if region else session.out
+    return stem + ".scale.json"
+
+
 def write_scale(session, scale):
-    """Beside the texts; what `--json` names has it with the account, where a region has a summary."""
+    """What `--json` names has it with the account, where a region has a summary."""
     told = scale_json(scale)
-    write_json(session.out + ".scale.json", told, "")
+    write_json(scale_file(session, scale), told, "")
     if session.options.json:
         write_json(session.options.json, {"scale": told})
 

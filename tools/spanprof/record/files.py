@@ -7,7 +7,8 @@ from dataclasses import dataclass
 from spanprof.errors import Fault
 
 USUAL_REGIONS = 10
-OF_A_RECORDING = re.compile(r"(\.rank[0-9]+)?(\.[0-9]+)?(\.large)?(\.inout)?\.(tasks|replay|times|timed)|\.scale\.json")
+OF_A_RECORDING = re.compile(r"(\.rank[0-9]+)?(\.[0-9]+)?((\.large)?(\.inout)?\.(tasks|replay|times|timed)|"
+                            r"\.scale\.json)")
 IN_A_LOG = re.compile(r"head|modules|thread\.[0-9]+(\.last)?")
 
 

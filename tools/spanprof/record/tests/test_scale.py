@@ -225,6 +225,11 @@ class Words(unittest.TestCase):
 
 
 class Command(unittest.TestCase):
+    def test_beside_the_text(self):
+        found, made = made_up(), mock.Mock(out="/tmp/mine")
+        found.regions[4].name = "mine.2.tasks"
+        self.assertEqual(command.scale_file(made, found), "/tmp/mine.2.scale.json")
+
     def test_nothing_is_recorded(self):
         """The times are told all the same, beside the files and where JSON is asked for."""
         with tempfile.TemporaryDirectory() as folder:
