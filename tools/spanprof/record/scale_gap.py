@@ -13,6 +13,7 @@ WHAT = {
     "delayed": "idle though a task was ready",
     "starved": "idle with nothing ready",
     "outside": "before the region's code and after it"}
+OF_PIECES = "the pieces of loops of a whole program are not timed one by one"
 BY_PROCESSOR = "in code, off the processor or in the recorder, asleep or waiting for locks"
 
 
@@ -49,7 +50,8 @@ def account_on(scale, threads):
     if region is None:
         raise NoGap("the recording %s has no such region within the limits of spanprof" % on)
     if region.account is None:
-        raise NoGap("the recording %s has no account%s" % (on, ": " + region.why if region.why else ""))
+        why = region.why or (OF_PIECES if region.head.whole else "")
+        raise NoGap("the recording %s has no account%s" % (on, ": " + why if why else ""))
     if region.account.threads != threads:
         raise NoGap("the region ran %s, and not %s: the program or its environment decides that" % (
             on_threads(region.account.threads), on))

@@ -169,6 +169,9 @@ class Gaps(unittest.TestCase):
                          "the recording on 1 thread has no such region within the limits of spanprof")
         self.assertEqual(self.why_not(regions={1: region(1, why="spanprof_account is not found"), 4: four}),
                          "the recording on 1 thread has no account: spanprof_account is not found")
+        whole = region(1, work=5)
+        whole.head.whole = "2 regions"
+        self.assertTrue(self.why_not(regions={1: whole, 4: four}).endswith("are not timed one by one"))
         self.assertIn("ran on 4 threads, and not on 1 thread:", self.why_not(regions={1: four, 4: four}))
         self.assertEqual(gap_lines(made_up(regions={})), ["not told: the recording on 4 threads has no such region "
                                                           "within the limits of spanprof"])
