@@ -131,6 +131,21 @@ expect "a run that fails" 3 spanprof-record --runs 2 --out failing -- ./llvm 3
 expect_word "a run that fails" 'run 1 of 2 is the last, and there is no median: the program ended with status 3'
 echo "several runs"
 
+expect "a scale" 0 spanprof-record --scale 1,2 --runs 3 --json scale.json --out scaled -- ./llvm
+[ "$(wc -l < out)" = 40 ] || fail "a scale: not every run reads standard input"
+expect_recording scaled
+expect_recording scaled.scale/threads1
+expect_summary "a scale"
+expect_word "a scale" '3 unrecorded runs on each number, in turns: elapsed time of the whole program'
+grep -q '^true times *threads .*speed-up' err || fail "a scale: no table"
+grep -q '^gap  *' err || fail "a scale: no gap"
+for file in scale.json scaled.scale.json; do grep -q '"speed-up"' $file || fail "a scale: no $file"; done
+expect "a failing scale" 3 spanprof-record --scale 1,2 --out failing -- ./llvm 3
+expect_word "a failing scale" 'unrecorded run 1 of 5 on 1 thread ended with status 3: no speed-up is told'
+expect "no scale" 125 spanprof-record --scale 2,4 -- ./llvm
+expect_word "no scale" '2,4 has to have 1, against which a speed-up is told, and another number'
+echo "a scale"
+
 expect "another fold of a log" 0 spanprof-convert --fold depth=1 --unit us --out again llvm.log
 expect_word "another fold of a log" 'spanprof-convert: again.tasks and again.replay: 8 tasks, '
 expect_recording again

@@ -70,7 +70,7 @@ _spanprof_record() {
         --json) _spanprof_files "$current" .json ;;
         --out | --runtime) _spanprof_files "$current" ;;
         --fold) _spanprof_among "$current" exact depth= cost= chunk=; compopt -o nospace 2> /dev/null ;;
-        --threads | --runs) ;;
+        --threads | --runs | --scale) ;;
         *) case $current in
             -*) _spanprof_among "$current" -- "$(_spanprof_options "${COMP_WORDS[0]}")" ;;
             *) _spanprof_files "$current" ;;

@@ -1,5 +1,6 @@
 """spanprof-record: a program's run as a program text, and what it could gain from more threads."""
 import os
+import re
 import signal
 import subprocess
 import sys
@@ -17,8 +18,10 @@ from spanprof.record.large import answers, head_of, large_summary, unmeasured_su
 from spanprof.record.options import parse
 from spanprof.record.ranks import are_ranks
 from spanprof.record.run import end_as
+from spanprof.record.scale import record_scale
+from spanprof.record.scale_words import scale_json, scale_lines
 from spanprof.record.session import Session
-from spanprof.record.summary import other_region, summary
+from spanprof.record.summary import named, other_region, summary
 from spanprof.record.summary_json import led_json, write_json
 from spanprof.record.verdict import verdict
 from spanprof.whatif.lead import lead
@@ -31,7 +34,7 @@ def show(lines):
         print(line, file=sys.stderr)
 
 
-def print_summary(session, found, said, shown=()):
+def print_summary(session, found, said, shown=(), scale=None):
     """Of the heaviest region, which is answered; the others in a line each."""
     tell("reading " + ", ".join(os.path.basename(recording.text) for recording in found))
     answered = [Answers(recording.text) for recording in found]
@@ -47,7 +50,7 @@ def print_summary(session, found, said, shown=()):
         led = lead(answered[heaviest], account)
         show(summary(answered[heaviest], verdict(found[heaviest]), news, others, of_what, lines_of(account, why), led))
         if session.options.json:
-            write_json(session.options.json, led_json(answered[heaviest], account, why, led))
+            write_json(session.options.json, led_json(answered[heaviest], account, why, led, scale))
     return found[heaviest]
 
 
@@ -84,22 +87,48 @@ def try_page(options, recording):
         say(str(fault))
 
 
-def print_summaries(session, found, said):
+def print_summaries(session, found, said, scale=None):
     """Answers the recording that a page can show: the heaviest within the limits of the ten commands, or else the
     longest text, where spanprof_large is there."""
     small, large = [[one for one in found if one.is_large == is_large] for is_large in (False, True)]
     program = spanprof_large() if large else []
     shown = [one.text for one in large] if program else []
-    recording = print_summary(session, small, said, shown) if small else None
+    recording = print_summary(session, small, said, shown, scale) if small else None
     remarks = {remark for one in large for remark in head_of(one.text).remarks}
     print_large(large, program, [] if small else session.notes + said.news(session.out, shown, remarks))
     return recording or (max(large, key=lambda one: os.path.getsize(one.text)) if program else None)
 
 
-def report(session, found, said):
-    recording = print_summaries(session, found, said)
+def report(session, found, said, scale=None):
+    recording = print_summaries(session, found, said, scale)
     if session.options.html:
         try_page(session.options, recording)
+
+
+def scale_file(session, scale):
+    """Beside the text that it is of; under the first name of all where there is none."""
+    region = scale.regions.get(scale.most)
+    stem = os.path.join(os.path.dirname(session.out), re.sub(r"\.tasks$", "", region.name)) if region else session.out
+    return stem + ".scale.json"
+
+
+def write_scale(session, scale):
+    """What `--json` names has it with the account, where a region has a summary."""
+    told = scale_json(scale)
+    write_json(scale_file(session, scale), told, "")
+    if session.options.json:
+        write_json(session.options.json, {"scale": told})
+
+
+def report_all(session, found, said, scale):
+    if scale:
+        write_scale(session, scale)
+    try:
+        if found:
+            report(session, found, said, scale)
+    finally:
+        for name, lines in scale_lines(scale).items() if scale else ():
+            show(named(name, lines))
 
 
 def record_and_report(options):
@@ -107,9 +136,8 @@ def record_and_report(options):
     status = 0
     try:
         session = Session(options)
-        status, found, said = session.record()
-        if found:
-            report(session, found, said)
+        status, found, said, scale = record_scale(session) if options.scale else (*session.record(), None)
+        report_all(session, found, said, scale)
         return status if found else status or OWN_FAULT
     except Fault as fault:
         say(str(fault))

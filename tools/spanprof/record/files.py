@@ -7,6 +7,8 @@ from dataclasses import dataclass
 from spanprof.errors import Fault
 
 USUAL_REGIONS = 10
+OF_A_RECORDING = re.compile(r"(\.rank[0-9]+)?(\.[0-9]+)?((\.large)?(\.inout)?\.(tasks|replay|times|timed)|"
+                            r"\.scale\.json)")
 IN_A_LOG = re.compile(r"head|modules|thread\.[0-9]+(\.last)?")
 
 
@@ -70,7 +72,7 @@ def remove_log(folder):
 def remove_old(out):
     """Takes away what an earlier run of this name left, as the recorder does where it is loaded."""
     for path in glob.glob(glob.escape(out) + ".*"):
-        if re.fullmatch(r"(\.rank[0-9]+)?(\.[0-9]+)?(\.large)?(\.inout)?\.(tasks|replay|times|timed)", path[len(out):]):
+        if OF_A_RECORDING.fullmatch(path[len(out):]):
             os.remove(path)
         elif re.fullmatch(r"(\.rank[0-9]+)?(\.[0-9]+(-[0-9]+)?)?\.log", path[len(out):]) and os.path.isdir(path):
             remove_log(path)

@@ -15,6 +15,8 @@ AFTER = """Everything after -- is the program and its words. The exit status is 
 not be written; 125 where nothing was recorded, 126 where the program cannot be run, 127 where there is none. The
 recorder's own variables (SPANPROF_REGIONS, SPANPROF_PARTS, SPANPROF_LINES) and those of OpenMP hold too."""
 MOST_RUNS = 99
+RUNS_OF_A_SCALE = 5
+MOST_THREADS = 1024
 FOLDS = ("depth", "cost", "chunk")
 FOLD_WORDS = "exact|depth=D|cost=C|chunk=N"
 
@@ -32,6 +34,19 @@ def unit(word):
     if word not in ("ns", "us", "ms") and not 1 <= number <= 1000000000:
         raise argparse.ArgumentTypeError("a unit is ns, us, ms, or nanoseconds up to 1000000000")
     return word
+
+
+def numbers_of_threads(word):
+    """`1,2,4`: in order, with 1, against which a speed-up is."""
+    words = word.split(",")
+    if not all(re.fullmatch(r"[0-9]{1,4}", one) and 1 <= int(one) <= MOST_THREADS for one in words):
+        raise argparse.ArgumentTypeError("%s is no list of numbers of threads, such as 1,2,4; 1 to %d" % (
+            word, MOST_THREADS))
+    numbers = sorted(set(map(int, words)))
+    if numbers[0] != 1 or len(numbers) == 1:
+        raise argparse.ArgumentTypeError("%s has to have 1, against which a speed-up is told, and another number" %
+                                         word)
+    return numbers
 
 
 def fold(word):
@@ -52,9 +67,13 @@ def parser():
         "of several processes of MPI, NAME.rank0.tasks and so on")
     add("--unit", type=unit, help="what a cost of 1 is: ns (without it), us, ms, or a number of nanoseconds")
     add("--clock", choices=("wall", "cpu"), help="wall time (without it), or processor time of each thread")
-    add("--threads", type=count(1, 1024), metavar="P", help="OMP_NUM_THREADS of the run; spanprof judges 64 at most")
-    add("--runs", type=count(1, MOST_RUNS), default=1, metavar="N",
+    add("--threads", type=count(1, MOST_THREADS), metavar="P",
+        help="OMP_NUM_THREADS of the run; spanprof judges 64 at most")
+    add("--runs", type=count(1, MOST_RUNS), metavar="N",
         help="run it N times, and take the median of each segment's costs")
+    add("--scale", type=numbers_of_threads, metavar="1,P,..",
+        help="tell the true speed-up: run it N times (5 without --runs) unrecorded on each of these numbers of "
+        "threads, and record it once on each; and of the last what keeps it from more, as a sum")
     add("--whole", action="store_true", help="the whole program as one text: serial code, regions, chunks of loops")
     add("--fold", type=fold, action="append", default=[], metavar=FOLD_WORDS,
         help="where a recording is too large, write fewer tasks with the same work and span; or tasks at depth D with "
@@ -87,6 +106,9 @@ def parse(words):
         chosen.out = os.path.basename(named_after(chosen.command))
     if not os.path.basename(chosen.out):
         reader.error("--out %s: the first name of files, and no folder" % chosen.out)
+    if chosen.scale and chosen.threads:
+        reader.error("--scale has the numbers of threads already, without --threads")
+    chosen.runs = chosen.runs or (RUNS_OF_A_SCALE if chosen.scale else 1)
     if chosen.open and not chosen.html:
         chosen.html = chosen.out + ".html"
     return chosen

@@ -9,20 +9,38 @@ from spanprof.errors import NOT_EXECUTABLE, Fault
 PASSED_ON = (signal.SIGTERM, signal.SIGHUP, signal.SIGQUIT)
 
 
+def with_others(first, others):
+    return first + (os.pathsep + others if others else "")
+
+
 def environment(base, options, library, preload, out):
     """The variables of a recorded run. What is not asked for stays as it is."""
     new = dict(base, OMP_TOOL="enabled", SPANPROF_OUT=out, SPANPROF_QUIET="1")
-    others = base.get("OMP_TOOL_LIBRARIES")
-    new["OMP_TOOL_LIBRARIES"] = library + (os.pathsep + others if others else "")
+    new["OMP_TOOL_LIBRARIES"] = with_others(library, base.get("OMP_TOOL_LIBRARIES"))
     if preload:
-        others = base.get("LD_PRELOAD")
-        new["LD_PRELOAD"] = preload + (os.pathsep + others if others else "")
+        new["LD_PRELOAD"] = with_others(preload, base.get("LD_PRELOAD"))
     asked = {"SPANPROF_UNIT": options.unit, "SPANPROF_CLOCK": options.clock, "OMP_NUM_THREADS": options.threads}
     asked.update(("SPANPROF_FOLD_" + name.upper(), number) for name, number in options.fold)
     new.update((name, str(value)) for name, value in asked.items() if value is not None)
     if options.whole:
         new["SPANPROF_WHOLE"] = "1"
     return new
+
+
+def without_recorder(base, preload, threads):
+    """The variables of an unrecorded run: on the runtime of the recorded ones, which loads no tool."""
+    new = dict(base, OMP_TOOL="disabled", OMP_NUM_THREADS=str(threads))
+    if preload:
+        new["LD_PRELOAD"] = with_others(preload, base.get("LD_PRELOAD"))
+    return new
+
+
+def rewind():
+    """Where standard input is a file, each run reads it from its beginning."""
+    try:
+        os.lseek(0, 0, os.SEEK_SET)
+    except OSError:
+        pass  # a terminal or a pipe: later runs read what is left
 
 
 class PassedOn:

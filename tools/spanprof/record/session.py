@@ -12,7 +12,7 @@ from spanprof.record.linkage import linkage
 from spanprof.record.ranks import is_launcher, names_of_ranks, of_rank, rank_of
 from spanprof.record.recorder import recorder_library
 from spanprof.record.repeat import FIRST_PARTS, combine_all, make_folder, parts_of_the_next
-from spanprof.record.run import environment, run, signal_name
+from spanprof.record.run import environment, rewind, run, signal_name
 from spanprof.record.runtime import refuse_targets, to_preload, what_it_lacks
 from spanprof.record.target import find, launched
 
@@ -44,14 +44,6 @@ def why_nothing(status, said, out, is_script):
     return "its OpenMP runtime did not load the recorder; it begins only where a program meets a construct of OpenMP"
 
 
-def rewind():
-    """Where standard input is a file, each run reads it from its beginning."""
-    try:
-        os.lseek(0, 0, os.SEEK_SET)
-    except OSError:
-        pass  # a terminal or a pipe: later runs read what is left
-
-
 class Session:
     def __init__(self, options):
         self.options = options
@@ -61,6 +53,8 @@ class Session:
         self.out = of_rank(os.path.abspath(options.out), self.rank)
         check_folder(options.out)
         check_spanprof()
+        if options.scale and (launches or self.rank is not None):
+            raise Fault("--scale takes no processes of MPI")
         if launches and options.runs > 1:
             raise Fault("--runs takes no launcher; as in: mpirun -n 4 spanprof-record --runs 5 -- PROGRAM")
         target = launched(options.command) if launches else self.path

@@ -3,6 +3,7 @@ from spanprof.claims import gain_may_be_less, gain_may_be_more, least_end, why_n
 from spanprof.report.figures import MEASURED, PROVED, badges
 from spanprof.report.markup import details, join, note, section, tag
 from spanprof.report.tables import table
+from spanprof.report.true_times import keys as true_keys, marks as true_marks, shown_points
 
 WIDTH, HEIGHT = 720, 380
 COLUMNS = (("end", "the greedy run ends at"), ("least", "no run before"), ("bound", "no greedy run after"))
@@ -118,7 +119,8 @@ def reached_mark(axes, view, colour):
 def most_shown(views):
     """The greatest speed-up of the picture."""
     bounds = [speed_up for view in views for _, speed_up in speed_ups(view.answers, "least")]
-    return max(bounds + [view.reached.speed_up for view in views if view.reached])
+    true = [point.greatest for view in views for point in shown_points(view)]
+    return max(bounds + true + [view.reached.speed_up for view in views if view.reached])
 
 
 def picture(views):
@@ -130,6 +132,7 @@ def picture(views):
         pieces.append(curve_lines(axes, view, "s%d" % number_of))
     for number_of, view in enumerate(views):
         pieces.append(reached_mark(axes, view, "s%d" % number_of))
+        pieces.append(true_marks(axes, view, "s%d" % number_of))
     return tag("svg", *pieces, viewBox="0 0 %d %d" % (WIDTH, HEIGHT), class_="chart", role="img",
                aria_label="Speed-up on 1 to %d threads" % most_threads)
 
@@ -145,7 +148,7 @@ def keys(view, colour, name):
     if view.reached:
         hollow = "" if view.reached.is_elapsed else " hollow"
         items.append(tag("span", tag("i", class_="key diamond " + colour + hollow), name, view.reached.words))
-    return items
+    return items + true_keys(view, name)
 
 
 def legend(views):

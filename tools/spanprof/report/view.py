@@ -13,6 +13,7 @@ from spanprof.report.recorded_run import NoRun, RecordedRun, recorded_run
 from spanprof.report.source import Sources
 from spanprof.report.source_lines import stretches
 from spanprof.report.tried import tried
+from spanprof.report.true_times import points_beside
 from spanprof.report.units import Units
 from spanprof.whatif.lead import lead
 
@@ -58,6 +59,11 @@ class Kinds:
     def colour_of(self, task_place):
         """The number of a colour: one for each of the first places of tasks, and one for all others."""
         return min(task_place.number, COLOURS - 1)
+
+    @cached_property
+    def true_times(self):
+        """The points of the true speed-up; none where they were not measured with this recording."""
+        return points_beside(self.answers)
 
     @cached_property
     def reached(self):

@@ -44,7 +44,8 @@ class Recordings(OfARecording):
 
     def test_old_files_go_and_others_stay(self):
         for name in ("mine.tasks", "mine.3.replay", "mine.12.inout.tasks", "mine.large.tasks", "mine.2.large.tasks",
-                     "mine.2.large.inout.tasks", "mine.c", "mine.html", "mine.x.tasks", "mine"):
+                     "mine.2.large.inout.tasks", "mine.scale.json",
+                     "mine.2.scale.json", "mine.c", "mine.html", "mine.x.tasks", "mine"):
             self.write(name)
         files.remove_old(self.out)
         self.assertEqual(self.names(), ["mine", "mine.c", "mine.html", "mine.x.tasks"])

@@ -254,7 +254,7 @@ class Statuses(unittest.TestCase):
         with mock.patch("spanprof.record.command.Session") as made, contextlib.redirect_stderr(io.StringIO()), \
                 mock.patch("spanprof.record.command.report", side_effect=reported):
             made.return_value.record.side_effect = [recorded]
-            return command.record_and_report(None)
+            return command.record_and_report(argparse.Namespace(scale=None))
 
     def test_the_program_decides(self):
         self.assertEqual(self.status((0, ["a"], None)), 0)

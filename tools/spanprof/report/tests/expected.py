@@ -1,4 +1,5 @@
 """What each number of a page has to be, worked out again from the answers of spanprof alone."""
+import json
 import os
 import re
 from functools import cached_property
@@ -206,6 +207,12 @@ class Program:
     def surveyed(self):
         seen = survey(self.statements)
         return seen, costs_for(read_head(self.text), seen)
+
+    def scale(self, threads, name):
+        """Of the true speed-up, as `spanprof-record --scale` wrote it beside the text."""
+        with open(self.base + ".scale.json", encoding="utf-8") as file:
+            rows = {row["threads"]: row for row in json.load(file)["threads"]}
+        return rows[int(threads)][name.replace("-up-", "-up ")]
 
     def count(self, number):
         """Of threads, as the page names them."""

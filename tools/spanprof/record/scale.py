@@ -1,0 +1,174 @@
+"""The program's true times: unrecorded runs on several numbers of threads, in turns, and a recording on each number."""
+import os
+import re
+import statistics
+import time
+from dataclasses import dataclass, field
+from typing import Dict, List, Optional
+
+from spanprof.account import Account, account_beside
+from spanprof.answers import Answers
+from spanprof.errors import Fault
+from spanprof.head import Head
+from spanprof.record.console import say, tell
+from spanprof.record.files import recordings, remove_old
+from spanprof.record.run import rewind, run, signal_name, without_recorder
+from spanprof.record.scale_gap import on_threads
+
+
+@dataclass
+class Region:
+    """What a recording tells of one region."""
+    name: str   # of the text
+    head: Head
+    tasks: int
+    work: int
+    account: Optional[Account] = None
+    why: str = ""   # there is no account
+
+    @property
+    def is_at(self):
+        """Its place and its number in time, by which it is known in other recordings."""
+        return self.head.region, self.head.number
+
+
+@dataclass
+class Scale:
+    """Elapsed times of the whole program in nanoseconds, by number of threads, in the order of the runs."""
+    runs: int
+    times: Dict[int, List[int]]
+    regions: Dict[int, Region] = field(default_factory=dict)    # the heaviest one of the run on the most threads
+    library: str = ""       # the runtime that the runs were given, where it is not what the program is linked with
+    processors: int = 0     # that this process may use
+
+    @property
+    def most(self):
+        return max(self.times)
+
+    def median(self, threads):
+        return int(statistics.median(self.times[threads]))
+
+    def speed_up(self, threads):
+        return self.median(1) / max(self.median(threads), 1)
+
+    def speed_up_from_to(self, threads):
+        """The median time on one thread over the greatest and the least time on so many."""
+        return [self.median(1) / max(end(self.times[threads]), 1) for end in (max, min)]
+
+
+class Failed(Exception):
+    """The program ended with another status than 0."""
+
+    def __init__(self, status, where):
+        how = "by " + signal_name(status) if status < 0 else "with status %d" % status
+        super().__init__("%s ended %s: no speed-up is told" % (where, how))
+        self.status = status
+
+
+def timed_run(session, variables):
+    """The elapsed time of one unrecorded run, and how it ended."""
+    rewind()
+    begun = time.perf_counter_ns()
+    status = run(session.path, session.options.command, variables)
+    return time.perf_counter_ns() - begun, status
+
+
+def unrecorded(session, numbers, runs):
+    """Times of the whole program by number of threads. Each turn has a run on each number, so that a machine that
+    becomes slower does so for all of them."""
+    times = {threads: [] for threads in numbers}
+    for turn in range(1, runs + 1):
+        for threads in numbers:
+            this = "unrecorded run %d of %d %s" % (turn, runs, on_threads(threads))
+            tell(this)
+            elapsed, status = timed_run(session, without_recorder(os.environ, session.preload, threads))
+            if status:
+                raise Failed(status, this)
+            times[threads].append(elapsed)
+    return times
+
+
+def make_folder(out):
+    """Where the recordings on fewer threads go."""
+    folder = out + ".scale"
+    try:
+        os.makedirs(folder, exist_ok=True)
+        for stem in {name.partition(".")[0] for name in os.listdir(folder)}:
+            if re.fullmatch(r"threads\d+", stem):
+                remove_old(os.path.join(folder, stem))
+    except OSError as wrong:
+        raise Fault("%s: %s" % (wrong.filename, wrong.strerror)) from wrong
+    return folder
+
+
+def prepare(session, threads):
+    """The next run is recorded on so many threads."""
+    tell("recorded run " + on_threads(threads))
+    rewind()
+    session.options.threads = threads
+
+
+def record_each(session, numbers):
+    """The first name of the recording on each of these numbers of threads."""
+    folder, names = make_folder(session.out), {}
+    for threads in numbers:
+        prepare(session, threads)
+        names[threads] = os.path.join(folder, "threads%d" % threads)
+        status, _ = session.run(names[threads])
+        if status:
+            raise Failed(status, "the recorded run " + on_threads(threads))
+    return names
+
+
+def region_of(answers):
+    account, why = account_beside(answers)
+    return Region(answers.name, answers.head, answers.tasks, answers.work, account, why)
+
+
+def heaviest(answered):
+    return max(answered, key=lambda one: one.work, default=None)
+
+
+def same_region(answered, region):
+    """That of another recording: by its place and number, or by its place where one alone is there."""
+    alike = [one for one in answered if (one.head.region, one.head.number) == region.is_at]
+    there = [one for one in answered if one.head.region == region.head.region]
+    return (alike or (there if len(there) == 1 else []) or [None])[0]
+
+
+def answers_of(found):
+    """Of the texts that are within the limits of the ten commands."""
+    return [Answers(one.text) for one in found if not one.is_large]
+
+
+def regions_of(names, found, most):
+    """The heaviest region of the recording on the most threads, and the same one of the others."""
+    first = heaviest(answers_of(found))
+    if first is None:
+        return {}
+    out = {most: region_of(first)}
+    for threads, name in names.items():
+        same = same_region(answers_of(recordings(name)), out[most])
+        if same is not None:
+            out[threads] = region_of(same)
+    return out
+
+
+def record_scale(session):
+    """The status, recordings and words of the run on the most threads, as `record` answers them, and the scale. At a
+    run that fails it ends without one."""
+    numbers, runs = session.options.scale, session.options.runs
+    try:
+        times = unrecorded(session, numbers, runs)
+        names = record_each(session, numbers[:-1])
+    except Failed as failed:
+        say(str(failed))
+        return failed.status, [], None, None
+    prepare(session, numbers[-1])
+    status, found, said = session.record_once()
+    if status:
+        say(str(Failed(status, "the recorded run " + on_threads(numbers[-1]))))
+        return status, found, said, None
+    scale = Scale(runs, times, regions_of(names, found, numbers[-1]), os.path.basename(session.preload),
+                  len(os.sched_getaffinity(0)))
+    return status, found, said, scale

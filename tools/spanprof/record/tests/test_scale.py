@@ -1,0 +1,251 @@
+import argparse
+import contextlib
+import io
+import json
+import os
+import tempfile
+import unittest
+from unittest import mock
+
+from spanprof.account import Account, HeldUp
+from spanprof.record import command, scale
+from spanprof.record.options import parse
+from spanprof.record.scale_gap import NoGap, gap_of
+from spanprof.record.scale_words import gap_lines, scale_json, table_lines
+from spanprof.record.tests.made_up import Head as MadeUp
+from spanprof.record.told import Told
+
+
+class Head(MadeUp):
+    number, date = "1 of 1", "2026-11-27T11:02:55Z"
+
+
+def region(threads, account=None, **others):
+    return scale.Region("mine.tasks", Head(threads=threads), **dict(dict(tasks=9, work=100, account=account), **others))
+
+
+def made_up(**others):
+    """On one thread 100 ms in code; on 4 threads 120 ms, with 80 ms beside it."""
+    one = Account(1, 110, 108, 2, 0, 0, recorder=8)
+    four = Account(4, 50, 140, 25, 20, 15, HeldUp(5, 6, 7), recorder=2)
+    found = scale.Scale(3, {1: [118, 120, 130], 4: [40, 60, 50]}, {1: region(1, one), 4: region(4, four)})
+    for name, value in others.items():
+        setattr(found, name, value)
+    return found
+
+
+class Options(unittest.TestCase):
+    def test_numbers(self):
+        chosen = parse(["--scale", "4,1,2,4", "--", "./mine"])
+        self.assertEqual((chosen.scale, chosen.runs, chosen.threads), ([1, 2, 4], 5, None))
+        self.assertEqual(parse(["--scale", "1,2", "--runs", "3", "./mine"]).runs, 3)
+        self.assertEqual((parse(["./mine"]).runs, parse(["./mine"]).scale), (1, None))
+
+    def refused(self, *words):
+        told = io.StringIO()
+        with contextlib.redirect_stderr(told), self.assertRaises(SystemExit) as ended:
+            parse([*words, "--", "./mine"])
+        self.assertEqual(ended.exception.code, 125)
+        return told.getvalue()
+
+    def test_no_numbers(self):
+        for wrong in ("", "1,", "1,x", "0,1", "1,1025", "1 2"):
+            self.assertIn("%s is no list of numbers of threads, such as 1,2,4" % wrong, self.refused("--scale", wrong))
+        for wrong in ("2,4", "1", "1,1"):
+            self.assertIn("%s has to have 1, against which a speed-up is told" % wrong, self.refused("--scale", wrong))
+        self.assertIn("without --threads", self.refused("--scale", "1,2", "--threads", "2"))
+
+
+class Unrecorded(unittest.TestCase):
+    def measure(self, ends):
+        """Times, and the numbers of threads in their order; each run ends with its next time and status."""
+        asked, left = [], iter(ends)
+
+        def run(_, variables):
+            asked.append((int(variables["OMP_NUM_THREADS"]), variables["OMP_TOOL"]))
+            return next(left)
+        with mock.patch("spanprof.record.scale.timed_run", side_effect=run):
+            return scale.unrecorded(argparse.Namespace(preload=""), [1, 4], 2), asked
+
+    def test_in_turns(self):
+        times, asked = self.measure([(10, 0), (3, 0), (12, 0), (4, 0)])
+        self.assertEqual(times, {1: [10, 12], 4: [3, 4]})
+        self.assertEqual(asked, [(1, "disabled"), (4, "disabled")] * 2)
+
+    def test_a_run_that_fails(self):
+        for status, how in ((3, "with status 3"), (-11, "by SIGSEGV")):
+            with self.assertRaisesRegex(scale.Failed, "^unrecorded run 1 of 2 on 4 threads ended %s: " % how) as failed:
+                self.measure([(10, 0), (3, status)])
+            self.assertEqual(failed.exception.status, status)
+
+    def test_the_clock(self):
+        with mock.patch("spanprof.record.scale.run", return_value=7), \
+                mock.patch("time.perf_counter_ns", side_effect=[100, 350]):
+            made = argparse.Namespace(path="./mine", options=argparse.Namespace(command=["./mine"]))
+            self.assertEqual(scale.timed_run(made, {}), (250, 7))
+
+
+class Recorded(unittest.TestCase):
+    """Sessions whose runs are made up: each ends with the next status, and writes nothing."""
+
+    def setUp(self):
+        kept = tempfile.TemporaryDirectory()
+        self.addCleanup(kept.cleanup)
+        self.out = os.path.join(kept.name, "mine")
+
+    def record(self, *statuses):
+        left, told, threads = iter(statuses), io.StringIO(), []
+        options = argparse.Namespace(scale=[1, 2, 4], runs=1, threads=None)
+        made = mock.Mock(out=self.out, preload="/lib/libomp.so.5", options=options)
+
+        def run(*_):
+            threads.append(options.threads)
+            return next(left), Told(True, [])
+        made.run.side_effect = run
+        made.record_once.side_effect = lambda: (run()[0], [], Told(True, []))
+        with mock.patch("spanprof.record.scale.unrecorded", return_value={1: [9], 2: [5], 4: [3]}), \
+                contextlib.redirect_stderr(told):
+            return scale.record_scale(made), told.getvalue(), threads
+
+    def test_each_number_once(self):
+        (status, found, _, scaled), told, threads = self.record(0, 0, 0)
+        self.assertEqual((status, found, told, threads), (0, [], "", [1, 2, 4]))
+        self.assertEqual((scaled.speed_up(4), scaled.regions, scaled.library), (3, {}, "libomp.so.5"))
+
+    def test_a_run_that_fails(self):
+        for statuses, on in (((0, 3), 2), ((0, 0, 3), 4)):
+            (status, _, _, scaled), told, _ = self.record(*statuses)
+            self.assertEqual((status, scaled), (3, None))
+            self.assertEqual(told, "spanprof-record: the recorded run on %d threads ended with status 3: "
+                                   "no speed-up is told\n" % on)
+
+    def test_texts_of_before_go(self):
+        folder = scale.make_folder(self.out)
+        for name in ("threads8.tasks", "threads8.2.timed", "mine.c"):
+            with open(os.path.join(folder, name), "w", encoding="utf-8"):
+                pass
+        scale.make_folder(self.out)
+        self.assertEqual(os.listdir(folder), ["mine.c"])
+
+
+class Regions(unittest.TestCase):
+    def answers(self, place, number, work=1):
+        return mock.Mock(head=mock.Mock(region=place, number=number), work=work)
+
+    def test_the_same(self):
+        wanted = mock.Mock(is_at=("a.c:1", "2 of 2"), head=mock.Mock(region="a.c:1"))
+        first, second, other = [self.answers(*of) for of in (("a.c:1", "1 of 2"), ("a.c:1", "2 of 2"), ("b.c:1", ""))]
+        self.assertIs(scale.same_region([first, second, other], wanted), second)
+        self.assertIs(scale.same_region([other, first], wanted), first)
+        self.assertIs(scale.same_region([first, first, other], wanted), None)
+        self.assertIs(scale.same_region([], wanted), None)
+
+    def test_the_heaviest(self):
+        light, heavy = self.answers("a.c:1", "", 5), self.answers("b.c:1", "", 9)
+        self.assertEqual((scale.heaviest([light, heavy]), scale.heaviest([])), (heavy, None))
+
+
+class Gaps(unittest.TestCase):
+    def test_the_sum_is_exact(self):
+        found = gap_of(made_up())
+        self.assertEqual(found.parts, {"work on one thread": 100, "inflation": 20, "recorder": 2, "held up": 18,
+                                       "delayed": 25, "starved": 20, "outside": 15})
+        self.assertEqual((sum(found.parts.values()), found.whole), (200, 200))
+
+    def test_work_that_shrank(self):
+        found = made_up()
+        found.regions[1].account = Account(1, 150, 150, 0, 0, 0)
+        self.assertEqual(gap_of(found).parts["inflation"], -30)
+        self.assertIn("-15.0 %  -30 ns  inflation: code on 4 threads, recorded, less that on one", gap_lines(found))
+
+    def why_not(self, **others):
+        with self.assertRaises(NoGap) as why:
+            gap_of(made_up(**others))
+        return str(why.exception)
+
+    def test_none(self):
+        four = made_up().regions[4]
+        self.assertEqual(self.why_not(regions={4: four}),
+                         "the recording on 1 thread has no such region within the limits of spanprof")
+        self.assertEqual(self.why_not(regions={1: region(1, why="spanprof_account is not found"), 4: four}),
+                         "the recording on 1 thread has no account: spanprof_account is not found")
+        whole = region(1, work=5)
+        whole.head.whole = "2 regions"
+        self.assertTrue(self.why_not(regions={1: whole, 4: four}).endswith("are not timed one by one"))
+        self.assertIn("ran on 4 threads, and not on 1 thread:", self.why_not(regions={1: four, 4: four}))
+        self.assertEqual(gap_lines(made_up(regions={})), ["not told: the recording on 4 threads has no such region "
+                                                          "within the limits of spanprof"])
+
+    def test_what_it_does_not_tell(self):
+        found = made_up()
+        found.regions[1].tasks, found.regions[4].account.left_out = 7, 3
+        found.regions[4].head.division = {"outside regions": 20, "in other regions": 5}
+        self.assertEqual(gap_of(found).remarks, [
+            "the code differs: 7 tasks are recorded on one thread, and 9 on 4; that is among inflation",
+            "code without times, which is idle here: up to 0 ns on one thread, 3 ns on 4",
+            "beside this region the recorded program took 25.0 us on 4 threads, which is no part of the sum"])
+
+
+class Words(unittest.TestCase):
+    def test_the_table(self):
+        self.assertEqual(table_lines(made_up()), [
+            "threads  median   least  greatest  speed-up  region, recorded",
+            "      1  120 ns  118 ns    130 ns      1.00           40.0 us",
+            "      4   50 ns   40 ns     60 ns      2.40           40.0 us",
+            "3 unrecorded runs on each number, in turns: elapsed time of the whole program (measured)",
+            "speed-up: the median time on one thread over that on so many, the true one (measured)"])
+
+    def test_what_else_is_said(self):
+        found = made_up(processors=2, library="libomp.so.5", runs=1)
+        found.regions[1].head.threads = 4
+        del found.regions[4]
+        told = table_lines(found)
+        self.assertTrue(told[2].endswith("  -"))
+        self.assertEqual(told[3], "one unrecorded run on each number: elapsed time of the whole program, "
+                                  "on libomp.so.5 (measured)")
+        self.assertEqual(told[5:], ["asked for 1, the region at sort.c:48 was recorded on 4",
+                                    "on 4 threads they share 2 processors"])
+
+    def test_the_gap(self):
+        told = gap_lines(made_up())
+        self.assertEqual(told[0], "4 x 50 ns of the recorded run, region at sort.c:48, are the sum of (measured)")
+        self.assertEqual(told[4], " 9.0 %   18 ns  held up: in code, off the processor, asleep or waiting for locks")
+
+    def test_the_processors_clock(self):
+        found = made_up()
+        found.regions[4].account.by_processor = True
+        self.assertIn("off the processor or in the recorder", gap_lines(found)[4])
+
+    def test_json(self):
+        told = json.loads(json.dumps(scale_json(made_up())))
+        self.assertEqual((told["text"], told["work"], told["gap"]["parts"]["inflation"]), ("mine.tasks", 100, 20))
+        four = told["threads"][1]
+        self.assertEqual((four["median"], four["speed-up"], four["speed-up from"], four["speed-up to"]),
+                         (50, 2.4, 2, 3))
+        without = scale_json(made_up(regions={}))
+        self.assertEqual((without["text"], "gap" in without), (None, False))
+        self.assertIn("no such region", without["no gap"])
+
+
+class Command(unittest.TestCase):
+    def test_beside_the_text(self):
+        found, made = made_up(), mock.Mock(out="/tmp/mine")
+        found.regions[4].name = "mine.2.tasks"
+        self.assertEqual(command.scale_file(made, found), "/tmp/mine.2.scale.json")
+
+    def test_nothing_is_recorded(self):
+        """The times are told all the same, beside the files and where JSON is asked for."""
+        with tempfile.TemporaryDirectory() as folder:
+            made = mock.Mock(out=os.path.join(folder, "mine"), options=argparse.Namespace(
+                json=os.path.join(folder, "told.json")))
+            with contextlib.redirect_stderr(io.StringIO()) as told:
+                command.report_all(made, [], None, made_up(regions={}))
+            self.assertTrue(told.getvalue().startswith("true times    threads  median"))
+            for name, inside in (("mine.scale.json", None), ("told.json", "scale")):
+                with open(os.path.join(folder, name), encoding="utf-8") as file:
+                    read = json.load(file)
+                self.assertEqual((read[inside] if inside else read)["runs"], 3)
+
+
+if __name__ == "__main__":
+    unittest.main()

@@ -1,0 +1,77 @@
+import argparse
+import json
+import os
+import re
+import tempfile
+import unittest
+
+from spanprof.report.part_curve import curve_part
+from spanprof.report.tests import worked
+from spanprof.report.tests.expected import Program
+from spanprof.report.tests.page_reader import read_page
+from spanprof.report.true_times import Point, points_beside
+
+DATE = "2026-11-27T11:02:55Z"
+TOLD = {"text": "mine.tasks", "work": 9, "date": DATE, "threads": [
+    {"threads": 4, "speed-up": 2.5, "speed-up from": 2.0, "speed-up to": 3.0}]}
+POINTS = [Point(1, 1.0, 0.95, 1.05), Point(4, 1.21, 1.02, 1.33), Point(64, 2.0, 2.0, 40.0)]
+
+
+class Files(unittest.TestCase):
+    def setUp(self):
+        kept = tempfile.TemporaryDirectory()
+        self.addCleanup(kept.cleanup)
+        self.base = os.path.join(kept.name, "mine")
+        self.answers = argparse.Namespace(path=self.base + ".tasks", name="mine.tasks", work=9,
+                                          head=argparse.Namespace(date=DATE))
+
+    def points(self, told):
+        with open(self.base + ".scale.json", "w", encoding="utf-8") as file:
+            file.write(told if isinstance(told, str) else json.dumps(told))
+        return points_beside(self.answers)
+
+    def test_those_of_this_recording(self):
+        self.assertEqual(points_beside(self.answers), [])
+        self.assertEqual(self.points(TOLD), [Point(4, 2.5, 2.0, 3.0)])
+
+    def test_others(self):
+        for name, value in (("text", "other.tasks"), ("work", 8), ("date", ""), ("threads", [{}]), ("threads", 3)):
+            self.assertEqual(self.points(dict(TOLD, **{name: value})), [], name)
+        for wrong in ("", "[]", "{", "7"):
+            self.assertEqual(self.points(wrong), [], wrong)
+
+    def test_what_the_page_is_judged_by(self):
+        self.points(TOLD)
+        program = Program.__new__(Program)
+        program.base = self.base
+        self.assertEqual([program.scale("4", name) for name in ("threads", "speed-up", "speed-up-from", "speed-up-to")],
+                         [4, 2.5, 2.0, 3.0])
+
+
+class Marks(unittest.TestCase):
+    def part(self, points):
+        view = worked.view("split")
+        view.true_times = points
+        return curve_part([view])
+
+    def test_each_with_its_spread(self):
+        part = self.part(POINTS)
+        self.assertEqual(part.count('class="true s0"'), 2)
+        self.assertIn("4 threads: 1.21 (1.02 to 1.33), true speed-up against one thread: median of measured, "
+                      "unrecorded runs of the whole program, least and greatest", part)
+        self.assertIn('data-from="scale 4 threads; scale 4 speed-up; scale 4 speed-up-from; scale 4 speed-up-to"', part)
+        self.assertEqual(part.count('<i class="key hollow"'), 1)
+        self.assertEqual(read_page(part).without_source, [])
+
+    def test_within_the_picture(self):
+        top = re.findall(r'd="M\S+ \S+V(\S+)M', self.part([Point(2, 9.0, 8.0, 12.0)]))
+        self.assertGreater(float(top[0]), 0)
+
+    def test_none(self):
+        part = self.part([])
+        self.assertNotIn("true speed-up", part)
+        self.assertNotIn('class="true', part)
+
+
+if __name__ == "__main__":
+    unittest.main()

@@ -1,0 +1,64 @@
+"""The true speed-up of the program: its unrecorded runs on several numbers of threads, beside the text's curve."""
+import json
+import os
+import re
+from dataclasses import dataclass
+from typing import List
+
+from spanprof.report.markup import join, tag
+
+SAID = "true speed-up against one thread: median of measured, unrecorded runs of the whole program, least and greatest"
+SOURCES = ("threads", "speed-up", "speed-up-from", "speed-up-to")
+
+
+@dataclass
+class Point:
+    """A median, and where the runs on so many threads lie."""
+    threads: int
+    speed_up: float
+    least: float
+    greatest: float
+
+
+def is_of(answers, told):
+    """Whether it was measured with this recording: another one has another date or work."""
+    return isinstance(told, dict) and told.get("text") == answers.name and told.get("work") == answers.work \
+        and told.get("date") == answers.head.date
+
+
+def points_beside(answers) -> List[Point]:
+    """Those that `spanprof-record --scale` wrote beside the text; none where the file is not of its recording."""
+    path = re.sub(r"\.tasks$", "", answers.path) + ".scale.json"
+    if not os.path.exists(path):
+        return []
+    try:
+        with open(path, encoding="utf-8") as file:
+            told = json.load(file)
+        names = ("threads", "speed-up", "speed-up from", "speed-up to")
+        return [Point(*(row[name] for name in names)) for row in told["threads"]] if is_of(answers, told) else []
+    except (OSError, ValueError, KeyError, TypeError):
+        return []
+
+
+def shown_points(view):
+    """Those within the curve's numbers of threads."""
+    return [point for point in view.true_times if point.threads <= max(view.answers.curve)]
+
+
+def mark(axes, view, point, colour):
+    """A square at the median, on a line from the slowest to the fastest run."""
+    x, y = axes.x(point.threads), axes.y(point.speed_up)
+    low, high = axes.y(point.least), axes.y(point.greatest)
+    words = "%d threads: %.2f (%.2f to %.2f), %s" % (point.threads, point.speed_up, point.least, point.greatest, SAID)
+    sources = ["scale %d %s" % (point.threads, name) for name in SOURCES]
+    return tag("g", view.figures.told("title", words, sources),
+               tag("path", d="M%g %gV%gM%g %gh8M%g %gh8" % (x, low, high, x - 4, low, x - 4, high)),
+               tag("rect", x=x - 4, y=y - 4, width=8, height=8), class_="true " + colour)
+
+
+def marks(axes, view, colour):
+    return join([mark(axes, view, point, colour) for point in shown_points(view)])
+
+
+def keys(view, name):
+    return [tag("span", tag("i", class_="key hollow"), name, SAID)] if shown_points(view) else []
