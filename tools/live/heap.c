@@ -1,28 +1,32 @@
-/* What the proved code of spanprof_c takes from outside, for WebAssembly with 64-bit memory: the heap behind `Global`, and
-   products of 128 bits. Plain C, in place of malloc: sizes are powers of two from 16 on, and a freed block serves the next
-   request of its size. The 16 bytes before a block hold the exponent. */
+/* What the proved code of spanprof_c takes from outside, for WebAssembly with 64-bit memory: the heap behind `Global`,
+   and products of 128 bits. Sizes are powers of two from 16 on, and a freed block serves the next request of its size.
+   The 16 bytes before a block hold the exponent. */
+enum { MOST = 30 };
 typedef unsigned long usize;
 struct tried { usize ok, at; };
 struct wide { usize low, high; };
 extern unsigned char __heap_base;
 static usize top;        /* the first byte that was never given out */
-static usize freed[32];  /* by exponent: the first free block, or 0; each holds the next one */
+static usize freed[MOST + 1];  /* by exponent: the first free block, or 0; each holds the next one */
 
-/* Answers 0 where memory runs out. Once lowered to 32 bits, a growth that is refused answers 2^32 - 1. */
-static usize take(usize bytes) {
-    unsigned exponent = bytes <= 16 ? 4 : 64 - __builtin_clzl(bytes - 1);
-    if (exponent > 30) return 0;
-    usize at = freed[exponent];
-    if (at) {
-        freed[exponent] = *(usize *)at;
-        return at;
-    }
+/* A block that was never given out, or 0. Once lowered to 32 bits, a growth that is refused answers 2^32 - 1. */
+static usize fresh(unsigned exponent) {
     if (!top) top = ((usize)&__heap_base + 15) & -16ul;
-    usize end = top + 16 + (1ul << exponent), have = __builtin_wasm_memory_size(0) << 16;
+    usize at = top + 16, end = at + (1ul << exponent), have = __builtin_wasm_memory_size(0) << 16;
     if (end > have && (unsigned)__builtin_wasm_memory_grow(0, (end - have + 65535) >> 16) == -1u) return 0;
-    at = top + 16;
     *(usize *)(at - 16) = exponent;
     top = end;
+    return at;
+}
+
+static usize take(usize bytes) {
+    unsigned exponent = bytes <= 16 ? 4 : 64 - __builtin_clzl(bytes - 1);
+    if (exponent > MOST) return 0;
+    usize at = freed[exponent] ? 0 : fresh(exponent);
+    if (at) return at;
+    while (exponent < MOST && !freed[exponent]) exponent++;  /* where memory runs out, a larger block does */
+    at = freed[exponent];
+    if (at) freed[exponent] = *(usize *)at;
     return at;
 }
 

@@ -1,10 +1,7 @@
 #!/usr/bin/env python3
-"""Reads an LLVM module of x86-64 as text, and writes it for WebAssembly with 64-bit memory: another target, and no words
-about a processor. Both targets are little-endian, with the same sizes and alignments of what the module may use. A module
-that uses more is refused.
-
-    retarget.py MODULE.ll OTHER.ll
-"""
+"""Writes an LLVM module of x86-64 for WebAssembly with 64-bit memory: `retarget.py FROM.ll TO.ll`. The target changes,
+and words about a processor go. Both targets are little-endian, with the same sizes and alignments of what the module
+may use; a module that uses more is refused."""
 import re
 import sys
 
@@ -15,20 +12,11 @@ OF_A_PROCESSOR = re.compile(r' "(probe-stack|stack-probe-size|target-cpu)"="[\w-
 HEAP = {"rattle_alloc", "rattle_realloc", "rattle_dealloc"}
 INTRINSIC = re.compile(r"llvm\.(trap|mem(set|move|cpy)\..*|c[tl][tl]z\..*|[us](add|sub|mul)\.with\.overflow\..*|"
                        r"[us](max|min)\..*|ctpop\..*|bswap\..*|fsh[lr]\..*|assume|expect\..*|[us](add|sub)\.sat\..*)$")
-FOREIGN = re.compile(r"\b(asm|addrspace|x86_\w+|fp128|float|double|half|va_arg|thread_local|module asm)\b")
+FOREIGN = re.compile(r"\b(asm|addrspace|x86_\w+|fp128|float|double|half|va_arg|thread_local)\b")
 
 
 class Foreign(Exception):
     """The module has something that is not known to mean the same on both targets."""
-
-
-def checked(line):
-    """A line of the module; strings of constants may say anything."""
-    words = re.sub(r'c?"(?:[^"\\]|\\.)*"', "", line)
-    found = FOREIGN.search(words)
-    if found:
-        raise Foreign("%s: %s" % (found[0], line.strip()[:80]))
-    return line
 
 
 def retargeted(text):
@@ -39,9 +27,9 @@ def retargeted(text):
         if name not in HEAP and not INTRINSIC.match(name):
             raise Foreign("it takes " + name)
     for line in text.splitlines():
-        checked(line)
-        if line.startswith("attributes ") and '"' in line:
-            raise Foreign(line[:80])
+        found = FOREIGN.search(re.sub(r'"[^"]*"', "", line))
+        if found or (line.startswith("attributes ") and '"' in line):
+            raise Foreign("it has " + line.strip()[:80])
     return text
 
 
