@@ -2,7 +2,8 @@
 
 const live = { part: byId("live"), packed: JSON.parse(byId("live-data").textContent) };
 
-const sameNumbers = (found, kept) => found.length === kept.length && kept.every((value, i) => Number(found[i]) === value);
+const sameNumbers = (found, kept) => found.length === kept.length &&
+  kept.every((value, i) => Number(found[i]) === value);
 
 // The costs under `segment=cost` words.
 function costsUnder(words) {
@@ -23,7 +24,8 @@ function knowsTheText() {
   const run = library.greedy(own, packed.threads), { starts, lanes } = program.runs.greedy;
   return sameNumbers(told.costs, program.cost) && sameNumbers(told.tasks, program.task) &&
     sameNumbers(slacks, program.slack) && sameNumbers(path, [...program.critical].sort((a, b) => a - b)) &&
-    sameNumbers(run.starts, starts) && sameNumbers(run.threads, lanes.map((lane) => (lane === null ? NO_THREAD : lane)));
+    sameNumbers(run.starts, starts) &&
+    sameNumbers(run.threads, lanes.map((lane) => (lane === null ? NO_THREAD : lane)));
 }
 
 // Each answer of the page's table, and its curve. The browser may draw between two of them.

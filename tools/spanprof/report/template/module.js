@@ -35,7 +35,8 @@ class Library {
     try {
       const number = this.calls["spanprof_" + name](...[this.text, ...words, { told: line }].flatMap(passed));
       if (number) throw new Refused(number);
-      taken.slice(1).forEach(([at, list]) => list.set(new list.constructor(this.calls.memory.buffer, Number(at), list.length)));
+      const now = ([at, list]) => new list.constructor(this.calls.memory.buffer, Number(at), list.length);
+      taken.slice(1).forEach((block) => block[1].set(now(block)));
       taken.forEach(([at]) => this.calls.give_back(at));
     } catch (error) {
       if (error instanceof Refused) taken.forEach(([at]) => this.calls.give_back(at));
