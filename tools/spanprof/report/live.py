@@ -4,7 +4,7 @@ import os
 
 from spanprof.claims import why_not_of_more_threads
 from spanprof.errors import Fault
-from spanprof.report.markup import tag
+from spanprof.report.markup import note, tag
 from spanprof.report.what_if import FACTORS
 
 NAME = "spanprof.wasm"
@@ -56,7 +56,8 @@ def live_line(view):
     is_fixed = "" if why_not_of_more_threads(answers.head) else None
     box = tag("input", type="number", id="live-threads", min=1, max=1024, step=1, value=answers.threads,
               readonly=is_fixed)
-    return tag("div", tag("p", tag("label", "On ", box, " threads, with the factors of the table: "), tag("output")),
-               tag("p", "Computed here by the proved code, compiled for the page. It gave the answers that stand on this "
-                        "page; beyond the proof this trusts what compiled it for the page, its heap, the page's script "
-                        "and the browser.", class_="note"), id="live", hidden="")
+    trust = note("Computed here by the proved code, compiled for the page. It gave the answers that stand on this "
+                 "page. Beyond the proof this trusts what compiled it for the page, its heap, the page's script and "
+                 "the browser.")
+    asked = tag("p", tag("label", "On ", box, " threads, with the factors of the table: "), tag("output"))
+    return tag("div", asked, trust, id="live", hidden="")

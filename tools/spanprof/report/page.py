@@ -61,7 +61,8 @@ def parts(views, factors, trials, is_live=False):
             ("idle", "Idle time", idle_part(view, of)),
             ("speed-up", "Speed-up", curve_part(views)), *timelines(views),
             ("path", "Critical path", path_part(view, of)), ("changes", "Changes", changes_part(view, of)),
-            ("what-if", "What if", what_if_part(view, trials, factors, of, is_live)), ("tasks", "Tasks", tasks_part(view, of)),
+            ("what-if", "What if", what_if_part(view, trials, factors, of, is_live)),
+            ("tasks", "Tasks", tasks_part(view, of)),
             ("nesting", "Nesting", nesting_part(view, of)), ("source", "Source", source_part(view, of)),
             ("graph", "Graph", graph_part(view, of)), ("sources", "Sources", asked_part(views))]
     return [part for part in made if part[2]]
