@@ -56,8 +56,8 @@ def live_line(view):
     is_fixed = "" if why_not_of_more_threads(answers.head) else None
     box = tag("input", type="number", id="live-threads", min=1, max=1024, step=1, value=answers.threads,
               readonly=is_fixed)
-    trust = note("Computed here by the proved code, compiled for the page. It gave the answers that stand on this "
-                 "page. Beyond the proof this trusts what compiled it for the page, its heap, the page's script and "
-                 "the browser.")
+    trust = note("These numbers are computed here by the proved code, compiled for the page. It gave the answers that "
+                 "stand on this page. Beyond the proof this trusts what compiled it for the page, its heap, the page's "
+                 "script and the browser.")
     asked = tag("p", tag("label", "On ", box, " threads, with the factors of the table: "), tag("output"))
     return tag("div", asked, trust, id="live", hidden="")

@@ -65,5 +65,5 @@ class Pages(unittest.TestCase):
 
     def test_it_says_what_it_is(self):
         text = live_page("mesh")
-        self.assertIn("Computed here by the proved code, compiled for the page", text)
+        self.assertIn("computed here by the proved code, compiled for the page", text)
         self.assertIn('id="live" hidden=""', text)
