@@ -51,10 +51,15 @@ function compare(one) {
     .fill(0n), count)).number === 15);
 }
 
+// Takes all but the last megabytes of 1 GiB, for good: growing step by step is slow.
+function narrow(library) {
+  for (let size = 2 ** 29; size > 2 ** 23; size /= 2) library.calls.room(BigInt(size));
+}
+
 // Takes the heap until no block of `left` bytes is there.
 function fill(library, left) {
   const taken = [];
-  for (let size = 2 ** 18; size >= left; size /= 2) {
+  for (let size = 2 ** 14; size >= left; size /= 2) {
     for (let at = library.calls.room(BigInt(size)); at; at = library.calls.room(BigInt(size))) taken.push(at);
   }
   return taken;
@@ -68,19 +73,22 @@ function compare_full(one) {
     const isRight = found.span === one.span && run.end === one.end && same(run.starts, one.starts);
     return isRight ? "right" : [found, run].some(({ number }) => number === 13) ? "full" : "wrong";
   };
-  for (let left = 16; left <= 2 ** 16; left *= 2) {
+  narrow(library);
+  for (let left = 16; left <= 2 ** 14; left *= 4) {
     const taken = fill(library, left);
     const first = answers();
     refused += first === "full";
     hold(one.name, `with ${left} bytes at most`, first !== "wrong");
     taken.forEach((at) => library.calls.give_back(at));
-    hold(one.name, "with the memory back", answers() === "right");
+    const again = answers();
+    hold(one.name, `with the memory back (${again})`, again === "right");
   }
 }
 
 hold("the module", "imports", WebAssembly.Module.imports(module).length === 0);
 const all = JSON.parse(cases);
 all.forEach(compare);
-all.filter((one) => !one.refused && one.segments > 3 && one.segments < 300).slice(0, 40).forEach(compare_full);
+const small = all.filter((one) => one.segments > 3 && one.segments < 100 && one.text.length < 8000);
+small.slice(0, 16).forEach(compare_full);
 console.log(`${all.length} texts, ${made} compared, ${refused} refused in a full heap, ${wrong} wrong`);
 process.exit(wrong || !refused ? 1 : 0);
