@@ -91,8 +91,8 @@ def main(program, text, path, folder):
             wrong.append("with another %s it is %r, %s" % (name, state, page.complaints()))
         page.close()
     browser.close()
-    print("\n".join("WRONG: " + one for one in wrong))
-    print("a page in Chromium: an answer took %.1f ms at most, %d wrong" % (longest, len(wrong)))
+    print("\n".join(["WRONG: " + one for one in wrong] + [
+        "a page in Chromium: an answer took %.1f ms at most, %d wrong" % (longest, len(wrong))]))
     return 1 if wrong else 0
 
 
