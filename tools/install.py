@@ -45,10 +45,16 @@ def of_library(folder):
             (os.path.join(TOOLS, "man", "spanprof.3"), "share/man/man3/spanprof.3")]
 
 
+def of_module(folder):
+    """The module for live pages, where it is made."""
+    module = os.path.join(folder, "spanprof.wasm")
+    return [(module, "lib/spanprof.wasm")] if os.path.isfile(module) else []
+
+
 def plan(spanprof=SPANPROF, large=LARGE, account=ACCOUNT, library=LIBRARY):
     """Where each file goes: pairs of a file and its path below the prefix. The programs for texts of any size and for
     timed documents go there where they are built, and so does the library."""
-    pairs = [(spanprof, "bin/spanprof")] + of_library(library)
+    pairs = [(spanprof, "bin/spanprof")] + of_library(library) + of_module(library)
     if os.path.isfile(large):
         pairs += [(large, "bin/spanprof_large"),
                   (os.path.join(TOOLS, "completion", "spanprof.bash"),

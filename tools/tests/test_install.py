@@ -49,6 +49,9 @@ class Library(InFolder):
         for path in ("lib/libspanprof.so", "lib/libspanprof.so.0", "lib/libspanprof.a", "include/spanprof.h",
                      "share/man/man3/spanprof.3"):
             self.assertIn(path, places)
+        self.assertNotIn("lib/spanprof.wasm", places)
+        self.write("spanprof.wasm")
+        self.assertIn("lib/spanprof.wasm", [path for _, path in install.plan(library=self.folder)])
 
 
 class Prefix(InFolder):

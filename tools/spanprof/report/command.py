@@ -10,6 +10,7 @@ from spanprof.head import said
 from spanprof.report.large_answers import is_large
 from spanprof.report.large_page import page as page_of_any_size
 from spanprof.report.large_view import LargeView
+from spanprof.report.live import module
 from spanprof.report.page import page
 from spanprof.report.speedscope import speedscope_text
 from spanprof.report.summary_json import summary_json
@@ -41,6 +42,8 @@ def arguments(words):
     add("--source", action="append", metavar="FOLDER", help="where the source is; without it beside the text, and here")
     add("--factor", action="append", default=[], metavar="PLACE=F",
         help="what if the costs at PLACE were F times as much; may be given several times")
+    add("--live", action="store_true",
+        help="the page carries spanprof as a WebAssembly module, and answers factors and threads at once")
     add("--trace", metavar="FILE.json", help="the runs as a trace for ui.perfetto.dev")
     add("--speedscope", metavar="FILE.json", help="the work and the span by place, for speedscope.app")
     add("--json", action="store_true", help="print the summary as JSON")
@@ -50,6 +53,8 @@ def arguments(words):
         parser.error("--json prints the summary, and --factor without -o its answer: ask for one of them")
     if not (chosen.output or chosen.trace or chosen.speedscope or chosen.factor or chosen.json):
         chosen.output = beside(chosen.program)
+    if chosen.live and not chosen.output:
+        parser.error("--live is for the page (-o)")
     if chosen.threads is not None and not 1 <= chosen.threads <= 1024:
         parser.error("--threads is from 1 to 1024")
     return chosen
@@ -97,7 +102,8 @@ def views_of(chosen, tell):
 
 def write_all(chosen, views, factors):
     """What was asked for; what was written is told."""
-    written = [(chosen.output, lambda: page(views, factors)), (chosen.trace, lambda: trace_text(views[0])),
+    wasm = module() if chosen.live else None
+    written = [(chosen.output, lambda: page(views, factors, wasm)), (chosen.trace, lambda: trace_text(views[0])),
                (chosen.speedscope, lambda: speedscope_text(views[0]))]
     for path, make in written:
         if path:
@@ -107,7 +113,7 @@ def write_all(chosen, views, factors):
 
 def write_large_page(chosen, progress):
     """Of a text beyond the limits of spanprof: what needs no table of its segments."""
-    if any(getattr(chosen, option) for option in ("other", "trace", "speedscope", "factor", "json", "replay")):
+    if any(getattr(chosen, option) for option in ("other", "trace", "speedscope", "factor", "json", "replay", "live")):
         raise Fault("%s: beyond the limits of spanprof, where there is only a page (-o)" % chosen.program)
     write(chosen.output, page_of_any_size(LargeView(chosen.program, chosen.threads, chosen.source, progress)))
     progress.end([chosen.output])

@@ -3,6 +3,7 @@ import json
 import os
 
 from spanprof.report.colours import colour_rules
+from spanprof.report.live import live_data
 from spanprof.report.markup import Markup, join, markup, section, tag
 from spanprof.report.part_account import idle_part
 from spanprof.report.part_changes import changes_part
@@ -51,16 +52,17 @@ def timelines(views):
     return out
 
 
-def parts(views, factors):
+def parts(views, factors, trials, is_live=False):
     """Of each part the name, the words that lead to it, and the part. Some texts have not all of them."""
-    view, trials = views[0], Trials(views[0])
+    view = views[0]
     of = " of " + view.name if len(views) > 1 else ""
     made = [("summary", "Summary", summary_part(view, trials, of)),
             ("compared", "Side by side", compare_part(views) if len(views) > 1 else ""),
             ("idle", "Idle time", idle_part(view, of)),
             ("speed-up", "Speed-up", curve_part(views)), *timelines(views),
             ("path", "Critical path", path_part(view, of)), ("changes", "Changes", changes_part(view, of)),
-            ("what-if", "What if", what_if_part(view, trials, factors, of)), ("tasks", "Tasks", tasks_part(view, of)),
+            ("what-if", "What if", what_if_part(view, trials, factors, of, is_live)),
+            ("tasks", "Tasks", tasks_part(view, of)),
             ("nesting", "Nesting", nesting_part(view, of)), ("source", "Source", source_part(view, of)),
             ("graph", "Graph", graph_part(view, of)), ("sources", "Sources", asked_part(views))]
     return [part for part in made if part[2]]
@@ -84,6 +86,11 @@ def as_script(found):
 
 SCRIPTS = ("data.js", "level_run.js", "stretch.js", "ready.js", "drawing.js", "words.js", "chosen.js", "lanes.js",
            "levels.js", "controls.js", "tables.js", "graph.js", "factors.js", "titles.js")
+LIVE_SCRIPTS = ("module.js", "live.js")
+
+
+def live_element(live):
+    return tag("script", as_script(live), type="application/json", id="live-data") if live else ""
 
 
 def filled(text, pieces):
@@ -96,15 +103,18 @@ def filled(text, pieces):
     return "".join(out)
 
 
-def whole(title, made, found):
+def whole(title, made, found, live=None):
     """The page of parts, each with its name and the words that lead to it, and of what its script needs."""
     return filled(kept("page.html"), {
         "title": markup(title), "parts": join([tag("a", label, href="#" + name) for name, label, _ in made]),
-        "main": join([part for _, _, part in made], "\n"), "data": as_script(found),
+        "main": join([part for _, _, part in made], "\n"), "data": as_script(found), "live": live_element(live),
         "style": colour_rules() + kept("style.css"), "theme": kept("theme.js"),
-        "script": "\n".join(map(kept, SCRIPTS))})
+        "script": "\n".join(map(kept, SCRIPTS + (LIVE_SCRIPTS if live else ())))})
 
 
-def page(views, factors=()):
-    """The whole page as text."""
-    return whole(" and ".join(view.name for view in views), parts(views, list(factors)), data(views))
+def page(views, factors=(), wasm=None):
+    """The whole page as text. With the module `wasm` it answers what its boxes ask."""
+    trials = Trials(views[0])
+    made = parts(views, list(factors), trials, bool(wasm))
+    live = live_data(views[0], trials, wasm) if wasm else None
+    return whole(" and ".join(view.name for view in views), made, data(views), live)

@@ -1,6 +1,7 @@
 """What other costs would do: each place's halved and made nothing, and lines to run for any other factors."""
 from spanprof.claims import speaks_of
 from spanprof.report.figures import PROVED, badges
+from spanprof.report.live import live_line
 from spanprof.report.markup import note, section, tag
 from spanprof.report.tables import place_cell, table
 from spanprof.report.what_if import FACTORS, all_at_once
@@ -69,7 +70,7 @@ def lines_to_run(view):
                line_to_run("changes-line", view.name), class_="to-run")
 
 
-def what_if_part(view, trials, factors, of=""):
+def what_if_part(view, trials, factors, of="", is_live=False):
     """`of` names the program where the page has two."""
     with_cost = sum(place.cost > 0 for place in view.places)
     end = tag("span", "%d threads: greedy run at half the cost" % view.answers.threads, class_="given")
@@ -82,4 +83,5 @@ def what_if_part(view, trials, factors, of=""):
         "nothing: answers of ", tag("code", "spanprof whatif"), " and ", tag("code", "greedy"), " ", badges(PROVED),
         ". Odd costs are rounded to the nearest whole number, halves to even ones."),
         asked_for(view, factors), table(heads, rows, numeric=range(1, len(heads)), is_sortable=True),
-        note(more, " more places are left out.") if with_cost > len(rows) else "", lines_to_run(view))
+        note(more, " more places are left out.") if with_cost > len(rows) else "", live_line(view) if is_live else "",
+        lines_to_run(view))
