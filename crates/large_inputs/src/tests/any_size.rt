@@ -204,12 +204,12 @@ fn no_tables(rt: HostRuntime) -> Result<(), Fail> {
     Ok(())
 }
 
-/// More rows than 16 bits can number.
+/// More rows than 16 bits can number: the last child takes 3 in place of 2.
 #[test]
 fn large_table(rt: HostRuntime) -> Result<(), Fail> {
     let text = children(rt.alloc(), 70_000)?;
     let spans = b"work 140004\nspan 6\nwas 5\n";
-    let words = ["whatif", "140000=3"];
+    let words = ["whatif", "139999=3"];
     assert_ends(&rt, &words, text.as_bytes(), (Status::Done, spans))
 }
 
