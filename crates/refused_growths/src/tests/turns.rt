@@ -33,7 +33,7 @@ pub(super) fn refuse_each<H: AllocGlobal + Threads + Wait + Abort + Sync>(
     calls: Calls,
 ) -> Result<(), Fail> {
     let mut ample = Supply::ample(rt.alloc());
-    let refusals = refuse_from_each(rt, calls, &mut ample)?;
+    let refusals = refuse_from_deeper(rt, calls, &mut ample)?;
     ample.restore();
     assert!(rt; refusals == 0, "an allocation is refused with ample memory");
     start_a_thread(rt)?;
@@ -46,6 +46,26 @@ pub(super) fn refuse_each<H: AllocGlobal + Threads + Wait + Abort + Sync>(
 
 /// No test makes more calls, one after another.
 const MOST_CALLS: usize = 16;
+
+/// How many bytes of stack a refused call may take beyond one that is not.
+const DEEPER: usize = 16_384;
+
+/// The same from further down the stack, which then has grown as far as refused calls need.
+#[inline(never)]
+fn refuse_from_deeper<H: AllocGlobal + Threads + Wait + Abort + Sync>(
+    rt: &H,
+    calls: Calls,
+    supply: &mut Supply,
+) -> Result<usize, Fail> {
+    let mut room = [0u8; DEEPER];
+    let refusals = refuse_from_each(rt, calls, supply)?;
+    room[refusals.min(DEEPER - 1)] = 1;
+    assert!(rt;
+        room[supply.calls().min(DEEPER - 1)] <= 1,
+        "the room is in use"
+    );
+    Ok(refusals)
+}
 
 /// In how many turns an allocation was refused.
 fn refuse_from_each<H: AllocGlobal + Threads + Wait + Abort + Sync>(
