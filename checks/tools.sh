@@ -71,7 +71,6 @@ one 900 killed_runs.sh checks/killed_runs.sh
 one 1200 demo.sh checks/demo.sh
 one 600 release.sh checks/release.sh
 one 1800 'true_words.sh cpu' checks/true_words.sh cpu
-one 900 'whole_program.sh, without turns that wait' checks/whole_program.sh loop chunks interleaved steps one_region all_kinds reduction nested outside
 one 600 'whatif.sh kept' checks/whatif.sh kept
 one 900 openmp.sh checks/openmp.sh
 one 2400 library.sh checks/library.sh
