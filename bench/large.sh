@@ -74,7 +74,7 @@ case $with in
     path) printf '%-12s %6s %8s %8s\n' text MB seconds MiB ;;
     plain) printf '%-12s %6s %8s %6s %6s %8s %6s\n' text MB seconds plain times MiB plain ;;
     tables)
-        names='independent chain tree nested stencil grid groups'
+        names='independent chain tree nested stencil grid far_apart groups'
         printf '%-12s %-7s %8s %6s %6s %8s %8s\n' text command seconds plain times MiB plain
         ;;
 esac

@@ -62,6 +62,12 @@ def grid(tasks):
             yield f"task depend(in: {above}, {left}) depend(out: a_{row}_{column}) {{ work {cost} }}\n"
 
 
+def far_apart(tasks):
+    """Each task after the one that changed a near name last, and after one of long ago."""
+    for number in range(tasks):
+        yield f"task depend(inout: n{number % 7}, f{number * 7919 % (tasks // 4 + 1)}) {{ work 1 }}\n"
+
+
 def names(tasks):
     """A name for each task, mentioned once."""
     for number in range(tasks):
@@ -105,8 +111,8 @@ def one_line(tasks):
     yield "\n"
 
 
-SHAPES = {shape.__name__: shape for shape in (independent, chain, tree, nested, stencil, grid, names, colliding, items,
-                                              same_items, groups, one_line)}
+SHAPES = {shape.__name__: shape for shape in (independent, chain, tree, nested, stencil, grid, far_apart, names,
+                                              colliding, items, same_items, groups, one_line)}
 
 
 def number(word):

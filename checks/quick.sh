@@ -22,11 +22,11 @@ passes() {
 tested() { passes "$1" python3 -B -m unittest discover -q -s "$1" -t "$2"; }
 
 for script in definitions proof_map; do
-    passes "$script.py" python3 -B "checks/$script.py" --check
+    passes "$script.py" python3 -B "checks/sources/$script.py" --check
 done
 for script in crate_picture version signatures places clauses believed_lines left_edits repeated_lines sentences \
     speed_numbers waiting/lines style; do
-    passes "$script.py" python3 -B "checks/$script.py"
+    passes "$script.py" python3 -B "checks/sources/$script.py"
 done
 if command -v pyflakes3 > /dev/null; then
     passes pyflakes3 pyflakes3 tools checks bench examples
@@ -38,19 +38,18 @@ if command -v pycodestyle > /dev/null; then  # E402 is an import below sys.path,
 else
     echo "skipped pycodestyle: it is missing (package pycodestyle)"
 fi
-passes cpp_format.sh checks/cpp_format.sh
-for test in checks/test_*.py checks/waiting/test_*.py checks/large_recordings/test_*.py bench/test_*.py \
+passes cpp_format.sh checks/sources/cpp_format.sh
+for test in checks/*/test_*.py checks/sources/waiting/test_*.py checks/agree/large_recordings/test_*.py bench/test_*.py \
     bench/recording/test_*.py; do
     passes "$test" python3 -B "$test"
 done
-tested checks/believed/tests checks
-for folder in killed_runs llvm mutants openmp_cases openmp_regions page recorded_accounts true_words runtime_calls \
-    whatif; do
-    tested "checks/$folder/tests" "checks/$folder"
+tested checks/sources/believed/tests checks/sources
+for tests in checks/llvm/tests checks/programs/*/tests checks/recorders/*/tests; do
+    tested "$tests" "${tests%/tests}"
 done
 tested tools/tests tools
 tested tools/spanprof/tests tools
-for folder in record path whatif report conformance; do
+for folder in record path predict whatif report conformance; do
     tested "tools/spanprof/$folder/tests" tools
 done
 exit "$failed"

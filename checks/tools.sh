@@ -9,6 +9,7 @@
 set -uo pipefail
 cd "$(dirname "$0")/.." || exit 1
 export SPANPROF=${SPANPROF:-$PWD/crates/spanprof/out/spanprof}
+export SPANPROF_MACHINE=/none   # what commands print does not hang on whether this machine has been calibrated
 passed=0 failed=0 skipped=0
 
 llvm_packages() { # of the version in LLVM, or of the first of those that were tried which the distribution has
@@ -61,19 +62,22 @@ one() {
 
 install_packages
 one 900 quick.sh checks/quick.sh
-one 600 examples.sh checks/examples.sh
-one 600 documents.py checks/documents.py
-one 600 'accounts.py 300' checks/accounts.py 300
-one 1800 openmp_cases.sh checks/openmp_cases.sh
-one 900 record.sh checks/record.sh
-one 900 recorded_accounts.sh checks/recorded_accounts.sh
-one 900 killed_runs.sh checks/killed_runs.sh
-one 1200 demo.sh checks/demo.sh
-one 600 release.sh checks/release.sh
-one 1800 'true_words.sh cpu' checks/true_words.sh cpu
-one 600 'whatif.sh kept' checks/whatif.sh kept
-one 900 openmp.sh checks/openmp.sh
-one 2400 library.sh checks/library.sh
-one 900 'openmp_regions.sh 20' checks/openmp_regions.sh 20
+one 600 examples.sh checks/agree/examples.sh
+one 600 documents.py checks/agree/documents.py
+one 600 'accounts.py 300' checks/agree/accounts.py 300
+one 1800 openmp_cases.sh checks/recorders/openmp_cases.sh
+one 900 record.sh checks/recorders/record.sh
+one 900 recorded_accounts.sh checks/recorders/recorded_accounts.sh
+one 900 killed_runs.sh checks/recorders/killed_runs.sh
+one 900 online.sh checks/recorders/online.sh
+one 1200 demo.sh checks/programs/demo.sh
+one 600 release.sh checks/programs/release.sh
+one 1800 'true_words.sh cpu' checks/recorders/true_words.sh cpu
+one 900 'whole_program.sh, six shapes' checks/recorders/whole_program.sh loop steps one_region all_kinds reduction nested
+one 900 predictions.sh checks/programs/predictions.sh
+one 600 'whatif.sh kept' checks/programs/whatif.sh kept
+one 900 openmp.sh checks/recorders/openmp.sh
+one 2400 library.sh checks/agree/library.sh
+one 900 'openmp_regions.sh 20' checks/recorders/openmp_regions.sh 20
 echo "$passed passed, $failed failed, $skipped skipped"
 [ "$failed" -eq 0 ]

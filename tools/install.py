@@ -16,12 +16,11 @@ TOOLS = os.path.dirname(os.path.abspath(__file__))
 SPANPROF = os.path.join(TOOLS, "..", "crates", "spanprof", "out", "spanprof")
 LARGE = os.path.join(TOOLS, "..", "crates", "spanprof_large", "out", "spanprof_large")
 VERSION = "share/spanprof/VERSION"
-ACCOUNT = os.path.join(TOOLS, "..", "crates", "spanprof_account", "out", "spanprof_account")
 LIBRARY = os.path.join(TOOLS, "..", "out", "library")
 LIST = os.path.join("share", "spanprof", "installed")
 COMMANDS = ("spanprof-record", "spanprof-convert", "spanprof-report", "spanprof-path", "spanprof-whatif",
-            "spanprof-conformance")
-EXECUTABLE = ("bin/", "lib/spanprof/spanprof_path", "lib/spanprof/convert_log")
+            "spanprof-predict", "spanprof-conformance")
+EXECUTABLE = ("bin/", "lib/spanprof/spanprof_path", "lib/spanprof/convert_log", "lib/spanprof/calibrate")
 SHARED = ("*.py", "spanprof/*.py", "spanprof/*/*.py", "spanprof/report/template/*", "conformance/*.txt",
           "conformance/*.sh", "conformance/directed/*.tasks", "conformance/harness/*", "conformance/mutants/*")
 LEFT_OUT = ("install.py", "/tests/")
@@ -51,21 +50,20 @@ def of_module(folder):
     return [(module, "lib/spanprof.wasm")] if os.path.isfile(module) else []
 
 
-def plan(spanprof=SPANPROF, large=LARGE, account=ACCOUNT, library=LIBRARY):
-    """Where each file goes: pairs of a file and its path below the prefix. The programs for texts of any size and for
-    timed documents go there where they are built, and so does the library."""
+def plan(spanprof=SPANPROF, large=LARGE, library=LIBRARY):
+    """Where each file goes: pairs of a file and its path below the prefix. The program for texts of any size goes there
+    where it is built, and so does the library."""
     pairs = [(spanprof, "bin/spanprof")] + of_library(library) + of_module(library)
     if os.path.isfile(large):
         pairs += [(large, "bin/spanprof_large"),
                   (os.path.join(TOOLS, "completion", "spanprof.bash"),
                    "share/bash-completion/completions/spanprof_large"),
-                  (os.path.join(TOOLS, "man", "spanprof.1"), "share/man/man1/spanprof_large.1")]
-    if os.path.isfile(account):
-        pairs += [(account, "bin/spanprof_account"),
-                  (os.path.join(TOOLS, "man", "spanprof-account.1"), "share/man/man1/spanprof_account.1")]
+                  (os.path.join(TOOLS, "man", "spanprof.1"), "share/man/man1/spanprof_large.1"),
+                  (os.path.join(TOOLS, "man", "spanprof-account.1"), "share/man/man1/spanprof-account.1")]
     pairs += [(os.path.join(TOOLS, name), "bin/" + name) for name in COMMANDS]
     pairs += [(os.path.join(TOOLS, "openmp_recorder", "librecorder.so"), "lib/spanprof/librecorder.so"),
               (os.path.join(TOOLS, "openmp_recorder", "convert_log"), "lib/spanprof/convert_log"),
+              (os.path.join(TOOLS, "openmp_recorder", "calibrate"), "lib/spanprof/calibrate"),
               (os.path.join(TOOLS, "large_path", "spanprof_path"), "lib/spanprof/spanprof_path")]
     pairs += [(os.path.join(TOOLS, path), "share/spanprof/" + path) for path in shared_files()]
     for name in ("spanprof",) + COMMANDS:

@@ -5,8 +5,9 @@
 #
 #     tools/library.sh [FOLDER]      where they go; out/library without it
 #
-# `rt lib` proves the crate and, where `rt check` has kept no work of them here, those below it: nine, in ten minutes or
-# more on four processors. What it has left is taken again while no source below crates/ is newer. The gate alone decides.
+# After the gate, which leaves the libraries below that crate, it proves that crate alone again, in a minute or two. In a
+# new clone it proves those below first, in ten minutes or more on four processors. What it has made is taken again while
+# no source below crates/ is newer. With MODULE=FILE it also keeps the LLVM module that was compiled.
 set -euo pipefail
 case ${1:-} in -h | --help) sed -n '2,/^set/{/^set/!s/^# \{0,1\}//p}' "$0"; exit ;; esac
 top=$(cd "$(dirname "$0")/.." && pwd)
@@ -18,9 +19,8 @@ trap 'rm -rf "$scratch"' EXIT
 
 archive=$top/crates/spanprof_c/out/libspanprof_c.a
 newer() { find "$top"/crates/*/src "$top"/crates/*/specs "$top"/crates/*/proofs -newer "$archive" -print -quit; }
-if [ ! -f "$archive" ] || [ -n "$(newer)" ]; then
-    (cd "$top/crates/spanprof_c" && rt lib) > "$scratch/told" 2>&1 ||
-        { tail -n 20 "$scratch/told" >&2; echo "$0: the crate is not built" >&2; exit 1; }
+if [ -n "${MODULE:-}" ] || [ ! -f "$archive" ] || [ -n "$(newer)" ]; then
+    python3 -B "$top/tools/static_library.py" spanprof_c "$archive" ${MODULE:+"$MODULE"}
 fi
 # One object, in which all names but those of the header are its own.
 "$cc" -nostdlib -r -o "$scratch/spanprof.o" -Wl,--whole-archive "$archive" \

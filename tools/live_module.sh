@@ -1,7 +1,7 @@
 #!/usr/bin/env bash
-# Makes FOLDER/spanprof.wasm for `spanprof-report --live`: proves spanprof_c as tools/library.sh does, by a copy of the
-# kit whose clang also keeps the LLVM module that it compiles, and compiles this for WebAssembly with plain functions of
-# a heap. It needs the packages lld (LLVM 14) and binaryen.
+# Makes FOLDER/spanprof.wasm for `spanprof-report --live`: proves spanprof_c as tools/library.sh does, keeps the LLVM
+# module that was compiled, and compiles this for WebAssembly with plain functions of a heap. It needs the packages lld
+# (LLVM 14) and binaryen. After the gate it takes a minute or two, in a new clone the time of tools/library.sh.
 #
 #     tools/live_module.sh [FOLDER]      out/library without it
 set -euo pipefail
@@ -10,18 +10,10 @@ top=$(cd "$(dirname "$0")/.." && pwd) out=$(realpath -m "${1:-$top/out/library}"
 for tool in rt wasm-ld wasm-opt wasm-dis; do command -v $tool > /dev/null || fail "there is no $tool"; done
 kit=$(dirname "$(dirname "$(realpath "$(command -v rt)")")") scratch=$(mktemp -d)
 trap 'rm -rf "$scratch"' EXIT
-clang=$kit/toolchain/bin/clang own=$scratch/kit
-mkdir -p "$own" "$out"
-cp -rs "$kit"/{bin,toolchain} "$own"
-find "$kit" -mindepth 1 -maxdepth 1 ! -name bin ! -name toolchain -exec ln -s {} "$own" \;
-cp --remove-destination "$kit"/bin/{rt,rtlib.py} "$own/bin"
-printf '#!/bin/sh\n[ ! -f module.bc ] || cp module.bc "%s"\nexec "%s" "$@"\n' "$scratch" "$clang" > "$scratch/clang"
-chmod +x "$scratch/clang"
-mv "$scratch/clang" "$own/toolchain/bin/clang"
-(cd "$top/crates/spanprof_c" && "$own/bin/rt" lib) > "$scratch/told" 2>&1 || { tail "$scratch/told"; fail "not built"; }
+clang=$kit/toolchain/bin/clang
+mkdir -p "$out"
+python3 -B "$top/tools/static_library.py" spanprof_c "$top/crates/spanprof_c/out/libspanprof_c.a" "$scratch/module.bc"
 cd "$scratch"
-grep -q '^logic=proved ' told || fail "it is not proved"
-[ -s module.bc ] || fail "its LLVM module was not kept"
 flags=(--target=wasm64-unknown-unknown -mcpu=mvp -mbulk-memory --no-default-config -Werror -Wall)
 for flag in trap-unreachable disable-machine-licm disable-postra-machine-licm sink-common-insts=false; do
     flags+=(-mllvm "-$flag")    # as the kit has them
@@ -30,7 +22,9 @@ done
 python3 -B "$top/tools/live/retarget.py" x86.ll wasm.ll
 "$clang" "${flags[@]}" -O3 -x ir -c wasm.ll -o code.o
 "$clang" "${flags[@]}" -O2 -fwrapv -fno-strict-aliasing -ffreestanding -nostdinc -c "$top/tools/live/heap.c" -o heap.o
-mapfile -t calls < <(sed -n 's/^uint32_t \(spanprof_[a-z_]*\)(.*/\1/p' "$top/include/spanprof.h")
+# What the page calls.
+mapfile -t calls < <(sed -n 's/.*this\.call("\([a-z_]*\)".*/spanprof_\1/p' \
+    "$top/tools/spanprof/report/template/module.js")
 wasm-ld -mwasm64 --no-entry --fatal-warnings --stack-first -z stack-size=1048576 --max-memory=1073741824 --gc-sections \
     --strip-all "${calls[@]/#/--export=}" -o whole.wasm code.o heap.o
 wasm-opt --enable-memory64 --enable-bulk-memory --memory64-lowering whole.wasm -o spanprof.wasm

@@ -2,7 +2,7 @@
 # Proves a program alone, without tests and without edits that must be refused: crates/PROGRAM/out/PROGRAM. It is the gate
 # over a copy that has the program's crates and nothing else, every proof from nothing.
 #
-#     tools/prove_program.sh [PROGRAM]      spanprof, if none is named, spanprof_large or spanprof_account
+#     tools/prove_program.sh [PROGRAM]      spanprof, if none is named, or spanprof_large
 set -euo pipefail
 top=$(cd "$(dirname "$0")/.." && pwd)
 program=${1:-spanprof}

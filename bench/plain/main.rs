@@ -4,10 +4,11 @@
 //!     plain COMMAND [--jobs N] [--any-size] < TEXT
 //!
 //! COMMAND is span, show, slack, greedy --threads P, curve --upto P, whatif SEG=COST .., run --workers N, certify,
-//! check or replay.
+//! check, replay or account [--rows | --path].
 //! `--jobs N` lets `curve` and `check` use N threads; without it everything is done on one, and `run` always is. With
 //! `--any-size` the limits are those of texts of any size, for the commands that spanprof_large has.
 
+mod account;
 mod analysis;
 mod certificate;
 mod cut;
@@ -38,6 +39,7 @@ enum Command {
     Certify,
     Check,
     Replay,
+    Account(account::Told),
 }
 
 fn threads(word: Option<&String>) -> Option<u32> {
@@ -65,8 +67,18 @@ fn command(words: &[String]) -> Option<Command> {
         "certify" => Command::Certify,
         "check" => Command::Check,
         "replay" => Command::Replay,
+        "account" => Command::Account(told(words.get(1))?),
         _ => return None,
     })
+}
+
+fn told(word: Option<&String>) -> Option<account::Told> {
+    match word.map(String::as_str) {
+        None => Some(account::Told::Sums),
+        Some("--rows") => Some(account::Told::Rows),
+        Some("--path") => Some(account::Told::Path),
+        Some(_) => None,
+    }
 }
 
 /// Takes `--jobs N` out of the words.
@@ -90,6 +102,7 @@ fn answer(command: &Command, jobs: usize, limits: &Limits, input: &[u8]) -> Resu
     match command {
         Command::Check => return certificate::check(input, jobs),
         Command::Replay => return replay::replay(input),
+        Command::Account(told) => return account::account(input, *told, limits),
         _ => {}
     }
     let program = read::read(input, limits)?;
@@ -106,7 +119,7 @@ fn answer(command: &Command, jobs: usize, limits: &Limits, input: &[u8]) -> Resu
         Command::WhatIf(changes) => report::what_if(graph, changes),
         Command::Run => Ok(run::run(&graph)),
         Command::Certify => Ok(certificate::write(&program, &graph)),
-        Command::Show | Command::Check | Command::Replay => unreachable!(),
+        Command::Show | Command::Check | Command::Replay | Command::Account(_) => unreachable!(),
     }
 }
 

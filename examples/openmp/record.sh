@@ -4,7 +4,7 @@
 # Texts go to FOLDER as NAME.tasks, runs as NAME.replay, and what spanprof-record printed, where the page shows it, as
 # NAME.said.
 #
-#     examples/openmp/record.sh FOLDER [NAME ..]      all of them, if none is named; then checks/documents.py --write
+#     examples/openmp/record.sh FOLDER [NAME ..]      all of them, if none is named; then checks/agree/documents.py --write
 # SPANPROF and SPANPROF_LARGE name the programs.
 set -euo pipefail
 cd "$(dirname "$0")/../.."
@@ -32,7 +32,8 @@ record() {
         cat out.summary >> out.said
     else
         OMP_TOOL_LIBRARIES=$top/tools/openmp_recorder/librecorder.so OMP_NUM_THREADS=4 SPANPROF_OUT=out \
-            SPANPROF_PARTS=$parts SPANPROF_MESSAGES=out.messages SPANPROF_CLOCK=cpu SPANPROF_UNIT=$unit "$@" > /dev/null
+            SPANPROF_QUIET=1 SPANPROF_CLOCK=cpu "$@" > /dev/null
+        "$top/tools/spanprof-convert" --parts "$parts" --unit "$unit" out.log > out.messages 2>&1
     fi
 }
 
@@ -50,7 +51,7 @@ keep() { # NAME: the recording, if it weighs less than the one that is kept
         [ ! -e out.replay ] || cp out.replay "$kept/$1.replay"
         [ ! -e out.said ] || sed "s/\bout\b\(.large\)\?\.tasks/${1%%_[0-9]*}\1.tasks/" out.said > "$kept/$1.said"
     fi
-    rm -f out.*
+    rm -rf out.*
 }
 
 while read -r name times how unit program words; do

@@ -13,7 +13,7 @@ static void relax(int row, int column) {
 }
 
 int main(void) {
-    for (int i = 0; i <= size; i++) grid[i][0] = grid[0][i] = 1;
+    for (int i = 0; i <= size; i++) for (int j = 0; j <= size; j++) grid[i][j] = !i || !j;
 #pragma omp parallel
 #pragma omp single
     for (int sweep = 0; sweep < sweeps; sweep++) {

@@ -37,7 +37,9 @@ _spanprof_large() {
     case $before in
         '<' | '>') _spanprof_files "$current" ;;
         spanprof_large | */spanprof_large)
-            _spanprof_among "$current" span bounds slack greedy curve whatif --upto ;;
+            _spanprof_among "$current" span bounds slack greedy curve whatif show certify account replay check --upto ;;
+        account) _spanprof_among "$current" --rows --path ;;
+        whatif) _spanprof_among "$current" --listed ;;
         greedy) _spanprof_among "$current" --threads ;;
         bounds | curve) _spanprof_among "$current" --upto ;;
     esac
@@ -48,7 +50,7 @@ _spanprof_record_program() { # the place of the program among the words; none wh
     for ((i = 1; i < COMP_CWORD; i++)); do
         case ${COMP_WORDS[i]} in
             --) echo $((i + 1)); return ;;
-            --open | --version | -h | --help) ;;
+            --open | --online | --whole | --calibrate | --version | -h | --help) ;;
             -*) ((i++)) ;;
             *) echo "$i"; return ;;
         esac
@@ -119,6 +121,20 @@ _spanprof_path() {
     esac
 }
 
+_spanprof_predict() {
+    local current=${COMP_WORDS[COMP_CWORD]} before=${COMP_WORDS[COMP_CWORD - 1]}
+    case $before in
+        -o | --output) _spanprof_files "$current" .tasks ;;
+        --machine) _spanprof_files "$current" .json ;;
+        --runtime) _spanprof_among "$current" "llvm gnu" ;;
+        --threads) ;;
+        *) case $current in
+            -*) _spanprof_among "$current" "$(_spanprof_options "${COMP_WORDS[0]}")" ;;
+            *) _spanprof_files "$current" .tasks ;;
+        esac ;;
+    esac
+}
+
 _spanprof_whatif() {
     local current=${COMP_WORDS[COMP_CWORD]} before=${COMP_WORDS[COMP_CWORD - 1]}
     case $before in
@@ -141,7 +157,7 @@ _spanprof_conformance() {
         --cc) mapfile -t COMPREPLY < <(compgen -c -- "$current" | grep -E '^(gcc|clang|cc|icx)' | sort -u) ;;
         --tasks) _spanprof_among "$current" tied untied mixed ;;
         --settings) _spanprof_among "$current" free priorities pinned bound active passive sleepy perturbed stacks \
-            unlogged orphaned nested unthrottled unconstrained ;;
+            unlogged interrupted orphaned nested cancellable unthrottled unconstrained ;;
         *) case $current in
             -*) _spanprof_among "$current" "$(_spanprof_options "${COMP_WORDS[@]:0:2}")" ;;
             *) _spanprof_files "$current" ;;
@@ -159,5 +175,6 @@ complete -F _spanprof_record spanprof-record
 complete -F _spanprof_convert spanprof-convert
 complete -F _spanprof_report spanprof-report
 complete -F _spanprof_path spanprof-path
+complete -F _spanprof_predict spanprof-predict
 complete -F _spanprof_whatif spanprof-whatif
 complete -F _spanprof_conformance spanprof-conformance

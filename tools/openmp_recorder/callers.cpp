@@ -8,22 +8,12 @@
 #include <cstring>
 
 namespace {
-struct Range {
-  uintptr_t first = 0, end = 0;
-  bool has(const void *code) const {
-    auto address = reinterpret_cast<uintptr_t>(code);
-    return first <= address && address < end;
-  }
-};
-
-Range runtime;
-
 // Takes over the executable segment that has the function, which is where the range begins.
 int find_segment(dl_phdr_info *module, size_t, void *range) {
-  Range &found = *static_cast<Range *>(range);
+  CodeRange &found = *static_cast<CodeRange *>(range);
   for (int i = 0; i < module->dlpi_phnum; i++) {
     const ElfW(Phdr) &segment = module->dlpi_phdr[i];
-    Range here{module->dlpi_addr + segment.p_vaddr, module->dlpi_addr + segment.p_vaddr + segment.p_memsz};
+    CodeRange here{module->dlpi_addr + segment.p_vaddr, module->dlpi_addr + segment.p_vaddr + segment.p_memsz};
     if (segment.p_type != PT_LOAD || !here.has(reinterpret_cast<const void *>(found.first))) continue;
     found = here;
     return 1;
@@ -40,12 +30,12 @@ bool is_in_called_function(const void *code) {
 }
 }  // namespace
 
-void find_runtime(const void *function) {
-  Range range{reinterpret_cast<uintptr_t>(function), 0};
-  if (dl_iterate_phdr(find_segment, &range)) runtime = range;
-}
+CodeRange runtime_code;
 
-bool in_runtime(const void *code) { return runtime.has(code); }
+void find_runtime(const void *function) {
+  CodeRange range{reinterpret_cast<uintptr_t>(function), 0};
+  if (dl_iterate_phdr(find_segment, &range)) runtime_code = range;
+}
 
 const void *nearest_in_program() {
   constexpr int most_frames = 12;

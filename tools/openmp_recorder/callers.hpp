@@ -1,7 +1,17 @@
 // Which calls of the runtime come from the program itself.
 #pragma once
+#include <cstdint>
 
+struct CodeRange {
+  uintptr_t first = 0, end = 0;
+  bool has(const void *code) const {
+    auto address = reinterpret_cast<uintptr_t>(code);
+    return first <= address && address < end;
+  }
+};
+
+extern CodeRange runtime_code;
 void find_runtime(const void *function);  // the module of this function is the runtime
-bool in_runtime(const void *code);  // false for no place
+inline bool in_runtime(const void *code) { return runtime_code.has(code); }  // false for no place
 const void *caller_in_program(const void *code);  // of a place inside the runtime; null where it cannot be known
 const void *nearest_in_program();  // the place that called the runtime, from the stack; null without one

@@ -8,6 +8,8 @@
 #include <utility>
 
 namespace {
+constexpr int64_t shortest_switch = 1000;  // nanoseconds: none takes the thread off its processor for less
+
 int64_t read_clock(clockid_t id) {
   timespec t;
   clock_gettime(id, &t);
@@ -41,7 +43,7 @@ bool BothClocks::is_far(const Times &now) {
   return true;
 }
 
-// Counted at each look, so that a switch before the last one is none since.
+// Counted at each look where there may have been one, so that a switch before the last one is none since.
 void BothClocks::count_switches(Passed &since) {
   rusage use;
   if (getrusage(RUSAGE_THREAD, &use)) return;
@@ -52,7 +54,7 @@ void BothClocks::count_switches(Passed &since) {
 std::optional<Passed> BothClocks::at_record(const Times &now) {
   if (!is_far(now)) return {};
   Passed since{false, at.wall - last.wall + before_wait.wall, at.processor - last.processor + before_wait.processor};
-  count_switches(since);
+  if (since.off() >= shortest_switch) count_switches(since);
   bool is_first = !last.wall;
   last = at;
   before_wait = {};

@@ -8,6 +8,7 @@
 #include <string>
 
 #include "log_reader.hpp"
+#include "online_report.hpp"
 #include "options.hpp"
 #include "report.hpp"
 #include "run_files.hpp"
@@ -84,8 +85,9 @@ void convert(const std::string &folder, const std::string &out) {
           head.end_processor,
           head.is_child != 0,
           unseen(head)};
-  report(job, ending);
-  tell_ending(log, ending);
+  if (options.online || !log.measured.empty()) report_online(job, ending, log.measured);
+  else report(job, ending);
+  if (log.measured.empty()) tell_ending(log, ending);
 }
 
 std::string without_ending(std::string folder) {

@@ -11,8 +11,17 @@ uint32_t number_of(const Event &event, const Region &region) {
   return is_written ? region.numbers[t.first_number + event.segment] : none;
 }
 
-size_t segments_of(const Region &region) {
-  return region.numbers.size() - static_cast<size_t>(std::count(region.numbers.begin(), region.numbers.end(), none));
+// The pieces of a chunk, one after the other; between them its part makes the next one, at once.
+size_t divide_among_pieces(const Task &chunk, uint32_t first, std::vector<SegmentTime> &times) {
+  SegmentTime all = times[first];
+  int64_t took = all.end - all.begin, pieces = chunk.pieces;
+  for (int64_t i = 0; i < pieces; i++) {
+    int64_t end = all.begin + took / pieces * (i + 1) + took % pieces * (i + 1) / pieces;
+    SegmentTime &piece = times[first + 2 * static_cast<size_t>(i)];
+    piece = {all.worker, i ? times[first + 2 * static_cast<size_t>(i) - 1].end : all.begin, end};
+    if (i + 1 < pieces) times[first + 2 * static_cast<size_t>(i) + 1] = {all.worker, end, end};
+  }
+  return 2 * static_cast<size_t>(pieces) - 1;
 }
 
 std::string row(uint64_t segment, const SegmentTime &time, const char *between) {
@@ -23,7 +32,7 @@ std::string row(uint64_t segment, const SegmentTime &time, const char *between) 
 
 Events event_lines(const Region &region) {
   Events out;
-  out.times.resize(segments_of(region));
+  out.times.resize(region.opened);
   std::map<unsigned, unsigned> workers;
   size_t finished = 0;
   for (auto &event : region.events) {
@@ -34,7 +43,9 @@ Events event_lines(const Region &region) {
     out.words += (event.start ? "start " : "finish ") + std::to_string(worker) + " " + std::to_string(number) + "\n";
     time.worker = worker;
     (event.start ? time.begin : time.end) = event.at - region.time.begin;
-    finished += !event.start;
+    if (event.start) continue;
+    bool is_divided = event.task->pieces > 1 && event.task->fold == Fold::No;
+    finished += is_divided ? divide_among_pieces(*event.task, number, out.times) : 1;
   }
   out.workers = workers.size();
   out.whole = finished == out.times.size();

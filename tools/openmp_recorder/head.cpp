@@ -210,7 +210,7 @@ void Head::functions(const Region &region) {
 }
 
 void Head::remarks(const Region &region) {
-  for (auto &[what, seen] : region.remarks) line("remark: " + remark_line(what, seen, places));
+  for (auto &[what, seen] : region.remarks) line("remark: " + remark_in_json(what, seen, places));
 }
 }  // namespace
 

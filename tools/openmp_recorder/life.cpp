@@ -73,7 +73,7 @@ void after_fork() {
 
 void tell_beginning() {
   if (life->options.quiet) return;
-  say("recording to " + life->log.folder);
+  say((life->log.online ? "measuring to " : "recording to ") + life->log.folder);
   if (life->log.unseen & log_form::unseen_detach)
     say("gcc's detach is not seen by LLVM's runtime, and the program may crash");
   if (life->log.unseen & log_form::unseen_target)
@@ -106,6 +106,7 @@ void begin_recording(void (*call)()) {
   life->log.program_start = program_start();
   life->log.is_child = is_child_of_this_program();
   life->log.unseen = unseen_of_gcc();
+  life->log.online = life->options.online;
   life->process = getpid();
   remove_old_files(name_of_rank(life->options.out), time_of_day() - (wall_time() - life->log.program_start));
   name_log();

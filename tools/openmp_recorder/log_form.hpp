@@ -7,19 +7,34 @@
 
 namespace log_form {
 constexpr char magic[8] = {'S', 'P', 'A', 'N', 'P', 'L', 'O', 'G'};
-constexpr uint32_t version = 1;
+constexpr uint32_t version = 2;
 constexpr const char *head_file = "/head", *modules_file = "/modules", *thread_file = "/thread.", *last_block = ".last";
+constexpr const char *measured_file = "/online";  // where a run was measured while it went on, in the place of records
 
-// In machine order. Kinds are those of `Told`; what has the kind 0 is not written yet, and the thread's records end
+// In machine order. Kinds are those of `Told`; what has the kind 0 is not written yet, and the block's records end
 // there. A record by the processor's clock has eight bytes more: that clock of the thread, in nanoseconds.
 struct RawRecord {
   uint64_t at;  // ticks when the runtime called
   uint32_t task, other;  // numbers of tasks, 0 where there is none; `other` is also a region
   uint64_t word;  // where in the program, 48 bits; the kind, 8; a detail, 8
 };
-static_assert(sizeof(RawRecord) == 24, "four of them are written for a task that waits for none");
+static_assert(sizeof(RawRecord) == 24, "one is written for a task that waits for none, and two short ones");
 constexpr uint32_t bytes_by_wall = sizeof(RawRecord), bytes_by_processor = bytes_by_wall + sizeof(int64_t);
-constexpr uint32_t block_bytes = 8 * 12288;  // whole pages, and whole records of both sizes
+
+// By the wall clock a thread goes from a task to another, which is told most often.
+struct ShortRecord {
+  uint64_t
+      word;  // ticks since the first pair of the head, 56 bits; the detail, 7; the highest bit says that it is short
+  uint32_t task, other;
+};
+constexpr uint64_t short_bit = uint64_t{1} << 63;
+constexpr unsigned short_ticks = 56;
+constexpr uint64_t make_short(uint64_t ticks, unsigned detail) {
+  return (ticks & ((uint64_t{1} << short_ticks) - 1)) | uint64_t{detail} << short_ticks | short_bit;
+}
+
+constexpr uint32_t block_bytes = 8 * 12288;  // whole pages
+constexpr uint32_t kept_free = 64;  // at the end of a block: the last record that begins before, and what is cleared
 
 constexpr uint64_t code_bits = 48, code_mask = (uint64_t{1} << code_bits) - 1;
 constexpr uint64_t make_word(uint64_t code, unsigned kind, unsigned detail) {
@@ -28,7 +43,7 @@ constexpr uint64_t make_word(uint64_t code, unsigned kind, unsigned detail) {
 
 enum class Counter : uint32_t { ClockGettime, TimeStamp };
 enum class HowEnded : uint32_t { Not, ByRuntime, InsideARegion };  // Not: killed, or it goes on
-enum class Stopped : uint32_t { Not, Full, Unwritable, Numbers, End };  // Full: the disk is
+enum class Stopped : uint32_t { Not, Full, Unwritable, Numbers, End, Memory };  // Full: the disk is
 
 enum Off : unsigned { slept = 1, taken = 2 };  // bits: how the thread lost its processor while both clocks passed
 

@@ -15,6 +15,7 @@
 #include <utility>
 
 #include "log_modules.hpp"
+#include "online_life.hpp"
 #include "say.hpp"
 
 namespace {
@@ -79,6 +80,7 @@ bool make_log() {
   if (!head) return false;
   fill_head();
   tell_modules(beginning.folder);
+  if (measures) write_measured(beginning.folder, false);
   return true;
 }
 
@@ -97,17 +99,20 @@ const char *word_of(Stopped why) {
   switch (why) {
     case Stopped::Full: return "the disk is full, and what follows is not recorded";
     case Stopped::Numbers: return "there are more tasks than numbers, and what follows is not recorded";
+    case Stopped::Memory: return "there is no memory left, and what follows is not measured";
     default: return "the log cannot be written, and what follows is not recorded";
   }
 }
 
 }  // namespace
 
-alignas(64) std::atomic<Stopped> log_stopped{Stopped::Not};
+alignas(cache_line) std::atomic<Stopped> log_stopped{Stopped::Not};
+std::atomic<bool> only_records{false};
 __thread ThreadLog *thread_log = nullptr;
 
 const Beginning &this_log() { return beginning; }
 double nanoseconds_of_tick() { return tick; }
+uint64_t ticks_of_beginning() { return first.ticks; }
 
 int64_t wall_time_at(uint64_t ticks) {
   return first.wall + static_cast<int64_t>(static_cast<double>(static_cast<int64_t>(ticks - first.ticks)) * tick);
@@ -115,9 +120,11 @@ int64_t wall_time_at(uint64_t ticks) {
 
 void begin_log(const Beginning &how, void (*call)()) {
   beginning = how;
+  if (beginning.online) begin_measuring(costs_by_processor ? 0 : beginning.program_start);
+  only_records = by_time_stamp && !costs_by_processor && !measures;
   if (first.wall) return;  // it is known from before a fork
   measure_ticks();
-  in_a_record = time_of_record(call);
+  if (!beginning.online) in_a_record = time_of_record(call);
 }
 
 void set_time_of_beginning(uint64_t took) { beginning_took = took; }
@@ -131,6 +138,7 @@ ThreadLog *make_thread_log() {
   is_made = true;
   thread_log = new ThreadLog(next_thread++);
   thread_log->is_slow = true;
+  if (measures) thread_log->online = &thread_to_measure();
   if (beginning_took) thread_log->tell_stood_still(std::exchange(beginning_took, 0));
   return thread_log;
 }
@@ -152,6 +160,7 @@ uint32_t new_region() { return next_region.fetch_add(1, std::memory_order_relaxe
 void stop_log(Stopped why) {
   Stopped before = Stopped::Not;
   if (!log_stopped.compare_exchange_strong(before, why)) return;
+  only_records = false;
   if (head) {
     head->stop = read_pair();
     head->stopped = why;
@@ -160,8 +169,13 @@ void stop_log(Stopped why) {
 }
 
 void end_log(log_form::HowEnded how) {
+  Moment now = moment_now();
   stop_log(Stopped::End);
   if (!head) return;
+  if (measures) {
+    if (thread_log) thread_log->online->stop(thread_log->own_clock(now));
+    write_measured(beginning.folder, how == log_form::HowEnded::ByRuntime && log_stopped == Stopped::End);
+  }
   head->end = read_pair();
   head->end_processor = processor_time();
   head->end_thread = thread_log ? thread_log->number : 0;

@@ -11,6 +11,7 @@ struct Beginning {
   bool is_child = false;
   uint32_t unseen = 0;
   int64_t program_start = 0;
+  bool online = false;  // the run is measured, and no record is made
 };
 
 void begin_log(const Beginning &how, void (*call)());  // which makes a record, and nothing else
@@ -26,18 +27,21 @@ extern
 ThreadLog *make_thread_log();  // null where it cannot be made
 bool nothing_recorded();  // in this process
 double nanoseconds_of_tick();
+uint64_t ticks_of_beginning();
 int64_t wall_time_at(uint64_t ticks);
 void count_open_region(int more);
 bool inside_a_region();  // any thread of the program
 uint32_t new_number();  // of a task, from 1; each thread takes them in blocks
 uint32_t new_region();  // from 1, in the order of time
 
+// Whether a call needs no more than a record with the time-stamp counter, as most do; not where recording has stopped.
+extern std::atomic<bool> only_records;
 inline bool is_stopped() { return log_stopped.load(std::memory_order_relaxed) != log_form::Stopped::Not; }
 inline ThreadLog *own_log() { return __builtin_expect(thread_log != nullptr, true) ? thread_log : make_thread_log(); }
 
-inline Moment moment_now() {
+inline Moment moment_now(After after = After::Others) {
   Moment now;
-  now.at = read_ticks();
+  now.at = read_ticks(after);
   if (costs_by_processor) now.processor = processor_time();
   return now;
 }

@@ -7,6 +7,7 @@
 
 #include <cstring>
 #include <fstream>
+#include <iterator>
 #include <stdexcept>
 
 #include "thread_reader.hpp"
@@ -36,6 +37,11 @@ Head read_head(const std::string &path) {
 }
 
 bool exists(const std::string &path) { return !access(path.c_str(), R_OK); }
+
+std::string all_of(const std::string &path) {
+  std::ifstream file(path, std::ios::binary);
+  return {std::istreambuf_iterator<char>(file), std::istreambuf_iterator<char>()};
+}
 }  // namespace
 
 TickTime::TickTime(const Head &head) : first(head.first) {
@@ -48,6 +54,7 @@ TickTime::TickTime(const Head &head) : first(head.first) {
 LogFolder::LogFolder(const std::string &path) : head(read_head(path + log_form::head_file)) {
   runs = is_held(path + log_form::head_file);
   modules.read(path + log_form::modules_file, head.program);
+  measured = all_of(path + log_form::measured_file);
   for (unsigned i = 0;; i++) {
     std::string thread = path + log_form::thread_file + std::to_string(i);
     if (!exists(thread + log_form::last_block)) break;

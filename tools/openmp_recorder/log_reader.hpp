@@ -16,6 +16,7 @@ class LogFolder {
   log_form::Head head{};
   std::vector<std::unique_ptr<Records>> threads;
   ModulesOfRun modules;
+  std::string measured;  // while the program ran; empty where it was recorded
   bool is_running() const { return runs; }  // the program that writes it
   int64_t wall(const log_form::Pair &pair) const;
 

@@ -57,6 +57,7 @@ RecordingOptions read_recording_options() {
   flag("SPANPROF_CLOCK", "wall", "cpu", chosen.processor_clock);
   flag("SPANPROF_QUIET", "0", "1", chosen.quiet);
   flag("SPANPROF_TIME_STAMP", "0", "1", chosen.time_stamp);
+  flag("SPANPROF_ONLINE", "0", "1", chosen.online);
   return chosen;
 }
 
@@ -70,6 +71,7 @@ Options read_options() {
   number("SPANPROF_FOLD_CHUNK", chosen.fold_chunk);
   parts(chosen.parts);
   flag("SPANPROF_WHOLE", "0", "1", chosen.whole);
+  flag("SPANPROF_ONLINE", "0", "1", chosen.online);
   flag("SPANPROF_FOLD_EXACT", "0", "1", chosen.fold_exact);
   flag("SPANPROF_TIMES", "0", "1", chosen.times);
   return chosen;

@@ -1,9 +1,11 @@
 #include "pieces.hpp"
 
 #include <algorithm>
+#include <set>
 #include <unordered_map>
 
 #include "fold.hpp"
+#include "joined_times.hpp"
 #include "span.hpp"
 
 namespace {
@@ -121,29 +123,38 @@ void join(Chunk &chunk, Chunk &more) {
   more.task->pieces = 0;
 }
 
+bool ends_a_segment(const Step &step) {
+  return step.kind == Kind::Create || step.kind == Kind::Wait || step.kind == Kind::GroupEnd;
+}
+
 // The steps of a part, without the creation of what is no task any more.
-void leave_out_joined(Task &part) {
+void leave_out_joined(Task &part, JoinedTimes &times) {
   ShortList<Step> steps;
+  unsigned segment = 0;
   for (const Step &step : part.steps) {
     bool is_left = step.kind != Kind::Create || step.child()->parent;
     if (is_left) steps.push_back(step);
-    else part.segment--, part.children--;
+    else part.segment--, part.children--, times.leave_out(part, segment);
+    segment += ends_a_segment(step);
   }
   part.steps = std::move(steps);
 }
 
 void Chooser::write(int64_t least) {
+  JoinedTimes times;
+  std::set<Task *> parts;
   for (const Row &row : rows) {
     Task &part = *row[0]->task->parent;
-    bool joins = false;
     cut(row, least, [&](size_t from, size_t to, int64_t) {
       Chunk &first = *row[from];
       if (to - from > 1 && first.task->steps.empty()) first.task->steps.push_back(Step::work(0));
-      for (size_t i = from + 1; i < to; i++) joins = true, join(first, *row[i]);
+      for (size_t i = from + 1; i < to; i++) join(first, *row[i]), times.join(*first.task, *row[i]->task);
+      if (to - from > 1) parts.insert(&part);
       first.task->pieces = to - from > 1 ? 1 : static_cast<uint32_t>(pieces_of(first, least));
     });
-    if (joins) leave_out_joined(part);
   }
+  for (Task *part : parts) leave_out_joined(*part, times);
+  times.apply(run.whole->events);
 }
 
 // A least piece with which the text fits the ten commands, where that is as good as any.

@@ -30,8 +30,8 @@ std::vector<Part> in_order(const Region &region) {
 }
 }  // namespace
 
-void place_region(Region &region) {
-  if (!region.owner) return;
+std::vector<Part> place_region(Region &region) {
+  if (!region.owner) return {};
   Task &owner = *std::exchange(region.owner, nullptr);
   std::vector<Part> parts = in_order(region);
   for (size_t i = 0; i < parts.size();) {
@@ -43,6 +43,7 @@ void place_region(Region &region) {
     }
     add(owner, Step::at(Kind::GroupEnd, nullptr));
   }
+  return parts;
 }
 
 void take_over_steps(Task &into, Task &from) {

@@ -3,6 +3,6 @@
 #include "run.hpp"
 
 // Each of its phases is a group, and each part a task there. Once: the task that met it is forgotten then.
-void place_region(Region &region);
+std::vector<Part> place_region(Region &region);
 
 void take_over_steps(Task &into, Task &from);  // at its end: what the other one made is made there

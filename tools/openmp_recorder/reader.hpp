@@ -40,6 +40,7 @@ struct ImplicitTask {
   Loop *loop = nullptr;  // that it is in
   Task *chunk = nullptr;  // of it, that runs
   size_t number = 0;  // of the chunk
+  size_t left = 0;  // the event with which the part was left for it
   bool in_group = false;  // of the chunks
   bool all_turns = false;  // are taken to be the chunk
   bool kept = false;  // the rest of the loop is code of the part
@@ -112,6 +113,7 @@ class Reader {
   void dependences();
   void barrier_begin(Task *t);
   void tell_empty_segment(Task *t);
+  static void put_empty_segment(Task *t, unsigned segment, int64_t at, uint16_t worker);
   void end_groups_at_barrier(Region &region, unsigned phase);
   void barrier_end(Task *t);
   void sync_begin();
@@ -128,6 +130,9 @@ class Reader {
   void initial_begin();
   void meet_region(Region &region);
   void parallel_end();
+  void time_placed(const std::vector<Part> &parts, const Region &region, Task &owner, unsigned segment);
+  void join_with_before(Task &t, size_t end, int64_t since);
+  void give_up_times();
   bool is_to_divide(const Region &region) const;
   Loop &loop_of(uint32_t region, unsigned number);
   ImplicitTask *in_loop();

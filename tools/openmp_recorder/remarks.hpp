@@ -11,6 +11,7 @@ enum class Remark : uint8_t {
   OneThread,
   MutexInOutSet,
   MutexAsInOut,
+  MutexBeside,
   AllMemory,
   UnknownItem,
   BetweenTurns,
@@ -48,17 +49,16 @@ enum class Moved : uint8_t { Not, Low, High, Either };
 
 struct RemarkLine {
   Remark remark;
-  const char *what;
+  const char *name;  // by which the tools know it
   Moved work, span;
-  const char *more;  // of the effect: a condition, or what else; may be empty
   bool counted = true;  // how often and where it was seen
 };
 
 const RemarkLine &line_of(Remark remark);
-std::string effect_of(const RemarkLine &line);  // `span too low`, `work too low, span too high`
 
 using Remarks = std::map<Remark, Seen>;
 
 class Places;
-std::string remark_line(Remark what, const Seen &seen, const Places &places);  // without `# remark: `
+// As an object of JSON, of which spanprof/remarks.py makes words; `# remark: ` stands before it in a text's head.
+std::string remark_in_json(Remark what, const Seen &seen, const Places &places);
 std::string times_and_place(const Seen &seen, const Places &places);  // `3 times at file.c:10`

@@ -3,6 +3,7 @@
 #include <algorithm>
 
 #include "advice.hpp"
+#include "chosen.hpp"
 #include "compose.hpp"
 #include "events.hpp"
 #include "exact.hpp"
@@ -10,6 +11,7 @@
 #include "fold.hpp"
 #include "head.hpp"
 #include "lines.hpp"
+#include "region_table.hpp"
 #include "span.hpp"
 #include "tell.hpp"
 #include "text.hpp"
@@ -33,6 +35,7 @@ class Reporter {
       : options(chosen), recording(std::move(what)), places(&modules) {}
   void write(Region &region, const std::string &name);
   void tell_outside(const Seen &outside);
+  void write_regions(const Run &run, const WholeTime &time, const std::string &name);
 
  private:
   const Options &options;
@@ -43,11 +46,14 @@ class Reporter {
   std::string head(Region &region, int64_t work);
   Text finish(Region &region, bool exclusion_as_order);
   void tell_remarks(const Region &region, const std::string &name);
+  bool has_run(const Region &region, Line &line);
   void write_run(const Region &region, const std::string &name, const Text &text, Line &line);
   void write_replay(const std::string &name, const Text &text, const Events &events, Line &line);
   void write_timed(const Region &region, const std::string &name, const Text &text, const Events &events, Line &line);
-  bool write_piece_by_piece(Region &region, const std::string &file, int64_t work, bool exclusion_as_order);
+  bool write_piece_by_piece(Region &region, const std::string &file, const std::string &head, const Style &style,
+                            const std::string &behind = "");
   void write_large(Region &region, const std::string &name, const Size &size);
+  void write_large_run(Region &region, const std::string &name, const std::string &head, Line &line);
   void tell_advice(Region &region, const std::string &file, const Excess &over);
   Line &put_size(Line &line, const std::string &file, const Size &size, int64_t work);
 };
@@ -94,39 +100,53 @@ Text Reporter::finish(Region &region, bool exclusion_as_order) {
 
 void Reporter::tell_remarks(const Region &region, const std::string &name) {
   for (auto &[what, seen] : region.remarks)
-    Line("remark").put("name", name).put("remark", remark_line(what, seen, places));
+    Line("remark").put("name", name).put_bare("remark", remark_in_json(what, seen, places));
 }
 
-// Which files hold the run; where there is no such document, why. Of the whole program there is none.
-void Reporter::write_run(const Region &region, const std::string &name, const Text &text, Line &line) {
+// Whether the run can stand behind the text; where it cannot, the line tells why. Of the whole program no events are
+// replayed, and of a large region they are kept where times are wanted.
+bool Reporter::has_run(const Region &region, Line &line) {
   if (recording.whole) {
-    if (options.times) line.put("no times", "whole");
-    return;
+    if (options.times && !region.has_events) line.put("no times", "whole");
+    return options.times && region.has_events;
   }
-  if (region.remarks.count(Remark::FoldedExactly)) {
-    line.put("no replay", "exact folds");
-    if (options.times) line.put("no times", "folds");
-    return;
-  }
+  if (!region.remarks.count(Remark::FoldedExactly)) return region.has_events;
+  line.put("no replay", "exact folds");
+  if (options.times) line.put("no times", "folds");
+  return false;
+}
+
+// Which files hold the run.
+void Reporter::write_run(const Region &region, const std::string &name, const Text &text, Line &line) {
+  if (!has_run(region, line)) return;
   Events events = event_lines(region);
-  write_replay(name, text, events, line);
+  if (!recording.whole) write_replay(name, text, events, line);
   if (options.times) write_timed(region, name, text, events, line);
 }
 
-void Reporter::write_replay(const std::string &name, const Text &text, const Events &events, Line &line) {
+// Whether a replay document can have these; where it cannot, the line tells why.
+bool can_be_replayed(const Events &events, Line &line) {
   if (events.workers > most_workers) line.put("no replay", "workers").put("workers", events.workers);
   else if (!events.whole) line.put("no replay", "unfinished");
-  else {
-    if (!options.processor_clock) write_file(name + ".times", times_table(events));
-    if (write_file(name + ".replay", text.words + "---\n" + events.words)) line.put("replay", name + ".replay");
-  }
+  else return true;
+  return false;
 }
 
-// A folded task ran beside what it is written as, so no text with folds has times.
+void Reporter::write_replay(const std::string &name, const Text &text, const Events &events, Line &line) {
+  if (!can_be_replayed(events, line)) return;
+  if (!options.processor_clock) write_file(name + ".times", times_table(events));
+  if (write_file(name + ".replay", text.words + "---\n" + events.words)) line.put("replay", name + ".replay");
+}
+
+// Why a text has no times, or none. A folded task ran beside what it is written as.
+const char *why_no_times(const Region &region, const Events &events) {
+  if (region.remarks.count(Remark::Folded) || region.remarks.count(Remark::FoldedExactly)) return "folds";
+  return events.whole ? nullptr : "unfinished";
+}
+
 void Reporter::write_timed(const Region &region, const std::string &name, const Text &text, const Events &events,
                            Line &line) {
-  if (region.remarks.count(Remark::Folded)) line.put("no times", "folds");
-  else if (!events.whole) line.put("no times", "unfinished");
+  if (const char *why = why_no_times(region, events)) line.put("no times", why);
   else if (write_file(name + ".timed", text.words + "---\n" + timed_lines(region, events)))
     line.put("times", name + ".timed");
 }
@@ -140,26 +160,43 @@ bool let_exclusion_be_order(Region &region) {
   return true;
 }
 
-bool Reporter::write_piece_by_piece(Region &region, const std::string &file, int64_t work, bool exclusion_as_order) {
+bool Reporter::write_piece_by_piece(Region &region, const std::string &file, const std::string &head,
+                                    const Style &style, const std::string &behind) {
   NewFile out(file);
-  out.put(head(region, work));
-  auto put = [&](std::string_view piece) { out.put(piece); };
-  tell_program(region, {options.unit, exclusion_as_order, true}, places, put);
+  out.put(head);
+  tell_program(region, style, places, [&](std::string_view piece) { out.put(piece); });
+  out.put(behind);
   return out.end();
 }
 
-// What exceeds the limits of the commands is a text for spanprof_large, and has no replay document.
+// The text is written once more in front of each.
+void Reporter::write_large_run(Region &region, const std::string &name, const std::string &head, Line &line) {
+  if (!has_run(region, line)) return;
+  Events events = event_lines(region);
+  auto write = [&](const char *what, const std::string &file, const std::string &behind) {
+    if (write_piece_by_piece(region, file, head, {options.unit, false, true, false}, "---\n" + behind))
+      line.put(what, file);
+  };
+  if (!recording.whole && can_be_replayed(events, line)) write("replay", name + ".replay", events.words);
+  if (!options.times) return;
+  if (const char *why = why_no_times(region, events)) line.put("no times", why);
+  else write("times", name + ".timed", timed_lines(region, events));
+}
+
+// What exceeds the limits of the commands is a text for spanprof_large.
 void Reporter::write_large(Region &region, const std::string &name, const Size &size) {
   std::string file = name + ".large.tasks";
   if (Excess over = over_the_limits(size, options.unit, of_any_size)) return tell_excess(file, over);
   if (options.lines) places.look_up(codes_of(region));
   int64_t work = work_in_units(region, options.unit);
-  if (!write_piece_by_piece(region, file, work, false)) return;
+  std::string words = head(region, work);
+  if (!write_piece_by_piece(region, file, words, {options.unit, false, true, region.has_events})) return;
   tell_remarks(region, name);
   Line line("text");
   put_size(line, file, size, work);
-  if (options.times) line.put("no times", "large");
-  if (let_exclusion_be_order(region)) write_piece_by_piece(region, name + ".large.inout.tasks", work, true);
+  write_large_run(region, name + ".large", words, line);
+  if (let_exclusion_be_order(region))
+    write_piece_by_piece(region, name + ".large.inout.tasks", head(region, work), {options.unit, true, true, false});
 }
 
 Line &Reporter::put_size(Line &line, const std::string &file, const Size &size, int64_t work) {
@@ -225,26 +262,38 @@ void Reporter::tell_outside(const Seen &outside) {
   Line("outside").put("seen", times_and_place(outside, places));
 }
 
-int64_t work_of(const Region &region) { return region.in_parts + region.in_tasks; }
+// The chosen ones, in the order of time; the others are told with their work.
+void choose(std::vector<Region *> &regions, const Options &options) {
+  int64_t all = 0, kept = 0;
+  for (const Region *region : regions) all += work_of(*region);
+  std::vector<Region *> few = chosen(regions, options.regions);
+  for (const Region *region : few) kept += work_of(*region);
+  if (few.size() < regions.size())
+    Line("more regions")
+        .put("regions", uint64_t{regions.size() - few.size()})
+        .put("work", (all - kept) / options.unit)
+        .put("unit", options.unit_name);
+  regions = few;
+  for (size_t i = 0; i < few.size(); i++) few[i]->text = i + 1;
+}
 
-// The heaviest ones, in the order of time; the others are told with their work.
-void keep_the_heaviest(std::vector<Region *> &regions, const Options &options) {
-  if (regions.size() <= options.regions) return;
-  std::stable_sort(regions.begin(), regions.end(), [](auto *a, auto *b) { return work_of(*a) > work_of(*b); });
-  int64_t left_out = 0;
-  for (size_t i = options.regions; i < regions.size(); i++) left_out += work_of(*regions[i]);
-  Line("more regions")
-      .put("regions", uint64_t{regions.size() - options.regions})
-      .put("work", left_out / options.unit)
-      .put("unit", options.unit_name);
-  regions.resize(options.regions);
-  std::sort(regions.begin(), regions.end(), [](auto *a, auto *b) { return a->place < b->place; });
+// Of a run without regions there is no table.
+void Reporter::write_regions(const Run &run, const WholeTime &time, const std::string &name) {
+  if (run.regions.empty()) return;
+  if (options.lines) places.look_up(codes_of_regions(run));
+  write_file(name + ".regions", region_table(run, time, places));
 }
 
 bool folds_asked(const Options &options) { return options.fold_depth || options.fold_chunk || options.fold_cost; }
 
-// The most tasks of a region that may get a replay document; with folds any number may.
-uint64_t most_to_replay(const Options &options) { return folds_asked(options) ? UINT64_MAX : most_tasks; }
+constexpr uint64_t most_timed = 1 << 18;  // tasks and chunks of loops, of which many are written together
+
+// The most tasks of a region of which the run is kept, or of the whole program.
+uint64_t most_to_replay(const Options &options) {
+  if (folds_asked(options)) return UINT64_MAX;
+  if (options.whole) return most_timed;
+  return options.times ? UINT64_MAX : most_tasks;
+}
 
 WhichParts parts_asked(const Options &options) { return {options.parts, folds_asked(options) || options.fold_exact}; }
 
@@ -269,8 +318,14 @@ std::vector<Region *> compose_all(Run &run, const Options &options) {
 
 HowToRead how_to_read(const Job &job) {
   bool by_processor = job.options.processor_clock;
-  return {most_to_replay(job.options), job.options.whole, by_processor ? 0 : job.start,
-          by_processor ? job.end_processor : job.end, job.last};
+  return {most_to_replay(job.options),
+          job.options.whole,
+          by_processor ? 0 : job.start,
+          by_processor ? job.end_processor : job.end,
+          job.last,
+          job.options.times,
+          job.start,
+          job.end};
 }
 
 void report_whole(const Job &job, Run &run, Recording recording, int64_t end) {
@@ -278,7 +333,10 @@ void report_whole(const Job &job, Run &run, Recording recording, int64_t end) {
   recording.whole = run.whole.get();
   recording.threads.outside -= std::min(run.whole->recorder, recording.threads.outside);
   for (Remark remark : job.unseen) run.whole->remarks[remark];
-  Reporter(job.options, std::move(recording), job.modules).write(*run.whole, job.out);
+  WholeTime time{job.start, end, recording.threads.outside};
+  Reporter reporter(job.options, std::move(recording), job.modules);
+  reporter.write_regions(run, time, job.out);
+  reporter.write(*run.whole, job.out);
 }
 }  // namespace
 
@@ -294,7 +352,8 @@ void report(const Job &job, Ending &ending) {
   if (with_tasks.empty() && !job.may_be_empty) Line("no tasks").put("inside", ending.wall != 0);
   for (Region *region : with_tasks)
     for (Remark remark : job.unseen) region->remarks[remark];
-  keep_the_heaviest(with_tasks, job.options);
+  choose(with_tasks, job.options);
+  reporter.write_regions(run, {job.start, end, threads.outside}, job.out);
   for (size_t i = 0; i < with_tasks.size(); i++)
     reporter.write(*with_tasks[i], job.out + (i ? "." + std::to_string(i + 1) : ""));
   reporter.tell_outside(run.outside);

@@ -208,6 +208,7 @@ struct Region {
   const void *code = nullptr;
   unsigned threads = 0;
   uint64_t place = 0;  // in the order of time, from 1
+  uint64_t text = 0;  // the number of its text, from 1; 0 where none is written
   RegionTime time{};
   Met met;
   std::deque<Task> tasks;  // in the order of creation, each before those that it makes
@@ -217,6 +218,7 @@ struct Region {
   std::vector<Event> events;
   bool has_events = true;  // else they are given up, since it has more tasks than a replay document holds
   uint64_t created = 0;  // tasks
+  uint64_t chunks = 0;  // of these, chunks of loops
   bool of_program = true;  // else of the runtime, for threads that it keeps for itself
   int64_t cost = 0;  // of all its code
   std::map<LockName, LockUse> locks;
@@ -236,6 +238,9 @@ struct Region {
   Region *whole = nullptr;  // that its tasks stand in
   Task *owner = nullptr;  // met it, and it is not in its place yet
   bool resumes = false;  // the owner ran on the same thread
+  int64_t met_at = 0;  // the wall clock
+  size_t left = 0;  // the event with which the owner was left for it
+  uint32_t opened = 0;  // segments of the text, with those of pieces
 };
 
 // The region whose text has the tasks of this one.
@@ -270,6 +275,8 @@ struct HowToRead {
   bool whole = false;  // the whole program is to be one text
   int64_t start = 0, end = 0;  // of the program, on the clock of costs; an end that is not known is 0
   const Log *last = nullptr;  // of the thread that ended it, whose clock that is by the processor's
+  bool times = false;  // of the whole program's segments
+  int64_t start_wall = 0, end_wall = 0;  // of the program
 };
 
 Run read_run(const std::vector<Records *> &threads, Ending &ending, const HowToRead &how = {});

@@ -34,7 +34,8 @@ bool is_older(const std::string &file, int64_t began) {
 
 // Of what the recorder writes into the folder of a log.
 bool is_of_log(const std::string &file) {
-  return file == log_form::head_file || file == log_form::modules_file || !file.rfind(log_form::thread_file, 0);
+  return file == log_form::head_file || file == log_form::modules_file || !file.rfind(log_form::measured_file, 0) ||
+         !file.rfind(log_form::thread_file, 0);
 }
 
 std::vector<std::string> files_in(const std::string &folder) {
@@ -81,7 +82,7 @@ std::string name_of_rank(const std::string &name) {
 bool is_of_run(const std::string &file, const std::string &name) {
   std::string rest = file;
   if (!take(rest, ".tasks") && !take(rest, ".replay") && !take(rest, ".times") && !take(rest, ".timed") &&
-      !take(rest, ".log"))
+      !take(rest, ".regions") && !take(rest, ".online.json") && !take(rest, ".log"))
     return false;
   take(rest, ".inout");
   take(rest, ".large");

@@ -52,7 +52,7 @@ class Writer {
   void step(Place &p, const Step &step);
   void leave_out(Place &p, const Task &child);
   void create(Place &p, Task &child);
-  void pieces(Place &p, const Task &chunk);
+  void pieces(Place &p, Task &chunk);
   uint32_t name_of(const Item &item);
   std::string_view place_at(const void *code);
   std::string_view place_of(const Task &t);
@@ -151,7 +151,7 @@ void Writer::flush(Place &p) {
 }
 
 void Writer::open(Place &p) {
-  if (!style.large) number(p) = opened++;
+  if (style.numbered) number(p) = opened++;
 }
 
 // The segment goes on, under the number that it has.
@@ -161,7 +161,7 @@ void Writer::leave_out(Place &p, const Task &child) {
     p.folded += 1 + tasks_below(child);
   }
   p.segment++;
-  if (style.large) return;
+  if (!style.numbered) return;
   uint32_t &before = region.numbers[p.task.first_number + p.segment - 1];
   number(p) = std::exchange(before, none);
 }
@@ -181,7 +181,11 @@ void Writer::end_task_line(const Task &t) {
 }
 
 // What is left over of the cost, a unit for each of the first.
-void Writer::pieces(Place &p, const Task &chunk) {
+void Writer::pieces(Place &p, Task &chunk) {
+  if (!style.large) {
+    chunk.first_number = static_cast<uint32_t>(region.numbers.size());
+    region.numbers.push_back(opened);
+  }
   uint64_t cost = static_cast<uint64_t>(rounded(chunk.total, style.unit)), longer = cost % chunk.pieces;
   for (uint32_t i = 0; i < chunk.pieces; i++) {
     line(p.indent, "task {", place_at(chunk.code));
@@ -227,7 +231,7 @@ void Writer::step(Place &p, const Step &step) {
 }
 
 void Writer::enter(Task &t, unsigned indent) {
-  if (!style.large) {
+  if (style.numbered) {
     t.first_number = static_cast<uint32_t>(region.numbers.size());
     region.numbers.resize(region.numbers.size() + t.segment + 1, none);
   }
@@ -263,6 +267,7 @@ void Writer::tell() {
     if (p.next < p.task.steps.size()) step(p, p.task.steps[p.next++]);
     else leave();
   }
+  region.opened = opened;
   taker(piece.words());
 }
 

@@ -62,10 +62,11 @@ class Scratch : public ThreadLog {
  public:
   Scratch() : ThreadLog(0), room(log_form::block_bytes) {
     next = room.data();
-    end = next + room.size();
+    end = next + room.size() - log_form::kept_free;
   }
   // Between its records, in ticks or nanoseconds of the processor; where something else was done too, it is more.
-  std::vector<int64_t> apart(uint32_t bytes) const {
+  std::vector<int64_t> apart() const {
+    std::size_t bytes = costs_by_processor ? log_form::bytes_by_processor : sizeof(log_form::ShortRecord);
     std::vector<int64_t> out;
     for (const char *at = room.data(); at + bytes < next; at += bytes) out.push_back(time_at(at + bytes) - time_at(at));
     return out;
@@ -74,8 +75,8 @@ class Scratch : public ThreadLog {
  private:
   static int64_t time_at(const char *record) {
     int64_t time;
-    std::memcpy(&time, record + (costs_by_processor ? sizeof(log_form::RawRecord) : 0), sizeof time);
-    return time;
+    std::memcpy(&time, record + (costs_by_processor ? log_form::bytes_by_wall : 0), sizeof time);
+    return time;  // of two short ones the difference is that of their ticks
   }
   std::vector<char> room;
 };
@@ -83,7 +84,7 @@ class Scratch : public ThreadLog {
 
 ThreadLog::ThreadLog(unsigned of)
     : number(of),
-      bytes(costs_by_processor ? log_form::bytes_by_processor : log_form::bytes_by_wall),
+      first_ticks(ticks_of_beginning()),
       far_ticks(static_cast<uint64_t>(far_apart / nanoseconds_of_tick())),
       near_ticks(static_cast<uint64_t>(chunks_together / nanoseconds_of_tick())),
       both(costs_by_processor) {}
@@ -95,7 +96,7 @@ bool ThreadLog::write_block() {
     stop_log(why);
     return false;
   }
-  std::memset(block, 0, log_form::block_bytes);
+  clear(block);
   written += log_form::block_bytes;
   return true;
 }
@@ -112,7 +113,7 @@ bool ThreadLog::grow() {
     return false;
   }
   next = block;
-  end = block + log_form::block_bytes;
+  end = block + log_form::block_bytes - log_form::kept_free;
   return true;
 }
 
@@ -142,6 +143,18 @@ void ThreadLog::wait_ends(const Moment &now) {
   both.wait_ends(times(now));
 }
 
+int64_t ThreadLog::own_clock(const Moment &now) const {
+  return costs_by_processor ? now.processor - static_cast<int64_t>(stood_still) : wall_time_at(now.at - stood_still);
+}
+
+void ThreadLog::stand_still(const Moment &since) { stood_still += time_since(since); }
+
+void ThreadLog::stand_still_for_lock(const Moment &now) {
+  Moment since = std::exchange(asked, {});
+  if (!since.at) return;
+  stood_still += costs_by_processor ? static_cast<uint64_t>(now.processor - since.processor) : now.at - since.at;
+}
+
 uint64_t time_since(const Moment &began) {
   Moment now = moment_now();
   return costs_by_processor ? static_cast<uint64_t>(now.processor - began.processor) : now.at - began.at;
@@ -153,7 +166,8 @@ void ThreadLog::tell_slow(const Moment &began) {
 }
 
 void ThreadLog::tell_stood_still(uint64_t took) {
-  put(moment_now(), Told::StoodStill, static_cast<uint32_t>(took), static_cast<uint32_t>(took >> 32), 0, 0);
+  if (online) stood_still += took;
+  else put(moment_now(), Told::StoodStill, static_cast<uint32_t>(took), static_cast<uint32_t>(took >> 32), 0, 0);
 }
 
 // The median of many, so that what else the machine does is in none of it.
@@ -163,8 +177,7 @@ int64_t time_of_record(void (*call)()) {
   thread_log = &scratch;
   for (int i = 0; i < calls; i++) call();
   thread_log = nullptr;
-  std::vector<int64_t> apart =
-      scratch.apart(costs_by_processor ? log_form::bytes_by_processor : log_form::bytes_by_wall);
+  std::vector<int64_t> apart = scratch.apart();
   auto middle = apart.begin() + static_cast<std::ptrdiff_t>(apart.size() / 2);
   std::nth_element(apart.begin(), middle, apart.end());
   double in_nanoseconds = costs_by_processor ? 1 : nanoseconds_of_tick();

@@ -11,7 +11,7 @@
 #include "told.hpp"
 
 struct Implicit {
-  uint32_t task, region;
+  uint64_t task, region;  // numbers, or where they are measured their addresses
 };
 
 // When the runtime called: by the counter, and by the processor's clock where costs are read on it.
@@ -21,9 +21,12 @@ struct Moment {
 };
 
 struct Open {
+  uint64_t region;
   const void *place;
   bool is_outermost;  // and of the program: LLVM's hidden helpers have a region of their own
 };
+
+class OnlineThread;
 
 class ThreadLog {
  public:
@@ -32,21 +35,30 @@ class ThreadLog {
   std::vector<Implicit> implicit;  // the implicit tasks that the thread is in, innermost last
   std::vector<Open> open;  // the regions that it began and that run, innermost last
   bool is_slow = false;  // more was done than to write records
-  uint32_t region() const { return implicit.empty() ? 0 : implicit.back().region; }
+  OnlineThread *online = nullptr;  // where the run is measured while it goes on: then no record is put
+  uint64_t region() const { return implicit.empty() ? 0 : implicit.back().region; }
+
+  // On the clock of costs, which stands still while the recorder works and while the thread waits for a lock.
+  int64_t own_clock(const Moment &now) const;
+  void stand_still(const Moment &since);  // until now
+  void ask_for_lock(const Moment &now) { asked = now; }
+  void stand_still_for_lock(const Moment &now);
 
   void put(const Moment &now, Told told, uint32_t task, uint32_t other, uint64_t code, unsigned detail) {
-    if (__builtin_expect(next == end, false) && !grow()) return;
-    auto *record = reinterpret_cast<log_form::RawRecord *>(next);
-    record->at = now.at;
-    record->task = task;
-    record->other = other;
-    if (costs_by_processor) *reinterpret_cast<int64_t *>(record + 1) = now.processor;
-    // Last, since it says that the record is there.
-    __atomic_store_n(&record->word, log_form::make_word(code, static_cast<unsigned>(told), detail), __ATOMIC_RELEASE);
-    next += bytes;
+    if (!costs_by_processor) return put_by_wall(now.at, told, task, other, code, detail);
+    if (next >= end && !grow()) return;
+    *reinterpret_cast<int64_t *>(next + log_form::bytes_by_wall) = now.processor;
+    put_long(now.at, task, other, log_form::make_word(code, static_cast<unsigned>(told), detail),
+             log_form::bytes_by_processor);
   }
+  void put_by_wall(uint64_t at, Told told, uint32_t task, uint32_t other, uint64_t code, unsigned detail) {
+    if (__builtin_expect(next >= end, false) && !grow()) return;
+    if (told == Told::Schedule) return put_short(at, task, other, detail);
+    put_long(at, task, other, log_form::make_word(code, static_cast<unsigned>(told), detail), log_form::bytes_by_wall);
+  }
+  bool is_far(uint64_t at) const { return at - looked >= far_ticks; }
   void look_at_clocks(const Moment &now) {
-    if (costs_by_processor || now.at - looked >= far_ticks) compare_clocks(now);
+    if (costs_by_processor || is_far(now.at)) compare_clocks(now);
   }
   // Whether a chunk is written as part of the one before, which began just now.
   bool joins_chunk(uint64_t ticks, uint64_t turns) {
@@ -67,12 +79,40 @@ class ThreadLog {
   char *next = nullptr, *end = nullptr;
 
  private:
-  uint32_t bytes;  // of a record
+  // The word that says that a record is there comes last, and before it what follows is cleared.
+  void put_short(uint64_t at, uint32_t task, uint32_t other, unsigned detail) {
+    auto *record = reinterpret_cast<log_form::ShortRecord *>(next);
+    next += sizeof *record;
+    clear(next);
+    record->task = task;
+    record->other = other;
+    __atomic_store_n(&record->word, log_form::make_short(at - first_ticks, detail), __ATOMIC_RELEASE);
+  }
+  void put_long(uint64_t at, uint32_t task, uint32_t other, uint64_t word, uint32_t bytes) {
+    auto *record = reinterpret_cast<log_form::RawRecord *>(next);
+    next += bytes;
+    clear(next);
+    record->at = at;
+    record->task = task;
+    record->other = other;
+    __atomic_store_n(&record->word, word, __ATOMIC_RELEASE);
+  }
+  // So that no record of either size is there. A block that is in the file already begins with its first record until
+  // both words are cleared.
+  static void clear(char *place) {
+    auto *record = reinterpret_cast<log_form::RawRecord *>(place);
+    __atomic_store_n(&record->word, 0, __ATOMIC_RELEASE);
+    __atomic_store_n(&record->at, 0, __ATOMIC_RELEASE);
+  }
+
+  uint64_t first_ticks;  // of the log
   uint64_t far_ticks, looked = 0;  // when both clocks were looked at last
   uint64_t near_ticks, chunk_began = 0, joined_turns = 0;
   char *block = nullptr;
   uint64_t written = 0;  // bytes of full blocks
   BothClocks both;
+  uint64_t stood_still = 0;  // where the run is measured; in ticks, or nanoseconds of the processor
+  Moment asked;  // for a lock
 
   void compare_clocks(const Moment &now);
   bool grow();

@@ -22,8 +22,8 @@ ThreadReader::ThreadReader(const std::string &path, unsigned worker, const log_f
     : Records(worker),
       file(fopen(path.c_str(), "re")),
       last(fopen((path + log_form::last_block).c_str(), "re")),
-      bytes(head.record_bytes),
       by_processor(head.by_processor),
+      first_ticks(head.first.ticks),
       in_a_record(head.in_a_record),
       time(head),
       buffer(block_bytes) {
@@ -31,6 +31,7 @@ ThreadReader::ThreadReader(const std::string &path, unsigned worker, const log_f
   left = static_cast<uint64_t>(ftell(file.get())) / block_bytes * block_bytes;
   rewind(file.get());
   // Killed before the block was cleared that it had written.
+  constexpr size_t bytes = sizeof(log_form::ShortRecord);
   if (left && last && first_bytes(file.get(), left - block_bytes, bytes) == first_bytes(last.get(), 0, bytes))
     last.reset();
 }
@@ -43,19 +44,33 @@ bool ThreadReader::fill() {
   filled = fread(buffer.data(), 1, buffer.size(), from.get());
   if (left) left -= block_bytes;
   else last.reset();
-  return filled >= bytes;
+  return filled;
+}
+
+// The record at this place of the block, and its bytes; 0 where there is none.
+size_t ThreadReader::read_here() {
+  log_form::ShortRecord shorter;
+  size_t room = filled - at, bytes = by_processor ? log_form::bytes_by_processor : log_form::bytes_by_wall;
+  if (room < sizeof shorter) return 0;
+  std::memcpy(&shorter, buffer.data() + at, sizeof shorter);
+  if (shorter.word & log_form::short_bit) {
+    uint64_t ticks = shorter.word & ((uint64_t{1} << log_form::short_ticks) - 1);
+    auto detail = static_cast<unsigned>((shorter.word & ~log_form::short_bit) >> log_form::short_ticks);
+    raw.record = {first_ticks + ticks, shorter.task, shorter.other,
+                  log_form::make_word(0, static_cast<unsigned>(Told::Schedule), detail)};
+    return sizeof shorter;
+  }
+  if (room < bytes) return 0;
+  std::memcpy(&raw, buffer.data() + at, bytes);
+  return raw.told() == Told::Nothing ? 0 : bytes;
 }
 
 // One record; none where the thread has written no more.
 bool ThreadReader::read() {
-  if (filled - at < bytes && !fill()) return false;
-  std::memcpy(&raw, buffer.data() + at, bytes);
-  at += bytes;
-  if (raw.told() != Told::Nothing) return true;
-  last.reset();
-  left = 0;
-  filled = at = 0;
-  return false;
+  for (;;) {
+    if (size_t bytes = read_here()) return at += bytes;
+    if (!fill()) return false;
+  }
 }
 
 // Where the program was killed among them, those that are there.

@@ -26,8 +26,8 @@ class ThreadReader : public Records {
     void operator()(FILE *open) const { fclose(open); }
   };
   std::unique_ptr<FILE, Close> file, last;  // of whole blocks; of the block that was not full
-  uint32_t bytes;
   bool by_processor;
+  uint64_t first_ticks;
   int64_t in_a_record;
   TickTime time;
   std::vector<char> buffer;
@@ -40,6 +40,7 @@ class ThreadReader : public Records {
 
   bool fill();
   bool read();
+  size_t read_here();
   void read_items(uint64_t count);
   int64_t cost_clock() const { return by_processor ? raw.processor : time.wall(raw.record.at); }
   bool take();

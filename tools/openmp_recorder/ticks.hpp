@@ -14,15 +14,22 @@ extern bool by_time_stamp, costs_by_processor;
 
 uint64_t later_wall_time();  // than whatever another thread read before
 
-// What the program did before this call is done: a task's start reads more than the ends that it needs.
-inline uint64_t read_ticks() {
+// What has to be done before the counter is read. The runtime begins a task, or goes on after a wait, once it has seen
+// what other threads did: so a task's start reads more than the ends that it needs. What a thread tells of itself comes
+// before whatever others do for it, however early it is read.
+enum class After { Others, Itself };
+
+inline uint64_t read_time_stamp(After after) {
 #if defined(__x86_64__)
-  if (__builtin_expect(by_time_stamp, true)) {
-    _mm_lfence();
-    return __rdtsc();
-  }
+  if (after == After::Others) _mm_lfence();
+  return __rdtsc();
+#else
+  return static_cast<uint64_t>(after);  // it is not read there
 #endif
-  return later_wall_time();
+}
+
+inline uint64_t read_ticks(After after = After::Others) {
+  return __builtin_expect(by_time_stamp, true) ? read_time_stamp(after) : later_wall_time();
 }
 
 void choose_clocks(bool may_be_time_stamp, bool by_processor);

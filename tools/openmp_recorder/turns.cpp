@@ -50,6 +50,7 @@ bool Reader::has_turns_apart(ImplicitTask &own) {
   if (own.turns) return true;
   Task *t = find(current().back()), *chunk = own.chunk;
   if (!chunk || chunk->children || t->children > 1 || t->open_groups > 1) return false;
+  give_up_times();
   end_chunk(own);
   take_chunk_out(own, *t);
   own.turns = std::make_unique<Turns>();
@@ -115,7 +116,8 @@ bool Reader::turn_awaited() {
   auto other = done.find(turn);
   int64_t over = other == done.end() ? 0 : other->second;
   int64_t waited = std::clamp<int64_t>(over - own->turns->since, 0, cost);
-  own->loop->waits.push_back({piece, cost - waited, cost, r->wall - over > woken});
+  bool was_there = r->wall - own->turns->since <= cost + woken;  // on its processor all the time
+  own->loop->waits.push_back({piece, cost - waited, cost, was_there && r->wall - over > woken});
   begin_piece(*own, false);
   find(current().back())->items.push_back(item_of(turn, ompt_dependence_type_in));
   own->turns->waited = own->turns->after_a_wait = true;

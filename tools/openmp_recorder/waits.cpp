@@ -4,6 +4,7 @@
 #include <algorithm>
 
 #include "reader.hpp"
+#include "runtime_ways.hpp"
 
 namespace {
 std::vector<const void *> open_groups_of(const Task &t) {
@@ -29,16 +30,20 @@ void Reader::end_group(Task *t, const void *code) {
 }
 
 void Reader::tell_empty_segment(Task *t) {
-  if (!t->region->has_events) return;
-  auto worker = static_cast<uint16_t>(t->on->worker);
-  for (bool start : {true, false}) t->region->events.push_back({t, r->wall, t->segment, worker, start});
+  put_empty_segment(t, t->segment, r->wall, static_cast<uint16_t>(t->on->worker));
+}
+
+void Reader::put_empty_segment(Task *t, unsigned segment, int64_t at, uint16_t worker) {
+  Region &to = home(*t->region);
+  if (!to.has_events) return;
+  for (bool start : {true, false}) to.events.push_back({t, at, segment, worker, start});
 }
 
 // `ordered depend` tells of the turn that the thread's code is in, and of no task.
 bool Reader::is_between_turns() {
   if (!r->code) return false;
   uint64_t type = log->items[r->other].type;
-  if (type != ompt_dependence_type_source && type != ompt_dependence_type_sink) return false;
+  if (!waits_for_turns(static_cast<uint32_t>(type))) return false;
   if (type == ompt_dependence_type_source ? turn_done() : turn_awaited()) return true;
   Task *t = running();
   if (t && type == ompt_dependence_type_sink)

@@ -6,11 +6,12 @@
 
 #include "place_region.hpp"
 #include "reader.hpp"
+#include "runtime_ways.hpp"
 
 Reader::Reader(const HowToRead &chosen) : how(chosen) {
   if (!how.whole) return;
   run.whole = std::make_unique<WholeProgram>();
-  run.whole->has_events = false;
+  run.whole->has_events = how.times;
   run.whole->root = fresh(run.whole.get());
   run.whole->root->part = true;
 }
@@ -20,6 +21,8 @@ void Reader::begin_root() {
   root->on = log;
   root->running = true;
   root->since = how.start;
+  if (run.whole->has_events)
+    run.whole->events.push_back({root, how.start_wall, 0, static_cast<uint16_t>(log->worker), true});
   run.whole->recorder = worker().stood_still;
 }
 
@@ -31,6 +34,7 @@ void Reader::initial_begin() {
     t = fresh(run.whole.get());
     t->part = true;
     hosts.push_back(t);
+    give_up_times();
   } else if (!t->on) {
     begin_root();
   }
@@ -49,17 +53,59 @@ void Reader::meet_region(Region &region) {
   if (!root->on) begin_root();
   region.owner = t;
   region.resumes = t->running && t->on == log;
-  if (!region.resumes) return;
+  if (!region.resumes) return give_up_times();
   settle(t);
   end(t);
+  region.met_at = r->wall;
+  region.left = run.whole->events.size() - 1;
+}
+
+// Of what the whole program's text has otherwise than it ran.
+void Reader::give_up_times() {
+  run.whole->has_events = false;
+  run.whole->events = {};
+}
+
+// What a task that met a region does between its groups, and between the parts that it makes there, takes no time:
+// where it met the region, and on the thread that is first in a later phase, as that runs nothing then.
+void Reader::time_placed(const std::vector<Part> &parts, const Region &region, Task &owner, unsigned segment) {
+  if (!run.whole->has_events) return;
+  const std::vector<Event> &events = run.whole->events;
+  int64_t at = region.met_at;
+  uint16_t worker = events[region.left].worker;
+  for (size_t i = 0; i < parts.size(); i++) {
+    if (i && parts[i].phase != parts[i - 1].phase) {
+      const Event *first = &events[parts[i].first];
+      for (const Part &part : parts)
+        if (part.phase == parts[i].phase && events[part.first].at < first->at) first = &events[part.first];
+      at = first->at;
+      worker = first->worker;
+      put_empty_segment(&owner, ++segment, at, worker);
+    }
+    put_empty_segment(&owner, ++segment, at, worker);
+  }
+}
+
+// A task that runs now goes on with the segment that it was left in, or has begun with it before.
+void Reader::join_with_before(Task &t, size_t end, int64_t since) {
+  if (!run.whole->has_events) return;
+  std::vector<Event> &events = run.whole->events;
+  bool is_the_same = events[end].task == &t && !events[end].start && events[end].segment == t.segment;
+  events[t.started].at = since;
+  events[t.started].taken_back = is_the_same;
+  if (is_the_same) events[end].taken_back = true;
 }
 
 void Reader::parallel_end() {
   auto region = run.regions.find(r->other);
   if (region == run.regions.end() || !region->second->owner) return;
   Task *owner = region->second->owner;
-  place_region(*region->second);
-  if (region->second->resumes) begin(owner);
+  unsigned segment = owner->segment;
+  std::vector<Part> parts = place_region(*region->second);
+  time_placed(parts, *region->second, *owner, segment);
+  if (!region->second->resumes) return;
+  begin(owner);
+  if (parts.empty()) join_with_before(*owner, region->second->left, r->wall);
 }
 
 Loop &Reader::loop_of(uint32_t region, unsigned number) {
@@ -120,8 +166,11 @@ void Reader::begin_chunk(ImplicitTask &own, uint64_t turns) {
   end_chunk(own);
   charge(t);
   if (!std::exchange(own.in_group, true)) begin_group(t, own.loop->code);
+  if (!t->running) tell_empty_segment(t);
   Task *chunk = own.chunk = create(t, false);
+  t->region->chunks++;
   own.loop->told += turns;
+  own.left = run.whole->events.size() - 1;
   chunk->code = own.loop->code;
   chunk->of_loop = true;
   chunk->pieces = 1;
@@ -144,6 +193,7 @@ void Reader::divided_end() {
   if (r->told() == Told::DividedEnd) join_turns(*own);
   end_chunk(*own);
   if (own->in_group) {
+    if (!t->running) tell_empty_segment(t);
     end_group(t, nullptr);
     begin(t);
   }
@@ -156,14 +206,7 @@ void Reader::divided_end() {
 // Whether the record is of a task that is made, or of a wait, in the code of a chunk.
 bool Reader::is_construct_of_chunk(const ImplicitTask &own) const {
   if (!own.chunk || r->task != workers[log->worker].current.back()) return false;
-  switch (r->told()) {
-    case Told::Create:
-    case Told::LoopBegin:
-    case Told::WaitBegin:
-    case Told::Schedule: return true;
-    case Told::SyncBegin: return r->detail == ompt_sync_region_taskwait || r->detail == ompt_sync_region_taskgroup;
-    default: return false;
-  }
+  return is_construct(r->told(), r->detail);
 }
 
 // Such tasks are those of the part, and such waits are for tasks of the part: so the chunk's code is code of the part.
@@ -177,10 +220,12 @@ void Reader::keep_divided() {
 // Its code is the part's.
 void Reader::put_chunk_back(ImplicitTask &own) {
   Task *t = find(current().back()), *chunk = own.chunk;
+  size_t began = chunk->started;
   end_chunk(own);
   take_chunk_out(own, *t);
   take_over_steps(*t, *chunk);
   begin(t);
+  if (run.whole->has_events) join_with_before(*t, own.left, run.whole->events[began].at);
 }
 
 // Its creation is the part's last step, and so is the group, where it is the first.
@@ -202,6 +247,9 @@ void Reader::end_root(int64_t end) {
   now = end - worker().stood_still - (log->stood_still - log->told_still);
   bool is_known = end && (!record_clock().of_processor || log == how.last);
   if (is_known) charge(root);
+  else give_up_times();
+  if (run.whole->has_events)
+    run.whole->events.push_back({root, how.end_wall, root->segment, static_cast<uint16_t>(log->worker), false});
   root->running = false;
 }
 

@@ -2,7 +2,8 @@
 
 What `library` has for callers is here too, and loaded when it is asked for: `spanprof.read("mine.tasks").span`.
 """
-OF_LIBRARY = ("MOST_THREADS", "NO_THREAD", "Bounds", "NoLibrary", "Program", "Refused", "Run", "parse", "read")
+OF_LIBRARY = ("MOST_THREADS", "NO_THREAD", "Account", "Bounds", "Certificate", "NoLibrary", "Program", "Refused", "Run",
+              "check", "parse", "read")
 
 
 def __getattr__(name):

@@ -1,4 +1,4 @@
-"""Where the time of a recorded run's threads went: the sums that spanprof_account tells of the timed document, and what
+"""Where the time of a recorded run's threads went: the sums that spanprof_large tells of the timed document, and what
 the recording tells beside them. docs/MODEL.md has the words."""
 import os
 import re
@@ -7,12 +7,14 @@ from functools import cached_property
 from typing import List
 
 from spanprof import client
-from spanprof.account_program import HOW, NoAccount, ask, spanprof_account
+from spanprof.account_program import HOW, NoAccount, ask
 from spanprof.answers import named_numbers
 from spanprof.claims import is_folded
 from spanprof.idle import idle_by_place
+from spanprof.measure import spanprof_large
+from spanprof.remarks import UNFINISHED
 
-UNFINISHED = "task that did not end|the program ended inside|the records were full inside"
+OTHER_PIECES = "the program ran in other pieces than its text has"
 
 
 @dataclass
@@ -48,6 +50,7 @@ class Account:
     held_up: HeldUp = field(default_factory=HeldUp)
     recorder: int = 0       # of the time in code, by the wall clock
     by_processor: bool = False      # costs are read on that clock: then it is among what was preempted
+    of_whole: bool = False  # the program, and not of a region
     of_runs: bool = False   # of the one of several runs that has the median work
     left_out: int = 0       # code of the region that has no times here, and is idle
     rows: List[Row] = field(default_factory=list)
@@ -70,7 +73,9 @@ class Account:
 
     @cached_property
     def idle(self):
-        """Delayed and starved time by place: the parts add up to the sums."""
+        """Delayed and starved time by place: the parts add up to the sums. Without rows there are no places."""
+        if not self.rows:
+            return {}, {}
         found = idle_by_place(self.rows, self.places, self.threads)
         assert [sum(parts.values()) for parts in found] == [self.delayed, self.starved], "the rows have other sums"
         return found
@@ -118,14 +123,24 @@ def divide_busy(found, head, work):
 
 def account_of(answers, path):
     """That of the timed document in a file, which is a run of the text."""
-    head = answers.head
     sums, rows = named_numbers(ask([], path)), read_rows(ask(["--rows"], path))
     if len(rows) != len(answers.code):
         raise NoAccount("there are times of %d segments, and not of %d" % (len(rows), len(answers.code)))
-    found = Account(**sums, rows=rows, places=[segment.place() for segment in answers.code])
+    return completed(Account(**sums, rows=rows, places=[segment.place() for segment in answers.code]), answers)
+
+
+def sums_of(answers, path):
+    """The same of a text of any size, whose rows are not asked for: idle time has no places."""
+    return completed(Account(**named_numbers(ask([], path))), answers)
+
+
+def completed(found, answers):
+    """With what the text's head tells beside the sums."""
+    head = answers.head
     # lines that are rounded to whole units may have less than the text covers
     found.held_up, found.recorder = divide_busy(found, head, max(answers.work, head.covered or 0))
     found.by_processor = head.clock == "cpu"
+    found.of_whole = bool(head.whole)
     found.of_runs = (head.runs or 1) > 1
     found.left_out = (head.not_covered.get("of this region", 0) + head.untimed) * head.nanoseconds
     return found
@@ -140,17 +155,19 @@ def why_none(head):
     """Why the converter wrote no timed document; empty where nothing is known."""
     if is_folded(head):
         return "tasks are folded, and the times are not those of all of their code"
-    if any(re.match(UNFINISHED, remark) for remark in head.remarks):
+    if any(remark.name in UNFINISHED for remark in head.remarks):
         return "tasks did not run to their ends"
-    return "" if not head.elapsed or spanprof_account() else HOW
+    if head.whole and spanprof_large():
+        return OTHER_PIECES
+    return "" if not head.elapsed or spanprof_large() else HOW
 
 
-def account_beside(answers):
+def account_beside(answers, asked=account_of):
     """That of the timed document beside the text; or None, and why."""
     path = timed_beside(answers.path)
     if not os.path.exists(path) or not answers.head.nanoseconds:
         return None, why_none(answers.head)
     try:
-        return account_of(answers, path), ""
+        return asked(answers, path), ""
     except NoAccount as fault:
         return None, str(fault)

@@ -1,16 +1,15 @@
-"""spanprof_account: where the program is, and what it tells of a timed document."""
+"""What spanprof_large account tells of a timed document."""
 import re
 import subprocess
 import tempfile
 
-from spanprof.folders import places_of, words_for
+from spanprof.measure import spanprof_large
 
-PLACES = places_of("spanprof_account")
-HOW = "spanprof_account, which tells it, is not found; tools/prove_program.sh spanprof_account proves and builds it"
+HOW = "spanprof_large, which tells it, is not found; tools/prove_program.sh spanprof_large proves and builds it"
 FAULTS = {
     "NotTimed": "segment %s has no times",
-    "ThreadCount": "the run had more threads than the 1,024 that spanprof_account takes",
-    "Moments": "the region lasted longer than the 10^15 ns that spanprof_account takes",
+    "ThreadCount": "the run had more threads than the 1,024 that spanprof_large takes",
+    "Moments": "the region lasted longer than the 10^15 ns that spanprof_large takes",
     "NoThread": "segment %s is on none of the threads",
     "EndsEarly": "segment %s ends before it begins: the processors' clocks differ",
     "OutOfTime": "segment %s is not within the region: the processors' clocks differ",
@@ -23,22 +22,17 @@ class NoAccount(Exception):
     """Why there is none."""
 
 
-def spanprof_account():
-    """The words that start the program; none where it is not found."""
-    return words_for("spanprof_account", PLACES)
-
-
 def in_words(line):
     """An error line of the program, for people."""
     name, *numbers = re.sub("^error: ", "", line).split() or [""]
     fault = FAULTS.get(name)
     if not fault or fault.count("%s") != len(numbers):
-        return "spanprof_account: " + (line or "it ended without a word")
+        return "spanprof_large account: " + (line or "it ended without a word")
     return fault % tuple(numbers)
 
 
 def ask(words, path):
-    """What the program prints for these words and the timed document in a file."""
+    """What the program prints of the timed document in a file, with these words behind `account`."""
     try:
         with open(path, "rb") as document:
             return answer(words, document)
@@ -56,14 +50,14 @@ def ask_of(words, document):
 
 def answer(words, document):
     """The same of an open file."""
-    program = spanprof_account()
+    program = spanprof_large()
     if not program:
         raise NoAccount(HOW)
     try:
-        done = subprocess.run(program + list(words), stdin=document, capture_output=True, text=True, errors="replace",
-                              check=False)
+        done = subprocess.run(program + ["account"] + list(words), stdin=document, capture_output=True, text=True,
+                              errors="replace", check=False)
     except OSError as wrong:
-        raise NoAccount("spanprof_account: %s" % wrong) from wrong
+        raise NoAccount("spanprof_large: %s" % wrong) from wrong
     if done.returncode:
         raise NoAccount(in_words(done.stdout.strip()))
     return done.stdout

@@ -42,7 +42,8 @@ def account_lines(found):
                  found.threads, lasting(found.elapsed), run, share(found.code), recorder, held_up_words(found, share)),
              "%s idle though a task was ready%s (measured)" % idle(found.delayed, found.delayed_by, ": beside "),
              "%s idle with nothing ready%s (measured)" % idle(found.starved, found.starved_by, ": there ran "),
-             "%s before the region's code and after it (measured); %s" % (share(found.outside), PROVED)]
+             "%s before the %s code and after it (measured); %s" % (
+                 share(found.outside), "program's" if found.of_whole else "region's", PROVED)]
     if found.left_out >= 2 * LEAST * found.whole > 0:
         lines.append("up to %s in code of the region that has no times, and is idle here (measured)" %
                      share(found.left_out))

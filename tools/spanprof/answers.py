@@ -4,6 +4,7 @@ from dataclasses import dataclass
 from functools import cached_property
 
 from spanprof import client
+from spanprof.c_calls import MOST_THREADS
 from spanprof.changed_text import with_costs, without_costs
 from spanprof.head import read_head
 from spanprof.text import has_loops
@@ -29,25 +30,18 @@ def named_numbers(lines):
     return {name: int(value) for name, value in pairs}
 
 
-class Answers:
-    def __init__(self, path, threads=None, tell=None):
+class Asked:
+    """A text, and what a program was asked of it. `span_numbers` are what it told first, `head` the text's own."""
+
+    def __init__(self, path, threads, tell):
         self.path, self.tell = path, tell or (lambda words: None)
         self.name = os.path.basename(path)
-        self.text = client.read(path)
-        self.head = read_head(self.text)
-        self.code = client.segments(self.text)
-        self.asked = []
-        self.wanted_threads = threads
+        self.asked, self.wanted_threads = [], threads
 
-    def ask(self, *words):
-        shown = "spanprof %s%s < %s" % (" ".join(words[:3]), " .." if len(words) > 3 else "", self.name)
+    def noted(self, shown):
+        """That this is asked, as a line of a terminal."""
         self.tell(shown)
         self.asked.append(shown)
-        return client.ask(words, self.text)
-
-    @cached_property
-    def span_numbers(self):
-        return named_numbers(self.ask("span"))
 
     @property
     def work(self):
@@ -56,6 +50,27 @@ class Answers:
     @property
     def span(self):
         return self.span_numbers["span"]
+
+    @property
+    def threads(self):
+        """Those asked for, or recorded; at most what `greedy` takes."""
+        return min(self.wanted_threads or self.head.threads or THREADS_WITHOUT_RECORDING, MOST_THREADS)
+
+
+class Answers(Asked):
+    def __init__(self, path, threads=None, tell=None):
+        super().__init__(path, threads, tell)
+        self.text = client.read(path)
+        self.head = read_head(self.text)
+        self.code = client.segments(self.text)
+
+    def ask(self, *words):
+        self.noted("spanprof %s%s < %s" % (" ".join(words[:3]), " .." if len(words) > 3 else "", self.name))
+        return client.ask(words, self.text)
+
+    @cached_property
+    def span_numbers(self):
+        return named_numbers(self.ask("span"))
 
     @cached_property
     def rows(self):
@@ -79,11 +94,6 @@ class Answers:
         """How many of the tasks stand for a thread's own code between two barriers."""
         return len({segment.task for segment in self.code if segment.task_place == OF_A_THREAD})
 
-    @property
-    def threads(self):
-        """Those asked for, or recorded; at most what `greedy` takes."""
-        return min(self.wanted_threads or self.head.threads or THREADS_WITHOUT_RECORDING, 1024)
-
     @cached_property
     def curve(self):
         """Of each number of threads, from 1 on, the numbers of its row."""
@@ -100,9 +110,7 @@ class Answers:
 
     @cached_property
     def predecessors(self):
-        shown = "spanprof replay < %s and all segments in their order" % self.name
-        self.tell(shown)
-        self.asked.append(shown)
+        self.noted("spanprof replay < %s and all segments in their order" % self.name)
         return client.predecessors(self.text, len(self.code))
 
     @cached_property
@@ -112,9 +120,7 @@ class Answers:
     def greedy_end(self, changes, threads):
         """Where the greedy run on so many threads ends, where `changes` gives segments other costs."""
         costs = [changes.get(s, row.cost) for s, row in enumerate(self.rows)]
-        shown = "spanprof greedy --threads %d < %s with other costs" % (threads, self.name)
-        self.tell(shown)
-        self.asked.append(shown)
+        self.noted("spanprof greedy --threads %d < %s with other costs" % (threads, self.name))
         table = client.ask(["greedy", "--threads", str(threads)], with_costs(self.text_without_costs, costs))
         return max((int(row["end"]) for row in client.rows(table)), default=0)
 

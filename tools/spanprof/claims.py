@@ -1,5 +1,5 @@
 """What a text lets one say of its program, as its head tells it. What is proved is proved of the text alone."""
-import re
+from spanprof.remarks import FOLDS
 
 COVERS_ENOUGH = 95  # per cent of the program's thread-time
 OTHERWISE = "the program's may be %s (remarks)"
@@ -7,13 +7,8 @@ OTHERWISE = "the program's may be %s (remarks)"
 
 def moved(head, name):
     """The directions, of `low` and `high`, in which remarks say that the text's work or span differs."""
-    found = set()
-    for remark in head.remarks:
-        effect = remark.rpartition(": ")[2]
-        for names, ways in re.findall(r"((?:work|span)(?: and span)?) (too \w+(?: or too \w+)?)", effect):
-            if name in names:
-                found.update(re.findall("low|high", ways))
-    return found
+    ways = {getattr(remark, name) for remark in head.remarks}
+    return (ways - {"", "either"}) | ({"low", "high"} if "either" in ways else set())
 
 
 def tenths(part, whole):
@@ -37,7 +32,7 @@ def is_partial(head):
 
 def is_folded(head):
     """Whether tasks are written as one: a table of times has then those of its last piece alone."""
-    return any(re.search(r"\bfold", remark) for remark in head.remarks)
+    return any(remark.name in FOLDS for remark in head.remarks)
 
 
 def is_of_one_thread(head):

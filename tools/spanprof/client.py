@@ -7,6 +7,9 @@ import os
 import re
 import signal
 import subprocess
+import threading
+from concurrent.futures import ThreadPoolExecutor
+from contextlib import contextmanager
 
 from spanprof.errors import Fault
 from spanprof.folders import places_of, words_for
@@ -31,7 +34,7 @@ class Refused(Fault):
 
     def brief(self):
         """On one line, with the event that is refused."""
-        event = of_event(self.text, self.answer)
+        event = of_event(self.text.split("\n"), self.answer)
         return "%s; %s" % (self, event) if event else str(self)
 
     def of(self, name):
@@ -40,13 +43,29 @@ class Refused(Fault):
         return "%s\n%s" % (more, self) if more else "%s: %s" % (name, self)
 
 
-def run(words, text):
-    """The program's run with these words on this input. That it may read nothing ends nobody."""
+@contextmanager
+def without_sigpipe():
+    """That a program may read nothing ends nobody. A thread beside the first leaves that to the first."""
+    if threading.current_thread() is not threading.main_thread():
+        yield
+        return
     before = signal.signal(signal.SIGPIPE, signal.SIG_IGN)
     try:
-        return subprocess.run(spanprof() + list(words), input=text, capture_output=True, text=True, check=False)
+        yield
     finally:
         signal.signal(signal.SIGPIPE, before)
+
+
+def run(words, text):
+    """The program's run with these words on this input."""
+    with without_sigpipe():
+        return subprocess.run(spanprof() + list(words), input=text, capture_output=True, text=True, check=False)
+
+
+def at_once(answer, questions):
+    """The answers in the order of the questions, as many at once as there are processors."""
+    with without_sigpipe(), ThreadPoolExecutor(len(os.sched_getaffinity(0))) as pool:
+        return list(pool.map(answer, questions))
 
 
 def asked(words, text):

@@ -4,6 +4,8 @@ from dataclasses import dataclass, field
 from itertools import takewhile
 from typing import Dict, List, Optional, Tuple
 
+from spanprof.remarks import Remark, read_remark
+
 NANOSECONDS = {"ns": 1, "us": 1000, "ms": 1000000}
 NUMBERS = {"clock reading": "clock_reading", "most held lock": "most_held", "untimed": "untimed"}
 DIVISION = ("outside regions", "in other regions", "in serial code", "in loops", "in parts without tasks", "in tasks")
@@ -38,7 +40,7 @@ class Head:
     is_median: bool = False            # each cost is the median of those runs; else it is one of them
     spread: Dict[str, Tuple[int, int, int]] = field(default_factory=dict)  # of work, span: least, median, most
     functions: Dict[str, str] = field(default_factory=dict)  # by a place: `in merge, inlined into sort at sort.c:9`
-    remarks: List[str] = field(default_factory=list)
+    remarks: List[Remark] = field(default_factory=list)
     locks: List[str] = field(default_factory=list)
 
     @property
@@ -161,7 +163,7 @@ def read_line(head, words):
     elif name == "whole program":
         head.whole = value
     elif name == "remark":
-        head.remarks.append(value)
+        head.remarks.append(read_remark(value))
     elif name.startswith("place "):
         head.functions.setdefault(name[len("place "):], value)
     elif name.startswith("lock "):

@@ -2,50 +2,19 @@
 
     program = spanprof.read("mine.tasks")
     program.work, program.span, program.slack(), program.greedy(4).end, program.what_if({3: 10}).span
-
-Lists of numbers are numpy arrays where numpy is there, and arrays of the standard library where it is not.
-SPANPROF_LIBRARY names the library; without it the one that was built or installed with this file is taken.
 """
 import array
 import ctypes
 import functools
-import os
 from typing import NamedTuple, Sequence
 
-KINDS = ("TooLong", "BadHeader", "BadByte", "BadWord", "BadNumber", "Unclosed", "Unopened", "TooDeep", "TooManyTasks",
-         "TooManySegments", "TooManyItems", "WorkTooLarge", "OutOfMemory", "TooManyTurns", "ThreadCount", "CostCount",
-         "CostsTooLarge", "WrongLength")  # numbered from 1, as include/spanprof.h has them
-MOST_THREADS = 1024
-NO_THREAD = 2 ** 32 - 1  # the thread of a segment of cost 0, which needs none
-TYPES = {"Q": ctypes.c_uint64, "I": ctypes.c_uint32}
-NAME = "libspanprof.so"
+from spanprof import c_calls
+from spanprof.c_calls import (MOST_THREADS, NO_THREAD, OF_LIMITS, Accounted, Analysed, Bounded, Certified, Measured,
+                              NoLibrary, Place, Refused, bytes_of, called, count_of, numbers_of, passed, refuse, room,
+                              told)
 
-
-class NoLibrary(OSError):
-    """libspanprof is not found, or is another one."""
-
-
-class Refused(ValueError):
-    """Why there is no answer: its kind, and the line of a fault of the text, which is 0 for anything else."""
-
-    def __init__(self, kind, line=0):
-        super().__init__("line %d: %s" % (line, kind) if line else kind)
-        self.kind, self.line = kind, line
-
-
-class Measured(ctypes.Structure):
-    """The number of segments, the work and the span."""
-    _fields_ = [(name, ctypes.c_uint64) for name in ("segments", "work", "span")]
-
-
-class Analysed(ctypes.Structure):
-    """The work, the span, and how many segments the critical path has."""
-    _fields_ = [(name, ctypes.c_uint64) for name in ("work", "span", "path_length")]
-
-
-class Bounded(ctypes.Structure):
-    """What `Bounds` has, as C fills it."""
-    _fields_ = [(name, ctypes.c_uint64) for name in ("least", "greatest")]
+__all__ = ["MOST_THREADS", "NO_THREAD", "Account", "Bounds", "Certificate", "NoLibrary", "Program", "Refused", "Run",
+           "check", "parse", "read"]
 
 
 class Run(NamedTuple):
@@ -61,81 +30,36 @@ class Bounds(NamedTuple):
     greatest: int
 
 
-def places():
-    """Where the library may be: in the repository, below the prefix that this file is installed on, on the system."""
-    named = os.environ.get("SPANPROF_LIBRARY")
-    if named:
-        return [named]
-    above = os.path.dirname(os.path.dirname(os.path.dirname(os.path.abspath(__file__))))
-    found = [os.path.join(above, "out", "library", NAME), os.path.join(above, "..", "lib", NAME)]
-    return [place for place in found if os.path.exists(place)] + [NAME]
+class Account(NamedTuple):
+    """How long a run's threads, together, were busy, idle while a segment was ready, idle while none was, and outside
+    of all segments; and when each segment's last predecessor had ended."""
+    busy: int
+    delayed: int
+    starved: int
+    outside: int
+    ready: Sequence
 
 
-@functools.lru_cache(maxsize=None)
-def shared():
-    """The library, loaded once."""
-    place = places()[0]
-    try:
-        loaded = ctypes.CDLL(place)
-    except OSError as error:
-        raise NoLibrary("%s: %s; tools/library.sh builds it, and SPANPROF_LIBRARY names it" % (place, error)) from None
-    if not hasattr(loaded, "spanprof_measure"):
-        raise NoLibrary("%s is no library of spanprof" % place)
-    return loaded
-
-
-def numpy():
-    """numpy, or None where it is not there."""
-    try:
-        import numpy as found
-    except ImportError:
-        return None
-    return found
-
-
-def told(numbers):
-    """Numbers as a caller gets them."""
-    found = numpy()
-    return numbers if found is None else found.frombuffer(numbers, dtype="u%d" % numbers.itemsize)
-
-
-def room(code, count):
-    """Place for so many numbers."""
-    return array.array(code, bytes(count * ctypes.sizeof(TYPES[code])))
-
-
-def numbers_of(values):
-    """Numbers from 0 on as an array of 64 bits each."""
-    try:
-        return array.array("Q", [int(value) for value in values])
-    except OverflowError:
-        raise Refused("CostsTooLarge") from None
-
-
-def passed(numbers):
-    """An array as a call takes it: where it begins, and how many numbers it has."""
-    kind = TYPES[numbers.typecode]
-    if not numbers:
-        return [(kind * 1)(), ctypes.c_size_t(0)]
-    return [(kind * len(numbers)).from_buffer(numbers), ctypes.c_size_t(len(numbers))]
+class Certificate(NamedTuple):
+    """A certificate that holds: no legal schedule of its program ends before `ends_at`, and one ends just then."""
+    segments: int
+    ends_at: int
 
 
 class Program:
-    """A text's program under its own costs, or under those of `what_if`. Nothing about it changes."""
+    """A text's program under its own costs, or under those of `what_if`. Nothing about it changes. Without `any_size`
+    the text keeps the limits of programs; with it the text is of version 1."""
 
-    def __init__(self, text, costs=None):
-        self.text = text.encode("utf-8", "surrogateescape") if isinstance(text, str) else bytes(text)
+    def __init__(self, text, costs=None, any_size=False):
+        self.text, self.any_size = bytes_of(text), any_size
         self._given = array.array("Q") if costs is None else numbers_of(costs)
         measured = Measured()
         self._asked("spanprof_measure", ctypes.byref(measured))
         self.segments, self.work, self.span = measured.segments, measured.work, measured.span
 
     def _call(self, name, *words):
-        """Calls the library about the text, and takes its refusals for errors."""
-        line = ctypes.c_uint32()
-        number = getattr(shared(), name)(ctypes.c_char_p(self.text), ctypes.c_size_t(len(self.text)), *words,
-                                         ctypes.byref(line))
-        refuse(number, line.value)
+        """Calls the library about the text."""
+        called(name, self.text, ctypes.c_bool(self.any_size), *words)
 
     def _asked(self, name, *words):
         """The same under the costs."""
@@ -192,8 +116,8 @@ class Program:
     def bounds(self, threads):
         """Between which ends each greedy schedule on so many threads ends."""
         found = Bounded()
-        refuse(shared().spanprof_bounds(ctypes.c_uint64(self.work), ctypes.c_uint64(self.span), count_of(threads),
-                                        ctypes.byref(found)), 0)
+        refuse(c_calls.shared().spanprof_bounds(ctypes.c_uint64(self.work), ctypes.c_uint64(self.span),
+                                                count_of(threads), ctypes.byref(found)), Place())
         return Bounds(found.least, found.greatest)
 
     def is_legal(self, starts):
@@ -207,38 +131,55 @@ class Program:
         if not hasattr(costs, "items"):
             if len(costs) != self.segments:
                 raise Refused("CostCount")
-            return Program(self.text, costs)
+            return Program(self.text, costs, self.any_size)
         other = [int(cost) for cost in self.costs]
         for segment, cost in costs.items():
             if not 0 <= segment < self.segments:
                 raise Refused("UnknownSegment")
             other[segment] = cost
-        return Program(self.text, other)
+        return Program(self.text, other, self.any_size)
 
-
-def refuse(number, line):
-    """Raises what a call refuses; 0 is an answer."""
-    if number == 0:
-        return
-    kind = KINDS[number - 1]
-    if kind == "OutOfMemory":
-        raise MemoryError("spanprof is out of memory")
-    raise Refused(kind, line)
-
-
-def count_of(threads):
-    """A number of threads as a call takes it."""
-    if not 1 <= threads <= MOST_THREADS:
-        raise Refused("ThreadCount")
-    return ctypes.c_uint32(threads)
+    def account(self, threads, begins, ends, count=None, first=None, last=None):
+        """Where the time of a run's threads went, by the thread, the begin and the end of each segment. Without other
+        words it was on as many threads as are named, from the first begin to the last end."""
+        threads = numbers_of(threads, "I", "NoThread")
+        begins, ends = (numbers_of(moments, "Q", "OutOfTime") for moments in (begins, ends))
+        count = max(threads, default=0) + 1 if count is None else count
+        first = min(begins, default=0) if first is None else first
+        last = max(ends, default=0) if last is None else last
+        found, ready = Accounted(), room("Q", self.segments)
+        self._call("spanprof_account", count_of(count), ctypes.c_uint64(first), ctypes.c_uint64(last), *passed(threads),
+                   *passed(begins), *passed(ends), *passed(ready), ctypes.byref(found))
+        return Account(found.busy, found.delayed, found.starved, found.outside, told(ready))
 
 
 def parse(text):
-    """The program of a text."""
-    return Program(text)
+    """The program of a text: of any size, where it is beyond the limits and of version 1."""
+    try:
+        return Program(text)
+    except Refused as refused:
+        if refused.kind not in OF_LIMITS:
+            raise
+        return beyond(text, refused)
+
+
+def beyond(text, refused):
+    """The same where it was refused for its size. A text of version 2 stays refused so."""
+    try:
+        return Program(text, any_size=True)
+    except Refused as other:
+        raise (refused if other.kind == "BadHeader" else other) from None
 
 
 def read(path):
     """The program of a file."""
     with open(path, "rb") as file:
-        return Program(file.read())
+        return parse(file.read())
+
+
+def check(document, any_size=False):
+    """What a certificate shows, as `spanprof certify` writes it, whoever wrote it. One that does not hold is refused
+    with the first test that it fails."""
+    found = Certified()
+    called("spanprof_check", bytes_of(document), ctypes.c_bool(any_size), ctypes.byref(found))
+    return Certificate(found.segments, found.ends_at)

@@ -1,10 +1,11 @@
 """What spanprof_large tells of a text of any size, and where that program is."""
 import subprocess
+import tempfile
 
 from spanprof.answers import named_numbers
 from spanprof.errors import Fault
 from spanprof.folders import places_of, words_for
-from spanprof.refusal import without_text
+from spanprof.refusal import of_event, without_text
 
 PLACES = places_of("spanprof_large")
 LIMITS = {
@@ -18,6 +19,26 @@ HOW = "spanprof_large, which measures it, is not found; tools/prove_program.sh s
 def spanprof_large():
     """The words that start the program; none where it is not found."""
     return words_for("spanprof_large", PLACES)
+
+
+def event_in(path, answer):
+    """The event of a replay document that is refused, and why; empty for another answer."""
+    with open(path, encoding="utf-8", errors="replace", newline="\n") as document:
+        return of_event(document, answer)
+
+
+def replay(program, path):
+    """Ends with a fault where the run of a replay document is refused; what else is told of it is not kept."""
+    try:
+        with open(path, "rb") as document, tempfile.TemporaryFile("w+") as told:
+            done = subprocess.run(program + ["replay"], stdin=document, stdout=told, check=False)
+            told.seek(0)
+            answer = told.readline().strip() or "it ended with status %d" % done.returncode
+    except OSError as wrong:
+        raise Fault("spanprof_large: %s" % wrong) from wrong
+    if done.returncode:
+        event = event_in(path, answer)
+        raise Fault("spanprof_large replay: %s%s" % (answer, "; " + event if event else ""))
 
 
 def measure(program, path):

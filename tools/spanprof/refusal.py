@@ -5,11 +5,12 @@ for the same fault as soon as the wrong token stands in it.
 """
 import difflib
 import re
-from itertools import islice
+from itertools import dropwhile, islice
 
 TOKEN = re.compile(r"[A-Za-z0-9_]+|[^\sA-Za-z0-9_]")
 STATEMENTS = ("work", "task", "taskwait", "taskgroup", "for", "if", "final", "depend", "in", "out", "inout", "inoutset")
 AT_LINE = re.compile(r"error: line (\d+): (\w+)")
+DIVIDER = re.compile(r"---\r?\n?")
 AT_EVENT = re.compile(r"error: event (\d+): (\w+)(?: (\d+))?")
 CLOSEST = 0.6       # how alike a word has to be to one that is meant
 LONGEST_SHOWN = 100
@@ -114,13 +115,19 @@ def at_line(name, text, answer, ask):
     return "\n".join(["%s:%d: %s: %s" % (name, number, kind, words)] + picture(lines[number - 1], number, token))
 
 
-def of_event(text, answer):
-    """The event that is refused, and why; empty for another answer."""
+def words_behind(lines):
+    """The words behind the divider of a document, of which the lines come one by one."""
+    lines = dropwhile(lambda line: not DIVIDER.fullmatch(line), lines)
+    return (word for line in islice(lines, 1, None) for word in line.split())
+
+
+def of_event(lines, answer):
+    """The event that is refused, and why; empty for another answer. The lines are those of the document."""
     found = AT_EVENT.match(answer)
     if not found:
         return ""
     number, kind, other = found.groups()
-    words = re.split(r"(?m)^---\r?$", text, maxsplit=1)[-1].split()[3 * int(number):3 * int(number) + 3]
+    words = islice(words_behind(lines), 3 * int(number), 3 * int(number) + 3)
     said = EVENTS.get(kind, kind)
     return "`%s`: %s" % (" ".join(words), said % other if "%s" in said else said)
 
@@ -160,6 +167,6 @@ def explained(name, command, text, answer, ask):
     if AT_LINE.match(answer):
         return at_line(name, text.partition("\n---")[0], answer, lambda shorter: ask(["span"], shorter))
     if AT_EVENT.match(answer):
-        return "%s: %s" % (name, of_event(text, answer))
+        return "%s: %s" % (name, of_event(text.split("\n"), answer))
     more = of_whole(command, text, answer, ask)
     return "%s: %s" % (name, more) if more else ""

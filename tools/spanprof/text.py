@@ -219,10 +219,9 @@ def clauses(task):
     return "".join(" " + clause for clause in out)
 
 
+@lru_cache(maxsize=1 << 16)
 def line(statement):
     comment = "  # " + statement.comment if statement.comment else ""
-    if statement.kind == "work":
-        return "work %d\n" % statement.cost
     if statement.kind == "task":
         return "task%s {%s\n" % (clauses(statement), comment)
     if statement.kind == "taskgroup":
@@ -230,21 +229,17 @@ def line(statement):
     return "}\n" if statement.kind == "end" else "taskwait%s\n" % comment
 
 
-def merged(stream):
-    """Neighbouring pieces of work as one, and none that cost nothing."""
-    cost, name = 0, ""
+def text_lines(stream, version):
+    """Neighbouring pieces of work are one, and none costs nothing."""
+    yield "omptasks %d\n" % version
+    cost = 0
     for statement in stream:
         if statement.kind == "work":
-            cost, name = cost + statement.cost, name or statement.name
+            cost += statement.cost
             continue
         if cost:
-            yield Statement("work", name, cost)
-        cost, name = 0, ""
-        yield statement
+            yield "work %d\n" % cost
+            cost = 0
+        yield line(statement)
     if cost:
-        yield Statement("work", name, cost)
-
-
-def text_lines(stream, version):
-    yield "omptasks %d\n" % version
-    yield from map(line, merged(stream))
+        yield "work %d\n" % cost

@@ -13,7 +13,8 @@ class Plan(unittest.TestCase):
     def test_what_goes_where(self):
         places = [path for _, path in install.plan()]
         for path in ("bin/spanprof", "bin/spanprof-record", "lib/spanprof/librecorder.so", "bin/spanprof-path",
-                     "bin/spanprof-convert", "lib/spanprof/convert_log",
+                     "bin/spanprof-convert", "lib/spanprof/convert_log", "lib/spanprof/calibrate",
+                     "bin/spanprof-predict",
                      "lib/spanprof/spanprof_path", "share/spanprof/spanprof/path/found.py",
                      "share/spanprof/spanprof/whatif/command.py",
                      "bin/spanprof-whatif", "share/man/man1/spanprof-path.1",
@@ -27,11 +28,10 @@ class Plan(unittest.TestCase):
 
     def test_the_program_for_large_texts_where_it_is_built(self):
         self.assertNotIn("bin/spanprof_large", [path for _, path in install.plan(large="no such program")])
-        self.assertNotIn("bin/spanprof_account", [path for _, path in install.plan(account="no such program")])
-        self.assertIn("bin/spanprof_account", [path for _, path in install.plan(account=__file__)])
         places = dict((path, source) for source, path in install.plan(large=__file__))
         self.assertEqual(places["bin/spanprof_large"], __file__)
         self.assertIn("share/man/man1/spanprof_large.1", places)
+        self.assertIn("share/man/man1/spanprof-account.1", places)
 
     def test_programs_can_be_run(self):
         self.assertEqual([oct(install.mode(path)) for path in (

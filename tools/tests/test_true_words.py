@@ -11,7 +11,7 @@ import unittest
 
 TOOLS = os.path.dirname(os.path.dirname(os.path.abspath(__file__)))
 PARTS = ("", "record", "report", "path", "whatif")
-OF_WHAT = re.compile(r"proved of (the recorded text|the text|this text|that text|it\b|them\b|%s)")
+OF_WHAT = re.compile(r"proved of (the recorded text|the burdened text|the text|this text|that text|it\b|them\b|%s)")
 OTHERS = ("proved", "a program that is proved correct", "nothing about which is proved", "proves and builds",
           "computed here by the proved code, compiled for the page")
 ABOUT_THE_TEXT = re.compile(r"\btexts?\b|nothing (is|about them is) proved|about which nothing is proved|"

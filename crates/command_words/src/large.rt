@@ -1,14 +1,16 @@
 //! What the words of the program for texts of any size ask for.
 ghost use Rattle.std.specs.Prelude.{◌≡◌, map, option_map, string_bytes};
 ghost use Rattle.clap.specs.Words.{found_of, rows_of, subcommand_rows_of};
-ghost use Rattle.command_words.specs.LargeWords.{asked_by, large_request_by, large_request_in};
-ghost use Rattle.command_words.specs.LargeWords.{large_request_named, large_request_of};
+ghost use Rattle.command_words.specs.LargeWords.{account_in, asked_by, is_set, large_request_by};
+ghost use Rattle.command_words.specs.LargeWords.{changes_asked, large_request_in, list_asked};
+ghost use Rattle.command_words.specs.LargeWords.{request_behind};
+ghost use Rattle.command_words.specs.LargeWords.{large_request_named, large_request_of, what_if_in};
 ghost use Rattle.command_words.specs.Reading.{Gives};
 
-use crate::changes::Changes;
+use crate::changes::{Changes, read_changes};
 use crate::large_program::large_program;
 use crate::number::read_u32;
-use crate::request::{WordsFault, changes_in, number_at};
+use crate::request::{WordsFault, number_at};
 use clap::ArgMatches;
 use clap::error::ErrorKind;
 use std::alloc::Global;
@@ -20,6 +22,10 @@ pub enum LargeRequest {
     OfMeter(MeterRequest),
     /// What its table tells.
     OfTable(TableRequest),
+    /// What is written with its canonical text.
+    OfText(TextRequest),
+    /// What a document tells: a text, a divider, and what stands behind it.
+    OfDocument(DocumentRequest),
 }
 
 /// What can be told of a text as it comes.
@@ -42,6 +48,39 @@ pub enum TableRequest {
     Curve { upto: u32 },
     /// The work and the span after these changes of costs, and the span before them.
     WhatIf { changes: Changes },
+}
+
+/// What is written with the canonical text of a program, as by the commands of the same names.
+#[derive(Clone, Copy, Debug, PartialEq, Eq)]
+pub enum TextRequest {
+    /// The canonical text.
+    Show,
+    /// The certificate of its span.
+    Certify,
+}
+
+/// What is asked of a document: of a text and what stands behind it.
+#[derive(Clone, Copy, Debug, PartialEq, Eq)]
+pub enum DocumentRequest {
+    /// Where the time of a run's threads went, by the times of its segments.
+    Account(AccountRequest),
+    /// What a run records, by its events.
+    Replay,
+    /// Whether the claim of a certificate holds.
+    Check,
+    /// The work and the span after the changes of costs that a list names, and the span before them.
+    WhatIf,
+}
+
+/// What is asked of the times of a run.
+#[derive(Clone, Copy, Debug, PartialEq, Eq)]
+pub enum AccountRequest {
+    /// The sums of what the threads did.
+    Sums,
+    /// For each segment when it became ready, began and ended.
+    Rows,
+    /// The run's own path.
+    Path,
 }
 
 /// Reads the words of `spanprof_large`, of which the first is the program's name: a command, or
@@ -78,10 +117,23 @@ fn large_request_by(
 {
     match matches.subcommand() {
         None => asked_by(upto),
-        Some((name, values)) => match upto {
-            None => large_request_named(alloc, name, values),
-            Some(_) => Err(WordsFault::WrongWords),
-        },
+        Some((name, values)) => request_behind(alloc, upto, name, values),
+    }
+}
+
+/// What a command asks for, before which the option may not stand.
+fn request_behind(
+    alloc: Global,
+    upto: Option<&str>,
+    name: &str,
+    values: &ArgMatches<'_>,
+) -> Result<LargeRequest, WordsFault>
+    ensures { Gives (request_behind (option_map (λ text. text.now) upto.entry) name.now
+        (rows_of (found_of values.now))) result }
+{
+    match upto {
+        None => large_request_named(alloc, name, values),
+        Some(_) => Err(WordsFault::WrongWords),
     }
 }
 
@@ -92,7 +144,7 @@ fn asked_by(upto: Option<&str>) -> Result<LargeRequest, WordsFault>
     match upto {
         None => Ok(LargeRequest::OfMeter(MeterRequest::Numbers)),
         Some(value) => Ok(LargeRequest::OfMeter(MeterRequest::Bounds {
-            upto: read_u32(value).ok_or(WordsFault::WrongWords)?,
+            upto: read_u32(value.as_bytes()).ok_or(WordsFault::WrongWords)?,
         })),
     }
 }
@@ -116,9 +168,70 @@ fn large_request_named(
         "curve" => Ok(LargeRequest::OfTable(TableRequest::Curve {
             upto: number_at(values, "upto").ok_or(WordsFault::WrongWords)?,
         })),
-        "whatif" => Ok(LargeRequest::OfTable(TableRequest::WhatIf {
-            changes: changes_in(alloc, values)?,
-        })),
+        "whatif" => what_if_in(alloc, values),
+        "show" => Ok(LargeRequest::OfText(TextRequest::Show)),
+        "certify" => Ok(LargeRequest::OfText(TextRequest::Certify)),
+        "account" => Ok(LargeRequest::OfDocument(DocumentRequest::Account(account_in(values).ok_or(
+            WordsFault::WrongWords,
+        )?))),
+        "replay" => Ok(LargeRequest::OfDocument(DocumentRequest::Replay)),
+        "check" => Ok(LargeRequest::OfDocument(DocumentRequest::Check)),
         _ => Err(WordsFault::WrongWords),
+    }
+}
+
+/// What the words of `whatif` ask for: of changes, or of a list of them, and not of both.
+fn what_if_in(alloc: Global, values: &ArgMatches<'_>) -> Result<LargeRequest, WordsFault>
+    ensures { Gives (what_if_in (rows_of (found_of values.now))) result }
+{
+    let listed = is_set(values, "listed");
+    match values.get_raw("changes") {
+        None => list_asked(listed),
+        Some(words) => changes_asked(alloc, listed, words),
+    }
+}
+
+/// Without changes there has to be the flag.
+fn list_asked(listed: bool) -> Result<LargeRequest, WordsFault>
+    ensures { Gives (list_asked listed) result }
+{
+    if listed {
+        Ok(LargeRequest::OfDocument(DocumentRequest::WhatIf))
+    } else {
+        Err(WordsFault::WrongWords)
+    }
+}
+
+/// With changes there may not be the flag.
+fn changes_asked(alloc: Global, listed: bool, words: &[&str]) -> Result<LargeRequest, WordsFault>
+    ensures { Gives (changes_asked listed (map (λ word. word.now) words.now)) result }
+{
+    if listed {
+        return Err(WordsFault::WrongWords);
+    }
+    Ok(LargeRequest::OfTable(TableRequest::WhatIf {
+        changes: read_changes(alloc, words)?,
+    }))
+}
+
+/// What the flags of `account` ask for: none of them the sums, and not both anything.
+fn account_in(values: &ArgMatches<'_>) -> Option<AccountRequest>
+    ensures { result ≡ account_in (rows_of (found_of values.now)) }
+{
+    match (is_set(values, "rows"), is_set(values, "path")) {
+        (false, false) => Some(AccountRequest::Sums),
+        (true, false) => Some(AccountRequest::Rows),
+        (false, true) => Some(AccountRequest::Path),
+        (true, true) => None,
+    }
+}
+
+/// Whether a flag stands among the words.
+fn is_set(values: &ArgMatches<'_>, flag: &str) -> bool
+    ensures { result ≡ is_set flag.now (rows_of (found_of values.now)) }
+{
+    match values.get_str(flag) {
+        Some(text) => text == "true",
+        None => false,
     }
 }

@@ -1,18 +1,21 @@
 -- What one more mark does, the numbers at marked places, and the window that the places stand in.
 use Rattle.std.proofs.Common.{ℕ, ◌+◌, ◌<◌, ◌≡◌, ◌↔◌, ◌⊎◌, Bool, false, List, [], ◌∷◌, ◌++◌, length}
-use Rattle.std.proofs.Common.{get_or, set, take, drop, Contains, true, ◌-◌, ◌≤◌, sym, ◌∙◌, ap}
-use Rattle.std.proofs.Common.{subst, inl, inr, arith}
+use Rattle.std.proofs.Common.{All, Bor, map, get_or, set, take, drop, Contains, true, ◌-◌, ◌≤◌, sym, ◌∙◌, ap}
+use Rattle.std.proofs.Common.{subst, inl, inr, arith, zero, suc}
+use Rattle.std.specs.List.{flat_map}
 use Rattle.std.specs.List.Sorted.{IsStrictlyIncreasing}
 use Rattle.std.proofs.Math.Seq.{take-append_seam}
 use Rattle.std.proofs.lemmas.Bool.{cases_eq, cases_lt, false≢true}
 use Rattle.std.proofs.lemmas.List.{get_or-set_same, get_or-set_other, get_or_default, get_or_past}
-use Rattle.std.proofs.lemmas.List.{length-set}
+use Rattle.std.proofs.lemmas.List.{length-set, length-map, get_or-map}
 use Rattle.std.proofs.lemmas.List.Elements.{Contains-append_left, Contains-append_right}
 use Rattle.std.proofs.lemmas.List.Elements.{Contains-append_cases, Contains-push}
 use Rattle.std.proofs.lemmas.List.Elements.{Contains-push_cases}
 use Rattle.std.proofs.lemmas.List.Kept.{AllPairs-from_increasing}
 use Rattle.depend_table.specs.Lists.{Lists}
 use Rattle.depend_table.specs.MarkedPlaces.{AreWithin, IsMarked, AreMarkedToo, IsMarkedNumber}
+use Rattle.depend_table.specs.MarkedPlaces.{IsNumberAmong}
+use Rattle.depend_table.proofs.Members.{contains_member, member_contains, member_map, member_of_map}
 use Rattle.depend_table.proofs.Lists.{lists_push, lists_same}
 
 -- one more place is marked
@@ -207,3 +210,79 @@ pub within_wider : (first end from to : ℕ) (places : List ℕ) → from ≤ fi
     → AreWithin first end places
     → AreWithin from to places
 within_wider first end from to places lower higher within k d h = grind arith
+
+-- the numbers at the marked places
+pub among_marked : (first : ℕ) (marks : List Bool) (end : ℕ) (all numbers kept : List ℕ)
+    → ((place : ℕ) → IsMarked first marks place ↔ Contains all place)
+    → ((place : ℕ) → IsMarked first marks place → place < end)
+    → Lists (IsMarkedNumber first marks numbers end) kept
+    → Lists (IsNumberAmong all numbers) kept
+among_marked first marks end all numbers kept marked within lists =
+    lists_same (IsMarkedNumber first marks numbers end) (IsNumberAmong all numbers) kept lists
+    (λ s m. record { place = m.place; among = (marked m.place).0 m.marked; found = m.found })
+    (λ s m.
+    let at_mark = (marked m.place).1 m.among in
+    record {
+      place = m.place;
+      below = within m.place at_mark;
+      marked = at_mark;
+      found = m.found;
+    })
+
+-- the numbers at ascending places
+pub among_ascending : (all places numbers kept : List ℕ)
+    → Lists (Contains all) places
+    → IsStrictlyIncreasing numbers
+    → All (λ place. place < length numbers) places
+    → kept ≡ map (λ place. get_or numbers place 0) places
+    → Lists (IsNumberAmong all numbers) kept
+among_ascending all places numbers kept lists up below is =
+    subst (Lists (IsNumberAmong all numbers)) (sym is)
+    (record { ascending = ascending; each = λ s. (there s, back s) })
+  where
+    number_at : ℕ → ℕ
+    number_at place = get_or numbers place 0
+
+    ascending : IsStrictlyIncreasing (map number_at places)
+    ascending k h =
+        let next : k + 1 < length places = omega (arith, length-map places number_at) in
+        let less : number_at (get_or places k 0) < number_at (get_or places (k + 1) 0) =
+        AllPairs-from_increasing numbers up (get_or places k 0) (get_or places (k + 1) 0) 0
+        (lists.ascending k next) (below (k + 1) 0 next) in
+        omega (
+          arith,
+          get_or-map number_at places k 0 0 (omega arith),
+          get_or-map number_at places (k + 1) 0 0 next,
+        )
+
+    there : (s : ℕ) → Contains (map number_at places) s → IsNumberAmong all numbers s
+    there s c =
+        let found =
+        member_of_map number_at places s (member_contains (map number_at places) s c) in
+        record {
+          place = found.0;
+          among = (lists.each found.0).0 (contains_member found.1);
+          found = found.2;
+        }
+
+    back : (s : ℕ) → IsNumberAmong all numbers s → Contains (map number_at places) s
+    back s m =
+        let listed = (lists.each m.place).1 m.among in
+        subst (Contains (map number_at places)) m.found
+        (contains_member (member_map number_at (member_contains places m.place listed)))
+
+-- where each list stays below a number
+pub flat_below : (n : ℕ) (lists : List (Bor (List ℕ))) (place : ℕ)
+    → All (λ (one : Bor (List ℕ)). All (λ (p : ℕ). p < n) one.now) lists
+    → Contains (flat_map (λ (one : Bor (List ℕ)). one.now) lists) place
+    → place < n
+flat_below n [] place below c = absurd (omega (arith, c.1))
+flat_below n (one ∷ lists) place below c =
+    let rest = flat_below n lists place (λ k d h. below (suc k) d (omega arith)) in
+    elim (Contains-append_cases one.now (flat_map (λ (o : Bor (List ℕ)). o.now) lists) place c) [
+      | inl here ↦
+          let less : get_or one.now here.0 place < n =
+          below zero one (omega arith) here.0 place here.1 in
+          subst (λ (p : ℕ). p < n) here.2 less
+      | inr later ↦ rest later
+    ]

@@ -1,5 +1,5 @@
 -- The places of siblings: how many were created before each.
-use Rattle.std.proofs.Common.{ℕ, ◌+◌, ◌<◌, ◌≡◌, ◌↔◌, Bool, true, false, cond, List, [], ◌∷◌, ◌++◌}
+use Rattle.std.proofs.Common.{ℕ, ◌+◌, ◌<◌, ◌≡◌, Bool, true, false, cond, List, [], ◌∷◌, ◌++◌}
 use Rattle.std.proofs.Common.{map, reverse, length, get_or, Option, All, Contains, refl, sym, ◌∙◌}
 use Rattle.std.proofs.Common.{ap, subst, arith}
 use Rattle.std.specs.List.{flat_map}
@@ -13,7 +13,7 @@ use Rattle.program_text.specs.declared.statement.DependKind.{DependKind}
 use Rattle.program_text.specs.declared.statement.Item.{Item}
 use Rattle.depend_table.specs.declared.table.Call.{Call}
 use Rattle.depend_table.specs.Lists.{Lists}
-use Rattle.depend_table.specs.MarkedPlaces.{IsMarked, IsMarkedNumber}
+use Rattle.depend_table.specs.MarkedPlaces.{IsNumberAmong}
 use Rattle.depend_table.specs.Siblings.{Sibling, IsAmong, IsKept}
 use Rattle.depend_table.specs.Siblings.IsAmong.{Newest, Below}
 use Rattle.depend_table.specs.Generations.{HasRank, AreGenerations, mentions, sharing_at}
@@ -151,37 +151,18 @@ place_of_kept names calls items task table k =
           ∙ k.number,
     )
 
--- the tasks at the marked places are the kept ones
-pub kept_listed : (names : Names) (calls : List Call) (items : List Item) (first : ℕ)
-    (marks : List Bool) (end : ℕ) (kept : List ℕ)
+-- the tasks at these places are the kept ones
+pub kept_among : (names : Names) (calls : List Call) (items : List Item) (kept : List ℕ)
     → IsTableOf names calls
-    → ((place : ℕ)
-    → IsMarked first marks place ↔ Contains (flat_map (predecessors_for names items) items) place)
-    → ((place : ℕ) → IsMarked first marks place → place < end)
-    → Lists (IsMarkedNumber first marks (tasks_of calls) end) kept
+    → Lists (IsNumberAmong (flat_map (predecessors_for names items) items) (tasks_of calls)) kept
     → Lists (IsKept (newest_first calls) items) kept
-kept_listed names calls items first marks end kept table marked within lists =
-    lists_same (IsMarkedNumber first marks (tasks_of calls) end) (IsKept (newest_first calls) items)
-    kept lists there back
-  where
-    there : (s : ℕ)
-        → IsMarkedNumber first marks (tasks_of calls) end s
-        → IsKept (newest_first calls) items s
-    there s m =
-        kept_at_place names calls items m.place s table ((marked m.place).0 m.marked) m.found
-
-    back : (s : ℕ)
-        → IsKept (newest_first calls) items s
-        → IsMarkedNumber first marks (tasks_of calls) end s
-    back s k =
-        let at_place = place_of_kept names calls items s table k in
-        let at_mark = (marked at_place.0).1 at_place.1 in
-        record {
-          place = at_place.0;
-          below = within at_place.0 at_mark;
-          marked = at_mark;
-          found = at_place.2;
-        }
+kept_among names calls items kept table lists =
+    lists_same (IsNumberAmong (flat_map (predecessors_for names items) items) (tasks_of calls))
+    (IsKept (newest_first calls) items) kept lists
+    (λ s m. kept_at_place names calls items m.place s table m.among m.found)
+    (λ s k.
+    let at_place = place_of_kept names calls items s table k in
+    record { place = at_place.0; among = at_place.1; found = at_place.2 })
 
 -- the places stay in order
 one_in_order : (place : ℕ) → IsStrictlyIncreasing (place ∷ [])

@@ -23,3 +23,9 @@ pub record IsMarkedNumber (first : ℕ) (marks : List Bool) (numbers : List ℕ)
   pub below : place < n
   pub marked : IsMarked first marks place
   pub found : slice_index_or numbers place 0 ≡ number
+
+-- the number stands at one of these places
+pub record IsNumberAmong (places numbers : List ℕ) (number : ℕ) : Type 0 where
+  pub place : ℕ
+  pub among : Contains places place
+  pub found : slice_index_or numbers place 0 ≡ number

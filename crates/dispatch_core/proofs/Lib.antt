@@ -17,3 +17,4 @@ pub mod SomeGraph
 pub mod FirstRefused
 pub use Rattle.open_segments.proofs.Ascending
 pub use Rattle.open_segments.proofs.ListLemmas
+pub mod Following

@@ -2,8 +2,7 @@
 use Rattle.std.proofs.Common.{ℕ, ◌*◌, ◌<◌, ◌≤◌, ◌≡◌, ◌⊎◌, suc, Bool, true, false, List}
 use Rattle.std.proofs.Common.{[], ◌∷◌, Option, None, length, refl, sym, ap, ◌∙◌, subst, arith}
 use Rattle.std.proofs.Common.{inl, inr, sum, sum_by, cond, get_or}
-use Rattle.std.specs.Prelude.{All, Vec}
-use Rattle.std.specs.declared.alloc.Global.{Global}
+use Rattle.std.specs.Prelude.{All}
 use Rattle.std.proofs.lemmas.List.Sums.{sum_by-le}
 use Rattle.std.proofs.lemmas.Option.{slice_get-get_or}
 use Rattle.open_segments.proofs.Ascending.{length_below, Lists-same}
@@ -184,10 +183,10 @@ graph_of_program table graph sound of =
     }
 
 -- the kept predecessors of all segments, and their costs
-pub graph_of_lists : (table : Table) (costs : List ℕ) (lists : List (Vec ℕ Global))
+pub graph_of_lists : (table : Table) (costs : List ℕ) (lists : List (List ℕ))
     → costs ≡ costs_of table
-    → AreFirstLists table (length table.segments) (lists_of lists)
-    → IsGraphOf table (record { costs = costs; predecessors = lists_of lists })
+    → AreFirstLists table (length table.segments) lists
+    → IsGraphOf table (record { costs = costs; predecessors = lists })
 graph_of_lists table costs lists are_costs are_lists = record {
   costs = are_costs;
   each = are_lists.each;

@@ -8,4 +8,5 @@ pub mod Sound
 pub mod Graph
 pub mod First
 pub mod Replays
+pub mod Successors
 pub use Rattle.open_segments.specs.Facts

@@ -16,17 +16,16 @@ ghost use Rattle.dispatch_core.specs.Refusals.{IsFirstUnfinished};
 ghost use Rattle.dispatch_core.specs.Graph.{IsGraphOf};
 
 use crate::event::{Event, FinishKind, FinishRefusal, MOST_WORKERS, StartRefusal};
-use crate::graph::{Graph, make_graph};
+use crate::graph::{Graph, Predecessors, make_graph};
 use crate::kernel::{Kernel, SegResult};
-use crate::places::{flag, make_places, sum_at, worker_entry};
+use crate::run_state::{first_state, flag, sum_at, worker_entry};
 use open_segments::counters::Counters;
 use open_segments::entries::{push_if, value_entry};
-use open_segments::laws::serves_runs;
 use open_segments::opener::opener;
-use program_text::limits::MOST_SEGMENTS;
 use std::alloc::Global;
 use std::marker::{Model, PhantomData};
 use task_program::AllocFault;
+use task_program::limits::MOST_SEGMENTS;
 use task_segments::limits::MOST_TASKS_WITH_ROOT;
 use task_segments::table::BoundedTable;
 
@@ -73,18 +72,18 @@ impl<K: Kernel, const SEGMENTS: u32, const TASKS: u32> BoundedCore<K, SEGMENTS, 
         ensures ok { IfOk result (λ core. core ≡ record { table = table.entry; history = [] }) }
         ensures err { IfErr result (λ fault. fault.table ≡ table.entry) }
     {
-        match make_places(alloc, &table) {
-            Ok(places) => {
-                serves_runs(&table);
+        match first_state(alloc, &table) {
+            Ok(state) => {
+                open_segments::laws::serves_runs(&table);
                 Ok(BoundedCore {
                     alloc,
                     table,
-                    history: places.history,
-                    started: places.started,
-                    running: places.running,
-                    values: places.values,
-                    counters: places.counters,
-                    costs: places.costs,
+                    history: state.history,
+                    started: state.started,
+                    running: state.running,
+                    values: state.values,
+                    counters: state.counters,
+                    costs: state.costs,
                     by: PhantomData,
                 })
             }
@@ -164,7 +163,8 @@ impl<K: Kernel, const SEGMENTS: u32, const TASKS: u32> BoundedCore<K, SEGMENTS, 
         if !self.is_finished() {
             return Err(BoundedUnfinished { core: self });
         }
-        let graph = make_graph(self.costs, self.counters.into_preds());
+        let predecessors = Predecessors::Apart(self.counters.into_preds());
+        let graph = make_graph(self.costs, predecessors);
         Ok((self.history, graph))
     }
 

@@ -1,12 +1,12 @@
 //! Recorded graphs: segments with costs, each with its predecessors.
-ghost use Rattle.std.specs.Prelude.{ℕ, List, ◌≡◌, ◌<◌, ◌≤◌, ◌^◌, length, sum, sum_by};
-ghost use Rattle.std.specs.Prelude.{slice_index_or, map, IfOk};
+ghost use Rattle.std.specs.Prelude.{ℕ, List, ◌≡◌, ◌<◌, ◌≤◌, length, sum, sum_by};
+ghost use Rattle.std.specs.Prelude.{slice_index_or, IfOk};
 ghost use Rattle.program_text.specs.declared.limits.TheConstants.{MOST_WORK};
-ghost use Rattle.dispatch_core.specs.Graph.{IsGraphOf};
+ghost use Rattle.dispatch_core.specs.Graph.{IsGraphOf, predecessors_in};
 ghost use Rattle.dispatch_core.specs.RecordedGraph.{RecordedGraph, IsGraph, predecessors_of};
 
-use crate::places::costs;
-use open_segments::laws::serves_runs;
+use crate::run_state::costs;
+use open_segments::flat_lists::FlatLists;
 use open_segments::predecessors::all_predecessors;
 use std::alloc::Global;
 use std::marker::Model;
@@ -18,7 +18,15 @@ use task_segments::table::BoundedTable;
 #[derive(Drop)]
 pub struct Graph {
     costs: Vec<u64>,
-    predecessors: Vec<Vec<u32>>,
+    predecessors: Predecessors,
+}
+
+/// For each segment its predecessors: made one after another, or as a run leaves them, which records
+/// them as segments open.
+#[derive(Drop)]
+pub(crate) enum Predecessors {
+    Flat(FlatLists),
+    Apart(Vec<Vec<u32>>),
 }
 
 impl Model for Graph {
@@ -40,20 +48,21 @@ pub fn graph_of<const SEGMENTS: u32, const TASKS: u32>(
 ) -> Result<Graph, AllocFault>
     ensures { IfOk result (IsGraphOf table.now) }
 {
-    serves_runs(table);
+    open_segments::laws::serves_runs(table);
     let costs = costs(alloc, table)?;
-    let predecessors = all_predecessors(alloc, table)?;
+    let lists = all_predecessors(alloc, table)?;
+    let predecessors = Predecessors::Flat(lists);
     Ok(make_graph(costs, predecessors))
 }
 
 /// The graph with these costs and predecessors.
-pub(crate) fn make_graph(costs: Vec<u64>, predecessors: Vec<Vec<u32>>) -> Graph
+pub(crate) fn make_graph(costs: Vec<u64>, predecessors: Predecessors) -> Graph
     requires { IsGraph (record {
       costs = costs.items;
-      predecessors = map (λ v. v.items) predecessors.items;
+      predecessors = predecessors_in predecessors;
     }) }
     ensures { result
-        ≡ record { costs = costs.items; predecessors = map (λ v. v.items) predecessors.items } }
+        ≡ record { costs = costs.items; predecessors = predecessors_in predecessors } }
 {
     Graph {
         costs,
@@ -90,14 +99,21 @@ impl Graph {
         requires { segment < length self.now.costs }
         ensures { result.now ≡ predecessors_of self.now segment }
     {
-        self.predecessors[segment as usize].as_slice()
+        match &self.predecessors {
+            Predecessors::Flat(lists) => lists.list(segment),
+            Predecessors::Apart(lists) => lists[segment as usize].as_slice(),
+        }
     }
 
     /// How many pairs of a predecessor and a segment there are.
     pub fn edges(&self) -> u64
         ensures { result ≡ sum_by length self.now.predecessors }
     {
-        edge_count(self.predecessors.as_slice())
+        let mut total = 0;
+        for segment in 0..self.len() {
+            total += self.preds(segment).len() as u64;
+        }
+        total
     }
 
     /// The total of the costs.
@@ -122,15 +138,4 @@ fn copy_costs(to: &mut Vec<u64>, from: &[u64])
     ensures { to.new.items ≡ from.now }
 {
     to.as_mut_slice().copy_from_slice(from);
-}
-
-fn edge_count(lists: &[Vec<u32>]) -> u64
-    requires { sum_by (λ v. length v.items) lists.now < 2 ^ 64 }
-    ensures { result ≡ sum_by (λ v. length v.items) lists.now }
-{
-    let mut total = 0u64;
-    for list in lists {
-        total += list.len() as u64;
-    }
-    total
 }

@@ -17,7 +17,6 @@ ghost use Rattle.dispatch_core.specs.declared.replay.ReplayRefusal.{ReplayRefusa
 use crate::dispatch::BoundedCore;
 use crate::graph::Graph;
 use crate::kernel::Kernel;
-use open_segments::laws::serves_runs;
 use task_segments::table::BoundedTable;
 
 /// Where a run is not finished and nothing runs, some segment is ready.
@@ -25,7 +24,7 @@ pub fn never_stuck<const SEGMENTS: u32, const TASKS: u32>(table: &BoundedTable<S
     ensures { (history : List Event) → ¬ IsFinished table.now history
         → ((worker s : ℕ) → ¬ Runs history worker s) → (s : ℕ) × IsReady table.now history s }
 {
-    serves_runs(table);
+    open_segments::laws::serves_runs(table);
 }
 
 /// A segment has at most one value and at most one input, whatever run it is part of.
@@ -61,7 +60,7 @@ pub fn what_runs<const SEGMENTS: u32, const TASKS: u32>(table: &BoundedTable<SEG
     ensures { (history : List Event) (worker s : ℕ) → IsLegalRun table.now history
         → Runs history worker s → MayRun table.now history worker s }
 {
-    serves_runs(table);
+    open_segments::laws::serves_runs(table);
 }
 
 /// What every graph keeps: it is within the limits, each predecessor has a smaller number than its
@@ -112,7 +111,7 @@ pub fn same_schedules<const SEGMENTS: u32, const TASKS: u32>(table: &BoundedTabl
         → schedule.IsSlack graph.costs (MustPrecede table.now) s slack
         ↔ schedule.IsSlack graph.costs (Precedes graph) s slack }
 {
-    serves_runs(table);
+    open_segments::laws::serves_runs(table);
 }
 
 /// A list of events is legal, or one of them is the first that is refused.

@@ -6,5 +6,6 @@ pub mod event;
 pub mod graph;
 pub mod kernel;
 pub mod laws;
-mod places;
 pub mod replay;
+mod run_state;
+pub mod successors;

@@ -11,7 +11,6 @@ use crate::dispatch::{BoundedCore, BoundedNewFault};
 use crate::event::{Event, FinishKind, StartRefusal};
 use crate::graph::{Graph, graph_of};
 use crate::kernel::{Kernel, MixKernel, SegResult};
-use crate::laws::legal_history;
 use std::alloc::{AllocError, Global};
 use task_program::AllocFault;
 use task_segments::table::BoundedTable;
@@ -124,13 +123,13 @@ pub fn replay<const SEGMENTS: u32, const TASKS: u32>(
         Err(fault) => return Err((ReplayFault::OutOfMemory, fault.table)),
     };
     for index in 0..events.len() {
-        legal_history(&core);
+        crate::laws::legal_history(&core);
         match make_event(&mut core, events[index]) {
             Ok(()) => {}
             Err(fault) => return Err((replay_fault(index, fault), core.into_table())),
         }
     }
-    legal_history(&core);
+    crate::laws::legal_history(&core);
     Ok(core)
 }
 

@@ -128,7 +128,7 @@ has_long_line text bytes room h long =
 
 -- ---- fronts of a text
 
-fits_front : (front later : List ℕ) → FitsText (front ++ later) → FitsText front
+pub fits_front : (front later : List ℕ) → FitsText (front ++ later) → FitsText front
 fits_front front later h = record {
   short = omega (arith, h.short, length-append front later);
   lines = λ before line behind all none.

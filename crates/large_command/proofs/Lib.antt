@@ -1,9 +1,10 @@
 mod Bounds
 mod Lengths
 mod Lines
+mod OfDocuments
 mod OfTables
 mod OneReport
-mod OneTree
+mod Parts
 mod SomeReport
 mod TextInput
 mod Told

@@ -28,7 +28,7 @@ use Rattle.large_command.proofs.Bounds.{all_work_of}
 use Rattle.large_command.specs.TableReports.{FitsRows, LacksRows, SaysOfTable, TellsRows, TellsTable}
 
 -- nested marks with a table that fits can be cut
-reading_of : (marks : List Mark) → IsNested marks → FitsRows (table_of marks) → IsReading marks
+pub reading_of : (marks : List Mark) → IsNested marks → FitsRows (table_of marks) → IsReading marks
 reading_of marks nested fits =
     let start : List Mark = Begins false [] ∷ [] in
     let e : List Mark = last_moment marks in
@@ -39,7 +39,7 @@ reading_of marks nested fits =
       work = omega (arith, fits.work, all_work_of marks nested, work_read start marks);
     }
 
-whole_of : (marks : List Mark) → IsNested marks → FitsRows (table_of marks)
+pub whole_of : (marks : List Mark) → IsNested marks → FitsRows (table_of marks)
     → IsWhole (table_of marks)
 whole_of marks nested fits = whole_marks marks (reading_of marks nested fits)
 
@@ -75,7 +75,7 @@ one_of_table asked marks one other nested (inr a) (inr b) = a.says ∙ sym b.say
 
 -- ---- and one
 
-fits_or_not : (table : Table) → IsDecided (FitsRows table)
+pub fits_or_not : (table : Table) → IsDecided (FitsRows table)
 fits_or_not table =
     let segments : ℕ = length table.segments in
     let tasks : ℕ = length table.tasks in

@@ -3,31 +3,39 @@ use Rattle.std.proofs.Common.{◌≡◌, ◌∙◌, ℕ, true, false, List, ◌+
 use Rattle.std.proofs.Common.{inr, ap, sym, subst, arith, append-nil}
 use Rattle.command_words.specs.LargeWords.{large_request_of}
 use Rattle.command_words.specs.declared.large.LargeRequest.{LargeRequest}
-use Rattle.command_words.specs.declared.large.LargeRequest.TheVariants.{OfMeter, OfTable}
+use Rattle.command_words.specs.declared.large.LargeRequest.TheVariants.{OfDocument, OfMeter, OfTable}
 use Rattle.command_words.specs.declared.large.MeterRequest.{MeterRequest}
+use Rattle.command_words.specs.declared.large.LargeRequest.TheVariants.{OfText}
 use Rattle.command_words.specs.declared.large.MeterRequest.TheVariants.{Bounds, Numbers}
+use Rattle.command_words.specs.declared.large.TextRequest.{TextRequest}
+use Rattle.command_words.specs.declared.large.TextRequest.TheVariants.{Certify, Show}
+use Rattle.program_text.specs.Document.{program_part, rest_part}
 use Rattle.program_text.specs.Limits.{work_of}
 use Rattle.program_text.specs.Marks.{Mark}
 use Rattle.program_text.specs.Tokens.{line_at_end, texts, tokens_of}
 use Rattle.task_program.proofs.FirstFaults.{no_fault}
 use Rattle.task_program.specs.Nested.{IsNested}
+use Rattle.task_program.specs.ProgramMarks.{ProgramMarks}
 use Rattle.task_segments.proofs.Schedules.{span-unique}
 use Rattle.task_segments.specs.Moments.{last_moment, segments_so_far}
 use Rattle.task_segments.specs.Precedence.{MustPrecede}
 use Rattle.task_segments.specs.Table.{costs_of, table_of}
 use Rattle.online_span.specs.Spans.{IsSpanOf}
+use Rattle.large_text.proofs.OneTree.{one_program}
 use Rattle.large_text.proofs.Whole.{one_fault}
 use Rattle.large_text.specs.LargeTrees.{large_rules}
 use Rattle.large_text.specs.Streamed.{FitsText}
+use Rattle.spanprof_command.proofs.OneOfGraphs.{one_certificate}
 use Rattle.spanprof_command.specs.Report.{Report}
 use Rattle.large_command.specs.LargeCommand.{AnswersWords, IsReport, ReadsText, is_in_range}
 use Rattle.large_command.specs.LargeReports.{AcceptsText, Answers, AnswersWithin, RefusesText}
 use Rattle.large_command.specs.LargeReports.{Tells, TellsMarks, bounds_report}
-use Rattle.large_command.specs.LargeReports.{numbers_report, text_refusal}
+use Rattle.large_command.specs.LargeReports.{numbers_report, text_of, text_refusal}
+use Rattle.large_command.specs.TextReports.{TellsText}
 use Rattle.large_command.specs.Lengths.{IsTooLong}
 use Rattle.large_command.specs.OneReport.{HasOneReport}
 use Rattle.large_command.proofs.Lengths.{not_both, stays_too_long}
-use Rattle.large_command.proofs.OneTree.{one_tree}
+use Rattle.large_command.proofs.OfDocuments.{one_of_document}
 use Rattle.large_command.proofs.OfTables.{one_of_table}
 
 same_told : (a b one other : Report) → a ≡ b → one ≡ a → other ≡ b → one ≡ other
@@ -57,26 +65,43 @@ one_of_marks (Bounds upto) marks one other a b =
     same_told (told a.span) (told b.span) one other
     (ap told (one_span marks a.span b.span a.is_span b.is_span)) a.says b.says
 
--- of the same marks the same is told
-one_told : (asked : LargeRequest) (marks : List Mark) (one other : Report)
-    → IsNested marks
-    → Tells asked marks one
-    → Tells asked marks other
+one_of_text : (asked : TextRequest) (program : ProgramMarks) (one other : Report)
+    → TellsText asked program one
+    → TellsText asked program other
     → one ≡ other
-one_told (OfMeter asked) marks one other nested a b = one_of_marks asked marks one other a b
-one_told (OfTable asked) marks one other nested a b = one_of_table asked marks one other nested a b
+one_of_text Show program one other a b = a ∙ sym b
+one_of_text Certify program one other (inl a) (inl b) =
+    one_certificate program one other a.says b.says
+one_of_text Certify program one other (inl a) (inr b) = absurd (b.larger a.fits)
+one_of_text Certify program one other (inr a) (inl b) = absurd (a.larger b.fits)
+one_of_text Certify program one other (inr a) (inr b) = a.says ∙ sym b.says
 
--- ---- of a text
-
-one_accepted : (asked : LargeRequest) (text : List ℕ) (one other : Report)
-    → AcceptsText asked text one
-    → AcceptsText asked text other
+-- of the same program the same is told
+one_told : (asked : LargeRequest) (input : List ℕ) (program : ProgramMarks) (one other : Report)
+    → IsNested program.marks
+    → Tells asked input program one
+    → Tells asked input program other
     → one ≡ other
-one_accepted asked text one other a b =
-    let same : b.marks ≡ a.marks =
-    one_tree (texts (tokens_of text)) b.marks a.marks b.tree a.tree in
-    one_told asked a.marks one other a.tree.nested a.says
-    (subst (λ (marks : List Mark). Tells asked marks other) same b.says)
+one_told (OfMeter asked) input program one other nested a b =
+    one_of_marks asked program.marks one other a b
+one_told (OfTable asked) input program one other nested a b =
+    one_of_table asked program.marks one other nested a b
+one_told (OfText asked) input program one other nested a b =
+    one_of_text asked program one other a b
+one_told (OfDocument asked) input program one other nested a b =
+    one_of_document asked (program_part input) (rest_part input) program.marks one other nested a b
+
+-- ---- of an input
+
+one_accepted : (asked : LargeRequest) (input : List ℕ) (one other : Report)
+    → AcceptsText asked input one
+    → AcceptsText asked input other
+    → one ≡ other
+one_accepted asked input one other a b =
+    let same : b.program ≡ a.program =
+    one_program (texts (tokens_of (text_of asked input))) b.program a.program b.stands a.stands in
+    one_told asked input a.program one other a.stands.tree.nested a.says
+    (subst (λ (program : ProgramMarks). Tells asked input program other) same b.says)
 
 one_refused : (text : List ℕ) (one other : Report)
     → RefusesText text one
@@ -88,23 +113,25 @@ one_refused text one other a b =
     b.is_fault))
     a.says b.says
 
-accepted_or_refused : (asked : LargeRequest) (text : List ℕ) (one other : Report)
-    → AcceptsText asked text one
-    → RefusesText text other
+accepted_or_refused : (asked : LargeRequest) (input : List ℕ) (one other : Report)
+    → AcceptsText asked input one
+    → RefusesText (text_of asked input) other
     → ⊥
-accepted_or_refused asked text one other a b =
+accepted_or_refused asked input one other a b =
+    let text : List ℕ = text_of asked input in
     no_fault large_rules (tokens_of text) (line_at_end 1 text) b.fault b.is_fault a.right
 
-one_answer : (asked : LargeRequest) (text : List ℕ) (one other : Report)
-    → Answers asked text one
-    → Answers asked text other
+one_answer : (asked : LargeRequest) (input : List ℕ) (one other : Report)
+    → Answers asked input one
+    → Answers asked input other
     → one ≡ other
-one_answer asked text one other (inl a) (inl b) = one_accepted asked text one other a b
-one_answer asked text one other (inl a) (inr b) =
-    absurd (accepted_or_refused asked text one other a b)
-one_answer asked text one other (inr a) (inl b) =
-    absurd (accepted_or_refused asked text other one b a)
-one_answer asked text one other (inr a) (inr b) = one_refused text one other a b
+one_answer asked input one other (inl a) (inl b) = one_accepted asked input one other a b
+one_answer asked input one other (inl a) (inr b) =
+    absurd (accepted_or_refused asked input one other a b)
+one_answer asked input one other (inr a) (inl b) =
+    absurd (accepted_or_refused asked input other one b a)
+one_answer asked input one other (inr a) (inr b) =
+    one_refused (text_of asked input) one other a b
 
 -- ---- of what is read of an input
 

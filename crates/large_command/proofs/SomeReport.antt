@@ -4,32 +4,45 @@ use Rattle.std.proofs.Common.{Option, Some, None, inl, inr, sym, refl, subst, ar
 use Rattle.std.proofs.Common.{append-nil, length-append}
 use Rattle.command_words.specs.LargeWords.{large_request_of}
 use Rattle.command_words.specs.declared.large.LargeRequest.{LargeRequest}
-use Rattle.command_words.specs.declared.large.LargeRequest.TheVariants.{OfMeter, OfTable}
+use Rattle.command_words.specs.declared.large.LargeRequest.TheVariants.{OfDocument, OfMeter, OfTable}
 use Rattle.command_words.specs.declared.large.MeterRequest.{MeterRequest}
+use Rattle.command_words.specs.declared.large.LargeRequest.TheVariants.{OfText}
 use Rattle.command_words.specs.declared.large.MeterRequest.TheVariants.{Bounds, Numbers}
+use Rattle.command_words.specs.declared.large.TextRequest.{TextRequest}
+use Rattle.command_words.specs.declared.large.TextRequest.TheVariants.{Certify, Show}
 use Rattle.program_text.proofs.Bools.{bool_cases}
+use Rattle.program_text.specs.Document.{program_part, rest_part}
 use Rattle.program_text.specs.Limits.{work_of}
 use Rattle.program_text.specs.Marks.{Mark}
 use Rattle.program_text.specs.Marks.Mark.{Begins}
 use Rattle.program_text.specs.Tokens.{line_at_end, tokens_of}
+use Rattle.task_program.specs.Canonical.{canonical_text}
+use Rattle.task_program.specs.ExpandsTo.{state_after_tree}
 use Rattle.task_program.specs.Nested.{IsNested}
+use Rattle.task_program.specs.ProgramMarks.{ProgramMarks}
 use Rattle.task_segments.proofs.Steps.{count-cons, tasks_begins}
 use Rattle.task_segments.specs.Moments.{begins_task, last_moment, moment_after, segments_so_far}
 use Rattle.task_segments.specs.Moments.{tasks_so_far}
+use Rattle.task_segments.specs.Table.{table_of}
 use Rattle.online_span.proofs.Program.{span_exists}
 use Rattle.large_text.proofs.Whole.{has_tree, right_or_fault}
+use Rattle.large_text.specs.LargeTrees.{plain_program}
 use Rattle.large_text.specs.Streamed.{FitsText}
 use Rattle.large_text.specs.declared.limits.TheConstants.{LARGEST_TEXT}
+use Rattle.spanprof_command.proofs.SomeReport.{some_certificate}
 use Rattle.spanprof_command.specs.GreedyRuns.{thread_count}
-use Rattle.spanprof_command.specs.Report.{Report, input_too_long, wrong_words}
+use Rattle.spanprof_command.specs.Report.{Report, input_too_long, out_of_memory, wrong_words}
 use Rattle.large_command.specs.LargeCommand.{AnswersText, is_in_range}
 use Rattle.large_command.specs.LargeReports.{Answers, Tells, TellsMarks, bounds_report}
-use Rattle.large_command.specs.LargeReports.{numbers_report, text_refusal}
+use Rattle.large_command.specs.LargeReports.{numbers_report, text_of, text_refusal}
+use Rattle.large_command.specs.TextReports.{TellsText}
+use Rattle.spanprof_command.specs.declared.report.Status.TheVariants.{Done}
 use Rattle.large_command.specs.Lengths.{IsReadInTime, IsTooLong}
 use Rattle.large_command.specs.OneReport.{HasReport}
 use Rattle.large_command.proofs.Lengths.{fits_none, fits_or_too_long, is_in_time, not_both}
 use Rattle.large_command.proofs.Lengths.{piece_in_time}
-use Rattle.large_command.proofs.OfTables.{some_of_table}
+use Rattle.large_command.proofs.OfDocuments.{some_of_document}
+use Rattle.large_command.proofs.OfTables.{fits_or_not, some_of_table, whole_of}
 
 -- ---- of a text
 
@@ -67,23 +80,47 @@ some_of_marks (Bounds upto) marks nested =
       record { span = span; is_span = (span_exists marks nested).1; says = refl },
     )
 
-some_tells : (asked : LargeRequest) (marks : List Mark)
-    → IsNested marks
-    → (output : Report) × Tells asked marks output
-some_tells (OfMeter asked) marks nested = some_of_marks asked marks nested
-some_tells (OfTable asked) marks nested = some_of_table asked marks nested
-
-some_answer : (asked : LargeRequest) (text : List ℕ) → (output : Report) × Answers asked text output
-some_answer asked text = elim (right_or_fault (tokens_of text) (line_at_end 1 text)) [
-  | inl right ↦
-      let tree = has_tree (tokens_of text) right in
-      let tells = some_tells asked tree.0 tree.1.nested in (
-        tells.0,
-        inl (record { marks = tree.0; tree = tree.1; right = right; says = tells.1 }),
-      )
-  | inr wrong ↦
-      (text_refusal wrong.0, inr (record { fault = wrong.0; is_fault = wrong.1; says = refl }))
+some_of_text : (asked : TextRequest) (program : ProgramMarks)
+    → IsNested program.marks
+    → (output : Report) × TellsText asked program output
+some_of_text Show program nested =
+    (record { text = canonical_text program; status = Done }, refl)
+some_of_text Certify program nested = elim (fits_or_not (table_of program.marks)) [
+  | inl fits ↦
+      let said = some_certificate program (whole_of program.marks nested fits) in
+      (said.0, inl (record { fits = fits; says = said.1 }))
+  | inr larger ↦ (out_of_memory, inr (record { larger = larger; says = refl }))
 ]
+
+some_tells : (asked : LargeRequest) (input : List ℕ) (program : ProgramMarks)
+    → IsNested program.marks
+    → (output : Report) × Tells asked input program output
+some_tells (OfMeter asked) input program nested = some_of_marks asked program.marks nested
+some_tells (OfTable asked) input program nested = some_of_table asked program.marks nested
+some_tells (OfText asked) input program nested = some_of_text asked program nested
+some_tells (OfDocument asked) input program nested =
+    some_of_document asked (program_part input) (rest_part input) program.marks nested
+
+some_answer : (asked : LargeRequest) (input : List ℕ)
+    → (output : Report) × Answers asked input output
+some_answer asked input =
+    let text : List ℕ = text_of asked input in
+    elim (right_or_fault (tokens_of text) (line_at_end 1 text)) [
+      | inl right ↦
+          let tree = has_tree (tokens_of text) right in
+          let program = plain_program (state_after_tree tree.1.tree).names tree.0 in
+          let tells = some_tells asked input program tree.1.nested in (
+            tells.0,
+            inl (record {
+              program = program;
+              stands = record { tree = tree.1; program_is = refl };
+              right = right;
+              says = tells.1;
+            }),
+          )
+      | inr wrong ↦
+          (text_refusal wrong.0, inr (record { fault = wrong.0; is_fault = wrong.1; says = refl }))
+    ]
 
 -- ---- of what is read of an input
 

@@ -1,33 +1,44 @@
 -- What a meter's calls answer is told in the report.
-use Rattle.std.proofs.Common.{◌≡◌, ◌+◌, ◌∙◌, ℕ, List, [], Option, Some, inl, inr, ap}
-use Rattle.std.proofs.Common.{append-nil, arith, subst, sym}
+use Rattle.std.proofs.Common.{◌≡◌, ◌+◌, ◌∙◌, ℕ, List, [], Option, Some, None, inl, inr, ap, refl}
 use Rattle.std.specs.Option.{IfSome}
+use Rattle.std.proofs.Common.{append-nil, arith, subst, sym}
+use Rattle.program_text.specs.Document.{program_part, rest_part}
 use Rattle.program_text.specs.declared.fault.ReadFault.{ReadFault}
 use Rattle.program_text.specs.Marks.{Mark}
 use Rattle.program_text.specs.Limits.{work_of}
-use Rattle.program_text.specs.Tokens.{line_at_end, tokens_of}
+use Rattle.program_text.specs.Tokens.{Token, line_at_end, texts, tokens_of}
 use Rattle.task_program.specs.Nested.{IsNested}
 use Rattle.task_segments.specs.Moments.{last_moment, segments_so_far, tasks_so_far}
-use Rattle.task_segments.specs.Table.{Table}
+use Rattle.task_segments.specs.Table.{Table, table_of}
 use Rattle.online_span.specs.declared.meter.Meter.{Meter}
 use Rattle.online_span.specs.Measuring.{Measures}
 use Rattle.online_span.specs.Spans.{IsSpanOf}
-use Rattle.large_text.specs.LargeTrees.{IsLargeFirstFault}
-use Rattle.large_text.specs.Measured.{IsTableOfText, MeasuresText}
-use Rattle.large_text.specs.Streamed.{CanTakeBytes, FitsText, HasTaken}
+use Rattle.large_text.specs.LargeTrees.{HasLargeProgram, HasLargeTree, IsLargeFirstFault}
+use Rattle.large_text.specs.LargeTrees.{plain_program}
+use Rattle.large_text.specs.Measured.{IsCanonicalOf, IsTableOfText, MeasuresText}
+use Rattle.large_text.specs.Streamed.{CanTakeBytes, FitsText, HasTaken, KeepsText}
 use Rattle.large_text.specs.declared.stream.TextMeter.{TextMeter}
 use Rattle.spanprof_command.specs.Report.{Report, input_too_long}
+use Rattle.command_words.specs.declared.large.DocumentRequest.{DocumentRequest}
 use Rattle.command_words.specs.declared.large.LargeRequest.{LargeRequest}
-use Rattle.command_words.specs.declared.large.LargeRequest.TheVariants.{OfMeter, OfTable}
+use Rattle.command_words.specs.declared.large.LargeRequest.TheVariants.{OfDocument, OfMeter, OfTable}
+use Rattle.command_words.specs.declared.large.LargeRequest.TheVariants.{OfText}
 use Rattle.command_words.specs.declared.large.MeterRequest.{MeterRequest}
 use Rattle.command_words.specs.declared.large.MeterRequest.TheVariants.{Bounds, Numbers}
 use Rattle.command_words.specs.declared.large.TableRequest.{TableRequest}
+use Rattle.command_words.specs.declared.large.TextRequest.{TextRequest}
+use Rattle.task_program.specs.Canonical.{canonical_text}
+use Rattle.task_program.specs.ExpandsTo.{state_after_tree}
+use Rattle.task_program.specs.ProgramMarks.{ProgramMarks}
+use Rattle.large_text.proofs.OneTree.{one_tree}
 use Rattle.large_command.proofs.Lengths.{is_in_time, not_both}
+use Rattle.large_command.specs.DocumentReports.{TellsBehind, TellsDocument}
 use Rattle.large_command.specs.LargeCommand.{AnswersText}
-use Rattle.large_command.specs.LargeReports.{Answers, IsOfProgram, TellsMeter, bounds_report}
-use Rattle.large_command.specs.LargeReports.{numbers_report, text_refusal}
+use Rattle.large_command.specs.LargeReports.{Answers, IsOfProgram, RefusesText, TellsMeter}
+use Rattle.large_command.specs.LargeReports.{bounds_report, numbers_report, text_refusal}
 use Rattle.large_command.specs.TableReports.{TellsTable}
-use Rattle.large_command.specs.TextInput.{ReadsTooLong, TakesText}
+use Rattle.large_command.specs.TextReports.{TellsText}
+use Rattle.large_command.specs.TextInput.{KeepsFor, ReadsTooLong, ReadsWhole, TakesText}
 
 pub tells_meter : (meter : Meter) (tasks segments work span : ℕ) (report : Report)
     → ((moment : List Mark) → Measures meter moment → tasks + 1 ≡ tasks_so_far moment)
@@ -72,48 +83,104 @@ is_of_program text meter h = record {
   measures = h.measures;
 }
 
+-- the program that such a tree has
+abbrev program_of : {all : List (List ℕ)} {marks : List Mark} → HasLargeTree all marks
+    → ProgramMarks
+program_of {all} {marks} tree = plain_program (state_after_tree tree.tree).names marks
+
+stands_for : {all : List (List ℕ)} {marks : List Mark} (tree : HasLargeTree all marks)
+    → HasLargeProgram all (program_of tree)
+stands_for tree = record { tree = tree; program_is = refl }
+
 pub accepts : (asked : MeterRequest) (text : List ℕ) (meter : Meter) (report : Report)
     → MeasuresText (tokens_of text) meter
     → TellsMeter asked meter report
     → Answers (OfMeter asked) text report
 accepts asked text meter report h tells = inl (record {
-  marks = h.marks;
-  tree = h.tree;
+  program = program_of h.tree;
+  stands = stands_for h.tree;
   right = h.right;
   says = tells h.marks h.tree.nested h.measures;
 })
 
-accepts_table : (asked : TableRequest) (text : List ℕ) (table : Table) (report : Report)
+pub accepts_table : (asked : TableRequest) (text : List ℕ) (table : Table) (report : Report)
     → IsTableOfText (tokens_of text) table
     → TellsTable asked table report
     → Answers (OfTable asked) text report
 accepts_table asked text table report h tells = inl (record {
-  marks = h.marks;
-  tree = h.tree;
+  program = program_of h.tree;
+  stands = stands_for h.tree;
   right = h.right;
   says = subst (λ (t : Table). TellsTable asked t report) h.is tells;
 })
 
--- the same where the table was found
-pub accepts_found : (asked : TableRequest) (text : List ℕ) (found : Option Table) (table : Table)
-    (report : Report)
+same_table : (tokens : List Token) (program : ProgramMarks) (found : Option Table)
+    → HasLargeTree (texts tokens) program.marks
+    → IfSome found (IsTableOfText tokens)
+    → IfSome found (λ (t : Table). t ≡ table_of program.marks)
+same_table tokens program None tree of = tt
+same_table tokens program (Some table) tree of =
+    of.is ∙ ap table_of (one_tree (texts tokens) of.marks program.marks of.tree tree)
+
+pub accepts_text : {V : Type 0} (asked : TextRequest) (text : List ℕ) (found : Option V)
+    (written : V) (bytes : V → List ℕ) (table : Option Table) (report : Report)
+    → found ≡ Some written
+    → IfSome found (λ (v : V). IsCanonicalOf (tokens_of text) (bytes v))
+    → IfSome table (IsTableOfText (tokens_of text))
+    → ((program : ProgramMarks) → bytes written ≡ canonical_text program
+    → IfSome table (λ (t : Table). t ≡ table_of program.marks)
+    → TellsText asked program report)
+    → Answers (OfText asked) text report
+accepts_text asked text found written bytes table report is has of tells =
+    let h : IsCanonicalOf (tokens_of text) (bytes written) =
+    subst (λ v. IfSome v (λ w. IsCanonicalOf (tokens_of text) (bytes w))) is has in
+    inl (record {
+      program = h.program;
+      stands = h.stands;
+      right = h.right;
+      says = tells h.program h.is (same_table (tokens_of text) h.program table h.stands.tree of);
+    })
+
+-- a table that was found
+pub found_table : (text : List ℕ) (found : Option Table) (table : Table)
     → found ≡ Some table
     → IfSome found (IsTableOfText (tokens_of text))
-    → TellsTable asked table report
-    → Answers (OfTable asked) text report
-accepts_found asked text found table report is h tells =
-    accepts_table asked text table report
-    (subst (λ (t : Option Table). IfSome t (IsTableOfText (tokens_of text))) is h) tells
+    → IsTableOfText (tokens_of text) table
+found_table text found table is h =
+    subst (λ (t : Option Table). IfSome t (IsTableOfText (tokens_of text))) is h
 
-pub refuses : (asked : LargeRequest) (text : List ℕ) (fault : ReadFault) (report : Report)
+pub refuses : (text : List ℕ) (fault : ReadFault) (report : Report)
     → IsLargeFirstFault (tokens_of text) (line_at_end 1 text) fault
     → report ≡ text_refusal fault
-    → Answers asked text report
-refuses asked text fault report is_fault says = inr (record {
+    → RefusesText text report
+refuses text fault report is_fault says = record {
   fault = fault;
   is_fault = is_fault;
   says = says;
-})
+}
+
+-- the parts of a document, of which the first is the program's text
+pub accepts_document : (asked : DocumentRequest) (document program : List ℕ)
+    (rest : Option (List ℕ)) (table : Table) (report : Report)
+    → program ≡ program_part document
+    → rest ≡ rest_part document
+    → IsTableOfText (tokens_of program) table
+    → TellsBehind asked program rest table report
+    → Answers (OfDocument asked) document report
+accepts_document asked document program rest table report is behind h tells =
+    let of : IsTableOfText (tokens_of (program_part document)) table =
+    subst (λ (text : List ℕ). IsTableOfText (tokens_of text) table) is h in
+    let told : TellsBehind asked (program_part document) rest table report =
+    subst (λ (text : List ℕ). TellsBehind asked text rest table report) is tells in
+    let of_document : TellsDocument asked document table report =
+    subst (λ (part : Option (List ℕ)). TellsBehind asked (program_part document) part table report)
+    behind told in
+    inl (record {
+      program = program_of of.tree;
+      stands = stands_for of.tree;
+      right = of.right;
+      says = subst (λ (t : Table). TellsDocument asked document t report) of.is of_document;
+    })
 
 -- ---- a text that was read to its end
 
@@ -125,6 +192,13 @@ can_finish before after text_meter h = record {
   taken = h.taken;
   fits = subst (λ (bytes : List ℕ). FitsText bytes) (sym (append-nil h.text)) h.taken.fits;
 }
+
+pub still_keeps : (asked : LargeRequest) (before after : TextMeter)
+    → (KeepsText before → KeepsText after)
+    → KeepsFor asked before
+    → KeepsFor asked after
+still_keeps (OfText asked) before after keeps h = keeps h
+still_keeps _ before after keeps h = tt
 
 pub answers_text : (asked : LargeRequest) (before after : Option (List ℕ)) (text_meter : TextMeter)
     (report : Report)
@@ -156,4 +230,21 @@ answers_length asked before after report h says = record {
     in_time = h.in_time;
   };
   answers = inl (record { too_long = h.too_long; says = says });
+}
+
+-- a document that was read whole
+pub answers_whole : (asked : DocumentRequest) (before after : Option (List ℕ)) (document : List ℕ)
+    (report : Report)
+    → ReadsWhole before after document
+    → Answers (OfDocument asked) document report
+    → AnswersText (OfDocument asked) before after report
+answers_whole asked before after document report h answers = record {
+  text = document;
+  read = record {
+    read = h.read;
+    most = omega (arith, h.fits.short);
+    to_the_end = λ fits. h.to_the_end;
+    in_time = is_in_time document h.fits;
+  };
+  answers = inr (record { fits = h.fits; answers = answers });
 }

@@ -4,7 +4,8 @@ use Rattle.std.specs.Prelude.{nat_le, ◌+◌, ◌≤◌, length}
 use Rattle.std.specs.Io.KnownBytes.{Consumes, IsAtEnd, Keeps}
 use Rattle.command_words.specs.LargeWords.{large_request_of}
 use Rattle.command_words.specs.declared.large.LargeRequest.{LargeRequest}
-use Rattle.command_words.specs.declared.large.LargeRequest.TheVariants.{OfMeter, OfTable}
+use Rattle.command_words.specs.declared.large.LargeRequest.TheVariants.{OfDocument, OfMeter, OfTable}
+use Rattle.command_words.specs.declared.large.LargeRequest.TheVariants.{OfText}
 use Rattle.command_words.specs.declared.large.MeterRequest.{MeterRequest}
 use Rattle.command_words.specs.declared.large.MeterRequest.TheVariants.{Bounds, Numbers}
 use Rattle.command_words.specs.declared.large.TableRequest.{TableRequest}
@@ -36,6 +37,8 @@ is_table_in_range (WhatIf changes) = true
 abbrev pub is_in_range : LargeRequest → Bool
 is_in_range (OfMeter asked) = is_meter_in_range asked
 is_in_range (OfTable asked) = is_table_in_range asked
+is_in_range (OfText asked) = true
+is_in_range (OfDocument asked) = true
 
 -- the words ask for something of a text
 abbrev pub wants_text : Option LargeRequest → Bool

@@ -1,32 +1,37 @@
--- The report of a text of any size: one text and one status.
+-- The report of a text or a document of any size: one text and one status.
 use Rattle.std.specs.Prelude.{◌≡◌, ◌⊎◌, ◌+◌, ℕ, List, [], ◌∷◌, ◌++◌, codes}
 use Rattle.std.specs.Prelude.{Option, Some}
 use Rattle.std.specs.Fmt.{decimal}
 use Rattle.command_words.specs.declared.large.LargeRequest.{LargeRequest}
-use Rattle.command_words.specs.declared.large.LargeRequest.TheVariants.{OfMeter, OfTable}
+use Rattle.command_words.specs.declared.large.LargeRequest.TheVariants.{OfDocument, OfMeter, OfTable}
+use Rattle.command_words.specs.declared.large.LargeRequest.TheVariants.{OfText}
 use Rattle.command_words.specs.declared.large.MeterRequest.{MeterRequest}
 use Rattle.command_words.specs.declared.large.MeterRequest.TheVariants.{Bounds, Numbers}
 use Rattle.program_text.specs.declared.fault.ReadFault.{ReadFault}
 use Rattle.program_text.specs.declared.fault.ReadKind.{ReadKind}
 use Rattle.program_text.specs.declared.fault.ReadKind.TheVariants.{BadHeader}
+use Rattle.program_text.specs.Document.{program_part}
 use Rattle.program_text.specs.Marks.{Mark}
 use Rattle.program_text.specs.Tokens.{texts, tokens_of, line_at_end}
 use Rattle.task_program.specs.Nested.{IsNested}
+use Rattle.task_program.specs.ProgramMarks.{ProgramMarks}
 use Rattle.task_program.specs.Limits.{work_of}
 use Rattle.task_segments.specs.Moments.{last_moment, segments_so_far, tasks_so_far}
 use Rattle.task_segments.specs.Table.{table_of}
 use Rattle.online_span.specs.declared.meter.Meter.{Meter}
 use Rattle.online_span.specs.Measuring.{Measures}
 use Rattle.online_span.specs.Spans.{IsSpanOf}
-use Rattle.large_text.specs.LargeTrees.{HasLargeTree, IsLargeFirstFault, IsLargeRightWhole}
+use Rattle.large_text.specs.LargeTrees.{HasLargeProgram, IsLargeFirstFault, IsLargeRightWhole}
 use Rattle.large_text.specs.Streamed.{FitsText}
 use Rattle.spanprof_command.specs.GreedyRuns.{bound_of, least_of}
 use Rattle.spanprof_command.specs.Tables.{numbered_table}
 use Rattle.spanprof_command.specs.Report.{Report, input_too_long, line, number_line}
 use Rattle.spanprof_command.specs.Report.{program_refusal}
 use Rattle.spanprof_command.specs.declared.report.Status.TheVariants.{Done, Refused}
+use Rattle.large_command.specs.DocumentReports.{TellsDocument}
 use Rattle.large_command.specs.Lengths.{IsTooLong}
 use Rattle.large_command.specs.TableReports.{TellsTable}
+use Rattle.large_command.specs.TextReports.{TellsText}
 
 -- a number each for the tasks beside the root, the segments, the work and the span
 abbrev pub numbers_report : (tasks segments work span : ℕ) → Report
@@ -78,16 +83,26 @@ pub record TellsBounds (upto : ℕ) (marks : List Mark) (output : Report) : Type
   pub is_span : IsSpanOf marks span
   pub says : output ≡ bounds_report upto (work_of (last_moment marks)) span
 
--- ---- what is asked of a text
+-- ---- what is asked of an input
 
 abbrev pub TellsMarks : MeterRequest → List Mark → Report → Type 0
 TellsMarks Numbers marks output = TellsNumbers marks output
 TellsMarks (Bounds upto) marks output = TellsBounds upto marks output
 
--- of a program with these marks this is told
-abbrev pub Tells : LargeRequest → List Mark → Report → Type 0
-Tells (OfMeter asked) marks output = TellsMarks asked marks output
-Tells (OfTable asked) marks output = TellsTable asked (table_of marks) output
+-- the text of the program, which is all of the input but of a document
+abbrev pub text_of : LargeRequest → List ℕ → List ℕ
+text_of (OfMeter asked) input = input
+text_of (OfTable asked) input = input
+text_of (OfText asked) input = input
+text_of (OfDocument asked) input = program_part input
+
+-- of this program, and of a document that begins with it, this is told
+abbrev pub Tells : LargeRequest → List ℕ → ProgramMarks → Report → Type 0
+Tells (OfMeter asked) input program output = TellsMarks asked program.marks output
+Tells (OfTable asked) input program output = TellsTable asked (table_of program.marks) output
+Tells (OfText asked) input program output = TellsText asked program output
+Tells (OfDocument asked) input program output =
+    TellsDocument asked input (table_of program.marks) output
 
 -- a meter has taken the marks of a whole program
 pub record IsOfProgram (meter : Meter) : Type 0 where
@@ -101,12 +116,12 @@ TellsMeter asked meter output =
     (marks : List Mark) → (nested : IsNested marks)
     → Measures meter (last_moment marks) → TellsMarks asked marks output
 
--- the text has a tree, and no token of it is wrong: what is asked is told
-pub record AcceptsText (asked : LargeRequest) (text : List ℕ) (output : Report) : Type 0 where
-  pub marks : List Mark
-  pub tree : HasLargeTree (texts (tokens_of text)) marks
-  pub right : IsLargeRightWhole (tokens_of text)
-  pub says : Tells asked marks output
+-- the text stands for a program, and no token of it is wrong: what is asked is told
+pub record AcceptsText (asked : LargeRequest) (input : List ℕ) (output : Report) : Type 0 where
+  pub program : ProgramMarks
+  pub stands : HasLargeProgram (texts (tokens_of (text_of asked input))) program
+  pub right : IsLargeRightWhole (tokens_of (text_of asked input))
+  pub says : Tells asked input program output
 
 -- a header that names another version than 1
 abbrev pub header_refusal : ℕ → Report
@@ -131,16 +146,17 @@ pub record RefusesText (text : List ℕ) (output : Report) : Type 0 where
   pub says : output ≡ text_refusal fault
 
 abbrev pub Answers : LargeRequest → List ℕ → Report → Type 0
-Answers asked text output = AcceptsText asked text output ⊎ RefusesText text output
+Answers asked input output = AcceptsText asked input output
+    ⊎ RefusesText (text_of asked input) output
 
--- a text that is too long is refused, whatever it holds
-pub record RefusesLength (text : List ℕ) (output : Report) : Type 0 where
-  pub too_long : IsTooLong text
+-- an input that is too long is refused, whatever it holds
+pub record RefusesLength (input : List ℕ) (output : Report) : Type 0 where
+  pub too_long : IsTooLong input
   pub says : output ≡ input_too_long
 
-pub record AnswersLength (asked : LargeRequest) (text : List ℕ) (output : Report) : Type 0 where
-  pub fits : FitsText text
-  pub answers : Answers asked text output
+pub record AnswersLength (asked : LargeRequest) (input : List ℕ) (output : Report) : Type 0 where
+  pub fits : FitsText input
+  pub answers : Answers asked input output
 
 abbrev pub AnswersWithin : LargeRequest → List ℕ → Report → Type 0
-AnswersWithin asked text output = RefusesLength text output ⊎ AnswersLength asked text output
+AnswersWithin asked input output = RefusesLength input output ⊎ AnswersLength asked input output

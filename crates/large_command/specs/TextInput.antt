@@ -1,8 +1,10 @@
--- Carried out: what a meter has taken of a text that is read to its end, and how much more may come.
+-- Carried out: what was taken or kept of an input that is read to its end, and how much more may come.
 use Rattle.std.specs.Prelude.{◌≡◌, ℕ, ◌+◌, ◌≤◌, List, ◌++◌, length, Option}
 use Rattle.std.specs.Io.KnownBytes.{Consumes, IsAtEnd}
+use Rattle.command_words.specs.declared.large.LargeRequest.{LargeRequest}
+use Rattle.command_words.specs.declared.large.LargeRequest.TheVariants.{OfDocument, OfText}
 use Rattle.large_text.specs.declared.limits.TheConstants.{LARGEST_TEXT}
-use Rattle.large_text.specs.Streamed.{FitsText, HasNoLineFeed, HasTaken}
+use Rattle.large_text.specs.Streamed.{FitsText, HasNoLineFeed, HasTaken, KeepsText}
 use Rattle.large_text.specs.declared.stream.TextMeter.{TextMeter}
 use Rattle.large_command.specs.Lengths.{IsReadInTime, IsTooLong}
 use Rattle.large_command.specs.declared.room.Room.{Room}
@@ -37,3 +39,20 @@ pub record ReadsTooLong (before after : Option (List ℕ)) : Type 0 where
   pub most : length text ≤ LARGEST_TEXT + 1
   pub too_long : IsTooLong text
   pub in_time : IsReadInTime text
+
+-- the document was read to its end, and is not too long
+pub record ReadsWhole (before after : Option (List ℕ)) (document : List ℕ) : Type 0 where
+  pub read : Consumes before after document
+  pub to_the_end : IsAtEnd after
+  pub fits : FitsText document
+
+-- ---- what is asked of a text as it comes
+
+abbrev pub IsOfText : LargeRequest → Type 0
+IsOfText (OfDocument asked) = ⊥
+IsOfText asked = Unit {0}
+
+-- the meter keeps what is asked for
+abbrev pub KeepsFor : LargeRequest → TextMeter → Type 0
+KeepsFor (OfText asked) text_meter = KeepsText text_meter
+KeepsFor asked text_meter = Unit {0}

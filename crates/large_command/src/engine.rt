@@ -4,18 +4,27 @@ ghost use Rattle.std.specs.Prelude.{string_bytes, IfOk, false, true, []};
 ghost use Rattle.counted_io.specs.Counted.{inner_of, faults_of, flushes_of, is_flushed};
 ghost use Rattle.counted_io.specs.Input.{ConsumesAtMost};
 ghost use Rattle.command_words.specs.LargeWords.{large_request_of};
+ghost use Rattle.command_words.specs.declared.large.LargeRequest.TheVariants.{OfDocument};
 ghost use Rattle.spanprof_command.specs.Command.{EndsWith, HadFaults};
-ghost use Rattle.spanprof_command.specs.Report.{out_of_memory, read_fault};
+ghost use Rattle.spanprof_command.specs.Report.{input_too_long, out_of_memory, read_fault};
 ghost use Rattle.spanprof_command.specs.declared.engine.TheConstants.{MOST_RETRIES};
 ghost use Rattle.large_command.specs.LargeCommand.{AnswersText, IsReport, is_in_range};
+ghost use Rattle.large_command.specs.LargeReports.{Answers};
+ghost use Rattle.large_command.specs.TextInput.{IsOfText, KeepsFor};
+ghost use Rattle.large_text.specs.Streamed.{CanTakeBytes, HasTaken};
 ghost use Rattle.large_command.specs.LargeCommand.{is_table_in_range, is_thread_count, wants_text};
-ghost use Rattle.large_text.specs.Streamed.{HasTaken};
 ghost use Rattle.large_command.specs.declared.engine.NoReport.TheVariants.{OutOfMemory};
 ghost use Rattle.large_text.specs.declared.limits.TheConstants.{LARGEST_TEXT};
 
-use crate::numbers::answer;
+use crate::document_input::read_document;
+use crate::documents::answer_document;
+use crate::numbers::answer_meter;
+use crate::table_answers::answer_table;
+use crate::text_answers::answer_printed;
 use crate::text_input::take_input;
-use command_words::large::{LargeRequest, MeterRequest, TableRequest, read_large_words};
+use command_words::large::{
+    DocumentRequest, LargeRequest, MeterRequest, TableRequest, TextRequest, read_large_words,
+};
 use command_words::request::WordsFault;
 use counted_io::{Counted, InputFault};
 use greedy_sim::greedy::MOST_THREADS;
@@ -29,10 +38,12 @@ use task_program::name_key::NameKey;
 /// Reads a text of version 1 of any size to its end. Without a further word it writes how many tasks
 /// and segments the text has, its work and its span, each on a line of its own. `bounds --upto P`
 /// writes a table of bounds, as CSV: a row for one thread, two, and so on up to P. `slack`, `greedy`,
-/// `curve` and `whatif` write what the commands of `spanprof` of these names write. Other words, and
-/// numbers of threads but those from 1 to 1,024, are refused before anything is read.
+/// `curve`, `whatif`, `show` and `certify` write what the commands of `spanprof` of these names write,
+/// and so do `replay` and `check` of a document. `account` reads a document of a text and the times of a run of it, and
+/// writes where the time of the run's threads went. Other words, and numbers of threads but those
+/// from 1 to 1,024, are refused before anything is read.
 ///
-/// A text with a line of more than [`LARGEST_LINE`] bytes is refused, and so is one of more than
+/// An input with a line of more than [`LARGEST_LINE`] bytes is refused, and so is one of more than
 /// [`LARGEST_TEXT`] bytes. Reads and writes that are interrupted are tried again, together at most
 /// [`MOST_RETRIES`] times. Out of memory and a reader that fails have lines of their own. Where the
 /// writer fails, takes no byte or is interrupted too often, what went out is a prefix of the text,
@@ -140,6 +151,8 @@ fn is_in_range(asked: &LargeRequest) -> bool
         LargeRequest::OfMeter(MeterRequest::Numbers) => true,
         LargeRequest::OfMeter(MeterRequest::Bounds { upto }) => is_thread_count(*upto),
         LargeRequest::OfTable(asked) => is_table_in_range(asked),
+        LargeRequest::OfText(_) => true,
+        LargeRequest::OfDocument(_) => true,
     }
 }
 
@@ -160,6 +173,8 @@ fn is_thread_count(threads: u32) -> bool
     1 <= threads && threads <= MOST_THREADS
 }
 
+/// What is asked of the input: a document is read whole, and of a text a meter keeps what is asked
+/// for as it comes.
 fn answer_text<H: AllocGlobal + Threads + Sync, R: Read>(
     rt: &H,
     key: NameKey,
@@ -180,23 +195,85 @@ fn answer_text<H: AllocGlobal + Threads + Sync, R: Read>(
         → faults_of reader.new + retries.new ≡ faults_of reader.old + retries.old + 1 }
 {
     let alloc = rt.alloc();
-    let mut text = text_meter(alloc, key, asked)?;
-    match take_input(reader, &mut text, retries) {
-        Ok(()) => Ok(answer(rt, alloc, asked, text)?),
-        Err(InputFault::TooLong) => {
-            Ok(Report::of_line(alloc, b"error: input too long\n", Status::Refused)?)
+    match asked {
+        LargeRequest::OfDocument(asked) => answer_whole(alloc, key, *asked, reader, retries),
+        LargeRequest::OfMeter(_) | LargeRequest::OfTable(_) | LargeRequest::OfText(_) => {
+            let mut text = meter_for(alloc, key, asked)?;
+            match take_input(reader, &mut text, retries) {
+                Ok(()) => Ok(tell_taken(rt, alloc, asked, text)?),
+                Err(InputFault::TooLong) => too_long(alloc),
+                Err(InputFault::ReadFailed) => Err(NoReport::ReadFault),
+                Err(InputFault::OutOfMemory) => Err(NoReport::OutOfMemory),
+            }
         }
+    }
+}
+
+/// A meter that keeps what is asked of a text.
+fn meter_for(alloc: Global, key: NameKey, asked: &LargeRequest) -> Result<TextMeter, AllocError>
+    ensures taken { IfOk result (λ made. HasTaken [] made) }
+    ensures keeps { IfOk result (KeepsFor asked.now) }
+{
+    match asked {
+        LargeRequest::OfTable(_) => TextMeter::with_rows(alloc, key),
+        LargeRequest::OfText(TextRequest::Show) => TextMeter::with_text(alloc, key),
+        LargeRequest::OfText(TextRequest::Certify) => TextMeter::with_rows_and_text(alloc, key),
+        LargeRequest::OfMeter(_) | LargeRequest::OfDocument(_) => Ok(TextMeter::new(alloc, key)),
+    }
+}
+
+/// What is told of a text that such a meter has taken.
+fn tell_taken(
+    rt: &(impl Threads + Sync),
+    alloc: Global,
+    asked: &LargeRequest,
+    text: TextMeter,
+) -> Result<Report, AllocError>
+    requires text { IsOfText asked.now }
+    requires can { CanTakeBytes [] text }
+    requires keeps { KeepsFor asked.now text }
+    ensures { IfOk result (λ report. (bytes : List ℕ) → HasTaken bytes text
+        → Answers asked.now bytes report) }
+{
+    match asked {
+        LargeRequest::OfMeter(asked) => answer_meter(alloc, *asked, text),
+        LargeRequest::OfTable(asked) => answer_table(rt, alloc, asked, text),
+        LargeRequest::OfText(asked) => answer_printed(alloc, *asked, text),
+        LargeRequest::OfDocument(_) => unreachable!(),
+    }
+}
+
+/// What a document tells, which is read whole.
+fn answer_whole<R: Read>(
+    alloc: Global,
+    key: NameKey,
+    asked: DocumentRequest,
+    reader: &mut Counted<R>,
+    retries: &mut u32,
+) -> Result<Report, NoReport>
+    requires { faults_of reader.old + retries.old < 2 ^ 64 - 1 }
+    ensures report { IfOk result (λ report. AnswersText (OfDocument asked) (R.remaining (inner_of reader.old))
+        (R.remaining (inner_of reader.new)) report) }
+
+    ensures reads_so_much { ConsumesAtMost (LARGEST_TEXT + 1) (R.remaining (inner_of reader.old))
+        (R.remaining (inner_of reader.new)) }
+    ensures retried { retries.new ≤ retries.old }
+    ensures paid { result ≢ Err NoReport.ReadFault
+        → faults_of reader.new + retries.new ≡ faults_of reader.old + retries.old }
+    ensures failed { result ≡ Err NoReport.ReadFault
+        → faults_of reader.new + retries.new ≡ faults_of reader.old + retries.old + 1 }
+{
+    match read_document(alloc, reader, retries) {
+        Ok(document) => Ok(answer_document(alloc, key, asked, document.as_slice())?),
+        Err(InputFault::TooLong) => too_long(alloc),
         Err(InputFault::ReadFailed) => Err(NoReport::ReadFault),
         Err(InputFault::OutOfMemory) => Err(NoReport::OutOfMemory),
     }
 }
 
-/// A meter that has taken nothing. It keeps the rows of the table where they are wanted.
-fn text_meter(alloc: Global, key: NameKey, asked: &LargeRequest) -> Result<TextMeter, AllocError>
-    ensures { IfOk result (λ text. HasTaken [] text) }
+fn too_long(alloc: Global) -> Result<Report, NoReport>
+    ensures says { IfOk result (λ report. report ≡ input_too_long) }
+    ensures memory { result ≢ Err NoReport.ReadFault }
 {
-    match asked {
-        LargeRequest::OfMeter(_) => Ok(TextMeter::new(alloc, key)),
-        LargeRequest::OfTable(_) => TextMeter::with_rows(alloc, key),
-    }
+    Ok(Report::of_line(alloc, b"error: input too long\n", Status::Refused)?)
 }

@@ -3,12 +3,15 @@
 #![tactic(auto)]
 
 mod bound_rows;
+mod document_input;
+mod documents;
 mod engine;
 mod entry;
 pub mod laws;
 mod numbers;
 mod room;
 mod table_answers;
+mod text_answers;
 mod text_input;
 
 pub use engine::command;

@@ -1,41 +1,30 @@
 //! What the program answers to a text.
-ghost use Rattle.std.specs.Prelude.{◌≡◌, [], List, ℕ, IfOk};
+ghost use Rattle.std.specs.Prelude.{◌≡◌, [], List, ℕ, IfOk, MatchResult};
 ghost use Rattle.command_words.specs.declared.large.LargeRequest.TheVariants.{OfMeter};
 ghost use Rattle.command_words.specs.declared.large.MeterRequest.TheVariants.{Numbers};
+ghost use Rattle.program_text.specs.Tokens.{tokens_of};
+ghost use Rattle.large_text.specs.Measured.{IsTableOfText};
 ghost use Rattle.large_text.specs.Streamed.{CanTakeBytes, HasTaken};
 ghost use Rattle.spanprof_command.specs.Report.{program_refusal};
-ghost use Rattle.large_command.specs.LargeReports.{Answers, IsOfProgram, TellsMeter};
+ghost use Rattle.large_command.specs.LargeReports.{Answers, IsOfProgram, RefusesText, TellsMeter};
 ghost use Rattle.large_command.specs.LargeReports.{numbers_report, header_refusal, text_refusal};
 
 use crate::bound_rows::bounds;
-use crate::table_answers::answer_table;
-use command_words::large::{LargeRequest, MeterRequest};
+use command_words::large::MeterRequest;
 use large_text::TextMeter;
 use large_text::fault::LargeFault;
 use online_span::Meter;
 use spanprof_command::{Report, Status, kind_name};
 use std::alloc::{AllocError, Global};
-use std::thread::Threads;
 use task_program::fault::ReadKind;
+use task_segments::table::LargeTable;
 
-/// What is asked of a text that a meter has taken, or the line of its first fault.
-pub(crate) fn answer(
-    rt: &(impl Threads + Sync),
+/// What can be told of a text that a meter has taken, or the line of its first fault.
+pub(crate) fn answer_meter(
     alloc: Global,
-    asked: &LargeRequest,
+    asked: MeterRequest,
     text: TextMeter,
 ) -> Result<Report, AllocError>
-    requires { CanTakeBytes [] text }
-    ensures { IfOk result (λ report. (bytes : List ℕ) → HasTaken bytes text
-        → Answers asked.now bytes report) }
-{
-    match asked {
-        LargeRequest::OfMeter(asked) => answer_meter(alloc, *asked, text),
-        LargeRequest::OfTable(asked) => answer_table(rt, alloc, asked, text),
-    }
-}
-
-fn answer_meter(alloc: Global, asked: MeterRequest, text: TextMeter) -> Result<Report, AllocError>
     requires { CanTakeBytes [] text }
     ensures { IfOk result (λ report. (bytes : List ℕ) → HasTaken bytes text
         → Answers (OfMeter asked) bytes report) }
@@ -47,6 +36,28 @@ fn answer_meter(alloc: Global, asked: MeterRequest, text: TextMeter) -> Result<R
                 return Err(AllocError);
             }
             text_refusal(alloc, fault)
+        }
+    }
+}
+
+/// The table of a text that a meter has taken, or the line of its first fault.
+pub(crate) fn table_or_refusal(
+    alloc: Global,
+    text: TextMeter,
+) -> Result<Result<LargeTable, Report>, AllocError>
+    requires { CanTakeBytes [] text }
+    ensures { IfOk result (λ read. (bytes : List ℕ) → HasTaken bytes text
+        → MatchResult read (IsTableOfText (tokens_of bytes)) (RefusesText bytes)) }
+{
+    match text.finish_table() {
+        Ok(Some(table)) => Ok(Ok(table)),
+        // There are more rows than are numbered.
+        Ok(None) => Err(AllocError),
+        Err(fault) => {
+            if fault.kind == ReadKind::OutOfMemory {
+                return Err(AllocError);
+            }
+            Ok(Err(text_refusal(alloc, fault)?))
         }
     }
 }

@@ -5,14 +5,12 @@ ghost use Rattle.large_text.specs.Streamed.{CanTakeBytes, HasTaken};
 ghost use Rattle.large_command.specs.LargeReports.{Answers};
 ghost use Rattle.large_command.specs.TableReports.{SaysOfTable, TellsTable};
 
-use crate::numbers::text_refusal;
+use crate::numbers::table_or_refusal;
 use command_words::large::TableRequest;
 use large_text::TextMeter;
 use spanprof_command::{Report, tell_curve, tell_greedy, tell_slacks, try_changes};
 use std::alloc::{AllocError, Global};
 use std::thread::Threads;
-use task_program::fault::ReadKind;
-use task_segments::laws::within_rows;
 use task_segments::table::LargeTable;
 
 /// What is asked of the table of a text that a meter has taken, or the line of its first fault.
@@ -26,16 +24,9 @@ pub(crate) fn answer_table(
     ensures { IfOk result (λ report. (bytes : List ℕ) → HasTaken bytes text
         → Answers (OfTable asked.now) bytes report) }
 {
-    match text.finish_table() {
-        Ok(Some(table)) => tell_table(rt, alloc, asked, table),
-        // There are more rows than are numbered.
-        Ok(None) => Err(AllocError),
-        Err(fault) => {
-            if fault.kind == ReadKind::OutOfMemory {
-                return Err(AllocError);
-            }
-            text_refusal(alloc, fault)
-        }
+    match table_or_refusal(alloc, text)? {
+        Ok(table) => tell_table(rt, alloc, asked, table),
+        Err(report) => Ok(report),
     }
 }
 
@@ -48,7 +39,7 @@ fn tell_table(
     ensures { IfOk result (λ report. TellsTable asked.now table report) }
 {
     // Does nothing when it runs: its clauses tell the proof how many rows there are at most.
-    within_rows(&table);
+    task_segments::laws::within_rows(&table);
     say_of_table(rt, alloc, asked, table)
 }
 

@@ -3,7 +3,7 @@ ghost use Rattle.std.specs.Prelude.{◌≡◌, ◌≢◌, ◌+◌, ◌-◌, ◌^
 ghost use Rattle.counted_io.specs.Counted.{inner_of, faults_of};
 ghost use Rattle.counted_io.specs.Input.{ConsumesAtMost};
 ghost use Rattle.large_text.specs.declared.limits.TheConstants.{LARGEST_TEXT};
-ghost use Rattle.large_text.specs.Streamed.{HasTaken};
+ghost use Rattle.large_text.specs.Streamed.{HasTaken, KeepsText};
 ghost use Rattle.large_command.specs.TextInput.{ReadsTooLong, TakesText};
 
 use crate::room::Room;
@@ -12,7 +12,7 @@ use large_text::TextMeter;
 use std::io::Read;
 
 /// How many bytes one read asks for at most.
-const PIECE: usize = 65_536;
+pub(crate) const PIECE: usize = 65_536;
 
 /// Reads to the end, piece by piece, and hands all that comes to the meter; but it stops with the
 /// piece with which the text is `TooLong`, and reads at most one byte more than [`LARGEST_TEXT`].
@@ -27,6 +27,7 @@ pub(crate) fn take_input<R: Read>(
 
     ensures takes { OnOk result (TakesText (R.remaining (inner_of reader.old))
         (R.remaining (inner_of reader.new)) text.new) }
+    ensures text { OnOk result (KeepsText text.old → KeepsText text.new) }
 
     // Unless the reader failed, each fault used up one of the retries.
     ensures paid { result ≢ Err InputFault.ReadFailed

@@ -11,12 +11,13 @@ use Rattle.task_program.specs.declared.place.Place.{Place}
 use Rattle.task_program.specs.declared.place.Place.TheVariants.{Header, Version, Statement}
 use Rattle.task_program.specs.Faults.{State, end_at}
 use Rattle.task_program.specs.FirstFault.IsFirstFault.{AtEnd}
-use Rattle.task_program.specs.PlainGrammar.{texts_of, names_of_piece}
+use Rattle.task_program.specs.PlainGrammar.{Written, texts_of, names_of_piece}
 use Rattle.task_program.specs.Names.{with_name}
 use Rattle.task_program.specs.TreeSoFar.{Block}
 use Rattle.task_program.specs.FirstPlainFault.{IsSentence}
 use Rattle.task_program.proofs.FoundPlaces.{Explained}
-use Rattle.task_program.proofs.PlainTrees.{any_tree_of_plain}
+use Rattle.task_program.specs.ExpandsTo.{state_after_tree}
+use Rattle.task_program.proofs.PlainTrees.{HasAnyTree, any_tree_of_plain}
 use Rattle.task_program.proofs.Begun.{LengthAt, is_not_viable, viable_next, whole_now}
 use Rattle.task_program.proofs.Tallies.{Tally}
 use Rattle.task_program.proofs.FaultFound.{end_by, whole_ends, texts_long}
@@ -26,10 +27,19 @@ use Rattle.large_text.specs.declared.limits.TheConstants.{MOST_LARGE_NESTING}
 use Rattle.large_text.specs.declared.reader.MarkReader.{MarkReader}
 use Rattle.large_text.specs.LargeReading.{state_of}
 use Rattle.task_program.proofs.Shapes.{FollowsAt, nothing_follows}
-use Rattle.large_text.specs.LargeTrees.{HasLargeTree, large_rules, too_many_large}
+use Rattle.large_text.specs.LargeTrees.{HasLargeProgram, large_rules, plain_program, too_many_large}
 use Rattle.large_text.specs.LargeTrees.{IsLargeRightWhole, IsLargeFirstFault}
 use Rattle.large_text.proofs.Sound.{IsBehind, IsSound, AreOpen}
+use Rattle.large_text.proofs.OneTree.{names_by_pieces, pieces_of}
 use Rattle.large_text.proofs.Open.{none_open}
+
+names_of_tree : (written : List Written) (names : List (List ℕ)) (marks : List Mark)
+    (h : HasAnyTree (flat_map texts_of written) marks)
+    → names ≡ fold with_name [] (flat_map names_of_piece written)
+    → names ≡ (state_after_tree h.tree).names
+names_of_tree written names marks h is =
+    let pieces = pieces_of (flat_map texts_of written) marks h in
+    is ∙ names_by_pieces written pieces.written pieces.texts_are ∙ sym pieces.names_are
 
 whole_at : (before : List (List ℕ)) (state : State) (place : Place) (blocks : List Block)
     (marks : List Mark) (line : ℕ)
@@ -37,25 +47,31 @@ whole_at : (before : List (List ℕ)) (state : State) (place : Place) (blocks : 
     (record state { place = place; tree = record { blocks = blocks; marks = marks } })
     → AreOpen blocks marks
     → end_at place blocks line ≡ None
-    → HasLargeTree before marks
+    → HasLargeProgram before (plain_program state.names marks)
 whole_at before state Statement [] marks line e o h =
     let parts = e.0 in
     let explains = e.1 in
     let nested = none_open marks o in
-    let whole = any_tree_of_plain parts.written state.names marks explains.means
-    (explains.names_are ∙ ap (λ (ns : List (List ℕ)). fold with_name [] ns)
-    (append-nil (flat_map names_of_piece parts.written))) nested in
+    let names_are = explains.names_are ∙ ap (λ (ns : List (List ℕ)). fold with_name [] ns)
+    (append-nil (flat_map names_of_piece parts.written)) in
+    let whole =
+    any_tree_of_plain parts.written state.names marks explains.means names_are nested in
     record {
-      version = parts.version;
-      body = whole.body;
-      room = whole.room;
-      tree = whole.tree;
-      version_is_one = explains.version;
-      header = explains.spelled ∙ ap (λ (ts : List (List ℕ)). codes "omptasks" ∷ parts.version ∷ ts)
-          (append-nil (flat_map texts_of parts.written) ∙ sym whole.texts_are);
-      spelled = whole.spelled;
-      marks_are = whole.marks_are;
-      nested = nested;
+      tree = record {
+        version = parts.version;
+        body = whole.body;
+        room = whole.room;
+        tree = whole.tree;
+        version_is_one = explains.version;
+        header = explains.spelled
+            ∙ ap (λ (ts : List (List ℕ)). codes "omptasks" ∷ parts.version ∷ ts)
+            (append-nil (flat_map texts_of parts.written) ∙ sym whole.texts_are);
+        spelled = whole.spelled;
+        marks_are = whole.marks_are;
+        nested = nested;
+      };
+      program_is = ap (λ (ns : List (List ℕ)). plain_program ns marks)
+          (names_of_tree parts.written state.names marks whole names_are);
     }
 whole_at before state Statement (block ∷ blocks) marks line e o h = absurd cc
 whole_at before state Header blocks marks line e o h = absurd cc
@@ -75,7 +91,8 @@ follows_none _ has_if blocks line h = absurd cc
 pub is_whole : (before : List Token) (state : State) (line : ℕ)
     → IsBehind before state
     → end_at state.place state.tree.blocks line ≡ None
-    → HasLargeTree (texts before) state.tree.marks × IsSentence (texts before)
+    → HasLargeProgram (texts before) (plain_program state.names state.tree.marks)
+    × IsSentence (texts before)
 is_whole before state line b h =
     let follows = b.began.follows []
     (follows_none state.place state.head.has_if state.tree.blocks line h) in (
@@ -103,7 +120,8 @@ ends_so before state line fault b h = (
 pub is_whole_text : (before : List Token) (marks : List Mark) (reader : MarkReader) (line : ℕ)
     → IsSound before marks reader
     → end_at reader.place (state_of reader []).tree.blocks line ≡ None
-    → HasLargeTree (texts before) marks × IsLargeRightWhole before
+    → HasLargeProgram (texts before) (plain_program reader.names marks)
+    × IsLargeRightWhole before
 is_whole_text before marks reader line r h =
     let whole = is_whole before (state_of reader marks) line r.behind h in
     (whole.0, record { sentence = whole.1; right = r.right })

@@ -4,10 +4,12 @@ pub mod Open
 pub mod Steps
 pub mod SoFar
 pub mod Refused
+pub mod OneTree
 pub mod Ended
 pub mod Taken
 pub mod Memory
 pub mod Fitting
+pub mod Printing
 pub mod Measuring
 pub mod Whole
 pub mod Moved

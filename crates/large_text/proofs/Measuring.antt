@@ -1,6 +1,6 @@
 -- Reading a text and measuring its marks, token by token.
 use Rattle.std.proofs.Common.{◌≡◌, ℕ, ◌+◌, false, List, [], ◌∷◌, ◌++◌, map, append_assoc, refl}
-use Rattle.std.proofs.Common.{sym, ap, subst, ◌∙◌, arith}
+use Rattle.std.proofs.Common.{sym, ap, subst, ◌∙◌, arith, Option, Some, None}
 use Rattle.std.proofs.lemmas.List.{append-nil}
 use Rattle.program_text.specs.declared.fault.ReadFault.{ReadFault}
 use Rattle.program_text.specs.declared.scanner.Scanner.{Scanner}
@@ -11,23 +11,30 @@ use Rattle.program_text.specs.Tokens.{Token, texts, tokens_from, line_at_end}
 use Rattle.task_segments.specs.Moments.{last_moment}
 use Rattle.task_segments.proofs.LastMoment.{moment_after-append}
 use Rattle.large_text.specs.declared.tally.Tally.{Tally}
+use Rattle.large_text.specs.Printed.{PrintsItem, PrintsMark}
 use Rattle.large_text.specs.Tallied.{Tallies}
+use Rattle.large_text.specs.declared.printer.Printer.{Printer}
 use Rattle.large_text.specs.declared.marks.TextMark.{TextMark}
 use Rattle.large_text.specs.declared.reader.MarkReader.{MarkReader}
-use Rattle.large_text.specs.LargeReading.{IsReadSoFar, mark_seen}
-use Rattle.large_text.specs.LargeTrees.{HasLargeTree, IsLargeRightWhole, IsLargeFirstFault}
+use Rattle.large_text.specs.LargeReading.{GoesTo, IsReadSoFar, mark_seen}
+use Rattle.large_text.specs.LargeTrees.{HasLargeProgram, IsLargeRightWhole, IsLargeFirstFault}
+use Rattle.large_text.specs.LargeTrees.{plain_program}
 use Rattle.large_text.specs.Measured.{TalliesText, MeasuresSoFar, CanMeasure}
 use Rattle.large_text.proofs.Moved.{further, tokens_further}
+use Rattle.large_text.proofs.Printing.{prints_mark, prints_token, whole_text}
 
 -- a token with which a mark is whole
 pub mark_taken : (before : List Token) (token : Token) (mark : TextMark) (old new : MarkReader)
-    (meter more : Tally)
+    (meter more : Tally) (between : Option Printer)
     → ((tokens : List Token) (marks : List Mark) → IsReadSoFar tokens marks old
     → IsReadSoFar (tokens ++ token ∷ []) (marks ++ mark_seen mark ∷ []) new)
+    → GoesTo old new token (Some mark)
     → ((moment : List Mark) → Tallies meter moment → Tallies more (mark_seen mark ∷ moment))
+    → PrintsItem old.place token.text meter.printer between
+    → PrintsMark between more.printer (mark_seen mark)
     → MeasuresSoFar before old meter
     → MeasuresSoFar (before ++ token ∷ []) new more
-mark_taken before token mark old new meter more reads takes m =
+mark_taken before token mark old new meter more between reads goes takes item line m =
     let start : List Mark = Begins false [] ∷ [] in
     record {
       marks = m.marks ++ mark_seen mark ∷ [];
@@ -35,7 +42,26 @@ mark_taken before token mark old new meter more reads takes m =
       measures = subst (Tallies more)
           (sym (moment_after-append m.marks (mark_seen mark ∷ []) start))
           (takes (last_moment m.marks) m.measures);
+      prints = prints_mark old new token mark m.marks meter.printer between more.printer goes item
+          line m.prints;
     }
+
+-- and one with which none is
+pub token_taken : (before : List Token) (token : Token) (old new : MarkReader)
+    (meter more : Tally)
+    → ((tokens : List Token) (marks : List Mark) → IsReadSoFar tokens marks old
+    → IsReadSoFar (tokens ++ token ∷ []) marks new)
+    → GoesTo old new token None
+    → ((moment : List Mark) → Tallies meter moment → Tallies more moment)
+    → PrintsItem old.place token.text meter.printer more.printer
+    → MeasuresSoFar before old meter
+    → MeasuresSoFar (before ++ token ∷ []) new more
+token_taken before token old new meter more reads goes stays item m = record {
+  marks = m.marks;
+  so_far = reads before m.marks m.so_far;
+  measures = stays (last_moment m.marks) m.measures;
+  prints = prints_token old new token m.marks meter.printer more.printer goes item m.prints;
+}
 
 -- ---- the tokens of a text
 
@@ -169,13 +195,15 @@ pub is_measured : (before all : List Token) (reader : MarkReader) (meter : Tally
     → MeasuresSoFar before reader meter
     → before ≡ all
     → ((before : List Token) (marks : List Mark) → IsReadSoFar before marks reader
-    → HasLargeTree (texts before) marks × IsLargeRightWhole before)
+    → HasLargeProgram (texts before) (plain_program reader.names marks)
+    × IsLargeRightWhole before)
     → TalliesText all meter
 is_measured before all reader meter m all_is whole =
     let is = whole before m.marks m.so_far in
     subst (λ (ts : List Token). TalliesText ts meter) all_is (record {
-      marks = m.marks;
-      tree = is.0;
+      program = plain_program reader.names m.marks;
+      stands = is.0;
       right = is.1;
       measures = m.measures;
+      prints = whole_text meter.printer reader.names reader.items m.marks m.prints;
     })

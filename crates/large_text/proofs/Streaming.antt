@@ -7,14 +7,16 @@ use Rattle.std.proofs.lemmas.List.{append-nil, take_more, take-append-drop}
 use Rattle.std.proofs.lemmas.List.Sums.{sum_by-append}
 use Rattle.program_text.specs.declared.fault.ReadFault.{ReadFault}
 use Rattle.program_text.specs.Marks.{Mark}
-use Rattle.program_text.specs.Marks.Mark.{Begins}
+use Rattle.program_text.specs.declared.statement.Item.{Item}
 use Rattle.program_text.specs.Tokens.{Token, texts, is_line_feed, tokens_from, tokens_of}
 use Rattle.program_text.specs.Tokens.{line_at_end}
 use Rattle.large_text.specs.declared.tally.Tally.{Tally}
-use Rattle.large_text.specs.Tallied.{Tallies}
+use Rattle.large_text.specs.Printed.{PrintsBy}
+use Rattle.large_text.specs.Tallied.{IsBegun}
 use Rattle.large_text.specs.declared.reader.MarkReader.{MarkReader}
-use Rattle.large_text.specs.LargeReading.{IsReadSoFar}
-use Rattle.large_text.specs.LargeTrees.{HasLargeTree, IsLargeRightWhole, IsLargeFirstFault}
+use Rattle.large_text.specs.LargeReading.{HasNoItems, IsReadSoFar}
+use Rattle.large_text.specs.LargeTrees.{HasLargeProgram, IsLargeRightWhole, IsLargeFirstFault}
+use Rattle.large_text.specs.LargeTrees.{plain_program}
 use Rattle.large_text.specs.Measured.{MeasuresSoFar, TalliesText}
 use Rattle.large_text.specs.Streamed.{EndsLine, CutsTokens, HasTakenLines, HasFault}
 use Rattle.large_text.specs.Streamed.{HasTakenBy, HasTaken, TakesBytes, FitsText, HasNoLineFeed}
@@ -79,15 +81,22 @@ line_ends bytes end some within feed =
 
 pub taken_first : (reader : MarkReader) (meter : Tally)
     → IsReadSoFar [] [] reader
-    → Tallies meter (Begins false [] ∷ [])
+    → HasNoItems reader
+    → IsBegun meter
     → HasTakenLines [] [] 1 reader meter
 unfolding tokens_from
-taken_first reader meter so_far measures = record {
+taken_first reader meter so_far none begun = record {
   lines = [];
   all = refl;
   cuts = no_cut;
   line_is = refl;
-  so_far = record { marks = []; so_far = so_far; measures = measures };
+  so_far = record {
+    marks = [];
+    so_far = so_far;
+    measures = begun.tallies;
+    prints = subst (λ (items : List Item). PrintsBy meter.printer reader.names items []) (sym none)
+        (begun.prints reader.names);
+  };
 }
 
 -- a line that is not whole is kept
@@ -105,10 +114,11 @@ keeps_more bytes tail more line reader meter h = record {
 -- a text of which nothing is taken yet
 pub taken_none : (text : List ℕ) (reader : MarkReader) (meter : Tally)
     → IsReadSoFar [] [] reader
-    → Tallies meter (Begins false [] ∷ [])
+    → HasNoItems reader
+    → IsBegun meter
     → HasTakenLines text text 1 reader meter
-taken_none text reader meter so_far measures =
-    keeps_more [] [] text 1 reader meter (taken_first reader meter so_far measures)
+taken_none text reader meter so_far none begun =
+    keeps_more [] [] text 1 reader meter (taken_first reader meter so_far none begun)
 
 -- and a fault stays the first
 pub stays_fault : (bytes more : List ℕ) (fault : ReadFault)
@@ -404,7 +414,8 @@ pub ends_whole : (found : Option ReadFault) (bytes tail text : List ℕ) (line :
     → ((before : List Token) → MeasuresSoFar before reader meter
     → MeasuresSoFar (before ++ tokens_from false line text) next more)
     → ((before : List Token) (marks : List Mark) → IsReadSoFar before marks next
-    → HasLargeTree (texts before) marks × IsLargeRightWhole before)
+    → HasLargeProgram (texts before) (plain_program next.names marks)
+    × IsLargeRightWhole before)
     → TalliesText (tokens_of bytes) more
 ends_whole found bytes tail text line reader next meter more none is h reads whole =
     is_measured (tokens_of bytes) (tokens_of bytes) next more

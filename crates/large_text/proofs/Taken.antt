@@ -31,13 +31,15 @@ use Rattle.large_text.specs.declared.reader.OpenBlock.{OpenBlock}
 use Rattle.large_text.specs.LargeFaults.{large_form_fault, grammar_fault, large_limit_by}
 use Rattle.large_text.specs.LargeFaults.{is_inside_at, items_coming}
 use Rattle.large_text.specs.LargeReading.{state_of, marks_after, large_step}
-use Rattle.large_text.specs.LargeReading.{IsReadSoFar, block_seen}
+use Rattle.large_text.specs.LargeReading.{GoesTo, IsReadSoFar, block_seen}
 use Rattle.large_text.specs.LargeReading.IsReadSoFar.{AtFirst, OneMore}
 use Rattle.large_text.specs.LargeTrees.{IsLargeFirstFault}
 use Rattle.large_text.specs.declared.limits.TheConstants.{MOST_LARGE_ITEMS}
 use Rattle.large_text.proofs.Sound.{IsBehind, IsSound}
 use Rattle.large_text.proofs.Sound.AreOpen.{NoneOpen}
 use Rattle.large_text.proofs.SoFar.{read_more}
+use Rattle.large_text.proofs.Steps.{Passed, is_there, passed}
+use Rattle.std.proofs.lemmas.Bool.{not-false}
 use Rattle.large_text.proofs.Refused.{first_fault, fault_told}
 
 -- ---- the beginning
@@ -125,6 +127,23 @@ pub reads_on : (result : Result (Option TextMark) ReadFault) (old new : MarkRead
 reads_on (Ok mark) old new token step work all_items = λ before marks r.
     OneMore before marks old new token mark r (step marks) work all_items
 reads_on (Err fault) old new token step work all_items = tt
+
+pub goes_to : (result : Result (Option TextMark) ReadFault) (old new : MarkReader) (token : Token)
+    → ((marks : List Mark)
+    → Gives (λ mark. state_of new (marks_after marks mark)) result
+    (large_step old.work old.all_items (state_of old marks) token))
+    → IfOk result (GoesTo old new token)
+goes_to (Ok mark) old new token step =
+    let there : (marks : List Mark) → Passed old.work old.all_items (state_of old marks) token
+    (state_of new (marks_after marks mark)) = λ marks. passed old.work old.all_items
+    (state_of old marks) token (state_of new (marks_after marks mark)) (step marks) in
+    record {
+      allowed = not-false _
+          (is_there old.place old.has_if (length (state_of old []).tree.blocks) token.text
+          (there []).grammar).allowed;
+      leads = λ marks. (there marks).next_is;
+    }
+goes_to (Err fault) old new token step = tt
 
 pub is_refused : (result : Result (Option TextMark) ReadFault) (old new : MarkReader)
     (token : Token)

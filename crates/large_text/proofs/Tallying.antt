@@ -6,7 +6,11 @@ use Rattle.task_segments.specs.Moments.{last_moment}
 use Rattle.task_segments.specs.Table.{Table, table_of}
 use Rattle.program_text.specs.Tokens.{Token}
 use Rattle.large_text.specs.declared.tally.Tally.{Tally}
-use Rattle.large_text.specs.Measured.{FitsTable, MeasuresText, TalliesText, IsTableOfText}
+use Rattle.std.specs.String.{string_bytes}
+use Rattle.task_program.specs.Canonical.{canonical_text}
+use Rattle.large_text.specs.declared.printer.Printer.{Printer}
+use Rattle.large_text.specs.Measured.{FitsTable, IsCanonicalOf, MeasuresText, TalliesText}
+use Rattle.large_text.specs.Measured.{IsTableOfText}
 use Rattle.program_text.specs.Marks.{Mark}
 use Rattle.program_text.specs.Marks.Mark.{Begins}
 use Rattle.task_segments.specs.MarkCutting.{AreWithin, CanTake, HasRoomForOne, Tables}
@@ -44,8 +48,8 @@ pub of_tally : (tokens : List Token) (tally : Tally)
     → TalliesText tokens tally
     → MeasuresText tokens tally.meter
 of_tally tokens tally h = record {
-  marks = h.marks;
-  tree = h.tree;
+  marks = h.program.marks;
+  tree = h.stands.tree;
   right = h.right;
   measures = h.measures.measures;
 }
@@ -54,8 +58,8 @@ pub whole_tally : (tokens : List Token) (tally : Tally)
     → TalliesText tokens tally
     → IsWholeTally tally
 whole_tally tokens tally h = record {
-  marks = h.marks;
-  nested = h.tree.nested;
+  marks = h.program.marks;
+  nested = h.stands.tree.nested;
   tallies = h.measures;
 }
 
@@ -66,10 +70,10 @@ pub told_table : (tokens : List Token) (tally : Tally) (found : Option Table)
     → IfSome found (IsTableOfText tokens)
 told_table tokens tally None h is = tt
 told_table tokens tally (Some table) h is = record {
-  marks = h.marks;
-  tree = h.tree;
+  marks = h.program.marks;
+  tree = h.stands.tree;
   right = h.right;
-  is = is h.marks h.tree.nested h.measures;
+  is = is h.program.marks h.stands.tree.nested h.measures;
 }
 
 -- the rows that are kept have the marks too
@@ -146,4 +150,19 @@ pub told_some : (tokens : List Token) (tally : Tally) (found : Option Table)
     → FitsTable tokens
     → IsTrue (is_some found)
 told_some tokens tally found h some kept fits =
-    some kept h.marks (fits h.marks h.tree) h.measures
+    some kept h.program.marks (fits h.program.marks h.stands.tree) h.measures
+
+pub told_text : {V : Type 0} (tokens : List Token) (tally : Tally) (found : Option V)
+    (bytes : V → List ℕ)
+    → TalliesText tokens tally
+    → IfSome found (λ (text : V). (wanted : List ℕ)
+    → IfSome tally.printer (λ (printer : Printer). string_bytes printer.text ≡ wanted)
+    → bytes text ≡ wanted)
+    → IfSome found (λ (text : V). IsCanonicalOf tokens (bytes text))
+told_text tokens tally None bytes h is = tt
+told_text tokens tally (Some text) bytes h is = record {
+  program = h.program;
+  stands = h.stands;
+  right = h.right;
+  is = is (canonical_text h.program) h.prints;
+}

@@ -176,7 +176,7 @@ unfolding read
 tree_at all line now end known h =
     let state = now.state in
     (is_whole all state line known.0
-    (ended_ok (end_at state.place state.tree.blocks line) state end h).0).0
+    (ended_ok (end_at state.place state.tree.blocks line) state end h).0).0.tree
 
 -- a text without a fault has a tree
 pub has_tree : (tokens : List Token)

@@ -13,7 +13,8 @@ use Rattle.program_text.specs.Words.{is_number, is_word, value_of}
 use Rattle.task_program.specs.declared.place.Place.{Place}
 use Rattle.task_program.specs.declared.place.Place.TheVariants.{Statement, WorkNumber, IfNumber}
 use Rattle.task_program.specs.declared.place.Place.TheVariants.{DependName}
-use Rattle.task_program.specs.Faults.{State, after_at, at, no_clauses, start, unless_fault}
+use Rattle.task_program.specs.Faults.{State, after_at, at, is_allowed, no_clauses, start}
+use Rattle.task_program.specs.Faults.{unless_fault}
 use Rattle.task_program.specs.TreeSoFar.{Block, with_block}
 use Rattle.task_program.specs.TreeSoFar.Block.{TaskBlock, GroupBlock}
 use Rattle.large_text.specs.declared.limits.TheConstants.{MOST_LARGE_TOKEN_BYTES}
@@ -132,3 +133,15 @@ pub record CanGoOn (reader : MarkReader) : Type 0 where
   pub tokens : List Token
   pub marks : List Mark
   pub so_far : IsReadSoFar tokens marks reader
+
+-- no depend item has come of a task that is being read
+abbrev pub HasNoItems : MarkReader → Type 0
+HasNoItems reader = reader.items ≡ []
+
+-- a token that the grammar has at its place led on from there
+pub record GoesTo (old new : MarkReader) (token : Token) (mark : Option TextMark) : Type 0 where
+  pub allowed : is_allowed old.place old.has_if token.text ≡ true
+  pub leads : (marks : List Mark)
+      → after_at old.place (with_bytes (state_of old marks) (length token.text)) token.text
+      token.line
+      ≡ state_of new (marks_after marks mark)

@@ -14,6 +14,7 @@ use Rattle.task_program.specs.declared.version.Version.TheVariants.{One}
 use Rattle.task_program.specs.Grammar.{Spelled}
 use Rattle.task_program.specs.ExpandsTo.{state_after_tree}
 use Rattle.task_program.specs.Nested.{IsNested}
+use Rattle.task_program.specs.ProgramMarks.{ProgramMarks}
 use Rattle.large_text.specs.declared.limits.TheConstants.{MOST_LARGE_TOKEN_BYTES}
 use Rattle.large_text.specs.declared.limits.TheConstants.{MOST_LARGE_NESTING}
 use Rattle.large_text.specs.declared.limits.TheConstants.{MOST_LARGE_ITEMS}
@@ -31,6 +32,15 @@ pub record HasLargeTree (all : List (List ℕ)) (marks : List Mark) : Type 0 whe
   pub marks_are : marks ≡ (state_after_tree tree).tree.marks
   -- tasks and groups stand one inside another
   pub nested : IsNested marks
+
+-- a program of version 1 with these names and marks
+abbrev pub plain_program : (names : List (List ℕ)) → List Mark → ProgramMarks
+plain_program names marks = record { version = One; marks = marks; names = names }
+
+-- and they are a text that stands for this program: its names are in the order of first mention
+pub record HasLargeProgram (all : List (List ℕ)) (program : ProgramMarks) : Type 0 where
+  pub tree : HasLargeTree all program.marks
+  pub program_is : program ≡ plain_program (state_after_tree tree.tree).names program.marks
 
 -- a `:` or `,`: one stands before each depend item, and nowhere else
 abbrev pub comes_before_item : List ℕ → Bool

@@ -1,24 +1,32 @@
 -- What a meter has taken of a text of any size.
-use Rattle.std.specs.Prelude.{◌≡◌, List}
+use Rattle.std.specs.Prelude.{◌≡◌, ℕ, List}
+use Rattle.std.specs.Option.{IfSome}
+use Rattle.std.specs.String.{string_bytes}
 use Rattle.program_text.specs.Marks.{Mark}
 use Rattle.program_text.specs.Tokens.{Token, texts}
+use Rattle.task_program.specs.Canonical.{canonical_text}
+use Rattle.task_program.specs.ProgramMarks.{ProgramMarks}
 use Rattle.task_segments.specs.MarksTable.{IsReading}
 use Rattle.task_segments.specs.Moments.{last_moment}
 use Rattle.task_segments.specs.Table.{Table, table_of}
 use Rattle.large_text.specs.declared.tally.Tally.{Tally}
 use Rattle.online_span.specs.declared.meter.Meter.{Meter}
 use Rattle.online_span.specs.Measuring.{Measures}
+use Rattle.large_text.specs.Printed.{PrintsBy}
 use Rattle.large_text.specs.Tallied.{Tallies}
+use Rattle.large_text.specs.declared.printer.Printer.{Printer}
 use Rattle.large_text.specs.declared.reader.MarkReader.{MarkReader}
 use Rattle.large_text.specs.LargeReading.{IsReadSoFar}
-use Rattle.large_text.specs.LargeTrees.{HasLargeTree, IsLargeRightWhole}
+use Rattle.large_text.specs.LargeTrees.{HasLargeProgram, HasLargeTree, IsLargeRightWhole}
 
 -- these tokens are a text without a fault, and all of its marks have been taken
 pub record TalliesText (tokens : List Token) (meter : Tally) : Type 0 where
-  pub marks : List Mark
-  pub tree : HasLargeTree (texts tokens) marks
+  pub program : ProgramMarks
+  pub stands : HasLargeProgram (texts tokens) program
   pub right : IsLargeRightWhole tokens
-  pub measures : Tallies meter (last_moment marks)
+  pub measures : Tallies meter (last_moment program.marks)
+  pub prints : IfSome meter.printer
+      (λ (printer : Printer). string_bytes printer.text ≡ canonical_text program)
 
 -- the same of a meter alone
 pub record MeasuresText (tokens : List Token) (meter : Meter) : Type 0 where
@@ -32,6 +40,7 @@ pub record MeasuresSoFar (tokens : List Token) (reader : MarkReader) (meter : Ta
   pub marks : List Mark
   pub so_far : IsReadSoFar tokens marks reader
   pub measures : Tallies meter (last_moment marks)
+  pub prints : PrintsBy meter.printer reader.names reader.items marks
 
 -- some tokens were taken so, and more can be
 pub record CanMeasure (reader : MarkReader) (meter : Tally) : Type 0 where
@@ -48,3 +57,10 @@ pub record IsTableOfText (tokens : List Token) (table : Table) : Type 0 where
   pub tree : HasLargeTree (texts tokens) marks
   pub right : IsLargeRightWhole tokens
   pub is : table ≡ table_of marks
+
+-- and this is the canonical text of its program
+pub record IsCanonicalOf (tokens : List Token) (text : List ℕ) : Type 0 where
+  pub program : ProgramMarks
+  pub stands : HasLargeProgram (texts tokens) program
+  pub right : IsLargeRightWhole tokens
+  pub is : text ≡ canonical_text program

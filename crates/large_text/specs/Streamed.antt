@@ -9,7 +9,7 @@ use Rattle.large_text.specs.declared.stream.TextMeter.{TextMeter}
 use Rattle.large_text.specs.declared.limits.TheConstants.{LARGEST_TEXT, LARGEST_LINE}
 use Rattle.large_text.specs.LargeTrees.{IsLargeFirstFault}
 use Rattle.large_text.specs.Measured.{MeasuresSoFar}
-use Rattle.large_text.specs.Tallied.{keeps_rows}
+use Rattle.large_text.specs.Tallied.{keeps_rows, keeps_text}
 
 -- they end with an LF
 abbrev pub EndsLine : List ℕ → Type 0
@@ -60,6 +60,10 @@ pub record HasTaken (bytes : List ℕ) (text_meter : TextMeter) : Type 0 where
 -- it keeps the rows of the table beside
 abbrev pub KeepsRows : TextMeter → Type 0
 KeepsRows text_meter = IsTrue (keeps_rows text_meter.meter)
+
+-- and the canonical text
+abbrev pub KeepsText : TextMeter → Type 0
+KeepsText text_meter = IsTrue (keeps_text text_meter.meter)
 
 -- some bytes were taken, and these behind them are not too many
 pub record CanTakeBytes (more : List ℕ) (text_meter : TextMeter) : Type 0 where

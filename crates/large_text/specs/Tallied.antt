@@ -1,14 +1,16 @@
 -- Carried out: what a tally holds of the marks that it has taken.
-use Rattle.std.specs.Prelude.{◌+◌, ◌≤◌, Bool, IsTrue, List}
+use Rattle.std.specs.Prelude.{◌+◌, ◌≤◌, ℕ, Bool, IsTrue, List, [], ◌∷◌, false}
 use Rattle.task_program.specs.Nested.{IsNested}
 use Rattle.task_segments.specs.Moments.{last_moment}
 use Rattle.std.specs.Option.{IfSome, is_some}
 use Rattle.program_text.specs.Limits.{work_of, work_done}
 use Rattle.program_text.specs.Marks.{Mark}
+use Rattle.program_text.specs.Marks.Mark.{Begins}
 use Rattle.program_text.specs.declared.limits.TheConstants.{MOST_WORK}
 use Rattle.task_segments.specs.MarkCutting.{Tables}
 use Rattle.task_segments.specs.declared.mark_cutter.MarkCutter.{MarkCutter}
 use Rattle.online_span.specs.Measuring.{Measures, Fits}
+use Rattle.large_text.specs.Printed.{PrintsBy}
 use Rattle.large_text.specs.declared.tally.Tally.{Tally}
 
 -- the meter has taken the marks of this moment, and so have the rows, where they are kept
@@ -19,6 +21,15 @@ pub record Tallies (tally : Tally) (e : List Mark) : Type 0 where
 -- whether the rows are kept
 abbrev pub keeps_rows : Tally → Bool
 keeps_rows tally = is_some tally.rows
+
+-- whether the canonical text is
+abbrev pub keeps_text : Tally → Bool
+keeps_text tally = is_some tally.printer
+
+-- no mark has come
+pub record IsBegun (tally : Tally) : Type 0 where
+  pub tallies : Tallies tally (Begins false [] ∷ [])
+  pub prints : (names : List (List ℕ)) → PrintsBy tally.printer names [] []
 
 -- a mark can come at this moment, and the work stays within the limit
 pub record FitsWork (mark : Mark) (e : List Mark) : Type 0 where

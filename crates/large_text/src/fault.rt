@@ -2,10 +2,10 @@
 ghost use Rattle.std.specs.Prelude.{◌≡◌};
 ghost use Rattle.program_text.specs.declared.fault.ReadKind.TheVariants.{OutOfMemory};
 
-use program_text::AllocFault;
-use program_text::fault::ReadKind;
 use std::alloc::AllocFailed;
 use std::marker::Model;
+use task_program::AllocFault;
+use task_program::fault::ReadKind;
 use thiserror::Error;
 
 /// What is wrong with a text, and the line of it, as in a `ReadFault`; but the line has 64 bits.

@@ -4,10 +4,10 @@ ghost use Rattle.large_text.specs.declared.limits.TheConstants.{MOST_LARGE_TOKEN
 ghost use Rattle.large_text.specs.LargeFaults.{large_form_fault};
 
 use crate::limits::MOST_LARGE_TOKEN_BYTES;
-use program_text::fault::ReadKind;
-use program_text::limits::MOST_WORD_BYTES;
 use program_text::scanner::Token;
 use program_text::words::{begins_with_digit, is_sign};
+use task_program::fault::ReadKind;
+use task_program::limits::MOST_WORD_BYTES;
 
 /// What is wrong with a token by itself, after so many bytes of tokens.
 pub(crate) fn form_fault(bytes: u64, token: Token<'_>) -> Option<ReadKind>

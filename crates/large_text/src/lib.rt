@@ -9,6 +9,7 @@ pub mod limits;
 pub mod marks;
 mod measure;
 mod place_tests;
+pub mod printer;
 pub mod reader;
 mod stream;
 pub mod tally;

@@ -1,6 +1,6 @@
 //! The marks of a text. Contracts see a mark as the same one of `program_text`.
 
-use program_text::statement::Items;
+use task_program::statement::Items;
 
 /// A mark: a task or a group begins or ends, a task works, or it waits for its children.
 #[derive(Drop)]

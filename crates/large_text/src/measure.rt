@@ -9,16 +9,23 @@ ghost use Rattle.large_text.specs.declared.limits.TheConstants.{LARGEST_TEXT};
 ghost use Rattle.large_text.specs.LargeReading.{mark_seen, token_on};
 ghost use Rattle.large_text.specs.LargeTrees.{IsLargeFirstFault};
 ghost use Rattle.large_text.specs.Measured.{MeasuresText, MeasuresSoFar, CanMeasure};
-ghost use Rattle.large_text.specs.Tallied.{keeps_rows};
+ghost use Rattle.large_text.specs.Printed.{IsNameAt, PrintsItem};
+ghost use Rattle.large_text.specs.Tallied.{keeps_rows, keeps_text};
+ghost use Rattle.std.specs.Option.{is_some};
+ghost use Rattle.std.specs.Prelude.{Some};
 
 use crate::fault::LargeFault;
 use crate::marks::TextMark;
+use crate::printer::Printer;
 use crate::reader::MarkReader;
 use crate::tally::{Tally, take_mark};
 use online_span::Meter;
 use program_text::scanner::{Scanner, Token};
+use program_text::words::text_of;
 use std::alloc::Global;
+use task_program::AllocFault;
 use task_program::name_key::NameKey;
+use task_program::place::Place;
 
 /// The meter that has taken all marks of a text of version 1, which is gone through once. The fault
 /// is the text's first, or out of memory, on line 0.
@@ -58,6 +65,7 @@ pub(crate) fn take_tokens(
         fault) }
     ensures memory { IfErr result (λ fault. fault.kind ≡ OutOfMemory → fault.line ≡ 0) }
     ensures rows { keeps_rows meter.new ≡ keeps_rows meter.old }
+    ensures text { keeps_text meter.new ≡ keeps_text meter.old }
 {
     let mut scanner = Scanner::new(text);
     'tokens: while let Some(token) = scanner.next_token() {
@@ -83,9 +91,40 @@ fn take_token(
         → IsLargeFirstFault (before ++ token_on token.entry line ∷ later) end_line fault) }
     ensures memory { IfErr result (λ fault. fault.kind ≡ OutOfMemory → fault.line ≡ 0) }
     ensures rows { keeps_rows meter.new ≡ keeps_rows meter.old }
+    ensures text { keeps_text meter.new ≡ keeps_text meter.old }
 {
-    match reader.take(token, line)? {
+    let place = reader.place();
+    let mark = reader.take(token, line)?;
+    print_item(&mut meter.printer, place, token)?;
+    match mark {
         Some(mark) => Ok(take_mark(meter, mark)?),
         None => Ok(()),
+    }
+}
+
+// Prints the depend item that this token ends, if it ends one at this place.
+fn print_item(
+    printer: &mut Option<Printer>,
+    place: Place,
+    token: Token<'_>,
+) -> Result<(), AllocFault>
+    requires { IsNameAt place token.text.now }
+    ensures text { is_some printer.new ≡ is_some printer.old }
+    ensures prints { OnOk result (PrintsItem place token.entry.text.now printer.old printer.new) }
+{
+    match printer {
+        Some(printer) => put_item(printer, place, token),
+        None => Ok(()),
+    }
+}
+
+fn put_item(printer: &mut Printer, place: Place, token: Token<'_>) -> Result<(), AllocFault>
+    requires { IsNameAt place token.text.now }
+    ensures { OnOk result (PrintsItem place token.entry.text.now (Some printer.old)
+        (Some printer.new)) }
+{
+    match place {
+        Place::DependName(kind) => printer.put_item(kind, text_of(token.text)),
+        _ => Ok(()),
     }
 }

@@ -5,8 +5,8 @@ ghost use Rattle.task_program.specs.Faults.{is_header, is_allowed};
 ghost use Rattle.large_text.specs.LargeFaults.{closes_no_block, grammar_fault, is_inside_at, items_coming};
 
 use crate::words::{is_sign, is_task, is_work};
-use program_text::fault::ReadKind;
 use program_text::scanner::Token;
+use task_program::fault::ReadKind;
 use task_program::place::Place;
 use task_program::version::{Version, is_header_word};
 

@@ -18,7 +18,9 @@ ghost use Rattle.large_text.specs.LargeFaults.{large_limit_by, is_inside_at, ite
 ghost use Rattle.large_text.specs.LargeReading.{state_of, marks_after, large_step, with_task};
 ghost use Rattle.large_text.specs.LargeReading.{IsLargeWithin, IsReadSoFar, CanGoOn, CountsOn, HasValue};
 ghost use Rattle.large_text.specs.LargeReading.{block_seen, token_on};
-ghost use Rattle.large_text.specs.LargeTrees.{HasLargeTree, IsLargeRightWhole, IsLargeFirstFault};
+ghost use Rattle.large_text.specs.LargeReading.{GoesTo, HasNoItems};
+ghost use Rattle.large_text.specs.LargeTrees.{HasLargeProgram, IsLargeRightWhole, IsLargeFirstFault};
+ghost use Rattle.large_text.specs.LargeTrees.{plain_program};
 
 use crate::fault::LargeFault;
 use crate::forms::form_fault;
@@ -26,16 +28,16 @@ use crate::limits::{MOST_LARGE_ITEMS, MOST_LARGE_NESTING};
 use crate::marks::TextMark;
 use crate::place_tests::{grammar_fault, is_inside, items_coming};
 use crate::words::{is_sign, is_task, is_work};
-use program_text::fault::ReadKind;
-use program_text::limits::{LARGEST_COST, MOST_ITEMS, MOST_WORK};
 use program_text::scanner::Token;
-use program_text::statement::{DependKind, Item, Items};
 use program_text::words::{text_of, value_within};
 use std::alloc::Global;
 use std::mem::replace;
+use task_program::fault::ReadKind;
+use task_program::limits::{LARGEST_COST, MOST_ITEMS, MOST_WORK};
 use task_program::name_key::NameKey;
 use task_program::names::Names;
 use task_program::place::Place;
+use task_program::statement::{DependKind, Item, Items};
 
 /// An open block, by the line of its `{`.
 #[derive(Clone, Copy, Debug)]
@@ -66,7 +68,8 @@ pub struct MarkReader {
 impl MarkReader {
     /// The reader where a text begins, whose names are hashed under this key.
     pub fn new(alloc: Global, key: NameKey) -> MarkReader
-        ensures { IsReadSoFar [] [] result }
+        ensures read { IsReadSoFar [] [] result }
+        ensures items { HasNoItems result }
     {
         MarkReader::fresh(alloc, key)
     }
@@ -100,6 +103,7 @@ impl MarkReader {
             → IsReadSoFar before marks self.old
             → IsReadSoFar (before ++ token_on token.entry line ∷ []) (marks_after marks mark)
             self.new) }
+        ensures goes { IfOk result (GoesTo self.old self.new (token_on token.entry line)) }
         ensures refused { IfErr result (λ fault. fault.kind ≢ OutOfMemory
             → (before later : List tokens.Token) (marks : List Mark) (end_line : ℕ)
             → IsReadSoFar before marks self.old
@@ -109,11 +113,19 @@ impl MarkReader {
         self.take_any(token, line)
     }
 
+    /// Where the reading stands: which token may come next.
+    pub(crate) fn place(&self) -> Place
+        ensures { result ≡ self.now.place }
+    {
+        self.place
+    }
+
     /// The text ends here, on this line: it is whole, or the fault is its first.
     pub fn finish(&self, line: u64) -> Result<(), LargeFault>
         ensures whole { OnOk result ((before : List tokens.Token) (marks : List Mark)
             → IsReadSoFar before marks self.now
-            → HasLargeTree (texts before) marks × IsLargeRightWhole before) }
+            → HasLargeProgram (texts before) (plain_program self.now.names marks)
+            × IsLargeRightWhole before) }
         ensures early { IfErr result (λ fault. (before : List tokens.Token) (marks : List Mark)
             → IsReadSoFar before marks self.now → IsLargeFirstFault before line fault) }
     {

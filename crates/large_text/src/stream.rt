@@ -5,21 +5,20 @@ ghost use Rattle.program_text.specs.declared.fault.ReadKind.TheVariants.{OutOfMe
 ghost use Rattle.program_text.specs.Tokens.{tokens_of, line_at_end};
 ghost use Rattle.large_text.specs.declared.limits.TheConstants.{LARGEST_PIECE};
 ghost use Rattle.large_text.specs.LargeTrees.{IsLargeFirstFault};
-ghost use Rattle.large_text.specs.Measured.{FitsTable, IsTableOfText, MeasuresText, TalliesText};
+ghost use Rattle.large_text.specs.Measured.{FitsTable, IsCanonicalOf, IsTableOfText, MeasuresText, TalliesText};
 ghost use Rattle.std.specs.Option.{IfSome, is_some};
-ghost use Rattle.large_text.specs.Tallied.{Tallies, keeps_rows};
-ghost use Rattle.program_text.specs.Marks.Mark.{Begins};
+ghost use Rattle.large_text.specs.Tallied.{IsBegun, keeps_rows, keeps_text};
 ghost use Rattle.large_text.specs.Streamed.{CanTakeBytes, EndsLine, HasTaken};
-ghost use Rattle.large_text.specs.Streamed.{HasNoLineFeed, KeepsRows, TakesBytes};
+ghost use Rattle.large_text.specs.Streamed.{HasNoLineFeed, KeepsRows, KeepsText, TakesBytes};
 
 use crate::fault::LargeFault;
 use crate::measure::take_tokens;
 use crate::reader::MarkReader;
 use crate::tally::Tally;
 use online_span::Meter;
-use program_text::AllocFault;
-use program_text::fault::ReadKind;
 use std::alloc::{AllocError, Global};
+use task_program::AllocFault;
+use task_program::fault::ReadKind;
 use task_program::name_key::NameKey;
 use task_segments::table::LargeTable;
 
@@ -54,10 +53,28 @@ impl TextMeter {
         Ok(TextMeter::with_tally(alloc, key, Tally::with_rows(alloc)?))
     }
 
+    /// The same, where its canonical text is kept.
+    pub fn with_text(alloc: Global, key: NameKey) -> Result<TextMeter, AllocFault>
+        ensures taken { IfOk result (λ made. HasTaken [] made) }
+        ensures text { IfOk result KeepsText }
+    {
+        Ok(TextMeter::with_tally(alloc, key, Tally::with_text(alloc)?))
+    }
+
+    /// The same, where both are kept.
+    pub fn with_rows_and_text(alloc: Global, key: NameKey) -> Result<TextMeter, AllocFault>
+        ensures taken { IfOk result (λ made. HasTaken [] made) }
+        ensures rows { IfOk result KeepsRows }
+        ensures text { IfOk result KeepsText }
+    {
+        Ok(TextMeter::with_tally(alloc, key, Tally::with_rows_and_text(alloc)?))
+    }
+
     fn with_tally(alloc: Global, key: NameKey, meter: Tally) -> TextMeter
-        requires { Tallies meter (Begins false [] ∷ []) }
+        requires { IsBegun meter }
         ensures taken { HasTaken [] result }
         ensures rows { keeps_rows result.meter ≡ keeps_rows meter }
+        ensures text { keeps_text result.meter ≡ keeps_text meter }
     {
         TextMeter {
             reader: MarkReader::new(alloc, key),
@@ -75,6 +92,7 @@ impl TextMeter {
         requires piece { length bytes.now ≤ LARGEST_PIECE }
         ensures takes { OnOk result (TakesBytes bytes.now self.old self.new) }
         ensures rows { KeepsRows self.old → KeepsRows self.new }
+        ensures text { KeepsText self.old → KeepsText self.new }
     {
         if self.fault.is_some() {
             return Ok(());
@@ -105,6 +123,7 @@ impl TextMeter {
         requires ends { EndsLine lines.now }
         ensures takes { OnOk result (TakesBytes lines.now self.old self.new) }
         ensures rows { keeps_rows self.new.meter ≡ keeps_rows self.old.meter }
+        ensures text { keeps_text self.new.meter ≡ keeps_text self.old.meter }
     {
         self.tail.extend_from_slice(lines)?;
         let taken = take_tokens(
@@ -158,12 +177,31 @@ impl TextMeter {
         Ok(self.whole()?.into_table())
     }
 
+    /// The same, with the canonical text, where it was kept, and the table as of `finish_table`.
+    pub fn finish_text(self) -> Result<(Option<Vec<u8>>, Option<LargeTable>), LargeFault>
+        requires { CanTakeBytes [] self }
+        ensures text { IfOk result (λ found. (text : List ℕ) → HasTaken text self
+            → IfSome found.0 (λ written. IsCanonicalOf (tokens_of text) written.items)) }
+        ensures some_text { IfOk result (λ found. KeepsText self → IsTrue (is_some found.0)) }
+        ensures table { IfOk result (λ found. (text : List ℕ) → HasTaken text self
+            → IfSome found.1 (IsTableOfText (tokens_of text))) }
+        ensures some_table { IfOk result (λ found. KeepsRows self → (text : List ℕ)
+            → HasTaken text self → FitsTable (tokens_of text) → IsTrue (is_some found.1)) }
+        ensures refused { IfErr result (λ fault. fault.kind ≢ OutOfMemory
+            → (text : List ℕ) → HasTaken text self
+            → IsLargeFirstFault (tokens_of text) (line_at_end 1 text) fault) }
+        ensures memory { IfErr result (λ fault. fault.kind ≡ OutOfMemory → fault.line ≡ 0) }
+    {
+        Ok(self.whole()?.into_text())
+    }
+
     // The tally of the whole text.
     fn whole(mut self) -> Result<Tally, LargeFault>
         requires { CanTakeBytes [] self }
         ensures measured { IfOk result (λ tally. (text : List ℕ) → HasTaken text self
             → TalliesText (tokens_of text) tally) }
         ensures rows { IfOk result (λ tally. keeps_rows tally ≡ keeps_rows self.meter) }
+        ensures text { IfOk result (λ tally. keeps_text tally ≡ keeps_text self.meter) }
         ensures refused { IfErr result (λ fault. fault.kind ≢ OutOfMemory
             → (text : List ℕ) → HasTaken text self
             → IsLargeFirstFault (tokens_of text) (line_at_end 1 text) fault) }
@@ -180,6 +218,7 @@ impl TextMeter {
         ensures measured { OnOk result ((text : List ℕ) → HasTaken text self.old
             → TalliesText (tokens_of text) self.new.meter) }
         ensures rows { keeps_rows self.new.meter ≡ keeps_rows self.old.meter }
+        ensures text { keeps_text self.new.meter ≡ keeps_text self.old.meter }
         ensures refused { IfErr result (λ fault. fault.kind ≢ OutOfMemory
             → (text : List ℕ) → HasTaken text self.old
             → IsLargeFirstFault (tokens_of text) (line_at_end 1 text) fault) }

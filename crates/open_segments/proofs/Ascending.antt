@@ -1,6 +1,8 @@
 -- Two ascending lists of the same numbers are the same list; how long one is.
 use Rattle.std.proofs.Common.{ℕ, ◌+◌, ◌<◌, ◌≤◌, ◌≡◌, ◌⊎◌, zero, suc, List, [], ◌∷◌}
-use Rattle.std.proofs.Common.{length, get_or, refl, sym, ap, ◌∙◌, arith, inl, inr, sum_by}
+use Rattle.std.proofs.Common.{length, get_or, refl, sym, ap, ◌∙◌, arith, inl, inr, sum_by, cond}
+use Rattle.std.proofs.Common.{Bool, true, false, nat_eq, count_by}
+use Rattle.std.proofs.lemmas.Bool.{eq-eqb, ne_eqb}
 use Rattle.std.specs.Prelude.{Contains}
 use Rattle.std.specs.List.Sorted.{IsStrictlyIncreasing}
 use Rattle.std.proofs.lemmas.List.Sums.{sum_by-cons}
@@ -125,3 +127,39 @@ pub length_below : (high : ℕ) (xs : List ℕ)
     → length xs ≤ high
 length_below high xs up below =
     let fits = fits_between 0 high xs up (omega arith) (λ n h. omega arith) below in omega arith
+
+counted_as : (b c : Bool) → b ≡ c → cond {A = ℕ} b 1 0 ≡ cond {A = ℕ} c 1 0
+counted_as b c same = ap (λ (x : Bool). cond {A = ℕ} x 1 0) same
+
+-- how often an ascending list has a number
+pub times_none : (r : ℕ) (xs : List ℕ)
+    → (Contains xs r → ⊥)
+    → count_by (λ y. nat_eq y r) xs ≡ 0
+times_none r [] none = refl
+times_none r (x ∷ xs) none =
+    let here : cond {A = ℕ} (nat_eq x r) 1 0 ≡ 0 =
+    counted_as (nat_eq x r) false (ne_eqb x r (λ same. none (0, omega arith, same))) in
+    let rest = times_none r xs (λ h. none (Contains-tail x r xs h)) in
+    omega (arith, here, rest, sum_by-cons (λ y. cond {A = ℕ} (nat_eq y r) 1 0) x xs)
+
+pub times_once : (r : ℕ) (xs : List ℕ)
+    → IsStrictlyIncreasing xs
+    → Contains xs r
+    → count_by (λ y. nat_eq y r) xs ≡ 1
+times_once r [] up has = absurd (omega (arith, has.1))
+times_once r (x ∷ xs) up has =
+    let more = sum_by-cons (λ y. cond {A = ℕ} (nat_eq y r) 1 0) x xs in
+    elim (Contains-cases x r xs has) [
+      | inl same ↦
+          let here : cond {A = ℕ} (nat_eq x r) 1 0 ≡ 1 =
+          counted_as (nat_eq x r) true (eq-eqb x r same) in
+          let rest = times_none r xs (λ h.
+          let above = above_head x r xs up h in absurd (omega (arith, above, same))) in
+          omega (arith, here, rest, more)
+      | inr later ↦
+          let above = above_head x r xs up later in
+          let here : cond {A = ℕ} (nat_eq x r) 1 0 ≡ 0 =
+          counted_as (nat_eq x r) false (ne_eqb x r (λ same. absurd (omega (arith, above, same)))) in
+          let rest = times_once r xs (ascending-tail x xs up) later in
+          omega (arith, here, rest, more)
+    ]

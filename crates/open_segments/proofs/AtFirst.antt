@@ -1,9 +1,9 @@
 -- What is recorded while no segment is finished.
-use Rattle.std.proofs.Common.{ℕ, ◌<◌, ◌≡◌, ◌≢◌, zero, suc, List}
+use Rattle.std.proofs.Common.{ℕ, ◌<◌, ◌≡◌, zero, suc, List}
 use Rattle.std.proofs.Common.{[], Option, Some, None, length, refl, sym, ap, ◌∙◌, subst, arith}
 use Rattle.std.proofs.Common.{inl, inr, get_or}
 use Rattle.std.proofs.lemmas.Option.{slice_get-get_or}
-use Rattle.std.specs.Prelude.{replicate, AllPairs, Contains}
+use Rattle.std.specs.Prelude.{replicate}
 use Rattle.std.proofs.lemmas.Bool.{cases_eq}
 use Rattle.std.proofs.lemmas.Option.{none-some, slice_get_within}
 use Rattle.std.proofs.lemmas.List.{length-replicate}

@@ -1,11 +1,10 @@
 -- The kept predecessors of all segments, one after another, and the siblings entered so far.
 use Rattle.std.proofs.Common.{ℕ, ◌+◌, ◌<◌, ◌≡◌, List, [], ◌∷◌, ◌++◌, Option, Some, None, length}
 use Rattle.std.proofs.Common.{get_or, refl, sym, ap, ◌∙◌, subst, arith, inl, inr}
-use Rattle.std.specs.Prelude.{slice_get, slice_set, replicate, Vec, OnOk, Result, Ok, Err}
-use Rattle.std.specs.declared.alloc.Global.{Global}
+use Rattle.std.specs.Prelude.{slice_get, slice_set, replicate, OnOk, Result, Ok, Err}
 use Rattle.std.proofs.lemmas.Bool.{cases_eq, cases_lt}
 use Rattle.std.proofs.lemmas.List.{get_or_append_left, get_or_push, length_push, length-set}
-use Rattle.std.proofs.lemmas.List.{length-replicate, map-append}
+use Rattle.std.proofs.lemmas.List.{length-replicate}
 use Rattle.task_segments.specs.Table.{Table, segment, task}
 use Rattle.task_segments.specs.declared.table.Closing.TheVariants.{Creates}
 use Rattle.task_segments.specs.Precedence.{IsSegment}
@@ -16,7 +15,6 @@ use Rattle.depend_table.specs.KeptEdges.{IsKeptEdge, children_below}
 use Rattle.open_segments.specs.Entry.{entry}
 use Rattle.open_segments.specs.Facts.{IsSoundTable}
 use Rattle.open_segments.specs.Counters.{HasValue}
-use Rattle.open_segments.specs.NumberLists.{lists_of}
 use Rattle.open_segments.specs.KeptLists.{AreEntered, AreFirstLists}
 use Rattle.open_segments.proofs.AtFirst.{entry-replicate}
 use Rattle.open_segments.proofs.ListLemmas.{Lists-none}
@@ -145,21 +143,20 @@ first_list table sound = record {
       absurd (omega (arith, before))));
 }
 
-pub first_pushed : (table : Table) (lists after : List (Vec ℕ Global)) (row : Vec ℕ Global)
+pub first_pushed : (table : Table) (lists after : List (List ℕ)) (list : List ℕ)
     → IsSoundTable table
     → lists ≡ []
-    → row.items ≡ []
-    → after ≡ lists ++ row ∷ []
-    → AreFirstLists table 1 (lists_of after)
-first_pushed table lists after row sound none empty is =
+    → list ≡ []
+    → after ≡ lists ++ list ∷ []
+    → AreFirstLists table 1 after
+first_pushed table lists after list sound none empty is =
     subst (λ (l : List (List ℕ)). AreFirstLists table 1 l)
-    (sym (ap (λ (l : List (Vec ℕ Global)). lists_of l) is
-    ∙ ap (λ (l : List (Vec ℕ Global)). lists_of (l ++ row ∷ [])) none
+    (sym (is ∙ ap (λ (l : List (List ℕ)). l ++ list ∷ []) none
     ∙ ap (λ (l : List ℕ). l ∷ []) empty))
     (first_list table sound)
 
 -- the kept predecessors of one more segment
-one_list_more : (table : Table) (n : ℕ) (lists : List (List ℕ)) (list : List ℕ)
+pub one_list_more : (table : Table) (n : ℕ) (lists : List (List ℕ)) (list : List ℕ)
     → AreFirstLists table n lists
     → Lists (λ s. IsKeptEdge table s n) list
     → AreFirstLists table (n + 1) (lists ++ list ∷ [])
@@ -181,14 +178,3 @@ one_list_more table n lists list before next =
             (subst (λ (l : List ℕ). Lists (λ s. IsKeptEdge table s n) l) (sym same) next)
       ];
     }
-
-pub list_pushed : (table : Table) (n : ℕ) (lists after : List (Vec ℕ Global)) (row : Vec ℕ Global)
-    → after ≡ lists ++ row ∷ []
-    → AreFirstLists table n (lists_of lists)
-    → Lists (λ s. IsKeptEdge table s n) row.items
-    → AreFirstLists table (n + 1) (lists_of after)
-list_pushed table n lists after row is before next =
-    subst (λ (l : List (List ℕ)). AreFirstLists table (n + 1) l)
-    (sym (ap (λ (l : List (Vec ℕ Global)). lists_of l) is
-    ∙ map-append (λ (v : Vec ℕ Global). v.items) lists (row ∷ [])))
-    (one_list_more table n (lists_of lists) row.items before next)

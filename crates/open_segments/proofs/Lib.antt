@@ -1,5 +1,7 @@
 pub mod PlaceLemmas
 pub mod ListLemmas
+pub mod FlatLists
+pub mod FilledLists
 pub mod Ascending
 pub mod Within
 pub mod Children
@@ -16,3 +18,4 @@ pub mod AtFirst
 pub mod Stages
 pub mod KeptLists
 pub mod Members
+pub mod Depending

@@ -1,5 +1,5 @@
 -- A write to one place of a list, and how many places pass a test.
-use Rattle.std.proofs.Common.{ℕ, ◌+◌, ◌<◌, ◌≤◌, ◌≡◌, ◌≢◌, zero, suc, Bool, true, false, List, []}
+use Rattle.std.proofs.Common.{ℕ, ◌+◌, ◌<◌, ◌≡◌, ◌≢◌, zero, suc, Bool, true, false, List, []}
 use Rattle.std.proofs.Common.{◌∷◌, ◌++◌, Option, Some, None, length, cond, get_or, sum_by, map}
 use Rattle.std.proofs.Common.{refl, sym, ap, ◌∙◌, arith, replicate}
 use Rattle.std.specs.Prelude.{slice_get, slice_set, count_by}

@@ -1,5 +1,5 @@
 -- What must come after another segment is a segment.
-use Rattle.std.proofs.Common.{ℕ, ◌≡◌, arith, inl, inr}
+use Rattle.std.proofs.Common.{ℕ, ◌≡◌, arith}
 use Rattle.task_segments.specs.Table.{Table, task}
 use Rattle.task_segments.specs.Nesting.{IsNestedTable}
 use Rattle.task_segments.specs.Precedence.{IsSegment, IsTask, MustPrecede}

@@ -1,5 +1,7 @@
 pub mod Entry
 pub mod NumberLists
+pub mod FlatLists
+pub mod FilledLists
 pub mod Rooms
 pub mod WaysToOpen
 pub mod Counters
@@ -8,3 +10,4 @@ pub mod UpToDate
 pub mod Openings
 pub mod KeptLists
 pub mod Members
+pub mod Families

@@ -25,7 +25,6 @@ use crate::entries::push_if;
 use crate::opener::opener;
 use std::alloc::Global;
 use task_program::AllocFault;
-use task_segments::laws::{groups_hold_later_children, groups_nest, nests, reads_in_place};
 use task_segments::table::{BoundedTable, Closing};
 
 /// The kept predecessors of the segment that goes on after `before` in its task, ascending.
@@ -38,7 +37,7 @@ pub fn next_predecessors<const SEGMENTS: u32, const TASKS: u32>(
     requires { Continues table.now before next }
     ensures { IfOk result (λ preds. Lists (λ p. IsKeptEdge table.now p next) preds.items) }
 {
-    reads_in_place(table);
+    task_segments::laws::reads_in_place(table);
     match table.closing(before) {
         Closing::Creates(child) => after_task(alloc, table, before, next, child),
         Closing::Waits => after_wait(alloc, table, before, next),
@@ -60,7 +59,7 @@ fn after_task<const SEGMENTS: u32, const TASKS: u32>(
     requires creates { (segment table.now before).closing ≡ closings.Creates child }
     ensures { IfOk result (λ preds. Lists (λ p. IsKeptEdge table.now p next) preds.items) }
 {
-    reads_in_place(table);
+    task_segments::laws::reads_in_place(table);
     let last = table.last(child);
     let mut preds = Vec::new(alloc);
     preds.push(before)?;
@@ -83,7 +82,7 @@ fn after_wait<const SEGMENTS: u32, const TASKS: u32>(
     requires waits { (segment table.now before).closing ≡ closings.Waits }
     ensures { IfOk result (λ preds. Lists (λ p. IsKeptEdge table.now p next) preds.items) }
 {
-    reads_in_place(table);
+    task_segments::laws::reads_in_place(table);
     let mut preds = Vec::new(alloc);
     let mut segment = wait_begin(table, before, next);
     while segment < before {
@@ -111,7 +110,7 @@ fn wait_begin<const SEGMENTS: u32, const TASKS: u32>(
     ensures waited { (c : ℕ) → IsEarlierChild table.now c next → result ≤ (task table.now c).last
         → KeptWait table.now (task table.now c).last next }
 {
-    reads_in_place(table);
+    task_segments::laws::reads_in_place(table);
     let mut from = before;
     while let Some(earlier) = previous_segment(table, from) {
         match table.closing(earlier) {
@@ -130,7 +129,7 @@ fn previous_segment<const SEGMENTS: u32, const TASKS: u32>(
     requires { IsSegment table.now segment }
     ensures { (s : ℕ) → (result ≡ Some s) ↔ Continues table.now s segment }
 {
-    reads_in_place(table);
+    task_segments::laws::reads_in_place(table);
     if table.first(table.task_of(segment)) == segment {
         return None;
     }
@@ -149,7 +148,7 @@ fn after_group<const SEGMENTS: u32, const TASKS: u32>(
     requires ends { (segment table.now before).closing ≡ closings.EndsGroup }
     ensures { IfOk result (λ preds. Lists (λ p. IsKeptEdge table.now p next) preds.items) }
 {
-    reads_in_place(table);
+    task_segments::laws::reads_in_place(table);
     let from = group_begin(table, before, next);
     let mut preds = Vec::new(alloc);
     for segment in from..before {
@@ -171,10 +170,10 @@ fn group_begin<const SEGMENTS: u32, const TASKS: u32>(
     ensures up_to { result ≤ before }
     ensures reached { (s : ℕ) → KeptGroupEnd table.now s next → result ≤ s }
 {
-    reads_in_place(table);
-    nests(table);
-    groups_nest(table);
-    groups_hold_later_children(table);
+    task_segments::laws::reads_in_place(table);
+    task_segments::laws::nests(table);
+    task_segments::laws::groups_nest(table);
+    task_segments::laws::groups_hold_later_children(table);
     let mut task = latest_task(table, before);
     let mut from = before;
     while table.must_precede(table.last(task), next) {
@@ -194,7 +193,7 @@ fn latest_task<const SEGMENTS: u32, const TASKS: u32>(
     ensures latest { (u : ℕ) → IsTask table.now u → (task table.now u).first ≤ segment
         → u ≤ result }
 {
-    reads_in_place(table);
+    task_segments::laws::reads_in_place(table);
     let mut begun = 0;
     let mut end = table.tasks();
     while begun + 1 < end {
@@ -218,7 +217,7 @@ fn ends_inside<const SEGMENTS: u32, const TASKS: u32>(
     requires { IsSegment table.now segment }
     ensures { IsTrue result ↔ KeptGroupEnd table.now segment group }
 {
-    reads_in_place(table);
+    task_segments::laws::reads_in_place(table);
     let task = table.task_of(segment);
     if table.last(task) != segment {
         return false;

@@ -16,9 +16,8 @@ ghost use Rattle.open_segments.specs.NumberLists.{lists_of};
 ghost use Rattle.open_segments.specs.Openings.{AreMade, IsOpened, IsRoomToOpen, AreReady};
 
 use crate::entries::{copies_of, push_if, value_entry};
-use crate::laws::serves_runs;
 use crate::number_lists::{no_lists, push_on};
-use crate::opening::{Opening, first_opening, next_opening, no_siblings};
+use crate::opening::{Opening, empty_tables, first_opening, next_opening};
 use depend_table::table::SiblingTable;
 use std::alloc::Global;
 use task_program::AllocFault;
@@ -54,12 +53,12 @@ impl Counters {
     ) -> Result<Counters, AllocFault>
         ensures { IfOk result (IsUpToDate table.now (replicate (length table.now.segments) None)) }
     {
-        serves_runs(table);
+        crate::laws::serves_runs(table);
         Ok(Counters {
-            preds: no_lists(alloc, table.len())?,
-            successors: no_lists(alloc, table.len())?,
+            preds: no_lists(alloc, table.len() as usize)?,
+            successors: no_lists(alloc, table.len() as usize)?,
             counts: copies_of(alloc, 0, table.len())?,
-            siblings: no_siblings(alloc, table.tasks())?,
+            siblings: empty_tables(alloc, table.tasks())?,
         })
     }
 
@@ -111,7 +110,7 @@ impl Counters {
         ensures refused { OnErr result (values.new.items ≡ values.old.items) }
         ensures ready { IfOk result (λ ready. Lists (IsFreed finished self.new) ready.items) }
     {
-        serves_runs(table);
+        crate::laws::serves_runs(table);
         let allocations = self.allocate(alloc, table, values.as_slice(), finished)?;
         let mut ready = allocations.ready;
         values[finished as usize] = Some(value);

@@ -5,6 +5,9 @@
 mod continuing;
 pub mod counters;
 pub mod entries;
+mod families;
+pub mod filling;
+pub mod flat_lists;
 pub mod laws;
 mod number_lists;
 pub mod opener;

@@ -11,10 +11,10 @@ use std::alloc::Global;
 use task_program::AllocFault;
 
 /// As many empty lists.
-pub fn no_lists(alloc: Global, count: u32) -> Result<Vec<Vec<u32>>, AllocFault>
+pub fn no_lists(alloc: Global, count: usize) -> Result<Vec<Vec<u32>>, AllocFault>
     ensures { IfOk result (λ lists. lists_of lists.items ≡ replicate count []) }
 {
-    let mut lists = Vec::with_capacity(alloc, count as usize)?;
+    let mut lists = Vec::with_capacity(alloc, count)?;
     for _ in 0..count {
         lists.push(Vec::new(alloc))?;
     }

@@ -2,7 +2,6 @@
 ghost use Rattle.std.specs.Prelude.{ℕ, Some, None, ◌≡◌, ◌↔◌, ◌⊎◌};
 ghost use Rattle.task_segments.specs.Precedence.{Continues, Creation, IsSegment};
 
-use task_segments::laws::{opens_after_another, reads_in_place};
 use task_segments::table::{BoundedTable, Closing};
 
 /// The segment by whose finish a segment opens: the one before it in its task, or the one that
@@ -16,8 +15,8 @@ pub fn opener<const SEGMENTS: u32, const TASKS: u32>(
         → (result ≡ Some s) ↔ (Continues table.now s segment ⊎ Creation table.now s segment) }
     ensures none { (result ≡ None) ↔ (segment ≡ 0) }
 {
-    reads_in_place(table);
-    opens_after_another(table);
+    task_segments::laws::reads_in_place(table);
+    task_segments::laws::opens_after_another(table);
     if segment == 0 {
         return None;
     }

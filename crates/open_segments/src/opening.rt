@@ -15,11 +15,9 @@ ghost use Rattle.open_segments.specs.Rooms.{HasRoom, IsRoomier};
 use crate::continuing::next_predecessors;
 use crate::number_lists::make_room;
 use crate::record::first_predecessors;
-use depend_table::laws::same_chains;
 use depend_table::table::SiblingTable;
 use std::alloc::Global;
 use task_program::AllocFault;
-use task_segments::laws::{goes_up, reads_in_place};
 use task_segments::table::{BoundedTable, Closing};
 
 /// A segment that opens, with its kept predecessors, ascending.
@@ -30,7 +28,7 @@ pub struct Opening {
 }
 
 /// As many tables of no siblings.
-pub fn no_siblings(alloc: Global, count: u32) -> Result<Vec<SiblingTable>, AllocFault>
+pub fn empty_tables(alloc: Global, count: u32) -> Result<Vec<SiblingTable>, AllocFault>
     ensures { IfOk result (λ siblings. siblings.items ≡ replicate count []) }
 {
     let mut siblings = Vec::with_capacity(alloc, count as usize)?;
@@ -55,8 +53,8 @@ pub fn next_opening<const SEGMENTS: u32, const TASKS: u32>(
     ensures next { IfOk result (IsOpening table.now (Continues table.now finished)) }
     ensures room { IfOk result (IsRoomFor values.now finished successors.new.items) }
 {
-    goes_up(table);
-    same_chains(table);
+    task_segments::laws::goes_up(table);
+    depend_table::laws::same_chains(table);
     let next = match table.next(finished) {
         Some(next) => next,
         None => return Ok(None),
@@ -92,7 +90,7 @@ pub fn first_opening<const SEGMENTS: u32, const TASKS: u32>(
     ensures first { IfOk result (IsOpening table.now (Creation table.now finished)) }
     ensures room { IfOk result (IsRoomFor values.now finished successors.new.items) }
 {
-    reads_in_place(table);
+    task_segments::laws::reads_in_place(table);
     let child = match table.closing(finished) {
         Closing::Creates(child) => child,
         _ => return Ok(None),
@@ -120,7 +118,7 @@ pub fn kept_siblings<const SEGMENTS: u32, const TASKS: u32>(
     ensures kept { IfOk result (λ kept. AreKeptSiblings table.now child kept.items) }
     ensures room { IfOk result (λ kept. vec_len kept < vec_capacity kept) }
 {
-    reads_in_place(table);
+    task_segments::laws::reads_in_place(table);
     match table.parent(child) {
         Some(parent) => {
             let mut kept = siblings[parent as usize].kept_siblings(table.items(child))?;
@@ -148,7 +146,7 @@ pub fn add_sibling<const SEGMENTS: u32, const TASKS: u32>(
         (record { task = child; items = (task table.now child).items }
         ∷ children_below table.now parent child)) }
 {
-    reads_in_place(table);
+    task_segments::laws::reads_in_place(table);
     match table.parent(child) {
         Some(parent) => {
             siblings[parent as usize].add(child, table.items(child))?;

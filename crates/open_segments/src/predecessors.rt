@@ -5,38 +5,35 @@ ghost use Rattle.task_segments.specs.declared.table.Closing.TheVariants as closi
 ghost use Rattle.task_segments.specs.Precedence.{Continues, IsSegment};
 ghost use Rattle.depend_table.specs.KeptEdges.{IsKeptEdge};
 ghost use Rattle.depend_table.specs.Lists.{Lists};
-ghost use Rattle.open_segments.specs.KeptLists.{AreEntered, AreFirstLists};
+ghost use Rattle.open_segments.specs.Families.{AreInFamilies};
+ghost use Rattle.open_segments.specs.KeptLists.{AreFirstLists};
 ghost use Rattle.open_segments.specs.Members.{AreMembers};
-ghost use Rattle.open_segments.specs.NumberLists.{lists_of};
 
 use crate::continuing::next_predecessors;
-use crate::laws::serves_runs;
+use crate::families::{Families, enter_depending, kept_children, no_families};
+use crate::flat_lists::FlatLists;
 use crate::opener::opener;
-use crate::opening::{add_sibling, kept_siblings, no_siblings};
 use crate::record::first_predecessors;
-use crate::waiting_groups::{after_members, group_members};
-use depend_table::table::SiblingTable;
+use crate::waiting_groups::{Members, after_members, group_members};
 use std::alloc::Global;
 use task_program::AllocFault;
-use task_segments::laws::reads_in_place;
 use task_segments::table::{BoundedTable, Closing};
 
 /// For each segment its kept predecessors, ascending. It is refused only when memory runs out.
 pub fn all_predecessors<const SEGMENTS: u32, const TASKS: u32>(
     alloc: Global,
     table: &BoundedTable<SEGMENTS, TASKS>,
-) -> Result<Vec<Vec<u32>>, AllocFault>
-    ensures { IfOk result (λ lists.
-        AreFirstLists table.now (length table.now.segments) (lists_of lists.items)) }
+) -> Result<FlatLists, AllocFault>
+    ensures { IfOk result (AreFirstLists table.now (length table.now.segments)) }
 {
-    serves_runs(table);
-    let mut siblings = no_siblings(alloc, table.tasks())?;
+    crate::laws::serves_runs(table);
+    let mut families = no_families(alloc);
     let members = group_members(alloc, table)?;
-    let mut lists = Vec::with_capacity(alloc, table.len() as usize)?;
-    lists.push(Vec::new(alloc))?;
+    let mut lists = FlatLists::with_capacity(alloc, table.len())?;
+    lists.push_list(&[])?;
     for segment in 1..table.len() {
-        let preds = predecessors(alloc, table, &mut siblings, members.as_slice(), segment)?;
-        lists.push(preds)?;
+        let preds = predecessors(alloc, table, &mut families, &members, segment)?;
+        lists.push_list(&preds)?;
     }
     Ok(lists)
 }
@@ -45,22 +42,22 @@ pub fn all_predecessors<const SEGMENTS: u32, const TASKS: u32>(
 fn predecessors<const SEGMENTS: u32, const TASKS: u32>(
     alloc: Global,
     table: &BoundedTable<SEGMENTS, TASKS>,
-    siblings: &mut Vec<SiblingTable>,
-    members: &[Vec<u32>],
+    families: &mut Families,
+    members: &Members,
     segment: u32,
 ) -> Result<Vec<u32>, AllocFault>
     requires later { 0 < segment }
     requires known { IsSegment table.now segment }
-    requires so_far { AreEntered table.now (segment - 1) siblings.old.items }
-    requires members { AreMembers table.now (lists_of members.now) }
+    requires so_far { AreInFamilies table.now (segment - 1) families.old }
+    requires members { AreMembers table.now members.now }
     ensures kept { IfOk result (λ preds.
         Lists (λ p. IsKeptEdge table.now p segment) preds.items) }
-    ensures entered { OnOk result (AreEntered table.now segment siblings.new.items) }
+    ensures entered { OnOk result (AreInFamilies table.now segment families.new) }
 {
-    reads_in_place(table);
+    task_segments::laws::reads_in_place(table);
     let before = segment - 1;
     if let Closing::Creates(child) = table.closing(before) {
-        return enter_child(table, siblings, before, child);
+        return enter_child(alloc, table, families, before, child);
     }
     match opener(table, segment) {
         Some(opener) => after_opener(alloc, table, members, opener, segment),
@@ -72,12 +69,12 @@ fn predecessors<const SEGMENTS: u32, const TASKS: u32>(
 fn after_opener<const SEGMENTS: u32, const TASKS: u32>(
     alloc: Global,
     table: &BoundedTable<SEGMENTS, TASKS>,
-    members: &[Vec<u32>],
+    members: &Members,
     before: u32,
     next: u32,
 ) -> Result<Vec<u32>, AllocFault>
     requires follows { Continues table.now before next }
-    requires members { AreMembers table.now (lists_of members.now) }
+    requires members { AreMembers table.now members.now }
     ensures { IfOk result (λ preds. Lists (λ p. IsKeptEdge table.now p next) preds.items) }
 {
     match table.closing(before) {
@@ -88,20 +85,21 @@ fn after_opener<const SEGMENTS: u32, const TASKS: u32>(
 
 /// The kept predecessors of the first segment of a child, which is entered among its siblings.
 fn enter_child<const SEGMENTS: u32, const TASKS: u32>(
+    alloc: Global,
     table: &BoundedTable<SEGMENTS, TASKS>,
-    siblings: &mut Vec<SiblingTable>,
+    families: &mut Families,
     creator: u32,
     child: u32,
 ) -> Result<Vec<u32>, AllocFault>
     requires known { IsSegment table.now creator }
     requires creates { (segment table.now creator).closing ≡ closings.Creates child }
-    requires so_far { AreEntered table.now creator siblings.old.items }
+    requires so_far { AreInFamilies table.now creator families.old }
     ensures kept { IfOk result (λ preds.
         Lists (λ p. IsKeptEdge table.now p (creator + 1)) preds.items) }
-    ensures entered { OnOk result (AreEntered table.now (creator + 1) siblings.new.items) }
+    ensures entered { OnOk result (AreInFamilies table.now (creator + 1) families.new) }
 {
-    reads_in_place(table);
-    let kept = kept_siblings(table, siblings.as_slice(), child)?;
-    add_sibling(table, siblings, child)?;
+    task_segments::laws::reads_in_place(table);
+    let kept = kept_children(alloc, table, families, child)?;
+    enter_depending(alloc, table, families, child)?;
     Ok(first_predecessors(table, child, kept))
 }

@@ -7,7 +7,6 @@ ghost use Rattle.depend_table.specs.KeptEdges.{IsKeptEdge};
 ghost use Rattle.depend_table.specs.Lists.{Lists};
 ghost use Rattle.open_segments.specs.WaysToOpen.{AreKeptSiblings, last_segment};
 
-use task_segments::laws::reads_in_place;
 use task_segments::table::BoundedTable;
 
 /// The kept predecessors of a child's first segment: the last segments of its kept siblings, and
@@ -21,7 +20,7 @@ pub fn first_predecessors<const SEGMENTS: u32, const TASKS: u32>(
     requires room { vec_len kept < vec_capacity kept }
     ensures { Lists (λ p. IsKeptEdge table.now p (task table.now child).first) result.items }
 {
-    reads_in_place(table);
+    task_segments::laws::reads_in_place(table);
     let mut preds = kept;
     to_last_segments(table, &mut preds);
     match table.creator(child) {

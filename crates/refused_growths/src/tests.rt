@@ -47,6 +47,7 @@ enum Calls {
     LargeText,
     Pieces,
     LargeTable,
+    LargeShow,
     Of(Command),
 }
 
@@ -77,6 +78,7 @@ fn make<H: AllocGlobal + Threads + Wait + Abort + Sync>(
         Calls::LargeText => large::text(rt, supply),
         Calls::Pieces => large::pieces(rt, supply),
         Calls::LargeTable => large::table(rt, supply),
+        Calls::LargeShow => large::shown(rt, supply),
         Calls::Of(command) => commands::report(rt, supply, command),
     }
 }

@@ -1,7 +1,7 @@
 //! The tests, a module for each crate, and what several of them need.
+mod depend_tables;
 mod dispatch;
 mod segments;
-mod siblings;
 mod workers;
 
 use dispatch_core::graph::Graph;

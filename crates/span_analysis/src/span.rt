@@ -6,7 +6,6 @@ ghost use Rattle.task_segments.specs.Schedule.{IsLeastEnd, IsSpan};
 use crate::chain::last_to_end;
 use crate::passes::earliest_starts;
 use dispatch_core::graph::Graph;
-use dispatch_core::laws::is_graph;
 use std::alloc::Global;
 use task_program::AllocFault;
 
@@ -18,7 +17,7 @@ pub fn span_of(alloc: Global, graph: &Graph) -> Result<u64, AllocFault>
     ensures least_end { IfOk result (λ span.
         IsLeastEnd graph.now.costs (Precedes graph.now) span) }
 {
-    is_graph(graph);
+    dispatch_core::laws::is_graph(graph);
     let starts = earliest_starts(alloc, graph)?;
     let last = last_to_end(graph, &starts);
     Ok(starts[last as usize] + graph.cost(last))

@@ -1,5 +1,5 @@
 -- Each document has a verdict: the claim holds, or some test is the first that fails.
-use Rattle.std.proofs.Common.{ℕ, zero, suc, ◌+◌, ◌-◌, ◌<◌, ◌≤◌, ◌≡◌, ◌≢◌, ◌⊎◌, ◌∙◌, List, [], ◌∷◌}
+use Rattle.std.proofs.Common.{ℕ, zero, suc, ◌+◌, ◌-◌, ◌<◌, ◌≡◌, ◌≢◌, ◌⊎◌, ◌∙◌, List, [], ◌∷◌}
 use Rattle.std.proofs.Common.{Option, Some, None, Result, Ok, Err, length, get_or, take, refl, sym}
 use Rattle.std.proofs.Common.{ap, subst, arith, inl, inr}
 use Rattle.std.specs.List.{range_with_len}
@@ -22,9 +22,10 @@ use Rattle.dispatch_core.specs.Facts.{IsSoundTable}
 use Rattle.span_cert.proofs.Broken.{legal_kept}
 use Rattle.span_cert.proofs.Counting.{bad_step, count_of, length-moments, one_link, one_link_more}
 use Rattle.span_cert.proofs.Spelling.{reads_spelled, spelled_reads}
-use Rattle.span_cert.specs.Acceptance.{Claims, HasClaim, IsChecked}
-use Rattle.span_cert.specs.Claims.{Claim, HasForm, moments_of_starts, segments_of_starts, word_says}
-use Rattle.span_cert.specs.OneVerdict.{HasVerdict}
+use Rattle.span_cert.specs.Acceptance.{Claims, ClaimsOf, HasClaim, IsChecked}
+use Rattle.span_cert.specs.Claims.{Claim, HasForm, Spells, moments_of_starts}
+use Rattle.span_cert.specs.Claims.{segments_of_starts, word_says}
+use Rattle.span_cert.specs.OneVerdict.{HasVerdict, HasVerdictOf}
 use Rattle.span_cert.specs.Steps.{Progress, begin, step}
 use Rattle.span_cert.specs.Tests.{Fails, FirstBadStep, FirstBroken, IsBroken, HasRightNumbers}
 use Rattle.span_cert.specs.Tests.{NoneIsBroken, checked_of}
@@ -46,6 +47,9 @@ decide_link : (next : Expected) → IsDecided (next ≡ expected.Link)
 decide_link expected.Link = inl refl
 decide_link _ = inr (λ e. cc)
 
+abbrev SpellsOrNot : List ℕ → Type 0
+SpellsOrNot text = ((claim : Claim) × Spells text claim) ⊎ ((claim : Claim) → ¬ Spells text claim)
+
 abbrev FormOrNone : List ℕ → Type 0
 FormOrNone text = ((claim : Claim) × HasForm text claim) ⊎ ((claim : Claim) → ¬ HasForm text claim)
 
@@ -57,18 +61,16 @@ abbrev claim_in : Option Progress → Claim
 claim_in None = begin.claim
 claim_in (Some p) = p.claim
 
-form_of : (text : List ℕ) (read : Option Progress)
+spelled_by : (text : List ℕ) (read : Option Progress)
     → all_steps (step_by word_says step) begin (words_of text) ≡ read
-    → length text ≤ MOST_BYTES
-    → FormOrNone text
-form_of text None is fits =
-    inr (λ claim form. none-some _ (sym is ∙ spelled_reads text claim form))
-form_of text (Some p) is fits = elim (decide_link p.next) [
+    → SpellsOrNot text
+spelled_by text None is = inr (λ claim form. none-some _ (sym is ∙ spelled_reads text claim form))
+spelled_by text (Some p) is = elim (decide_link p.next) [
   | inr other ↦ inr (λ claim form. other (ap next_in (sym is ∙ spelled_reads text claim form)))
   | inl link ↦ elim (cases_lt 0 (length p.claim.chain)) [
     | inl some ↦ inl (
       p.claim,
-      record { fits = fits; spelled = reads_spelled text p.next p.claim is link; some = some },
+      record { spelled = reads_spelled text p.next p.claim is link; some = some },
     )
     | inr none ↦ inr (λ claim form.
         let same : p.claim ≡ claim = ap claim_in (sym is ∙ spelled_reads text claim form) in
@@ -76,10 +78,17 @@ form_of text (Some p) is fits = elim (decide_link p.next) [
   ]
 ]
 
+pub spells_or_not : (text : List ℕ) → SpellsOrNot text
+spells_or_not text =
+    spelled_by text (all_steps (step_by word_says step) begin (words_of text)) refl
+
 form_or_none : (text : List ℕ) → FormOrNone text
 form_or_none text = elim (cases_lt MOST_BYTES (length text)) [
   | inl longer ↦ inr (λ claim form. let fits = form.fits in absurd (omega (arith, longer, fits)))
-  | inr fits ↦ form_of text (all_steps (step_by word_says step) begin (words_of text)) refl fits
+  | inr fits ↦ elim (spells_or_not text) [
+    | inl spells ↦ inl (spells.0, record { fits = fits; spells = spells.1 })
+    | inr none ↦ inr (λ claim form. none claim form.spells)
+  ]
 ]
 
 -- ---- the tests of a claim
@@ -275,7 +284,7 @@ checks_claim : (document : List ℕ) (program : ProgramMarks) (claim : Claim)
 checks_claim document program claim tree has =
     let table : Table = table_of program.marks in
     let whole = whole_table program (tree_is_program (program_part document) program tree) in
-    elim (verdict_on table claim whole.sound has.has_form.some) [
+    elim (verdict_on table claim whole.sound has.has_form.spells.some) [
       | inl good ↦ (
         Ok good.0,
         refl,
@@ -326,3 +335,25 @@ checks_read document (Err why) is =
 
 pub some_verdict : (document : List ℕ) → HasVerdict document
 some_verdict document = checks_read document (program_of (program_part document)) refl
+
+-- ---- the verdict on a text about a table
+
+refuses_of : (table : Table) (text : List ℕ) (why : CheckFault)
+    → ClaimsOf text (λ claim. Fails table claim why)
+    → why ≢ fault.OutOfMemory
+    → HasVerdictOf table text
+refuses_of table text fault.OutOfMemory h other = absurd (other refl)
+refuses_of table text fault.BadForm h other = absurd h.says
+refuses_of table text (fault.BadProgram read) h other = absurd h.says
+refuses_of table text why h other = (Err why, refl, h)
+
+pub some_verdict_of : (table : Table) (text : List ℕ) → IsSoundTable table → HasVerdictOf table text
+some_verdict_of table text sound = elim (spells_or_not text) [
+  | inr none ↦ (Err fault.BadForm, refl, none)
+  | inl spells ↦ elim (verdict_on table spells.0 sound spells.1.some) [
+    | inl good ↦
+        (Ok good.0, refl, record { claim = spells.0; spells = spells.1; says = good.1 })
+    | inr bad ↦ refuses_of table text bad.0
+        (record { claim = spells.0; spells = spells.1; says = bad.1 }) bad.2
+  ]
+]

@@ -14,7 +14,6 @@ use rayon::prelude::*;
 use std::alloc::Global;
 use std::thread::Threads;
 use task_program::AllocFault;
-use task_segments::laws::{goes_up, within_rows};
 use task_segments::table::BoundedTable;
 
 /// The segments are dealt out to so many columns, one after another, so that each thread gets rows
@@ -22,7 +21,7 @@ use task_segments::table::BoundedTable;
 const COLUMNS: u32 = 64;
 
 /// Whether a start lies before the end of a segment that starts at `before`.
-fn is_too_soon(start: u64, before: u64, cost: u64) -> bool
+pub(crate) fn is_too_soon(start: u64, before: u64, cost: u64) -> bool
     ensures { IsTrue result ↔ start < before + cost }
 {
     start < before || start - before < cost
@@ -30,7 +29,7 @@ fn is_too_soon(start: u64, before: u64, cost: u64) -> bool
 
 /// Whether t has to wait for s and starts before s ends. The times are compared first, since that
 /// is the quicker test.
-fn is_broken<const SEGMENTS: u32, const TASKS: u32>(
+pub(crate) fn is_broken<const SEGMENTS: u32, const TASKS: u32>(
     table: &BoundedTable<SEGMENTS, TASKS>,
     starts: &[Start],
     s: u32,
@@ -62,7 +61,7 @@ fn broken_in_row<const SEGMENTS: u32, const TASKS: u32>(
     requires ends { AreEnds table.now (moments_of_starts starts.now) ends.now }
     ensures { IfOk result (IsRow table.now (moments_of_starts starts.now) t) }
 {
-    goes_up(table);
+    task_segments::laws::goes_up(table);
     if t >= table.len() {
         return Ok(None);
     }
@@ -92,7 +91,7 @@ fn broken_in_column<const SEGMENTS: u32, const TASKS: u32>(
     requires ends { AreEnds table.now (moments_of_starts starts.now) ends.now }
     ensures { IfOk result (IsColumn table.now (moments_of_starts starts.now) column) }
 {
-    within_rows(table);
+    task_segments::laws::within_rows(table);
     let mut t = column;
     while t < table.len() {
         let found = broken_in_row(table, starts, ends, marks, t)?;

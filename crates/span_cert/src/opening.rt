@@ -6,7 +6,6 @@ ghost use Rattle.span_cert.specs.NameMarks.{AreMarkedFor, IsCut, IsOpening};
 
 use crate::name_marks::NameMarks;
 use task_program::AllocFault;
-use task_segments::laws::nests;
 use task_segments::table::{BoundedTable, Closing};
 
 /// Where a segment opens.
@@ -31,7 +30,7 @@ pub(crate) fn opening_of<const SEGMENTS: u32, const TASKS: u32>(
     ensures opening { IfOk result (IsOpening table.now t) }
     ensures marks { IfOk result (AreMarkedFor table.now marks.new t) }
 {
-    nests(table);
+    task_segments::laws::nests(table);
     let task = table.task_of(t);
     if table.first(task) == t {
         marks.put(t, table.items(task))?;
@@ -66,7 +65,7 @@ pub(crate) fn may_wait<const SEGMENTS: u32, const TASKS: u32>(
     requires marks { AreMarkedFor table.now marks.now t opening }
     ensures { MustPrecede table.now s t → IsTrue result }
 {
-    nests(table);
+    task_segments::laws::nests(table);
     let task = table.task_of(t);
     let other = table.task_of(s);
     match opening {

@@ -17,7 +17,7 @@ use Rattle.task_segments.proofs.Reaches.{Reaches}
 use Rattle.task_segments.proofs.SameSchedules.{same_legal, same_least_end, same_least_start}
 use Rattle.task_segments.proofs.SameSchedules.{same_slack, same_span}
 use Rattle.task_segments.proofs.Schedules.{chain_within}
-use Rattle.spanprof_c.specs.Programs.{OfText, OnCosts, costs_under}
+use Rattle.spanprof_c.specs.Programs.{OfText, OnCosts, Source, costs_under}
 use Rattle.spanprof_c.specs.Steps.{HasCosts, IsPriced}
 use Rattle.spanprof_c.specs.Steps.{RefusesCosts}
 use Rattle.spanprof_c.specs.declared.refusal.Refusal.{Refusal}
@@ -123,20 +123,20 @@ pub counted : (given : List ℕ) (graph : RecordedGraph) (table : Table)
 counted given graph table is = sym is.is_graph.each ∙ is.is_graph_of.each
 
 -- what is so of a program's graph is said of the text
-pub on_costs : (Says : List ℕ → (ℕ → ℕ → Type 0) → Type 0) (text given : List ℕ)
+pub on_costs : (Says : List ℕ → (ℕ → ℕ → Type 0) → Type 0) (from : Source) (given : List ℕ)
     (graph : RecordedGraph)
     → ((table : Table) → IsSoundTable table → IsGraphOf table (own table graph)
     → Says graph.costs (Precedes graph) → Says graph.costs (MustPrecede table))
-    → OfText text (IsPriced given graph)
+    → OfText from (IsPriced given graph)
     → Says graph.costs (Precedes graph)
-    → OnCosts text given Says
-on_costs Says text given graph carry priced told =
-    let table = table_of priced.program.marks in
+    → OnCosts from given Says
+on_costs Says from given graph carry priced told =
+    let table = table_of priced.marks in
     let is : IsPriced given graph table = priced.says in
     let P : List ℕ → Type 0 = λ costs. Says costs (MustPrecede table) in
     record {
-      program = priced.program;
-      tree = priced.tree;
+      marks = priced.marks;
+      stands = priced.stands;
       says = record {
         each = sym (ap (λ (xs : List ℕ). length xs) is.costs) ∙ counted given graph table is;
         says = subst P is.costs (carry table is.sound is.is_graph_of told);
@@ -155,18 +155,18 @@ own_costs table graph sound is_graph of = record {
 }
 
 -- and after
-pub other_costs : (text given : List ℕ) (before after : RecordedGraph)
-    → OfText text (IsPriced [] before)
+pub other_costs : (from : Source) (given : List ℕ) (before after : RecordedGraph)
+    → OfText from (IsPriced [] before)
     → HasCosts given before after
-    → OfText text (IsPriced given after)
-other_costs text given before after priced has =
-    let table = table_of priced.program.marks in
+    → OfText from (IsPriced given after)
+other_costs from given before after priced has =
+    let table = table_of priced.marks in
     let is : IsPriced [] before table = priced.says in
     let P : List (List ℕ) → Type 0 = λ lists.
     IsGraphOf table (record { costs = costs_of table; predecessors = lists }) in
     record {
-      program = priced.program;
-      tree = priced.tree;
+      marks = priced.marks;
+      stands = priced.stands;
       says = record {
         sound = is.sound;
         is_graph = has.is_graph;
@@ -176,9 +176,9 @@ other_costs text given before after priced has =
     }
 
 -- as far as costs are put
-pub priced : (text given : List ℕ) (graph : RecordedGraph) (made : Result RecordedGraph Refusal)
-    → OfText text (IsPriced [] graph)
+pub priced : (from : Source) (given : List ℕ) (graph : RecordedGraph) (made : Result RecordedGraph Refusal)
+    → OfText from (IsPriced [] graph)
     → MatchResult made (HasCosts given graph) (RefusesCosts given (length graph.costs))
-    → IfOk made (λ after. OfText text (IsPriced given after))
-priced text given graph (Ok after) found has = other_costs text given graph after found has
-priced text given graph (Err why) found has = tt
+    → IfOk made (λ after. OfText from (IsPriced given after))
+priced from given graph (Ok after) found has = other_costs from given graph after found has
+priced from given graph (Err why) found has = tt

@@ -9,26 +9,26 @@ use Rattle.open_segments.specs.Facts.{IsSoundTable}
 use Rattle.program_text.specs.Answers.{is_memory}
 use Rattle.program_text.specs.declared.fault.ReadFault.{ReadFault}
 use Rattle.program_text.specs.declared.fault.ReadKind.TheVariants as kind
-use Rattle.task_program.specs.Readings.{HasFirstFault}
 use Rattle.task_segments.specs.Precedence.{MustPrecede}
 use Rattle.task_segments.specs.Table.{Table, costs_of, table_of}
-use Rattle.spanprof_c.specs.Programs.{OfText, OnCosts}
+use Rattle.spanprof_c.specs.Programs.{IsFaultOf, OfText, OnCosts, Source}
+use Rattle.spanprof_c.specs.declared.told.Place.{Place}
 use Rattle.spanprof_c.specs.Steps.{IsPriced}
 use Rattle.spanprof_c.specs.Refusals.{Asked, IsRefused, IsWrongLength}
 use Rattle.spanprof_c.specs.Steps.{RefusesCosts, RefusesGraph}
-use Rattle.spanprof_c.specs.Refusals.{TellsWhy, asked, line_of, number_of}
+use Rattle.spanprof_c.specs.Refusals.{TellsWhy, asked, number_of, place_of}
 use Rattle.spanprof_c.specs.Steps.{refusal_of_text}
 use Rattle.spanprof_c.specs.declared.refusal.Refusal.{Refusal}
 use Rattle.spanprof_c.specs.declared.refusal.Refusal.TheVariants as refusal
 use Rattle.spanprof_c.proofs.Carried.{counted, on_costs}
 
 -- what is told of an outcome
-abbrev pub IsTold : {X : Type 0} → Result X Refusal → ℕ → ℕ → Type 0
+abbrev pub IsTold : {X : Type 0} → Result X Refusal → ℕ → Place → Type 0
 IsTold outcome number place = MatchResult outcome (λ _. number ≡ 0)
-    (λ why. (1 ≤ number) × (number ≡ number_of why) × (place ≡ line_of why))
+    (λ why. (1 ≤ number) × (number ≡ number_of why) × (place ≡ place_of why))
 
 -- where 0 is told, the answer is there
-done : {X : Type 0} (P : Type 0) (outcome : Result X Refusal) (number place : ℕ)
+pub done : {X : Type 0} (P : Type 0) (outcome : Result X Refusal) (number : ℕ) (place : Place)
     → IsTold outcome number place
     → OnOk outcome P
     → number ≡ 0
@@ -37,136 +37,105 @@ done P (Ok answer) number place told holds none = holds
 done P (Err why) number place told holds none = absurd (omega (arith, told.0, none))
 
 -- where a refusal is told, it says why
-pub why_so : (ask : Asked) (why : Refusal) (number place : ℕ)
-    → (1 ≤ number) × (number ≡ number_of why) × (place ≡ line_of why)
+pub why_so : (ask : Asked) (why : Refusal) (number : ℕ) (place : Place)
+    → (1 ≤ number) × (number ≡ number_of why) × (place ≡ place_of why)
     → IsRefused ask why
     → TellsWhy ask number place
 why_so ask why number place told is = record {
   why = why;
   is_why = is;
   is_number = told.1;
-  is_line = told.2;
+  is_place = told.2;
 }
 
 text_by : (memory : Bool) (ask : Asked) (fault : ReadFault)
     → is_memory fault.kind ≡ memory
-    → (fault.kind ≢ kind.OutOfMemory → HasFirstFault ask.text fault)
-    → IsRefused ask (if memory then refusal.OutOfMemory else refusal.Text fault)
+    → (fault.kind ≢ kind.OutOfMemory → IsFaultOf ask.from.any_size ask.from.text fault)
+    → IsRefused ask (if memory then refusal.OutOfMemory else refusal.Text fault.kind fault.line)
 text_by true ask fault is first = tt
 text_by false ask fault is first =
     first (λ e. let both : true ≡ false = sym (ap is_memory e) ∙ is in absurd cc)
 
 -- a text that is not read
 pub unread : (ask : Asked) (fault : ReadFault)
-    → (fault.kind ≢ kind.OutOfMemory → HasFirstFault ask.text fault)
+    → (fault.kind ≢ kind.OutOfMemory → IsFaultOf ask.from.any_size ask.from.text fault)
     → IsRefused ask (refusal_of_text fault)
 unread ask fault first = text_by (is_memory fault.kind) ask fault refl first
 
 -- costs that do not fit
-pub costs_refused : (text given lengths : List ℕ) (threads : ℕ) (graph : RecordedGraph)
+pub costs_refused : (from : Source) (given lengths : List ℕ) (threads : ℕ) (graph : RecordedGraph)
     (why : Refusal)
-    → OfText text (IsPriced [] graph)
+    → OfText from (IsPriced [] graph)
     → RefusesCosts given (length graph.costs) why
-    → IsRefused (asked text given threads lengths) why
-costs_refused text given lengths threads graph refusal.CostCount priced is = record {
-  program = priced.program;
-  tree = priced.tree;
+    → IsRefused (asked from given threads lengths) why
+costs_refused from given lengths threads graph refusal.CostCount priced is = record {
+  marks = priced.marks;
+  stands = priced.stands;
   says = record {
     some = is.some;
-    other = λ e. is.other (e ∙ sym (counted [] graph (table_of priced.program.marks) priced.says));
+    other = λ e. is.other (e ∙ sym (counted [] graph (table_of priced.marks) priced.says));
   };
 }
-costs_refused text given lengths threads graph refusal.CostsTooLarge priced is = is
-costs_refused text given lengths threads graph (refusal.Text fault) priced is = absurd is
-costs_refused text given lengths threads graph refusal.ThreadCount priced is = absurd is
-costs_refused text given lengths threads graph refusal.WrongLength priced is = absurd is
-costs_refused text given lengths threads graph refusal.OutOfMemory priced is = absurd is
+costs_refused from given lengths threads graph refusal.CostsTooLarge priced is = is
+costs_refused from given lengths threads graph (refusal.Text _ _) priced is = absurd is
+costs_refused from given lengths threads graph refusal.ThreadCount priced is = absurd is
+costs_refused from given lengths threads graph refusal.WrongLength priced is = absurd is
+costs_refused from given lengths threads graph refusal.OutOfMemory priced is = absurd is
 
 -- a graph that is not answered about
-pub graph_refused : (text given lengths : List ℕ) (threads : ℕ) (graph : RecordedGraph)
+pub graph_refused : (from : Source) (given lengths : List ℕ) (threads : ℕ) (graph : RecordedGraph)
     (why : Refusal)
-    → OfText text (IsPriced given graph)
+    → OfText from (IsPriced given graph)
     → RefusesGraph threads lengths (length graph.costs) why
-    → IsRefused (asked text given threads lengths) why
-graph_refused text given lengths threads graph refusal.ThreadCount priced is = is
-graph_refused text given lengths threads graph refusal.WrongLength priced is = record {
-  program = priced.program;
-  tree = priced.tree;
+    → IsRefused (asked from given threads lengths) why
+graph_refused from given lengths threads graph refusal.ThreadCount priced is = is
+graph_refused from given lengths threads graph refusal.WrongLength priced is = record {
+  marks = priced.marks;
+  stands = priced.stands;
   says = subst (IsWrongLength lengths)
-      (counted given graph (table_of priced.program.marks) priced.says) is;
+      (counted given graph (table_of priced.marks) priced.says) is;
 }
-graph_refused text given lengths threads graph refusal.OutOfMemory priced is = tt
-graph_refused text given lengths threads graph (refusal.Text fault) priced is = absurd is
-graph_refused text given lengths threads graph refusal.CostCount priced is = absurd is
-graph_refused text given lengths threads graph refusal.CostsTooLarge priced is = absurd is
+graph_refused from given lengths threads graph refusal.OutOfMemory priced is = tt
+graph_refused from given lengths threads graph (refusal.Text _ _) priced is = absurd is
+graph_refused from given lengths threads graph refusal.CostCount priced is = absurd is
+graph_refused from given lengths threads graph refusal.CostsTooLarge priced is = absurd is
 
 -- what is told of a graph, as the text's answer
-pub done_so : {X : Type 0} (Says : List ℕ → (ℕ → ℕ → Type 0) → Type 0) (text given : List ℕ)
-    (graph : RecordedGraph) (outcome : Result X Refusal) (number place : ℕ)
+pub done_so : {X : Type 0} (Says : List ℕ → (ℕ → ℕ → Type 0) → Type 0) (from : Source) (given : List ℕ)
+    (graph : RecordedGraph) (outcome : Result X Refusal) (number : ℕ) (place : Place)
     → ((table : Table) → IsSoundTable table
     → IsGraphOf table (record graph { costs = costs_of table })
     → Says graph.costs (Precedes graph) → Says graph.costs (MustPrecede table))
-    → OfText text (IsPriced given graph)
+    → OfText from (IsPriced given graph)
     → IsTold outcome number place
     → OnOk outcome (Says graph.costs (Precedes graph))
     → number ≡ 0
-    → OnCosts text given Says
-done_so Says text given graph outcome number place carry priced told holds =
-    done (OnCosts text given Says) outcome number place told
-    (on_ok_weaker outcome (on_costs Says text given graph carry priced) holds)
+    → OnCosts from given Says
+done_so Says from given graph outcome number place carry priced told holds =
+    done (OnCosts from given Says) outcome number place told
+    (on_ok_weaker outcome (on_costs Says from given graph carry priced) holds)
 
 -- why nothing is told of a graph, as the text's refusal
-pub refused_so : {X : Type 0} (text given lengths : List ℕ) (threads : ℕ) (graph : RecordedGraph)
-    (outcome : Result X Refusal) (number place : ℕ)
-    → OfText text (IsPriced given graph)
+pub refused_so : {X : Type 0} (from : Source) (given lengths : List ℕ) (threads : ℕ) (graph : RecordedGraph)
+    (outcome : Result X Refusal) (number : ℕ) (place : Place)
+    → OfText from (IsPriced given graph)
     → IsTold outcome number place
     → IfErr outcome (RefusesGraph threads lengths (length graph.costs))
     → number ≢ 0
-    → TellsWhy (asked text given threads lengths) number place
-refused_so text given lengths threads graph (Ok answer) number place priced told holds some =
+    → TellsWhy (asked from given threads lengths) number place
+refused_so from given lengths threads graph (Ok answer) number place priced told holds some =
     absurd (some told)
-refused_so text given lengths threads graph (Err why) number place priced told holds some =
-    why_so (asked text given threads lengths) why number place told
-    (graph_refused text given lengths threads graph why priced holds)
+refused_so from given lengths threads graph (Err why) number place priced told holds some =
+    why_so (asked from given threads lengths) why number place told
+    (graph_refused from given lengths threads graph why priced holds)
 
--- ---- what is told of a table alone
+-- ---- what is told of an outcome that speaks of the text
 
-table_refused : (text lengths : List ℕ) (table : Table) (why : Refusal)
-    → OfText text (λ other. other ≡ table)
-    → RefusesGraph 1 lengths (length table.segments) why
-    → IsRefused (asked text [] 1 lengths) why
-table_refused text lengths table refusal.ThreadCount found is = is
-table_refused text lengths table refusal.WrongLength found is = record {
-  program = found.program;
-  tree = found.tree;
-  says = subst (λ (t : Table). IsWrongLength lengths (length t.segments)) (sym found.says) is;
-}
-table_refused text lengths table refusal.OutOfMemory found is = tt
-table_refused text lengths table (refusal.Text fault) found is = absurd is
-table_refused text lengths table refusal.CostCount found is = absurd is
-table_refused text lengths table refusal.CostsTooLarge found is = absurd is
-
-pub table_done : {X : Type 0} (Says : Table → Type 0) (text : List ℕ) (table : Table)
-    (outcome : Result X Refusal) (number place : ℕ)
-    → OfText text (λ other. other ≡ table)
+pub refused_told : {X : Type 0} (ask : Asked) (outcome : Result X Refusal) (number : ℕ)
+    (place : Place)
     → IsTold outcome number place
-    → OnOk outcome (Says table)
-    → number ≡ 0
-    → OfText text Says
-table_done Says text table outcome number place found told holds none = record {
-  program = found.program;
-  tree = found.tree;
-  says = subst Says (sym found.says) (done (Says table) outcome number place told holds none);
-}
-
-pub table_why : {X : Type 0} (text lengths : List ℕ) (table : Table)
-    (outcome : Result X Refusal) (number place : ℕ)
-    → OfText text (λ other. other ≡ table)
-    → IsTold outcome number place
-    → IfErr outcome (RefusesGraph 1 lengths (length table.segments))
+    → IfErr outcome (IsRefused ask)
     → number ≢ 0
-    → TellsWhy (asked text [] 1 lengths) number place
-table_why text lengths table (Ok answer) number place found told holds some = absurd (some told)
-table_why text lengths table (Err why) number place found told holds some =
-    why_so (asked text [] 1 lengths) why number place told
-    (table_refused text lengths table why found holds)
+    → TellsWhy ask number place
+refused_told ask (Ok answer) number place told holds some = absurd (some told)
+refused_told ask (Err why) number place told holds some = why_so ask why number place told holds

@@ -1,20 +1,58 @@
 -- What is said of a text's program, under its own costs or under others.
-use Rattle.std.specs.Prelude.{ℕ, ◌≡◌, List, [], ◌∷◌, length}
+use Rattle.std.specs.Prelude.{ℕ, ◌≡◌, ◌<◌, ◌⊎◌, Bool, true, false, List, [], ◌∷◌, length}
+use Rattle.large_text.specs.LargeTrees.{HasLargeTree, IsLargeFirstFault}
+use Rattle.large_text.specs.declared.limits.TheConstants.{LARGEST_LINE}
+use Rattle.program_text.specs.Marks.{Mark}
+use Rattle.program_text.specs.Tokens.{line_at_end, texts, tokens_of}
+use Rattle.program_text.specs.declared.fault.ReadFault.{ReadFault}
+use Rattle.program_text.specs.declared.fault.ReadKind.TheVariants.{TooLong}
 use Rattle.task_program.specs.ProgramMarks.{ProgramMarks}
+use Rattle.task_program.specs.Readings.{HasFirstFault}
 use Rattle.task_program.specs.Trees.{HasTree}
 use Rattle.task_segments.specs.Precedence.{MustPrecede}
 use Rattle.task_segments.specs.Table.{Table, costs_of, table_of}
+
+-- a text, and whether it may be of any size or has to keep the limits of programs
+pub record Source : Type 0 where
+  pub any_size : Bool
+  pub text : List ℕ
+
+abbrev pub source : Bool → List ℕ → Source
+source any_size text = record { any_size = any_size; text = text }
+
+-- the text is that of a program, whose marks are these
+pub record HasProgram (text : List ℕ) (marks : List Mark) : Type 0 where
+  pub program : ProgramMarks
+  pub tree : HasTree text program
+  pub are : program.marks ≡ marks
+
+-- the text stands for these marks
+abbrev pub StandsFor : Bool → List ℕ → List Mark → Type 0
+StandsFor false text marks = HasProgram text marks
+StandsFor true text marks = HasLargeTree (texts (tokens_of text)) marks
+
+-- more bytes than a text of any size may have here: its fault is on line 1
+pub record IsTooLong (text : List ℕ) (fault : ReadFault) : Type 0 where
+  pub longer : LARGEST_LINE < length text
+  pub kind : fault.kind ≡ TooLong
+  pub line : fault.line ≡ 1
+
+-- why the text stands for none
+abbrev pub IsFaultOf : Bool → List ℕ → ReadFault → Type 0
+IsFaultOf false text fault = HasFirstFault text fault
+IsFaultOf true text fault =
+    IsTooLong text fault ⊎ IsLargeFirstFault (tokens_of text) (line_at_end 1 text) fault
+
+-- the text stands for a program, of whose table something is so
+pub record OfText (from : Source) (Says : Table → Type 0) : Type 0 where
+  pub marks : List Mark
+  pub stands : StandsFor from.any_size from.text marks
+  pub says : Says (table_of marks)
 
 -- the costs that are given, or where none are, the program's own
 abbrev pub costs_under : List ℕ → List ℕ → List ℕ
 costs_under own [] = own
 costs_under own (cost ∷ costs) = cost ∷ costs
-
--- the text has a program, of whose table something is so
-pub record OfText (text : List ℕ) (Says : Table → Type 0) : Type 0 where
-  pub program : ProgramMarks
-  pub tree : HasTree text program
-  pub says : Says (table_of program.marks)
 
 -- there is a cost for each segment, and something is so under the costs and all pairs of segments
 -- of which the first must precede the second
@@ -24,5 +62,5 @@ pub record IsUnder (given : List ℕ) (Says : List ℕ → (ℕ → ℕ → Type
   pub says : Says (costs_under (costs_of table) given) (MustPrecede table)
 
 -- the text has a program, of which something is so under the costs
-abbrev pub OnCosts : List ℕ → List ℕ → (List ℕ → (ℕ → ℕ → Type 0) → Type 0) → Type 0
-OnCosts text given Says = OfText text (IsUnder given Says)
+abbrev pub OnCosts : Source → List ℕ → (List ℕ → (ℕ → ℕ → Type 0) → Type 0) → Type 0
+OnCosts from given Says = OfText from (IsUnder given Says)

@@ -4,22 +4,22 @@ use Rattle.greedy_sim.specs.declared.greedy.TheConstants.{MOST_THREADS}
 use Rattle.program_text.specs.declared.fault.ReadKind.{ReadKind}
 use Rattle.program_text.specs.declared.fault.ReadKind.TheVariants as kind
 use Rattle.program_text.specs.declared.limits.TheConstants.{MOST_WORK}
-use Rattle.task_program.specs.Readings.{HasFirstFault}
 use Rattle.spanprof_c.specs.declared.refusal.Refusal.{Refusal}
 use Rattle.spanprof_c.specs.declared.refusal.Refusal.TheVariants as refusal
-use Rattle.spanprof_c.specs.Programs.{OfText}
+use Rattle.spanprof_c.specs.Programs.{IsFaultOf, OfText, Source}
+use Rattle.spanprof_c.specs.declared.told.Place.{Place}
 
 -- what a call is asked about: a text, the costs that are given, a number of threads, and the lengths
 -- of the lists to be filled with one number for each segment
 pub record Asked : Type 0 where
-  pub text : List ℕ
+  pub from : Source
   pub given : List ℕ
   pub threads : ℕ
   pub lengths : List ℕ
 
-abbrev pub asked : List ℕ → List ℕ → ℕ → List ℕ → Asked
-asked text given threads
-    lengths = record { text = text; given = given; threads = threads; lengths = lengths }
+abbrev pub asked : Source → List ℕ → ℕ → List ℕ → Asked
+asked from given threads
+    lengths = record { from = from; given = given; threads = threads; lengths = lengths }
 
 -- costs are given, and not one for each of so many segments
 pub record IsCostCount (given : List ℕ) (count : ℕ) : Type 0 where
@@ -38,13 +38,14 @@ IsOutOfRange threads = (threads < 1) ⊎ (MOST_THREADS < threads)
 
 -- this is a reason not to answer
 abbrev pub IsRefused : Asked → Refusal → Type 0
-IsRefused ask (refusal.Text fault) = HasFirstFault ask.text fault
+IsRefused ask (refusal.Text what line) =
+    IsFaultOf ask.from.any_size ask.from.text (record { kind = what; line = line })
 IsRefused ask refusal.ThreadCount = IsOutOfRange ask.threads
 IsRefused ask refusal.CostCount =
-    OfText ask.text (λ table. IsCostCount ask.given (length table.segments))
+    OfText ask.from (λ table. IsCostCount ask.given (length table.segments))
 IsRefused ask refusal.CostsTooLarge = MOST_WORK < sum ask.given
 IsRefused ask refusal.WrongLength =
-    OfText ask.text (λ table. IsWrongLength ask.lengths (length table.segments))
+    OfText ask.from (λ table. IsWrongLength ask.lengths (length table.segments))
 IsRefused ask refusal.OutOfMemory = Unit {0}
 
 -- ---- numbers
@@ -66,24 +67,28 @@ kind_number kind.OutOfMemory = 13
 kind_number kind.TooManyTurns = 14
 
 abbrev pub number_of : Refusal → ℕ
-number_of (refusal.Text fault) = kind_number fault.kind
+number_of (refusal.Text what line) = kind_number what
 number_of refusal.OutOfMemory = 13
 number_of refusal.ThreadCount = 15
 number_of refusal.CostCount = 16
 number_of refusal.CostsTooLarge = 17
 number_of refusal.WrongLength = 18
 
--- the line of a text's fault, and else 0
-abbrev pub line_of : Refusal → ℕ
-line_of (refusal.Text fault) = fault.line
-line_of _ = 0
+-- a line of a text, and no segment
+abbrev pub on_line : ℕ → Place
+on_line line = record { line = line; segment = 0; other = 0 }
 
--- a number and a line say why a call is not answered
-pub record TellsWhy (ask : Asked) (number place : ℕ) : Type 0 where
+-- the line of a text's fault, and else nothing
+abbrev pub place_of : Refusal → Place
+place_of (refusal.Text what line) = on_line line
+place_of _ = on_line 0
+
+-- a number and a place say why a call is not answered
+pub record TellsWhy (ask : Asked) (number : ℕ) (place : Place) : Type 0 where
   pub why : Refusal
   pub is_why : IsRefused ask why
   pub is_number : number ≡ number_of why
-  pub is_line : place ≡ line_of why
+  pub is_place : place ≡ place_of why
 
 -- the number says why there are no bounds: of the number of threads, or of the work and the span
 abbrev pub RefusesBounds : ℕ → ℕ → ℕ → ℕ → Type 0

@@ -27,7 +27,7 @@ pub record HasCosts (given : List ℕ) (before after : RecordedGraph) : Type 0 w
 
 -- why a call is not answered where its text is not read.
 abbrev pub refusal_of_text : ReadFault → Refusal
-refusal_of_text fault = if is_memory fault.kind then refusal.OutOfMemory else refusal.Text fault
+refusal_of_text fault = if is_memory fault.kind then refusal.OutOfMemory else refusal.Text fault.kind fault.line
 
 -- a reason not to take costs for a graph of so many segments.
 abbrev pub RefusesCosts : List ℕ → ℕ → Refusal → Type 0

@@ -3,21 +3,24 @@ ghost use Rattle.std.specs.Prelude.{ℕ, ◌≡◌, ◌⊎◌, ◌<◌, IfErr, O
 ghost use Rattle.dispatch_core.specs.RecordedGraph.{Precedes};
 ghost use Rattle.greedy_sim.specs.declared.greedy.TheConstants.{MOST_THREADS};
 ghost use Rattle.span_analysis.specs.Findings.{AreFindings};
+ghost use Rattle.spanprof_c.specs.Programs.{OfText, source};
+ghost use Rattle.spanprof_c.specs.Refusals.{IsRefused, asked};
 ghost use Rattle.spanprof_c.specs.Steps.{RefusesGraph};
 ghost use Rattle.spanprof_c.specs.Told.{Analyses, Curves, Judges, ListsSegments, Measures};
 ghost use Rattle.spanprof_c.specs.Told.{RunsGreedily};
 
 use crate::filling::{put_costs, put_path, put_run, put_slacks, put_tasks, some_other};
-use crate::refusal::Refusal;
+use crate::graphs::table_of_text;
+use crate::large::large_table;
+use crate::refusal::{Refusal, text_refusal};
 use crate::told::{Analysed, Measured};
 use dispatch_core::graph::Graph;
-use dispatch_core::laws::is_graph;
 use greedy_sim::greedy::{GreedyFault, MOST_THREADS, greedy};
 use span_analysis::analysis::{Analysis, analyse};
 use span_analysis::legal::is_legal;
 use span_analysis::span::span_of;
 use std::alloc::Global;
-use task_segments::table::SegTable;
+use task_segments::table::BoundedTable;
 
 /// The number of segments, the work and the span.
 pub(crate) fn measure(alloc: Global, graph: &Graph, told: &mut Measured) -> Result<(), Refusal>
@@ -52,7 +55,7 @@ pub(crate) fn tell_analysis(
     if some_other(graph.len(), &[starts.len(), slacks.len(), path.len()]) {
         return Err(Refusal::WrongLength);
     }
-    is_graph(graph);
+    dispatch_core::laws::is_graph(graph);
     match analyse(alloc, graph) {
         Ok(found) => {
             put_analysis(graph, &found, starts, slacks, path, told);
@@ -77,7 +80,7 @@ fn put_analysis(
     ensures { Analyses told.new starts.new slacks.new path.new graph.now.costs
         (Precedes graph.now) }
 {
-    is_graph(graph);
+    dispatch_core::laws::is_graph(graph);
     starts.copy_from_slice(found.starts());
     put_slacks(found, slacks);
     put_path(found.chain(), path);
@@ -103,7 +106,7 @@ pub(crate) fn tell_run(
     if some_other(graph.len(), &[starts.len(), threads.len()]) {
         return Err(Refusal::WrongLength);
     }
-    is_graph(graph);
+    dispatch_core::laws::is_graph(graph);
     match greedy(alloc, graph, count) {
         Ok(run) => {
             put_run(&run, starts, threads);
@@ -140,9 +143,35 @@ pub(crate) fn judge(graph: &Graph, starts: &[u64], legal: &mut bool)
     *legal = is_legal(graph, starts);
 }
 
-/// The task and the cost of each segment.
-pub(crate) fn tell_segments(
-    table: &SegTable,
+/// The task and the cost of each segment of a text.
+pub(crate) fn list_segments(
+    alloc: Global,
+    text: &[u8],
+    any_size: bool,
+    tasks: &mut [u32],
+    costs: &mut [u64],
+) -> Result<(), Refusal>
+    ensures done { OnOk result
+        (OfText (source any_size text.now) (ListsSegments tasks.new costs.new)) }
+    ensures refused { IfErr result (IsRefused (asked (source any_size text.now) [] 1
+        (length tasks.old ∷ length costs.old ∷ []))) }
+{
+    if any_size {
+        match large_table(alloc, text) {
+            Ok(table) => tell_segments(&table, tasks, costs),
+            Err(fault) => Err(text_refusal(fault)),
+        }
+    } else {
+        match table_of_text(alloc, text) {
+            Ok(table) => tell_segments(&table, tasks, costs),
+            Err(fault) => Err(text_refusal(fault)),
+        }
+    }
+}
+
+/// The task and the cost of each segment of a table.
+fn tell_segments<const SEGMENTS: u32, const TASKS: u32>(
+    table: &BoundedTable<SEGMENTS, TASKS>,
     tasks: &mut [u32],
     costs: &mut [u64],
 ) -> Result<(), Refusal>

@@ -6,7 +6,7 @@ ghost use Rattle.spanprof_c.specs.Told.{thread_number};
 
 use greedy_sim::greedy::GreedyRun;
 use span_analysis::analysis::Analysis;
-use task_segments::table::SegTable;
+use task_segments::table::BoundedTable;
 
 /// Whether one of these lengths is not the count.
 pub(crate) fn some_other(count: u32, lengths: &[usize]) -> bool
@@ -22,7 +22,10 @@ pub(crate) fn some_other(count: u32, lengths: &[usize]) -> bool
 }
 
 /// Fills a list with the tasks of the segments.
-pub(crate) fn put_tasks(table: &SegTable, tasks: &mut [u32])
+pub(crate) fn put_tasks<const SEGMENTS: u32, const TASKS: u32>(
+    table: &BoundedTable<SEGMENTS, TASKS>,
+    tasks: &mut [u32],
+)
     requires { length tasks.old ≡ length table.now.segments }
     ensures { tasks.new ≡ map (λ (row : Segment). row.task) table.now.segments }
 {
@@ -32,7 +35,10 @@ pub(crate) fn put_tasks(table: &SegTable, tasks: &mut [u32])
 }
 
 /// Fills a list with the costs of the segments.
-pub(crate) fn put_costs(table: &SegTable, costs: &mut [u64])
+pub(crate) fn put_costs<const SEGMENTS: u32, const TASKS: u32>(
+    table: &BoundedTable<SEGMENTS, TASKS>,
+    costs: &mut [u64],
+)
     requires { length costs.old ≡ length table.now.segments }
     ensures { costs.new ≡ costs_of table.now }
 {

@@ -1,17 +1,19 @@
 //! Why a call is not answered, and the number that says so.
 ghost use Rattle.std.specs.Prelude.{◌≡◌, ◌≤◌, MatchResult};
-ghost use Rattle.spanprof_c.specs.Refusals.{kind_number, line_of, number_of};
+ghost use Rattle.spanprof_c.specs.Refusals.{kind_number, number_of, place_of};
 ghost use Rattle.spanprof_c.specs.Steps.{refusal_of_text};
 
-use task_program::fault::{ReadFault, ReadKind};
+use crate::told::{Place, put_place};
+use large_text::fault::LargeFault;
+use task_program::fault::ReadKind;
 use thiserror::Error;
 
 /// Why a call is not answered.
 #[derive(Clone, Copy, Debug, PartialEq, Eq, Drop, Error)]
 pub enum Refusal {
     /// The text is no program.
-    #[error("the text is refused")]
-    Text(ReadFault),
+    #[error("line {line}: {kind:?}")]
+    Text { kind: ReadKind, line: u64 },
     /// The number of threads is not 1 to 1,024.
     #[error("the number of threads is not 1 to 1,024")]
     ThreadCount,
@@ -30,45 +32,48 @@ pub enum Refusal {
 }
 
 /// Why a call about a text is not answered where the text is not read.
-pub(crate) fn text_refusal(fault: ReadFault) -> Refusal
+pub(crate) fn text_refusal(fault: LargeFault) -> Refusal
     ensures { result ≡ refusal_of_text fault }
 {
     if fault.kind == ReadKind::OutOfMemory {
         Refusal::OutOfMemory
     } else {
-        Refusal::Text(fault)
+        Refusal::Text {
+            kind: fault.kind,
+            line: fault.line,
+        }
     }
 }
 
-/// The number that a call answers: 0 where the answer is there. The line is that of a text's fault,
-/// and else 0.
-pub(crate) fn tell(outcome: Result<(), Refusal>, line: &mut u32) -> u32
+/// The number that a call answers: 0 where the answer is there. The place is the line of a text's
+/// fault, and else nothing.
+pub(crate) fn tell(outcome: Result<(), Refusal>, place: &mut Place) -> u32
     ensures { MatchResult outcome
         (λ _. result ≡ 0)
-        (λ why. (1 ≤ result) × (result ≡ number_of why) × (line.new ≡ line_of why)) }
+        (λ why. (1 ≤ result) × (result ≡ number_of why) × (place.new ≡ place_of why)) }
 {
     match outcome {
         Ok(()) => {
-            *line = 0;
+            put_place(place, 0, 0, 0);
             0
         }
         Err(why) => {
-            *line = line_of(why);
+            put_why(place, why);
             number_of(why)
         }
     }
 }
 
-fn line_of(why: Refusal) -> u32
-    ensures { result ≡ line_of why }
+fn put_why(place: &mut Place, why: Refusal)
+    ensures { place.new ≡ place_of why }
 {
     match why {
-        Refusal::Text(fault) => fault.line,
-        Refusal::ThreadCount => 0,
-        Refusal::CostCount => 0,
-        Refusal::CostsTooLarge => 0,
-        Refusal::WrongLength => 0,
-        Refusal::OutOfMemory => 0,
+        Refusal::Text { line, .. } => put_place(place, line, 0, 0),
+        Refusal::ThreadCount => put_place(place, 0, 0, 0),
+        Refusal::CostCount => put_place(place, 0, 0, 0),
+        Refusal::CostsTooLarge => put_place(place, 0, 0, 0),
+        Refusal::WrongLength => put_place(place, 0, 0, 0),
+        Refusal::OutOfMemory => put_place(place, 0, 0, 0),
     }
 }
 
@@ -77,7 +82,7 @@ fn number_of(why: Refusal) -> u32
     ensures some { 1 ≤ result }
 {
     match why {
-        Refusal::Text(fault) => kind_number(fault.kind),
+        Refusal::Text { kind, .. } => kind_number(kind),
         Refusal::OutOfMemory => 13,
         Refusal::ThreadCount => 15,
         Refusal::CostCount => 16,
@@ -86,7 +91,7 @@ fn number_of(why: Refusal) -> u32
     }
 }
 
-fn kind_number(kind: ReadKind) -> u32
+pub(crate) fn kind_number(kind: ReadKind) -> u32
     ensures number { result ≡ kind_number kind }
     ensures some { 1 ≤ result }
 {

@@ -4,9 +4,8 @@ use Rattle.std.proofs.Common.{None, length, flat_map, refl, sym, ap, subst, arit
 use Rattle.std.specs.Prelude.{Contains, codes}
 use Rattle.std.proofs.lemmas.Option.{none-some, same_Some}
 use Rattle.task_program.specs.PlainWords.{all_steps, step_by, words_of}
-use Rattle.task_program.specs.ProgramMarks.{ProgramMarks}
 use Rattle.task_segments.specs.Precedence.{Continues, Creation, IsSegment}
-use Rattle.task_segments.specs.Table.{Table, table_of}
+use Rattle.task_segments.specs.Table.{Table}
 use Rattle.depend_table.specs.KeptEdges.{IsKeptEdge}
 use Rattle.depend_table.specs.Lists.{Lists}
 use Rattle.dispatch_core.specs.Facts.{IsSoundTable}
@@ -18,9 +17,9 @@ use Rattle.dispatch_core.proofs.Decisions.{decide_both, decide_either, decide_le
 use Rattle.dispatch_core.proofs.Decisions.{some_list}
 use Rattle.dispatch_core.proofs.FirstRefused.{legal_or_refused}
 use Rattle.dispatch_core.proofs.NeverStuck.{decide_finished}
-use Rattle.dispatch_core.proofs.SomeGraph.{IsWhole, kept_list}
+use Rattle.dispatch_core.proofs.SomeGraph.{kept_list}
 use Rattle.spanprof_command.proofs.Spelling.{reads_spells, spells_reads}
-use Rattle.spanprof_command.specs.Events.{Spells, word_says}
+use Rattle.spanprof_command.specs.Events.{SpellsWithin, word_says}
 use Rattle.spanprof_command.specs.EventSteps.{Progress, begin, step}
 use Rattle.spanprof_command.specs.Replaying.{Recounts, Replays, Row, SaysOfEvents, bad_form}
 use Rattle.spanprof_command.specs.Replaying.{event_refusal, preds_line, segments_of_rows}
@@ -36,9 +35,10 @@ decide_at_event expected.Event = inl refl
 decide_at_event (expected.Worker verb) = inr (λ e. cc)
 decide_at_event (expected.Segment verb worker) = inr (λ e. cc)
 
-abbrev EventsOrNone : List ℕ → Type 0
-EventsOrNone text =
-    ((events : List Event) × Spells text events) ⊎ ((events : List Event) → ¬ Spells text events)
+abbrev EventsOrNone : (most : ℕ) → List ℕ → Type 0
+EventsOrNone most text =
+    ((events : List Event) × SpellsWithin most text events)
+    ⊎ ((events : List Event) → ¬ SpellsWithin most text events)
 
 abbrev next_in : Option Progress → Expected
 next_in None = expected.Event
@@ -47,14 +47,14 @@ next_in (Some p) = p.next
 nothing_read : (p : Progress) → None ≡ Some p → ⊥
 nothing_read p e = cc
 
-events_of : (text : List ℕ) (read : Option Progress)
-    → all_steps (step_by word_says step) begin (words_of text) ≡ read
-    → EventsOrNone text
-events_of text None is =
-    inr (λ events spells. nothing_read _ (sym is ∙ spells_reads text events spells))
-events_of text (Some p) is = elim (decide_at_event p.next) [
-  | inl whole ↦ inl (p.events, reads_spells text p.next p.events is whole)
-  | inr other ↦ inr (λ events spells. other (ap next_in (sym is ∙ spells_reads text events spells)))
+events_of : (most : ℕ) (text : List ℕ) (read : Option Progress)
+    → all_steps (step_by word_says (step most)) begin (words_of text) ≡ read
+    → EventsOrNone most text
+events_of most text None is =
+    inr (λ events spells. nothing_read _ (sym is ∙ spells_reads most text events spells))
+events_of most text (Some p) is = elim (decide_at_event p.next) [
+  | inl whole ↦ inl (p.events, reads_spells most text p.next p.events is whole)
+  | inr other ↦ inr (λ events spells. other (ap next_in (sym is ∙ spells_reads most text events spells)))
 ]
 
 -- ---- the record
@@ -162,14 +162,14 @@ some_replay table events sound = elim (legal_or_refused table events sound) [
 ]
 
 -- something is said of whatever stands behind a program
-pub some_said : (rest : Option (List ℕ)) (program : ProgramMarks) → IsWhole (table_of program.marks)
-    → (output : Report) × SaysOfEvents rest program output
-some_said None program whole =
+pub some_said : (most : ℕ) (rest : Option (List ℕ)) (table : Table) → IsSoundTable table
+    → (output : Report) × SaysOfEvents most rest table output
+some_said most None table sound =
     (bad_form, inl (record { none = λ events h. none-some h.text h.is_text; says = refl }))
-some_said (Some text) program whole =
-    elim (events_of text (all_steps (step_by word_says step) begin (words_of text)) refl) [
+some_said most (Some text) table sound =
+    elim (events_of most text (all_steps (step_by word_says (step most)) begin (words_of text)) refl) [
       | inl read ↦
-          let told = some_replay (table_of program.marks) read.0 whole.sound in (
+          let told = some_replay table read.0 sound in (
             told.0,
             inr (record {
               events = read.0;
@@ -182,7 +182,7 @@ some_said (Some text) program whole =
         inl (record {
           none = λ events h.
               let same : text ≡ h.text = same_Some text h.text h.is_text in
-              none events (subst (λ (t : List ℕ). Spells t events) (sym same) h.spells);
+              none events (subst (λ (t : List ℕ). SpellsWithin most t events) (sym same) h.spells);
           says = refl;
         }),
       )

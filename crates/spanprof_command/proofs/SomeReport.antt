@@ -3,7 +3,7 @@ use Rattle.std.proofs.Common.{ℕ, zero, suc, ◌+◌, ◌<◌, ◌≤◌, ◌�
 use Rattle.std.proofs.Common.{[], ◌∷◌, ◌++◌, Option, Some, None, Result, Ok, Err, length, sum}
 use Rattle.std.proofs.Common.{get_or, refl, sym, subst, arith, inl, inr}
 use Rattle.std.specs.Prelude.{if◌then◌else◌, nat_le, nat_lt}
-use Rattle.std.proofs.lemmas.Bool.{both_ways, cases_lt, ltb-false}
+use Rattle.std.proofs.lemmas.Bool.{cases_lt, ltb-false}
 use Rattle.std.proofs.lemmas.List.{get_or_append_left, get_or_push, length-set, length_push}
 use Rattle.std.proofs.lemmas.Option.{get_or_from_slice_get, slice_get_within}
 use Rattle.command_words.specs.Request.{request_of}
@@ -41,12 +41,9 @@ use Rattle.greedy_sim.specs.Greedy.{IsCurve, IsGreedyEnd, IsGreedyRun}
 use Rattle.greedy_sim.specs.declared.greedy.TheConstants.{MOST_THREADS}
 use Rattle.span_analysis.proofs.Existence.{earliest_exists}
 use Rattle.span_analysis.proofs.PassSteps.{IsAscending-graph}
-use Rattle.span_cert.proofs.SomeVerdict.{some_verdict}
+use Rattle.span_cert.proofs.SomeVerdict.{some_verdict, some_verdict_of}
 use Rattle.span_cert.specs.Analysed.{claim_of}
-use Rattle.span_cert.specs.OneVerdict.{Judges, is_verdict}
 use Rattle.span_cert.specs.Written.{certificate}
-use Rattle.span_cert.specs.declared.checker.Checked.{Checked}
-use Rattle.span_cert.specs.declared.fault.CheckFault.{CheckFault}
 use Rattle.whatif_costs.specs.Changed.{with_cost, refusal_of}
 use Rattle.whatif_costs.specs.declared.fault.WhatFault.{WhatFault}
 use Rattle.whatif_costs.specs.declared.fault.WhatFault.TheVariants.{CostTooLarge, UnknownSegment}
@@ -62,13 +59,15 @@ use Rattle.dispatch_core.proofs.SomeGraph.{IsWhole, first_values, some_graph}
 use Rattle.dispatch_core.proofs.SomeGraph.{whole_table}
 use Rattle.dispatch_core.specs.declared.event.TheConstants.{MOST_WORKERS}
 use Rattle.spanprof_command.proofs.SomeReplay.{some_said}
+use Rattle.spanprof_command.specs.declared.events.TheConstants.{MOST_EVENTS}
 use Rattle.spanprof_command.proofs.TriedSpans.{same_as, tells_trial}
-use Rattle.spanprof_command.specs.Certificates.{AnswersCheck, Certifies, acceptance, check_refusal}
+use Rattle.spanprof_command.specs.Certificates.{AnswersCheck, AnswersClaim, Certifies, report_of}
 use Rattle.spanprof_command.specs.GreedyRuns.{Curves, GreedyRuns, IsThreadCount, curve_header}
 use Rattle.spanprof_command.specs.GreedyRuns.{curve_row, greedy_header, greedy_row, thread_count}
 use Rattle.spanprof_command.specs.OnProgram.{OnProgram}
 use Rattle.spanprof_command.specs.OneReport.{HasReport}
 use Rattle.spanprof_command.specs.Report.{Report, input_too_long, program_refusal, wrong_words}
+use Rattle.spanprof_command.specs.Replaying.{SaysOfEvents}
 use Rattle.spanprof_command.specs.Reports.{Answers, AnswersWithin, ReportsBy, Shows, Spans}
 use Rattle.spanprof_command.specs.Slacks.{Slacks, slack_header, slack_row}
 use Rattle.spanprof_command.specs.Tables.{numbered_table}
@@ -139,7 +138,7 @@ some_slacks program whole =
     )
 
 -- and to `certify`
-some_certificate : SaysSome Certifies
+pub some_certificate : SaysSome Certifies
 some_certificate program whole =
     let analysed = some_analysed (table_of program.marks) whole in (
       record { text = certificate program (claim_of analysed.found); status = Done },
@@ -153,26 +152,16 @@ some_certificate program whole =
 
 -- ---- check
 
--- a document with a verdict has an answer to `check`
-told_verdict : (document : List ℕ) (verdict : Result Checked CheckFault) → is_verdict verdict ≡ true
-    → Judges document verdict → (output : Report) × AnswersCheck document output
-told_verdict document (Ok checked) is judges =
-    (acceptance checked, inl (record { checked = checked; accepts = judges; says = refl }))
-told_verdict document (Err why) is judges =
-    let P : CheckFault → Type 0 = λ w. is_verdict (Err w) ≡ true in (
-      check_refusal why,
-      inr
-          (record {
-            why = why;
-            refuses = judges;
-            not_memory = λ e. both_ways false refl (subst P e is);
-            says = refl;
-          }),
-    )
-
 some_check : (document : List ℕ) → (output : Report) × AnswersCheck document output
 some_check document =
-    let verdict = some_verdict document in told_verdict document verdict.0 verdict.1 verdict.2
+    let v = some_verdict document in
+    (report_of v.0, record { verdict = v.0; judged = v.2; is_one = v.1; says = refl })
+
+pub some_claim : (table : Table) (text : List ℕ) → IsSoundTable table
+    → (output : Report) × AnswersClaim table text output
+some_claim table text sound =
+    let v = some_verdict_of table text sound in
+    (report_of v.0, record { verdict = v.0; judged = v.2; is_one = v.1; says = refl })
 
 -- ---- run
 
@@ -447,7 +436,10 @@ some_trial changes program whole =
 some_answer : (asked : Request) (input : List ℕ) → (output : Report) × Answers asked input output
 some_answer Span input = on_program Spans some_spans input
 some_answer Show input = on_program Shows some_show input
-some_answer Replay input = on_program _ (some_said (rest_part input)) (program_part input)
+some_answer Replay input =
+    on_program (λ program. SaysOfEvents MOST_EVENTS (rest_part input) (table_of program.marks))
+    (λ program whole. some_said MOST_EVENTS (rest_part input) (table_of program.marks) whole.sound)
+    (program_part input)
 some_answer (Run workers) input = on_program (WorkerRuns workers) (some_worker_run workers) input
 some_answer Slack input = on_program Slacks some_slacks input
 some_answer Certify input = on_program Certifies some_certificate input

@@ -1,6 +1,6 @@
 //! How many rows tables may have.
 
-use program_text::limits::MOST_TASKS;
+use task_program::limits::MOST_TASKS;
 
 /// Tasks of a program, with the root.
 pub const MOST_TASKS_WITH_ROOT: u32 = MOST_TASKS + 1;

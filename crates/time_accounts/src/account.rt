@@ -18,7 +18,6 @@ use crate::region::Region;
 use crate::sweep::delayed_between;
 use crate::times::Times;
 use dispatch_core::graph::Graph;
-use dispatch_core::laws::is_graph;
 use std::alloc::Global;
 use std::marker::Model;
 
@@ -129,7 +128,7 @@ fn known(graph: &Graph, region: Region, times: &Times, changes: &Changes)
         (at changes.now.begins.items 0)
         (at changes.now.ends.items (length changes.now.ends.items - 1)) }
 {
-    is_graph(graph);
+    dispatch_core::laws::is_graph(graph);
 }
 
 /// The account of a legal run, by the moments at which segments become ready, begin and end.

@@ -11,7 +11,6 @@ use crate::fault::TimesFault;
 use crate::region::Region;
 use crate::times::Times;
 use dispatch_core::graph::Graph;
-use dispatch_core::laws::is_graph;
 use std::alloc::{AllocError, Global};
 
 /// All segments, each behind its begin, by begins, and of one begin by numbers.
@@ -72,7 +71,7 @@ pub(crate) fn check_apart(
     ensures why { IfErr result (IsTimesFault (length graph.now.costs) (Precedes graph.now)
         region.threads region.first region.last times.now) }
 {
-    is_graph(graph);
+    dispatch_core::laws::is_graph(graph);
     let order = by_begin(alloc, times.begins())?;
     let mut taken = vec![in alloc; 0u64; region.threads as usize]?;
     if let Some(segment) = first_overlap(order.as_slice(), times, taken.as_mut_slice()) {

@@ -14,7 +14,6 @@ use crate::fault::TimesFault;
 use crate::region::Region;
 use crate::times::Times;
 use dispatch_core::graph::Graph;
-use dispatch_core::laws::is_graph;
 use greedy_sim::greedy::MOST_THREADS;
 use std::alloc::Global;
 use task_program::limits::MOST_WORK;
@@ -131,7 +130,7 @@ fn check_order(graph: &Graph, region: Region, times: &Times) -> Result<(), Times
     ensures why { IfErr result (IsTimesFault (length graph.now.costs) (Precedes graph.now)
         region.threads region.first region.last times.now) }
 {
-    is_graph(graph);
+    dispatch_core::laws::is_graph(graph);
     for segment in 0..graph.len() {
         let begin = times.begins()[segment as usize];
         if let Some(before) = first_to_end_after(times.ends(), graph.preds(segment), begin) {

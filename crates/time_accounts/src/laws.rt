@@ -10,9 +10,6 @@ ghost use Rattle.time_accounts.specs.TimedRun.{TimedRun, IsTimedRun, durations};
 ghost use Rattle.time_accounts.specs.Shares.{running, ready, ready_moments, is_outside, shares_of};
 ghost use Rattle.time_accounts.specs.OwnPath.{IsLastBefore, IsOwnPath, waits_on};
 
-use depend_table::laws::same_chains;
-use dispatch_core::laws::same_schedules;
-use task_segments::laws::goes_up;
 use task_segments::table::BoundedTable;
 
 /// A timed run is a legal schedule of its durations, with at most p segments running at each
@@ -133,7 +130,7 @@ pub fn of_program<const SEGMENTS: u32, const TASKS: u32>(table: &BoundedTable<SE
         → IsSpan (durations run) (MustPrecede table.now) span
         → (shares_of graph p first last run).starved ≤ (p - 1) * span }
 {
-    goes_up(table);
-    same_chains(table);
-    same_schedules(table);
+    task_segments::laws::goes_up(table);
+    depend_table::laws::same_chains(table);
+    dispatch_core::laws::same_schedules(table);
 }

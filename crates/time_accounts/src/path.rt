@@ -8,7 +8,6 @@ ghost use Rattle.time_accounts.specs.OwnPath.{IsLastBefore, IsOwnPath};
 
 use crate::times::Times;
 use dispatch_core::graph::Graph;
-use dispatch_core::laws::is_graph;
 use std::alloc::{AllocError, Global};
 
 /// The segment that ends last, the smallest of several.
@@ -55,7 +54,7 @@ fn last_before(graph: &Graph, times: &Times, segment: u32) -> Option<u32>
     ensures { MatchOption result ((r : ℕ) → Precedes graph.now r segment → ⊥)
         (λ before. IsLastBefore (Precedes graph.now) times.now before segment) }
 {
-    is_graph(graph);
+    dispatch_core::laws::is_graph(graph);
     last_among(times.ends(), graph.preds(segment))
 }
 
@@ -67,7 +66,7 @@ pub fn own_path(alloc: Global, graph: &Graph, times: &Times) -> Result<Vec<u32>,
     ensures { IfOk result (λ path.
         IsOwnPath (length graph.now.costs) (Precedes graph.now) times.now path.items) }
 {
-    is_graph(graph);
+    dispatch_core::laws::is_graph(graph);
     let last = last_to_end(times.ends());
     let mut backwards = Vec::new(alloc);
     backwards.push(last)?;

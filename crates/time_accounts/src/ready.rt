@@ -4,7 +4,6 @@ ghost use Rattle.time_accounts.specs.Shares.{last_end, ready_moments as ready_mo
 
 use crate::times::Times;
 use dispatch_core::graph::Graph;
-use dispatch_core::laws::is_graph;
 use std::alloc::{AllocError, Global};
 
 /// When the last of some segments ends, 0 of none.
@@ -25,7 +24,7 @@ pub fn ready_moments(alloc: Global, graph: &Graph, times: &Times) -> Result<Vec<
     requires { length times.now.ends ≡ length graph.now.costs }
     ensures { IfOk result (λ moments. moments.items ≡ ready_moments_of graph.now times.now) }
 {
-    is_graph(graph);
+    dispatch_core::laws::is_graph(graph);
     let mut moments = Vec::new(alloc);
     for segment in 0..graph.len() {
         moments.push(last_end_of(times.ends(), graph.preds(segment)))?;

@@ -10,5 +10,5 @@ mod line;
 mod reader;
 
 pub use fault::TimeTextFault;
-pub use line::{LARGEST_MOMENT, LARGEST_NUMBER, RegionTimes, SegmentTimes, TimeLine};
+pub use line::{LARGEST_MOMENT, LARGEST_NUMBER, RegionTimes, SegmentTimes, TimeLine, first_words};
 pub use reader::{TimesText, read_times};

@@ -47,18 +47,23 @@ const MOST_WORDS: usize = 5;
 pub(crate) fn read_line(alloc: Global, line: &[u8]) -> Result<Option<TimeLine>, AllocError>
     ensures { IfOk result (λ said. said ≡ line_says line.now) }
 {
-    let words = first_words(alloc, line)?;
+    // One more than a line may have.
+    let words = first_words(alloc, line, MOST_WORDS)?;
     Ok(read_words(words.as_slice()))
 }
 
-/// The first words of a line, one more than it may have.
-fn first_words<'a>(alloc: Global, line: &'a [u8]) -> Result<Vec<&'a [u8]>, AllocError>
+/// The first words of a line, so many at most.
+pub fn first_words<'a>(
+    alloc: Global,
+    line: &'a [u8],
+    most: usize,
+) -> Result<Vec<&'a [u8]>, AllocError>
     ensures { IfOk result (λ words.
-        map (λ word. word.now) words.items ≡ take MOST_WORDS (words_of line.now)) }
+        map (λ word. word.now) words.items ≡ take most (words_of line.now)) }
 {
     line.split(|byte| is_blank(*byte))
         .filter(|word| !word.is_empty())
-        .take(MOST_WORDS)
+        .take(most)
         .collect(alloc)
 }
 

@@ -127,7 +127,7 @@ fn each_segment(
     ensures all { IfOk result (λ segments. AreAll rows.now segments.items) }
     ensures first { IfErr result (IsEmptyRow rows.now) }
 {
-    let mut segments = Vec::new(alloc);
+    let mut segments = Vec::with_capacity(alloc, rows.len())?;
     for (segment, row) in rows.iter().enumerate() {
         match row {
             Some(times) => segments.push(*times)?,

@@ -4,12 +4,12 @@ use Rattle.dispatch_core.specs.RecordedGraph.{RecordedGraph, Precedes}
 use Rattle.task_segments.specs.Schedule.{end_of}
 use Rattle.task_segments.specs.StartsAndTails.{IsEarliest, IsTails}
 use Rattle.program_text.specs.declared.limits.TheConstants.{MOST_WORK}
-use Rattle.whatif_costs.specs.Successors.{AreSuccessors, lists_of}
+use Rattle.whatif_costs.specs.Successors.{AreSuccessors}
 use Rattle.whatif_costs.specs.declared.reach.Settled.{Settled}
 
 -- the successors, starts, tails and span are those of the graph
 pub record AreSettled (graph : RecordedGraph) (settled : Settled) : Type 0 where
-  pub follow : AreSuccessors graph (lists_of settled.successors.items)
+  pub follow : AreSuccessors graph settled.successors
   pub earliest : IsEarliest graph.costs (Precedes graph) settled.starts.items
   pub tailed : IsTails graph.costs (Precedes graph) settled.tails.items
   pub ends : settled.span ≡ end_of graph.costs settled.starts.items

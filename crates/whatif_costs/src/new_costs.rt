@@ -5,7 +5,6 @@ ghost use Rattle.whatif_costs.specs.NewCosts.{refusal_in, with_new_costs};
 
 use crate::fault::{WhatFault, refusal_at};
 use dispatch_core::graph::Graph;
-use dispatch_core::laws::is_graph;
 
 /// Another cost for a segment.
 #[derive(Clone, Copy, Debug, PartialEq, Eq)]
@@ -28,7 +27,7 @@ pub(crate) fn put_costs(
     ensures each { length costs.new ≡ length graph.now.costs }
     ensures refused { IfErr result (λ fault. refusal_in graph.now changes.now ≡ Some fault) }
 {
-    is_graph(graph);
+    dispatch_core::laws::is_graph(graph);
     let mut work = graph.work();
     for change in changes {
         if let Some(fault) = refusal_at(costs, work, change.segment, change.cost) {

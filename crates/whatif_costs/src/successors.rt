@@ -1,41 +1,18 @@
-//! The successors of each segment.
-ghost use Rattle.std.specs.Prelude.{◌≡◌, ℕ, ◌<◌, OnOk, IfOk, length, Contains, replicate, []};
-ghost use Rattle.whatif_costs.specs.Successors.{lists_of, AreSuccessors, AreJoined};
+//! The successors of each segment, as the passes ask for them.
+ghost use Rattle.std.specs.Prelude.{IfOk};
+ghost use Rattle.whatif_costs.specs.Successors.{AreSuccessors};
 
 use dispatch_core::graph::Graph;
+use dispatch_core::successors::successors_of;
+use open_segments::flat_lists::FlatLists;
 use std::alloc::Global;
 use task_program::AllocFault;
 
 /// For each segment the segments that it precedes.
-pub(crate) fn successors_of(alloc: Global, graph: &Graph) -> Result<Vec<Vec<u32>>, AllocFault>
-    ensures { IfOk result (λ made. AreSuccessors graph.now (lists_of made.items)) }
+pub(crate) fn followers_of(alloc: Global, graph: &Graph) -> Result<FlatLists, AllocFault>
+    ensures { IfOk result (AreSuccessors graph.now) }
 {
-    let count = graph.len();
-    let mut successors = no_lists(alloc, count)?;
-    for segment in 0..count {
-        join(&mut successors, graph.preds(segment), segment)?;
-    }
-    Ok(successors)
-}
-
-fn no_lists(alloc: Global, count: u32) -> Result<Vec<Vec<u32>>, AllocFault>
-    ensures { IfOk result (λ made. lists_of made.items ≡ replicate count []) }
-{
-    let mut lists = Vec::new(alloc);
-    for _turn in 0..count {
-        lists.push(Vec::new(alloc))?;
-    }
+    dispatch_core::laws::is_graph(graph);
+    let lists = successors_of(alloc, graph)?;
     Ok(lists)
-}
-
-/// Puts a segment into the lists at these places.
-fn join(lists: &mut Vec<Vec<u32>>, places: &[u32], segment: u32) -> Result<(), AllocFault>
-    requires { (s : ℕ) → Contains places.now s → s < length lists.old.items }
-    ensures { OnOk result (AreJoined places.now segment (lists_of lists.old.items)
-        (lists_of lists.new.items)) }
-{
-    for place in places {
-        lists[*place as usize].push(segment)?;
-    }
-    Ok(())
 }

@@ -19,7 +19,6 @@ use crate::stations::open_stations;
 use crate::worker::{GatedKernel, Job};
 use dispatch_core::dispatch::Core;
 use dispatch_core::kernel::Kernel;
-use dispatch_core::laws::legal_history;
 use std::alloc::Global;
 use std::marker::Brand;
 
@@ -113,7 +112,7 @@ fn start_segment<K: Kernel>(core: &mut Core<K>, segment: u32) -> Option<Job>
     ensures job { IfSome result (λ job.
         Runs core.new.history 0 job.segment × IsJobOf core.new.table K.value_of job) }
 {
-    legal_history(core);
+    dispatch_core::laws::legal_history(core);
     match core.start(0, segment) {
         Ok(input) => Some(Job {
             segment,

@@ -18,6 +18,23 @@ void program_root(int threads);                  /* generated: the body of the r
 
 /* 0 and 1, which the compiler cannot know: conditions with them are decided when the program runs. */
 extern volatile int conformance_no, conformance_yes;
+extern int conformance_in_region; /* 0 where tasks are created outside of any region */
+
+/* The modifier of `grainsize` and `num_tasks`, which clang knows from 15 on. */
+#if defined __clang__ && __clang_major__ < 15
+#define STRICT
+#else
+#define STRICT strict:
+#endif
+
+/* The length of an array that a task has as its own. gcc copies one whose length it does not know by a function, which
+ * the runtime calls; clang has no such arrays in tasks. gcc's runtime makes tasks of `target nowait` for the host. */
+#ifdef __clang__
+#define COPIED_LENGTH 1
+#else
+#define COPIED_LENGTH conformance_yes
+#define HAS_HOST_TARGET
+#endif
 
 /* Ends the life of a depend object. clang 19 refuses both forms of `destroy` where it is told of OpenMP 5.2. */
 #if defined __clang__ && __clang_major__ > 16 && _OPENMP >= 202111
@@ -31,4 +48,6 @@ void segment_start(unsigned segment); /* first in each segment's code */
 void segment_finish(void);            /* last in each segment's code */
 void expect(int is_right);            /* of a value that the runtime made */
 void segment_pass(unsigned segment);  /* a whole segment without code of its own */
+void segment_pass_on_host(unsigned segment); /* the same in a target region, where threads have other numbers */
+void team_begins(void);               /* first in each thread of a region */
 #endif

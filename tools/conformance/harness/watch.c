@@ -1,5 +1,6 @@
 #define _GNU_SOURCE
 #include "watch.h"
+#include "interrupts.h"
 #include <dirent.h>
 #include <pthread.h>
 #include <stdio.h>
@@ -12,6 +13,11 @@ enum { LONGEST = 10 }; /* times as long as nothing may happen */
 
 void next_run(struct watch *watch) {
     atomic_fetch_add(&watch->run, 1);
+    atomic_store(&watch->at_work, true);
+}
+
+void end_run(struct watch *watch) {
+    atomic_store(&watch->at_work, false);
 }
 
 /* The letter that tells what a thread of this process does; `S` where it sleeps. */
@@ -45,14 +51,17 @@ static void *watching(void *handed) {
     for (;; age++) {
         nanosleep(&(struct timespec){1, 0}, NULL);
         unsigned run_now = atomic_load(&watch->run), happened_now = sum_of_counts(watch->counts);
-        if (run_now != run) age = 0;
-        if (run_now != run || happened_now != happened) {
+        bool at_work = atomic_load(&watch->at_work);
+        if (run_now != run || !at_work) age = 0;
+        if (run_now != run || happened_now != happened || !at_work) {
             run = run_now;
             happened = happened_now;
             quiet = 0;
             asleep = true;
+            rest_from_interrupts(false);
             continue;
         }
+        rest_from_interrupts(true);
         asleep = all_sleep() && asleep;
         if (++quiet >= watch->seconds || age >= LONGEST * watch->seconds) watch->hangs(asleep);
     }

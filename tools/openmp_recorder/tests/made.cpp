@@ -5,6 +5,7 @@
 #include "../compose.hpp"
 #include "../events.hpp"
 #include "../fold.hpp"
+#include "../online_replay.hpp"
 #include "check.hpp"
 
 Made::Made(unsigned many) : count(many) {
@@ -76,14 +77,25 @@ Made &Made::passed(unsigned thread, int64_t wall, int64_t processor, bool slept,
   return *this;
 }
 
-Run Made::read(Ending ending, const HowToRead &how) {
-  if (!ending.wall) threads[0]->log.regions[0].end = time;
+std::vector<Records *> Made::from_the_beginning() {
   std::vector<Records *> all;
   for (auto &thread : threads) {
     thread->begin_again();
     all.push_back(thread.get());
   }
-  return read_run(all, ending, how);
+  return all;
+}
+
+Run Made::read(Ending ending, const HowToRead &how) {
+  if (!ending.wall) threads[0]->log.regions[0].end = time;
+  return read_run(from_the_beginning(), ending, how);
+}
+
+OnlineSums Made::measure(const HowToRead &how) {
+  HowToRead known = how;
+  known.last = &threads[0]->log;
+  Ending ending;
+  return measure_log(from_the_beginning(), known, ending);
 }
 
 DependItem item(ompt_dependence_type_t type, uint64_t address) { return {address, static_cast<uint64_t>(type)}; }

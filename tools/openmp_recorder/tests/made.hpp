@@ -6,6 +6,7 @@
 #include <string>
 #include <vector>
 
+#include "../online_sums.hpp"
 #include "../run.hpp"
 #include "../text.hpp"
 
@@ -37,12 +38,14 @@ class Made {
                bool taken = false);  // until the next record
   int64_t now() const { return time; }
   Run read(Ending ending = {}, const HowToRead &how = {});
+  OnlineSums measure(const HowToRead &how);  // the same records, as a run that goes on
 
  private:
   std::vector<std::unique_ptr<Kept>> threads;
   unsigned count;
   uint32_t order = 0, still = 0;
   int64_t time = 1000;
+  std::vector<Records *> from_the_beginning();
 };
 
 DependItem item(ompt_dependence_type_t type, uint64_t address);

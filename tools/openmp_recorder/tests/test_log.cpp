@@ -15,6 +15,7 @@ namespace {
 using log_form::block_bytes;
 using log_form::Head;
 using log_form::RawRecord;
+using log_form::ShortRecord;
 
 constexpr size_t in_block = block_bytes / sizeof(RawRecord);
 
@@ -80,6 +81,52 @@ TEST(a_log_ends_at_the_first_record_that_is_not_there) {
   EXPECT(found[1].at, 20);
   EXPECT(reinterpret_cast<uint64_t>(found[1].place()), 99u);
   EXPECT(found[1].stood_still, 5);  // what the first record took
+}
+
+// Records of both sizes, one behind the other.
+class Block {
+ public:
+  Block &add(const RawRecord &record) { return put(&record, sizeof record); }
+  Block &add(const ShortRecord &record) { return put(&record, sizeof record); }
+  std::vector<RawRecord> records() const {
+    std::vector<RawRecord> out(in_block);
+    std::memcpy(out.data(), bytes.data(), bytes.size());
+    return out;
+  }
+
+ private:
+  std::string bytes;
+  Block &put(const void *record, size_t count) {
+    bytes.append(static_cast<const char *>(record), count);
+    return *this;
+  }
+};
+
+TEST(short_records_and_long_ones) {
+  MadeLog log;
+  log.head.first.ticks = 1000;
+  Block block;
+  block.add(ShortRecord{log_form::make_short(10, 7), 1, 2}).add(raw(1020, Told::SyncBegin, 2, 0, 99));
+  block.add(ShortRecord{log_form::make_short(30, 1), 2, 1});
+  log.last(block.records());
+  std::vector<Record> found = log.records();
+  EXPECT(found.size(), 3u);
+  EXPECT(found[0].told() == Told::Schedule && found[2].told() == Told::Schedule, true);
+  EXPECT(found[0].order, 1010u);
+  EXPECT(found[0].detail, 7u);
+  EXPECT(found[2].task, 2u);
+  EXPECT(found[2].other, 1u);
+  EXPECT(found[2].order, 1030u);
+}
+
+TEST(a_block_that_is_full_ends_before_its_end) {
+  MadeLog log;
+  std::vector<RawRecord> first = schedules(1, in_block), second = schedules(in_block, in_block);
+  first.back() = raw(0, Told::Nothing);
+  first.insert(first.end(), second.begin(), second.end());
+  log.full(first);
+  log.last({});
+  EXPECT(log.records().size(), 2 * in_block - 1);
 }
 
 TEST(full_blocks_come_before_the_last_one) {
@@ -157,9 +204,9 @@ TEST(what_is_no_log_is_refused) {
   };
   MadeLog other, later;
   other.head.magic[0] = 'X';
-  later.head.version = 2;
+  later.head.version = 3;
   EXPECT(why(other), "no log of the recorder");
-  EXPECT(why(later), "version 2 of the log, and this is for version 1");
+  EXPECT(why(later), "version 3 of the log, and this is for version 2");
 }
 
 TEST(a_file_tells_its_symbols) {

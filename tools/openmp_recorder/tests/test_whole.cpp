@@ -1,4 +1,5 @@
 // The whole program as one text.
+#include "../events.hpp"
 #include "../exact.hpp"
 #include "../fold.hpp"
 #include "../head.hpp"
@@ -17,7 +18,7 @@ class Program : public Made {
  public:
   using Made::Made;
   Run &whole(Ending ending = {}) {
-    found = read(ending, {UINT64_MAX, true, began, ending.wall ? 0 : now()});
+    found = read(ending, {UINT64_MAX, true, began, ending.wall ? 0 : now(), nullptr, true, began, now()});
     finish_whole(found, {0, true, began, now()}, 1);
     fold(*found.whole, {});
     return found;
@@ -25,6 +26,11 @@ class Program : public Made {
   std::string text() {
     whole();
     return text_of(*found.whole);
+  }
+  std::string times() {  // of the text, below the line of all of them
+    text();
+    std::string words = timed_lines(*found.whole, event_lines(*found.whole));
+    return words.substr(words.find('\n') + 1);
   }
   Run found;
 
@@ -67,6 +73,51 @@ TEST(serial_code_is_work_of_the_root_and_a_region_a_group) {
   EXPECT(made.text(), "work 100\n" + group(parts(4, 2)) + "work 7\n");
   EXPECT(made.found.whole->root->total, 115);
   EXPECT(made.found.whole->cost, 115);
+}
+
+TEST(what_makes_the_parts_of_a_region_takes_no_time) {
+  Program made(2);
+  end_region(made.after(4), 2);
+  made.after(7);
+  EXPECT(made.times(), "0 0 0 100\n1 0 100 104\n2 0 100 100\n3 1 100 104\n4 0 100 100\n5 0 104 111\n");
+  EXPECT(event_lines(*made.found.whole).whole, true);
+}
+
+TEST(a_later_phase_begins_where_its_first_part_does) {
+  Program made(2);
+  made.after(4);
+  for (Told told : {Told::SyncBegin, Told::SyncEnd}) {
+    for (unsigned thread : {1, 0}) made.add(thread, told, 1 + thread, 0, ompt_sync_region_barrier_explicit).after(1);
+  }
+  end_region(made.after(5), 2);
+  std::string parts = "1 0 100 105\n2 0 100 100\n3 1 100 104\n4 0 100 100\n";
+  EXPECT(made.times(),
+         "0 0 0 100\n" + parts + "5 1 106 106\n6 1 106 113\n7 1 106 106\n8 0 107 113\n9 1 106 106\n10 0 113 113\n");
+}
+
+TEST(a_region_without_code_is_no_end_of_a_segment) {
+  Program made;
+  end_region(made);
+  made.after(7);
+  EXPECT(made.times(), "0 0 0 107\n");
+}
+
+TEST(pieces_of_a_chunk_share_its_time) {
+  Program made;
+  loop(made.after(4), 0, 4, {{3, 6 * us}, {1, 5 * us}});
+  end_region(made);
+  EXPECT(made.times(), "0 0 0 100\n1 0 100 104\n2 0 104 2104\n3 0 2104 2104\n4 0 2104 4104\n5 0 4104 4104\n"
+                       "6 0 4104 6104\n7 0 6104 6104\n8 0 6104 11104\n9 0 11104 11104\n10 0 11104 11104\n"
+                       "11 0 100 100\n12 0 11104 11104\n");
+}
+
+TEST(chunks_that_are_written_together_ran_from_the_first_to_the_last) {
+  Program made(2);
+  loop(made.after(4), 0, 3, {{1, 300}, {1, 400}, {1, 500}});
+  made.barrier(1, 2);
+  end_region(made);
+  EXPECT(made.times(), "0 0 0 100\n1 0 100 104\n2 0 104 1304\n3 0 1304 1304\n4 0 1304 1304\n5 0 100 100\n"
+                       "6 1 100 1304\n7 0 100 100\n8 0 1304 1304\n");
 }
 
 TEST(a_region_that_is_met_again_stands_apart) {
@@ -115,7 +166,7 @@ TEST(the_head_tells_what_a_whole_programs_text_has) {
               "# not covered: 100 of the program\n");
   EXPECT_PART(head, "# in serial code: 100\n# in loops: 8000\n# in parts without tasks: 12000\n# in tasks: 4000\n");
   EXPECT_PART(head, "# divided among 2 threads: code of the region, 2 parts, 4000 ns beside the longest\n");
-  EXPECT_PART(head, "# remark: chunk of several turns of a loop, written as equal pieces, 1 time: span too low\n");
+  EXPECT_PART(head, "# remark: {\"remark\": \"equal turns\", \"times\": 1, \"span\": \"low\"}\n");
 }
 
 TEST(what_is_left_over_of_a_chunk_goes_to_its_first_pieces) {

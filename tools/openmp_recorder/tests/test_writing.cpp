@@ -41,9 +41,11 @@ TEST(a_large_text_is_told_piece_by_piece_and_not_indented) {
                 .read();
   Region &region = only_region(run);
   std::string words;
-  tell_program(region, {1, false, true}, Places(), [&](std::string_view piece) { words += piece; });
+  tell_program(region, {1, false, true, false}, Places(), [&](std::string_view piece) { words += piece; });
   EXPECT(words, "omptasks 1\ntask {\nwork 3\ntask {\nwork 4\n}\n}\n");
   EXPECT(region.numbers.empty(), true);
+  tell_program(region, {1, false, true, true}, Places(), [](std::string_view) {});
+  EXPECT(region.numbers == std::vector<uint32_t>({0, 4, 1, 3, 2}), true);  // of the root, its child, and the child's
 }
 
 TEST(the_work_is_that_of_the_lines) {
@@ -71,7 +73,8 @@ TEST(deeply_nested_tasks_are_written_line_by_line) {
   add_up(region);
   EXPECT(fold(region, {}).blocks, deep);
   size_t bytes = 0, pieces = 0;
-  tell_program(region, {1, false, true}, Places(), [&](std::string_view piece) { bytes += piece.size(), pieces++; });
+  tell_program(region, {1, false, true, false}, Places(),
+               [&](std::string_view piece) { bytes += piece.size(), pieces++; });
   EXPECT(bytes, std::string("omptasks 1\n").size() + deep * std::string("work 1\ntask {\n}\n").size());
   EXPECT(pieces > 1, true);
 }
@@ -172,7 +175,7 @@ TEST(the_head_tells_the_recording) {
                "# elapsed: 3999\n# outside regions: 100\n# in other regions: 5001\n# in parts without tasks: 1499\n"
                "# in tasks: 3999\n# most held lock: 300 ns inside, one thread at a time\n"
                "# lock critical: 3 times, 400 inside, 90 waiting\n"
-               "# remark: detach, written as complete where the code ends, 1 time: span too low\n");
+               "# remark: {\"remark\": \"detach\", \"times\": 1, \"span\": \"low\"}\n");
 }
 
 TEST(the_head_says_what_is_not_in_the_text) {
@@ -212,9 +215,9 @@ TEST(lengths_are_limited) {
 }
 
 TEST(files_of_a_run_are_known_by_their_names) {
-  for (const char *name :
-       {"out.tasks", "out.replay", "out.times", "out.timed", "out.2.tasks", "out.inout.tasks", "out.2.inout.tasks",
-        "out.4711.tasks", "out.4711.2.replay", "out.large.tasks", "out.2.large.tasks", "out.2.large.inout.tasks"})
+  for (const char *name : {"out.tasks", "out.replay", "out.times", "out.timed", "out.2.tasks", "out.inout.tasks",
+                           "out.2.inout.tasks", "out.4711.tasks", "out.4711.2.replay", "out.regions", "out.large.tasks",
+                           "out.2.large.tasks", "out.2.large.inout.tasks"})
     EXPECT(is_of_run(name, "out"), true);
   for (const char *name : {"out", "other.tasks", "out.csv", "out2.tasks", "out.x.tasks", "about.tasks"})
     EXPECT(is_of_run(name, "out"), false);
@@ -257,8 +260,7 @@ TEST(clocks_are_remarked_where_they_may_move_a_number_by_a_twentieth) {
 }
 
 TEST(a_remark_on_what_is_not_seen_has_no_number) {
-  EXPECT(remark_line(Remark::UnseenDetach, {}, Places()),
-         "detach of gcc's code, which LLVM's runtime does not see: span too low, and the program may crash");
+  EXPECT(remark_in_json(Remark::UnseenDetach, {}, Places()), "{\"remark\": \"unseen detach\", \"span\": \"low\"}");
 }
 
 TEST(records_come_in_their_common_order) {

@@ -1,5 +1,5 @@
-"""Runtimes that were built from their source with one change each, as checks/mutants/build.py leaves them: a folder of
-libraries, and `mutants.json` that says what each change breaks."""
+"""Runtimes that were built from their source with one change each, as checks/programs/mutants/build.py leaves them: a
+folder of libraries, and `mutants.json` that says what each change breaks."""
 import json
 import pathlib
 import random
@@ -11,9 +11,11 @@ from spanprof.conformance.judge import Missing
 ENOUGH = 2        # programs that fail, after which a campaign ends
 SEEDS_APART = 10_000
 # Parts of the names of programs that try a rule, where those are not the rule's own.
-TRY = {"dependence": ("depend",), "taskgroup": ("group", "taskloop"), "undeferred": ("undeferred", "final"),
-       "taskwait": ("wait",), "taskwait depend": ("taskwait_depend",), "once": ("taskloop", "tree"),
-       "progress": ("pressure",), "region": ("threads", "tree"), "grainsize": ("num_tasks", "grainsize", "uneven")}
+TRY = {"dependence": ("depend", "fan", "table", "probes"), "taskgroup": ("group", "taskloop", "makers", "fan"),
+       "undeferred": ("undeferred", "final", "rounds"), "taskwait": ("wait", "rounds"), "copy": ("copied",),
+       "taskwait depend": ("taskwait_depend", "rounds"), "once": ("taskloop", "tree", "rounds"),
+       "progress": ("pressure", "rounds"), "region": ("threads", "tree", "many"), "memory": ("memory", "fan"),
+       "grainsize": ("num_tasks", "grainsize", "uneven", "strict")}
 
 
 @dataclass(frozen=True)

@@ -6,6 +6,7 @@ import zlib
 from dataclasses import dataclass, field
 
 from spanprof.conformance.coverage import Coverage
+from spanprof.conformance.discarding import completed, record_of, without_discarded
 from spanprof.conformance.emit_c import c_text
 from spanprof.conformance.expected import Expectations
 from spanprof.conformance.exclusion import overlapping
@@ -18,7 +19,8 @@ from spanprof.conformance.tied import moved, unconstrained
 from spanprof.conformance.toolchain import BuildFailed
 
 # Settings that programs take for the first of every two numbers of threads, by how their names begin.
-FAVOURED = {"priority": "priorities", "memory": "perturbed"}
+FAVOURED = {"priority": "priorities", "memory": "perturbed", "cancel": "cancellable", "many": "priorities",
+            "rounds": "interrupted", "pressure": "interrupted"}
 
 
 @dataclass(frozen=True)
@@ -96,13 +98,13 @@ class Examined:
         """The verdict of spanprof, and on what it accepts whether tied tasks stayed on their threads, whether tasks
         that exclude one another ran one at a time and, where the runtime was not told otherwise, whether threads began
         tied tasks only where they may."""
-        verdict = self.judge.verdict(self.text, self.record, log)
+        verdict = self.judge.verdict(self.text, record_of(self.record, self.table, log), log)
         if not verdict.accepted or log.unlogged:
             return verdict
         tests = {"moved": moved, "overlapping": overlapping}
         if constrained:
             tests["unconstrained"] = unconstrained
-        told = {kind: test(self.table, log.events) for kind, test in tests.items()}
+        told = {kind: test(self.table, without_discarded(log)) for kind, test in tests.items()}
         return next((Verdict(kind, words) for kind, words in told.items() if words), verdict)
 
     def verdict(self, log, conditions):
@@ -111,7 +113,7 @@ class Examined:
         key = (conditions.threads, constrained, log.end, log.detail, log.unlogged, tuple(log.events))
         if key not in self.known:
             verdict = self.judged(log, constrained)
-            ordered = verdict.accepted and not log.unlogged
+            ordered = verdict.accepted and not log.unlogged and not log.discarded
             tried = self.coverage.of_run(log.events, conditions.threads) if ordered else collections.Counter()
             self.known[key] = verdict, tried
         return self.known[key]
@@ -164,6 +166,7 @@ class Bench:
             tally.runs += 1
             tally.events += len(log.events)
             tally.schedules[log.schedule] += 1
+            log = completed(examined.table, log)
             verdict, tried = examined.verdict(log, conditions)
             tally.coverage.update(tried)
             if not verdict.accepted:

@@ -12,6 +12,7 @@ from spanprof.conformance.built import built_in, try_mutant
 from spanprof.conformance.campaign import cases_of, directed_cases, random_cases, run_cases
 from spanprof.conformance.cases import Bench, Case
 from spanprof.conformance.directed import directed_programs, first_comment
+from spanprof.conformance.discarding import completed, record_of
 from spanprof.conformance.explain import explain
 from spanprof.conformance.facts import facts_of, tested
 from spanprof.conformance.journal import Journal
@@ -24,6 +25,7 @@ from spanprof.conformance.program import KINDS
 from spanprof.conformance.publish import publish
 from spanprof.conformance.report import Report
 from spanprof.conformance.reproduce import Reproducer
+from spanprof.conformance.segments import Table
 from spanprof.conformance.shards import merged
 from spanprof.conformance.text import text_of
 from spanprof.conformance.toolchain import BuildFailed
@@ -195,13 +197,15 @@ def command_emit(options, _folder):
 def command_judge(options, _folder):
     """Judges logs that some runtime wrote of a program."""
     judge = judge_of(options)
-    text = text_of(program_in(options.file, judge))
+    body = program_in(options.file, judge)
+    text, table = text_of(body), Table(body)
     logs = read_logs(pathlib.Path(options.log).read_text())
     if not logs:
         raise Missing(f"no line `run NUMBER` in {options.log}")
     record, wrong = judge.record(text), 0
     for log in logs:
-        verdict = judge.verdict(text, record, log)
+        log = completed(table, log)
+        verdict = judge.verdict(text, record_of(record, table, log), log)
         if not verdict.accepted:
             wrong += 1
             print(f"run {log.number}: {verdict.kind}: {explain(text, verdict, log).words}")

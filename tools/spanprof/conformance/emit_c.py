@@ -1,8 +1,9 @@
 """Writes a program as C with OpenMP tasks. To test another language, write its like of this file and of harness/."""
 from spanprof.conformance.data import DATA
 from spanprof.conformance.emit_depend import Objects, clauses
-from spanprof.conformance.forms import (addends, adds, chunks_of, form_of, has_sum, is_detached, is_of_regions,
-                                         is_wait_for_items)
+from spanprof.conformance.emit_loops import head_of, head_of_taskloop, written_chunks
+from spanprof.conformance.forms import (addends, adds, chunks_of, form_of, has_sum, is_cancelled, is_detached,
+                                        is_of_regions, is_target, is_wait_for_items)
 from spanprof.conformance.locations import Locations
 from spanprof.conformance.program import Group, Loop, Task, Wait, Work, segment_count
 from spanprof.conformance.text import text_of
@@ -19,6 +20,7 @@ class Emitter:
         self.locations, self.regions = Locations(body), is_of_regions(body)
         self.lines, self.next, self.strides, self.tasks, self.finals = [], 0, [], 0, 0
         self.sum, self.sums = "", 0  # the sum to which tasks add here, and how many sums there are
+        self.cancelled = False       # whether tasks may cancel the group here
         self.start(1)
         self.body(body, 1)
         self.put(1, "segment_finish();")
@@ -64,13 +66,13 @@ class Emitter:
         self.start(indent)
 
     def block(self, node, pragma, indent, its_sum):
-        around, self.sum = self.sum, its_sum
+        around, self.sum, self.cancelled = (self.sum, self.cancelled), its_sum, is_cancelled(node) and not self.finals
         self.pragma(pragma)
         self.put(indent, "{")
         self.body(node.body, indent + 1)
         self.put(indent + 1, "segment_finish();")
         self.put(indent, "}")
-        self.sum = around
+        self.sum, self.cancelled = around
 
     def new_sum(self, indent):
         self.sums += 1
@@ -91,7 +93,7 @@ class Emitter:
             at += segment_count((task,))
             self.put(indent, f"segment_pass({at}u);")
         self.pragma("parallel num_threads(threads)")
-        self.put(indent, f"for (int part = omp_get_thread_num(); part < {len(node.body)}; "
+        self.put(indent, f"{{ team_begins(); for (int part = omp_get_thread_num(); part < {len(node.body)}; "
                          "part += omp_get_num_threads()) switch (part) {")
         for part, task in enumerate(node.body):
             self.put(indent, f"case {part}: {{")
@@ -101,7 +103,7 @@ class Emitter:
             self.put(indent + 1, "break;")
             self.put(indent, "}")
             self.next += 1
-        self.put(indent, "}")
+        self.put(indent, "} }")
 
     def loop(self, node, indent):
         if not node.turns:
@@ -111,15 +113,12 @@ class Emitter:
             self.start(indent)
             return
         stride, first = segment_count(node.body), self.next
-        self.put(indent, self.for_head(node))
+        self.put(indent, head_of(node))
         self.strides.append((node, stride))
         self.body(node.body, indent + 1)
         self.strides.pop()
         self.put(indent, "}")
         self.next = first + stride * node.turns
-
-    def for_head(self, node):
-        return f"for (int v_{node.var} = {node.first}; v_{node.var} <= {node.last}; v_{node.var}++) {{"
 
     def task_loop(self, node, chunks, indent, clause=""):
         """A loop of tasks as a taskloop, each turn a task where nothing is said of chunks. It may make its tasks in any
@@ -132,12 +131,13 @@ class Emitter:
                          f"segment_pass({self.segment(first - 1)} + {stride}u * turn);")
         name = self.new_sum(indent) if clause == " reduction" else ""
         words = f"{clause}(+: {name})" if name else clause
-        self.pragma(f"taskloop {chunks or f'num_tasks({node.turns})'}{words}{self.clauses(task)}")
-        self.put(indent, self.for_head(node))
+        copied = self.copy(task, indent)
+        self.pragma(f"taskloop{written_chunks(chunks, node)}{words}{self.clauses(task)}{copied}")
+        self.put(indent, head_of_taskloop(node))
         self.strides.append((node, stride))
-        self.task_body(task, indent + 1, name)
+        self.task_body(task, indent + 1, name, copied)
         self.strides.pop()
-        self.put(indent, "}")
+        self.put(indent, "}" + " }" * bool(copied))
         if name:
             self.put(indent, f"expect({name} == {node.turns}); }}")
         self.next = first + stride * node.turns - (1 if nogroup else 0)
@@ -150,7 +150,9 @@ class Emitter:
             self.next += 1
             self.start(indent)
             return
-        if is_detached(node) and not self.finals:
+        if is_target(node) and not self.finals:
+            self.target(node, indent)
+        elif is_detached(node) and not self.finals:
             self.detached(node, indent)
         elif "depobj" in node.clauses and node.items:
             self.by_objects(node, indent)
@@ -159,11 +161,35 @@ class Emitter:
         self.start(indent)
 
     def plain_task(self, node, depend, indent):
-        its_sum = self.sum if adds(node) else ""
-        self.pragma("task" + self.clauses(node) + depend + (f" in_reduction(+: {its_sum})" if its_sum else ""))
+        its_sum, copied = self.sum if adds(node) else "", self.copy(node, indent)
+        its_part = f" in_reduction(+: {its_sum})" if its_sum else ""
+        self.pragma("task" + self.clauses(node) + depend + its_part + copied)
         self.put(indent, "{")
-        self.task_body(node, indent + 1, its_sum)
+        self.task_body(node, indent + 1, its_sum, copied)
+        self.put(indent, "}" + " }" * bool(copied))
+
+    def copy(self, node, indent):
+        """The clause of a task that has data of its own, which a function of the compiler copies; before it, these."""
+        if "copied" not in node.clauses:
+            return ""
+        self.put(indent, f"{{ unsigned copied[COPIED_LENGTH]; copied[0] = {self.tasks}u;")
+        return " firstprivate(copied)"
+
+    def target(self, node, indent):
+        """A task as one of `target nowait`, where the runtime makes tasks of these for the host. Outside of a region
+        nothing would wait for it in the end."""
+        depend, block = self.depend(node), f"{{ segment_pass_on_host({self.segment(self.next)}); }}"
+        self.lines.append("#ifdef HAS_HOST_TARGET")
+        self.put(indent, "if (conformance_in_region) {")
+        self.pragma(f"target nowait{depend}")
+        self.put(indent, block)
+        self.put(indent, "} else")
+        self.lines.append("#endif")
+        self.put(indent, "{")
+        self.pragma("task" + self.clauses(node) + depend)
+        self.put(indent, block)
         self.put(indent, "}")
+        self.next += 1
 
     def by_objects(self, node, indent):
         """A task whose items are depend objects."""
@@ -194,16 +220,20 @@ class Emitter:
         self.put(indent, "}")
         self.put(indent, "}")
 
-    def task_body(self, node, indent, its_sum=""):
-        around, self.sum = self.sum, ""
+    def task_body(self, node, indent, its_sum="", copied=""):
+        around, self.sum, self.cancelled = (self.sum, self.cancelled), "", False
         self.finals += node.final
         self.start(indent)
+        if copied:
+            self.put(indent, f"expect(copied[0] == {self.tasks - 1}u);")
         if its_sum:
             self.put(indent, f"{its_sum} += 1;")
         self.body(node.body, indent)
         self.put(indent, "segment_finish();")
         self.finals -= node.final
-        self.sum = around
+        self.sum, self.cancelled = around
+        if self.cancelled and "cancels" in node.clauses:
+            self.pragma("cancel taskgroup")
 
     def clauses(self, node):
         """Conditions are constants in every other task, since a compiler translates those in another way."""

@@ -36,15 +36,46 @@ def is_detached(node):
         tasks[0].undeferred and not tasks[0].items and not tasks[0].final and only_works(tasks[0].body)
 
 
+def is_target(node):
+    """Whether a statement is a deferred task that only works, and is to be written as one of `target nowait`."""
+    return isinstance(node, Task) and "target" in node.clauses and not node.undeferred and not node.final and \
+        only_works(node.body)
+
+
 def adds(node):
     """Whether a statement is a task that adds to the sum of a group around it, if that has one."""
-    return isinstance(node, Task) and not is_wait_for_items(node) and "detach" not in node.clauses
+    return isinstance(node, Task) and not is_wait_for_items(node) and "detach" not in node.clauses and \
+        not is_target(node)
 
 
 def addends(body):
     """How many tasks of a body add to its group's sum."""
     loops = sum(node.turns * addends(node.body) for node in body if isinstance(node, Loop) and form_of(node) == "for")
     return loops + sum(map(adds, body))
+
+
+def cancels(node):
+    return isinstance(node, Task) and "cancels" in node.clauses
+
+
+def is_cancelled(node):
+    """Whether a group is cancelled by tasks right in it: one of tasks, loops, waits and groups alone, in which every
+    task is deferred, so that none is waited for by the code that would create it."""
+    return form_of(node) == "taskgroup" and all(map(may_be_discarded, node.body)) and has_canceller(node.body)
+
+
+def has_canceller(body):
+    return any(cancels(node) or isinstance(node, Loop) and node.turns and has_canceller(node.body) for node in body)
+
+
+def may_be_discarded(node):
+    """Whether a statement may be missing in a run of its group."""
+    if isinstance(node, Task):
+        is_plain_one = not node.undeferred and not node.final and not {"detach", "target"} & set(node.clauses)
+        return is_plain_one and all(map(may_be_discarded, node.body))
+    if isinstance(node, (Group, Loop)):
+        return form_of(node) in ("taskgroup", "for") and all(map(may_be_discarded, node.body))
+    return True
 
 
 def is_task_loop(node):

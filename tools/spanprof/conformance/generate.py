@@ -4,13 +4,15 @@ from dataclasses import dataclass, replace
 
 from spanprof.conformance.forms import addends
 from spanprof.conformance.program import Group, Index, Item, Loop, Task, Wait, Work, segment_count
+from spanprof.conformance.recipes import Recipes
 
 NAMES = ("a", "b", "c", "d")
 MOST_ITEMS = 6
 # What random programs may be told to do without, beside the kinds of items.
 CONSTRUCTS = ("if(0)", "final", "loop", "repeated item", "mergeable", "priority", "taskyield", "taskloop", "parallel",
               "taskwait with depend", "depobj", "iterator", "detach", "depend(mutexinoutset)", "num_tasks",
-              "grainsize", "reduction")
+              "grainsize", "strict", "taskloop of any size", "reduction", "copied", "target",
+              "cancel")
 
 
 @dataclass(frozen=True)
@@ -54,6 +56,11 @@ SHAPES = {
     "names": Shape((9, .5, .5, 3, 0, 1), 3, 9, .5, 1.5, turns=(7, 40, 110), costs=(0, 0, 1, 20),
                    offsets=(0, 13, 31, 61, 97), plain=.2, loops=1, sizes=(60, 1500)),
 }
+
+
+# Forms of their own beside the shapes, each as the function that makes a body of it.
+RECIPES = {"many": Recipes.crowd, "fan": Recipes.fan, "rounds": Recipes.rounds, "makers": Recipes.makers,
+           "table": Recipes.table, "probes": Recipes.probes, "cancel": Recipes.cancelled}
 
 
 class Generator:
@@ -127,8 +134,11 @@ class Generator:
 
     def chunks(self):
         """How many turns the tasks of a taskloop get: one each where nothing is said."""
+        if self.chance("taskloop of any size", .15):
+            return " any"
         clause = next((clause for clause in ("num_tasks", "grainsize") if self.chance(clause, .25)), "")
-        return clause and f" {clause}({self.rng.choice((1, 2, 3, 5, 8))})"
+        strict = "strict:" if self.chance("strict", .3) else ""
+        return clause and f" {clause}({strict}{self.rng.choice((1, 2, 3, 5, 8))})"
 
     def task(self, depth, loops):
         undeferred = self.chance("if(0)", self.shape.undeferred)
@@ -137,6 +147,8 @@ class Generator:
             return Task(True, False, items, (), ("taskwait",))
         if not undeferred and "if(0)" not in self.without and self.chance("detach", .04):
             return self.detached(items)
+        if not undeferred and self.chance("target", .04):
+            return Task(False, False, items, (self.work(0, ()),), ("target",))
         final = self.chance("final", self.shape.final)
         clauses = self.clauses()
         if items and self.knows_exclusion and self.chance("depend(mutexinoutset)", .15):
@@ -156,6 +168,7 @@ class Generator:
     def clauses(self):
         """Clauses that change nothing of what must precede what."""
         clauses = ("mergeable",) if self.chance("mergeable", .1) else ()
+        clauses += ("copied",) if self.chance("copied", .08) else ()
         return clauses + ((f"priority({self.rng.randint(0, 9)})",) if self.chance("priority", .15) else ())
 
     def chance(self, construct, likely):
@@ -176,9 +189,11 @@ class Generator:
 
 
 def random_program(seed, kinds, without=()):
-    """The name of its shape, and the program. Items are of these kinds; constructs in `without` are left out."""
+    """The name of its shape or form, and the program: of items of these kinds, without these constructs."""
     rng = random.Random(seed)
-    name = rng.choice(list(SHAPES))
+    name = rng.choice([*SHAPES, *RECIPES])
+    if name in RECIPES:
+        return name, RECIPES[name](Recipes(rng, kinds, without))
     least, most = SHAPES[name].sizes
     while True:
         body = Generator(rng, SHAPES[name], kinds, without).program()

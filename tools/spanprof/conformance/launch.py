@@ -17,6 +17,7 @@ class Log:
     unlogged: bool = False  # whether the events are told apart from their order
     stacks: list = field(default_factory=list)  # of a run that hung, as a debugger's lines
     moments: list = field(default_factory=list)  # of the events, in nanoseconds, where the run was timed
+    discarded: list = field(default_factory=list)  # segments of tasks that were discarded, whose events were added
 
 
 @dataclass(frozen=True)

@@ -112,7 +112,7 @@ def add_bench_options(name, parser):
 def add_mutant_options(parser):
     add = parser.add_argument
     add("--built", default="", metavar="FOLDER",
-        help="runtimes built from changed sources, as checks/mutants/build.py leaves them, in place of entry points")
+        help="runtimes built from changed sources, as checks/programs/mutants leaves them, in place of entry points")
     add("--only", type=lambda words: words.split(","), default=[], metavar="NAME,..", help="these of them alone")
     add("--programs", type=natural, default=30, help="random programs of a campaign on each of them (30)")
     add("--campaigns", type=positive, default=5,

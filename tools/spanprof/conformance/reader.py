@@ -6,8 +6,9 @@ from spanprof.conformance.program import KINDS, Group, Index, Item, Loop, Task, 
 from spanprof.errors import Fault
 from spanprof.text import lines_of
 
-CLAUSE = re.compile(r"untied|mergeable|priority\([0-9]+\)|taskwait|detach|depobj|iterator|mutexinoutset")
-OF_TASKLOOP = re.compile(r"(num_tasks|grainsize)\([1-9][0-9]*\)|reduction")
+CLAUSE = re.compile(r"untied|mergeable|priority\([0-9]+\)|taskwait|detach|depobj|iterator|mutexinoutset|copied|target|"
+                    r"cancels")
+OF_TASKLOOP = re.compile(r"(num_tasks|grainsize)\((strict:)?[1-9][0-9]*\)|any|reduction")
 
 
 class Unreadable(Fault):

@@ -5,7 +5,7 @@ has tried, so it follows the table of docs/MODEL.md pair by pair and not the kep
 """
 from dataclasses import dataclass, field
 
-from spanprof.conformance.forms import chunks_of, form_of, is_detached, is_of_regions, kind_in_c
+from spanprof.conformance.forms import chunks_of, form_of, is_cancelled, is_detached, is_of_regions, kind_in_c
 from spanprof.conformance.program import Group, Loop, Wait, Work
 from spanprof.conformance.text import head_of
 
@@ -23,6 +23,8 @@ class Made:
     tied: bool = True       # as far as the log tells: not where parts of the text run in another task's place
     exclusive: frozenset = frozenset()  # the locations on which other tasks must not run at the same time
     implicit: bool = False  # whether it stands for a part of an implicit task of a region
+    cancels: bool = False   # whether it asks to cancel its group
+    cancellers: list = field(default_factory=list)  # the tasks that cancel the group in which it is created
     children: list = field(default_factory=list)
     segments: list = field(default_factory=list)
 
@@ -55,6 +57,7 @@ class Table:
     def __init__(self, body):
         self.task_of, self.cost, self.cut, self.tasks = [], [], [], []
         self.regions = is_of_regions(body)
+        self.cancellers = []  # of the group that is walked through
         root = self.begin(None, -1, "", (), "the root", False)
         self.walk(body, root, {})
 
@@ -80,7 +83,7 @@ class Table:
                 self.open(task, Cut("taskwait", "taskwait", tuple(task.children)))
             elif isinstance(node, Group):
                 before = len(task.children)
-                self.walk(node.body, task, loops)
+                self.group(node, task, loops)
                 self.chunk(node, task.children[before:])
                 for child in task.children[before:]:
                     child.implicit = self.regions and task.parent is None
@@ -94,6 +97,15 @@ class Table:
             else:
                 self.task(node, task, loops)
 
+    def group(self, node, task, loops):
+        """The body of a group, and which of its tasks cancel it."""
+        around, self.cancellers = self.cancellers, []
+        before = len(task.children)
+        self.walk(node.body, task, loops)
+        if is_cancelled(node) and not task.final_inside:
+            self.cancellers += [child for child in task.children[before:] if child.cancels]
+        self.cancellers = around
+
     @staticmethod
     def chunk(node, tasks):
         """Turns that one task of a taskloop runs: while it waits in one of them, it may run what is below another."""
@@ -105,6 +117,7 @@ class Table:
         undeferred = "if(0)" if node.undeferred else "final" if parent.final_inside else ""
         child = self.begin(parent, parent.segments[-1], undeferred, items, head_of(node),
                            node.final or parent.final_inside)
+        child.cancels, child.cancellers = "cancels" in node.clauses, self.cancellers
         child.tied = "untied" not in node.clauses and not (is_detached(node) and not parent.final_inside)
         child.exclusive = frozenset(place for kind, place in items if kind_in_c(kind, node) == "mutexinoutset")
         self.walk(node.body, child, loops)

@@ -27,8 +27,12 @@ SETTINGS = {
     "perturbed": Setting("memory that is given back is overwritten", {"MALLOC_PERTURB_": "170"}),
     "stacks": Setting("threads have small stacks", {"OMP_STACKSIZE": "1M"}),
     "unlogged": Setting("threads share no counter of events; values and ends are judged", {"CONFORMANCE_LOG": "none"}),
+    "interrupted": Setting("threads are held up at random moments, also inside the runtime",
+                           {"CONFORMANCE_INTERRUPTS": "1", "GOMP_SPINCOUNT": "0", "KMP_BLOCKTIME": "0"}),
     "orphaned": Setting("outside of any parallel region", {"CONFORMANCE_TEAM": "orphaned"}),
     "nested": Setting("in a region inside another one", {"CONFORMANCE_TEAM": "nested"}),
+    "cancellable": Setting("cancelling counts; in a region that is cancelled at its end",
+                           {"OMP_CANCELLATION": "true", "CONFORMANCE_TEAM": "cancellable"}),
     "unthrottled": Setting("queues of ready tasks grow", {"KMP_ENABLE_TASK_THROTTLING": "0"}, families=("kmp",)),
     "unconstrained": Setting("threads take any task", {"KMP_TASK_STEALING_CONSTRAINT": "0"}, families=("kmp",)),
 }

@@ -1,7 +1,7 @@
 """What a timed run of a program tells: the account of its threads' time, and how long segments waited, by construct.
 
-spanprof_account tells both of the program's text and the run's times. Ready is a segment when all that has to come
-before it has ended, so a wait is the runtime's: until it knows, and until a thread takes the segment up.
+`spanprof_large account` tells both of the program's text and the run's times. Ready is a segment when all that has to
+come before it has ended, so a wait is the runtime's: until it knows, and until a thread takes the segment up.
 """
 import collections
 from dataclasses import dataclass, field

@@ -8,8 +8,8 @@ from spanprof.errors import Fault
 
 USUAL_REGIONS = 10
 OF_A_RECORDING = re.compile(r"(\.rank[0-9]+)?(\.[0-9]+)?((\.large)?(\.inout)?\.(tasks|replay|times|timed)|"
-                            r"\.scale\.json)")
-IN_A_LOG = re.compile(r"head|modules|thread\.[0-9]+(\.last)?")
+                            r"\.scale\.json|\.online\.json|\.regions)")
+IN_A_LOG = re.compile(r"head|modules|online(\.new)?|thread\.[0-9]+(\.last)?")
 
 
 @dataclass
@@ -46,7 +46,8 @@ def recordings(out):
 def large_recordings(out):
     """Those of the regions that are beyond the limits of the ten commands: NAME.large.tasks, NAME.2.large.tasks .."""
     stems = [(stem_of(out, number), number) for number in range(1, most_regions(os.environ) + 1)]
-    found = [Recording(stem + ".large.tasks", number=number, is_large=True) for stem, number in stems]
+    found = [Recording(stem + ".large.tasks", beside(stem, ".large.replay"), number=number, is_large=True)
+             for stem, number in stems]
     return [one for one in found if os.path.exists(one.text)]
 
 
@@ -54,9 +55,13 @@ def stem_of(out, number):
     return out if number == 1 else "%s.%d" % (out, number)
 
 
+def beside(stem, end):
+    """The file of this name, where there is one."""
+    return stem + end if os.path.exists(stem + end) else ""
+
+
 def recording(stem, number=1):
-    beside = [stem + end if os.path.exists(stem + end) else "" for end in (".replay", ".times")]
-    return Recording(stem + ".tasks", *beside, number)
+    return Recording(stem + ".tasks", beside(stem, ".replay"), beside(stem, ".times"), number)
 
 
 def remove_log(folder):

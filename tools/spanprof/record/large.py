@@ -4,6 +4,8 @@ import tempfile
 from dataclasses import dataclass, field
 from itertools import islice
 
+from spanprof.account import account_beside, sums_of
+from spanprof.account_words import lines_of
 from spanprof.errors import Fault
 from spanprof.head import Head, head_text, read_head, with_function
 from spanprof.measure import HOW, measure
@@ -14,9 +16,7 @@ from spanprof.record.summary import (MOST_PLACES, first_lines, grouped, lead_lin
                                      title)
 from spanprof.whatif.large_lead import Bounded, large_lead
 
-TOO_LARGE = "the text is beyond the limits of spanprof_account"
 ASK = "spanprof-whatif tells what a change brings, and --places what can be changed"
-
 
 
 @dataclass
@@ -30,6 +30,7 @@ class LargeAnswers:
     span: int = 0
     places: list = field(default_factory=list)
     unplaced: str = ""  # why there are no places
+    path: str = ""
 
 
 def head_of(path):
@@ -49,7 +50,7 @@ def heaviest_places(program, path, numbers):
 
 def answers(program, path):
     numbers = measure(program, path)
-    answered = LargeAnswers(os.path.basename(path), head_of(path), **numbers)
+    answered = LargeAnswers(os.path.basename(path), head_of(path), path=path, **numbers)
     try:
         answered.places = heaviest_places(program, path, numbers)
     except (Fault, OSError) as wrong:
@@ -63,12 +64,13 @@ def place_lines(answered):
         with_function(answered.head, place.name)) for place in answered.places]
 
 
-def large_summary(answered, news=()):
-    tasks = "%s, in %s segments (recorded)" % (grouped(answered.tasks), grouped(answered.segments))
+def large_summary(answered, news=(), verdict=""):
+    tasks = "%s, in %s segments (recorded)%s" % (
+        grouped(answered.tasks), grouped(answered.segments), "; " + verdict if verdict else "")
     heading, *lines = first_lines(answered, tasks, takes_several=False)
     bounded = Bounded(answered.head, answered.work, answered.span, answered.tasks)
     return [heading] + lead_lines(large_lead(bounded, ASK)) + lines \
-        + named("account", ["not told: " + TOO_LARGE] if answered.head.elapsed else []) \
+        + named("account", lines_of(*account_beside(answered, sums_of))) \
         + named("locks", lock_lines(answered, answered.span)) \
         + named("span by place", place_lines(answered)) \
         + named("remarks", remark_lines(answered, list(filter(None, [answered.unplaced])) + list(news)))

@@ -13,10 +13,12 @@ from collections import Counter
 from dataclasses import dataclass, field
 
 from spanprof.errors import Fault
+from spanprof.remarks import in_json
 from spanprof.version import answer
 
 HEADER = "omptasks 1"
-NUMBER = re.compile(r"(?<=[ (])\d+(?=[ ,)]|$)")  # of a line of the head, without those of places
+NUMBER = re.compile(r"(?<=[ (])\d+(?=[ ,)}]|$)")  # of a line of the head, without those of places
+OF_NO_RUN = "work and span are of no single run"
 OF_ONE_RUN = ("recorded", "region", "remark", "covers", "not covered")  # lines whose numbers have no median by itself
 
 
@@ -136,8 +138,8 @@ def head_of(recordings):
             out.append(median_line(alike[known]))
         elif name != "remark":
             out.append(covered.get(name, line))
-    told = "# remark: each cost is the median of %d recordings: work and span are of no single run" % len(recordings)
-    return out + remarks_of(recordings) + [told]
+    told = in_json("median", "each cost is the median of %d recordings" % len(recordings), OF_NO_RUN)
+    return out + remarks_of(recordings) + ["# remark: " + told]
 
 
 def depth_change(line):

@@ -18,6 +18,7 @@ MOST_RUNS = 99
 RUNS_OF_A_SCALE = 5
 MOST_THREADS = 1024
 FOLDS = ("depth", "cost", "chunk")
+NEEDS_A_TEXT = ("unit", "runs", "scale", "whole", "fold", "html", "open", "json")
 FOLD_WORDS = "exact|depth=D|cost=C|chunk=N"
 
 
@@ -74,7 +75,11 @@ def parser():
     add("--scale", type=numbers_of_threads, metavar="1,P,..",
         help="tell the true speed-up: run it N times (5 without --runs) unrecorded on each of these numbers of "
         "threads, and record it once on each; and of the last what keeps it from more, as a sum")
+    add("--calibrate", action="store_true",
+        help="without a program: measure what the runtime takes for tasks on this machine, for spanprof-predict")
     add("--whole", action="store_true", help="the whole program as one text: serial code, regions, chunks of loops")
+    add("--online", action="store_true",
+        help="measure work and span by place while it runs, in the memory of what is open at a time, and keep no text")
     add("--fold", type=fold, action="append", default=[], metavar=FOLD_WORDS,
         help="where a recording is too large, write fewer tasks with the same work and span; or tasks at depth D with "
         "all below them as one cost; tasks cheaper than C as work of their parent; N neighbours as one task")
@@ -100,14 +105,21 @@ def parse(words):
     chosen = reader.parse_args(words)
     if chosen.command[:1] == ["--"]:
         del chosen.command[0]
-    if not chosen.command:
+    if chosen.calibrate and chosen.command:
+        reader.error("--calibrate takes no program")
+    if not (chosen.command or chosen.calibrate):
         reader.error("no program to run; such as: spanprof-record -- ./mine")
+    if chosen.calibrate:
+        return chosen
     if chosen.out is None:
         chosen.out = os.path.basename(named_after(chosen.command))
     if not os.path.basename(chosen.out):
         reader.error("--out %s: the first name of files, and no folder" % chosen.out)
     if chosen.scale and chosen.threads:
         reader.error("--scale has the numbers of threads already, without --threads")
+    kept = [name for name in NEEDS_A_TEXT if getattr(chosen, name)] if chosen.online else []
+    if kept:
+        reader.error("--online keeps no text, which --%s needs" % kept[0])
     chosen.runs = chosen.runs or (RUNS_OF_A_SCALE if chosen.scale else 1)
     if chosen.open and not chosen.html:
         chosen.html = chosen.out + ".html"

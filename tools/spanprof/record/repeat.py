@@ -11,6 +11,7 @@ from spanprof.errors import Fault
 from spanprof.head import head_text, read_head
 from spanprof.record.files import recordings, stem_of
 from spanprof.record.median import write_median
+from spanprof.regions import read_regions
 
 BARE_PART = re.compile(r"task \{  # one of the region's threads\n *(work \d+ *(#.*)?\n *)?\}")
 FIRST_PARTS = "all-or-none"  # of the first run
@@ -28,7 +29,7 @@ def make_folder(out, runs):
     except OSError as wrong:
         raise Fault("%s: %s" % (folder, wrong.strerror)) from wrong
     for entry in os.listdir(folder):
-        if re.fullmatch(r"run\d+(\.\d+)?(\.large)?(\.inout)?\.(tasks|replay|times|timed)", entry):
+        if re.fullmatch(r"run\d+(\.\d+)?(\.large)?(\.inout)?\.(tasks|replay|times|timed|regions)", entry):
             os.remove(os.path.join(folder, entry))
     return names(out, runs)
 
@@ -121,11 +122,22 @@ def combine(out, same_region):
     return []
 
 
+def take_table(out, run_names):
+    """The table of regions of the run that took the median time, where the texts of all runs are of the same places."""
+    paths = [name + ".regions" for name in run_names]
+    if not all(map(os.path.exists, paths)):
+        return
+    programs = [read_regions(path) for path in paths]
+    if all(program.texts == programs[0].texts for program in programs):
+        shutil.copyfile(middle(paths, [program.elapsed for program in programs]), out + ".regions")
+
+
 def combine_all(out, run_names):
     """The same for each region that all runs have written."""
     by_run = [{one.number: one for one in recordings(name)} for name in run_names]
     every = set().union(*by_run)
     common = sorted(number for number in every if all(number in found for found in by_run))
+    take_table(out, run_names)
     remarks = []
     for number in common:
         remarks += combine(stem_of(out, number), [found[number] for found in by_run])

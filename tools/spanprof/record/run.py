@@ -22,8 +22,9 @@ def environment(base, options, library, preload, out):
     asked = {"SPANPROF_UNIT": options.unit, "SPANPROF_CLOCK": options.clock, "OMP_NUM_THREADS": options.threads}
     asked.update(("SPANPROF_FOLD_" + name.upper(), number) for name, number in options.fold)
     new.update((name, str(value)) for name, value in asked.items() if value is not None)
-    if options.whole:
-        new["SPANPROF_WHOLE"] = "1"
+    for name in ("whole", "online"):
+        if getattr(options, name):
+            new["SPANPROF_" + name.upper()] = "1"
     return new
 
 

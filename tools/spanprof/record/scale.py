@@ -3,6 +3,7 @@ import os
 import re
 import statistics
 import time
+from collections import Counter
 from dataclasses import dataclass, field
 from typing import Dict, List, Optional
 
@@ -25,6 +26,8 @@ class Region:
     work: int
     account: Optional[Account] = None
     why: str = ""   # there is no account
+    path: str = ""  # of the text
+    costs: Counter = field(default_factory=Counter)     # by place, in nanoseconds
 
     @property
     def is_at(self):
@@ -40,6 +43,11 @@ class Scale:
     regions: Dict[int, Region] = field(default_factory=dict)    # the heaviest one of the run on the most threads
     library: str = ""       # the runtime that the runs were given, where it is not what the program is linked with
     processors: int = 0     # that this process may use
+
+    @property
+    def paths(self):
+        """The region's texts."""
+        return [region.path for region in self.regions.values()]
 
     @property
     def most(self):
@@ -120,9 +128,17 @@ def record_each(session, numbers):
     return names
 
 
+def costs_by_place(answers):
+    found = Counter()
+    for segment in answers.code:
+        found[segment.place()] += segment.cost * (answers.head.nanoseconds or 0)
+    return found
+
+
 def region_of(answers):
     account, why = account_beside(answers)
-    return Region(answers.name, answers.head, answers.tasks, answers.work, account, why)
+    return Region(answers.name, answers.head, answers.tasks, answers.work, account, why, answers.path,
+                  costs_by_place(answers))
 
 
 def heaviest(answered):

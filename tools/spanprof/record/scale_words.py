@@ -1,6 +1,9 @@
 """The true speed-up and the gap as lines of the summary, and as JSON."""
+import os
+
 from spanprof.account_words import lasting
 from spanprof.record.scale_gap import NoGap, gap_of
+from spanprof.record.scale_places import place_lines, places_json
 
 HEADS = ("threads", "median", "least", "greatest", "speed-up", "region, recorded")
 SAID = "speed-up: the median time on one thread over that on so many, the true one (measured)"
@@ -57,7 +60,7 @@ def gap_lines(scale):
     rows = aligned([["%.1f %%" % (100 * part / max(found.whole, 1)),
                      ("-" if part < 0 else "") + lasting(abs(part))] for part in found.parts.values()])
     return [first] + ["%s  %s: %s" % (numbers, name, found.what(name))
-                      for numbers, name in zip(rows, found.parts)] + found.remarks
+                      for numbers, name in zip(rows, found.parts)] + place_lines(scale) + found.remarks
 
 
 def scale_lines(scale):
@@ -71,8 +74,15 @@ def gap_json(scale):
     except NoGap as why:
         return {"no gap": str(why)}
     return {"gap": {"threads": found.threads, "elapsed": found.elapsed, "parts": found.parts,
-                    "of": {name: found.what(name) for name in found.parts}, "remarks": found.remarks, "unit": "ns",
+                    "of": {name: found.what(name) for name in found.parts}, "places": places_json(scale),
+                    "remarks": found.remarks, "unit": "ns",
                     "measured": "of the recorded runs"}}
+
+
+def recording(scale, threads):
+    """Where the region's text on so many threads lies, from the folder of that on the most; None without one."""
+    paths = [scale.regions[number].path if number in scale.regions else "" for number in (threads, scale.most)]
+    return os.path.relpath(paths[0], os.path.dirname(paths[1]) or ".") if all(paths) else None
 
 
 def row_json(scale, threads):
@@ -81,7 +91,8 @@ def row_json(scale, threads):
     low, high = scale.speed_up_from_to(threads)
     return {"threads": threads, "times": times, "median": scale.median(threads), "least": min(times),
             "greatest": max(times), "speed-up": scale.speed_up(threads), "speed-up from": low, "speed-up to": high,
-            "region elapsed": region.head.elapsed * region.head.nanoseconds if recorded else None}
+            "region elapsed": region.head.elapsed * region.head.nanoseconds if recorded else None,
+            "recording": recording(scale, threads)}
 
 
 def scale_json(scale):

@@ -2,13 +2,14 @@
 import os
 
 from spanprof import client
-from spanprof.account_program import spanprof_account
 from spanprof.errors import Fault
 from spanprof.folders import builds_in
+from spanprof.measure import spanprof_large
 from spanprof.record.console import say, tell
 from spanprof.record.convert import convert_all, converter
 from spanprof.record.files import check_folder, large_recordings, recordings, remove_old
 from spanprof.record.linkage import linkage
+from spanprof.record.online import online_files
 from spanprof.record.ranks import is_launcher, names_of_ranks, of_rank, rank_of
 from spanprof.record.recorder import recorder_library
 from spanprof.record.repeat import FIRST_PARTS, combine_all, make_folder, parts_of_the_next
@@ -69,7 +70,7 @@ class Session:
         """One run, with other variables too: how the program ended, and what is told of its logs."""
         remove_old(out)
         asked = dict(os.environ, **others or {})
-        if spanprof_account():
+        if spanprof_large():
             asked["SPANPROF_TIMES"] = "1"
         variables = environment(asked, self.options, self.library, self.preload, out)
         status = run(self.path, self.options.command, variables)
@@ -105,6 +106,14 @@ class Session:
         tell("taking medians")
         self.notes += combine_all(self.out, names)
         return 0, recordings(self.out), said.without([recording.text for recording in recordings(names[-1])])
+
+    def record_online(self):
+        """The program's end, the files of what was measured, and what was said."""
+        status, said = self.run(self.out)
+        found = online_files(self.out)
+        if not found:
+            say("nothing is measured: " + why_nothing(status, said, self.out, self.is_script))
+        return status, found, said
 
     def record(self):
         return self.record_often() if self.options.runs > 1 else self.record_once()

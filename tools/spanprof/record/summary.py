@@ -7,8 +7,10 @@ from spanprof.claims import (OTHERWISE, against_parallelism, against_span, gain_
                              is_divided, is_of_one_thread, is_partial, least_end, lock_binds, share_covered, tenths,
                              why_not_of_more_threads)
 from spanprof.head import with_function
+from spanprof.record.program_lines import program_line
 from spanprof.report.figures import rounded_down, rounded_up
 from spanprof.report.places import places
+from spanprof.report.units import Units
 
 THREADS = (2, 4, 8, 16)
 CLOCKS = {"wall": " of wall time", "cpu": " of processor time"}
@@ -24,9 +26,9 @@ def threads_of(head):
     return "%d thread%s" % (head.threads, "" if head.threads == 1 else "s") if head.threads else ""
 
 
-def costs(number, unit):
-    """With the unit; one that is a number of nanoseconds is a factor."""
-    return "%s %s%s" % (grouped(number), "x " if unit[:1].isdigit() else "", unit)
+def costs(number, head, down=False):
+    """As people read them; what bounds is rounded down. `--json` has them in full."""
+    return Units(head).shown(number, "down" if down else None).words.replace("µ", "u").replace("×", "x")
 
 
 def title(answers):
@@ -42,7 +44,7 @@ def covers_line(head):
     """What of the program is in the text, and where the rest is."""
     if not share_covered(head):
         return "not told how much of the program's thread-time"
-    rest = ", ".join("%s %s" % (grouped(value), name) for name, value in head.not_covered.items() if value)
+    rest = ", ".join("%s %s" % (costs(value, head), name) for name, value in head.not_covered.items() if value)
     return "%s in code%s (measured)" % (share_covered(head), "; not covered: " + rest if rest else "")
 
 
@@ -68,10 +70,10 @@ def proved_of_text(head):
 
 def with_spread(number, name, head):
     """A sum of the text, and beside it the least and the most of several runs."""
-    spread = head.spread.get(name)
+    words, spread = costs(number, head, name == "span"), head.spread.get(name)
     if not spread:
-        return costs(number, head.unit)
-    return "%s (%s to %s in %d runs)" % (costs(number, head.unit), grouped(spread[0]), grouped(spread[-1]), head.runs)
+        return words
+    return "%s (%s to %s in %d runs)" % (words, costs(spread[0], head), costs(spread[-1], head), head.runs)
 
 
 def work_line(answers):
@@ -102,7 +104,7 @@ def elapsed_line(answers):
         return "not told"
     threads = " on %s" % (threads_of(answers.head) or "all threads")
     return "%s%s: %.2f of them busy in this code on average (measured)" % (
-        costs(elapsed, answers.head.unit), threads, answers.work / elapsed)
+        costs(elapsed, answers.head), threads, answers.work / elapsed)
 
 
 def told_threads(answers):
@@ -146,13 +148,13 @@ def threads_lines(answers):
 
 def lock_lines(answers, least):
     """Where the most held lock allows less than `least`, an end that no run of the text passes."""
-    inside, unit = answers.head.most_held, answers.head.unit
+    inside, head = answers.head.most_held, answers.head
     if not inside or inside <= least:
         return []
     if gain_may_be_more(answers.head):
-        return ["%s inside the most held one; %s (measured)" % (costs(inside, unit), LESS_HELD)]
+        return ["%s inside the most held one; %s (measured)" % (costs(inside, head), LESS_HELD)]
     return ["%s inside the most held one: no run of this code is more than %s times as fast as its work in a row "
-            "(measured)" % (costs(inside, unit), rounded_up(answers.work, inside))]
+            "(measured)" % (costs(inside, head), rounded_up(answers.work, inside))]
 
 
 def clock_lines(head):
@@ -161,7 +163,7 @@ def clock_lines(head):
     if not told:
         return []
     return ["in %s %% of the work they differ by more than a twentieth, together by %s (measured)" % (
-        tenths(told["affected"], told["work"]), costs(told["by"], head.unit))]
+        tenths(told["affected"], told["work"]), costs(told["by"], head))]
 
 
 def place_lines(answers):
@@ -199,9 +201,11 @@ def lead_lines(lead):
     return named("cause", [lead.cause]) + named("first change", filter(None, lead[1:])) if lead else []
 
 
-def summary(answers, verdict="", news=(), others=(), of_what="regions", account=(), lead=None):
+def summary(answers, verdict="", news=(), others=(), of_what="regions", account=(), lead=None, program=None):
     heading, *lines = first_lines(answers, tasks_line(answers, verdict))
-    return [heading] + lead_lines(lead) + lines \
+    return [heading] + lead_lines(lead) \
+        + named("program", [program_line(program)] if program and program.regions else []) \
+        + lines \
         + named("account", account) \
         + named("threads", threads_lines(answers)) \
         + named("locks", lock_lines(answers, answers.curve[max(THREADS)]["least"])) \
@@ -213,4 +217,4 @@ def summary(answers, verdict="", news=(), others=(), of_what="regions", account=
 def other_region(answers):
     head = answers.head
     return "%s%s: work %s, span %s" % (answers.name, ", region at %s" % head.region if head.region else "",
-                                       costs(answers.work, head.unit), costs(answers.span, head.unit))
+                                       costs(answers.work, head), costs(answers.span, head))

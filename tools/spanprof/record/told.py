@@ -3,6 +3,8 @@ import json
 import os
 from dataclasses import dataclass
 
+from spanprof.remarks import remark_of
+
 LIMITS = {"tasks": "tasks", "segments": "segments", "blocks": "tasks and groups inside each other",
           "items": "depend items of one task", "piece": "units of work in one piece", "work": "units of work",
           "bytes": "bytes", "bytes outside comments": "bytes outside comments"}
@@ -12,8 +14,7 @@ STOPPED = {"full": "the disk was full", "numbers": "there were more tasks than n
 NO_REPLAY = {"exact folds": "since tasks are folded exactly", "unfinished": "since tasks did not run to their ends",
              "workers": "since it holds 64 workers and the run had %(workers)d"}
 NO_TIMES = {"folds": "since tasks are folded", "unfinished": "since tasks did not run to their ends",
-            "whole": "since the pieces of loops were not timed one by one",
-            "large": "since spanprof_account takes no text beyond the limits of spanprof"}
+            "whole": "since the program ran in other pieces than its text has"}
 
 
 def parallelism(work, span):
@@ -72,14 +73,15 @@ def killed(told):
 
 WORDS = {
     "text": text,
-    "remark": lambda told: "%(name)s: %(remark)s" % told,
+    "remark": lambda told: "%s: %s" % (told["name"], remark_of(told["remark"])),
     "too large": too_large,
     "no exact fold": lambda told: "--fold exact: no exact fold fits",
-    "more regions": lambda told: "%(regions)d more regions with tasks, the lightest, are not written: work %(work)d "
-                                 "%(unit)s; SPANPROF_REGIONS says how many are" % told,
+    "more regions": lambda told: "%(regions)d more regions with tasks are not written, work %(work)d %(unit)s: of each "
+                                 "place those next to its median are; SPANPROF_REGIONS says how many are" % told,
     "outside": lambda told: "task outside of a parallel region, not recorded, %(seen)s" % told,
     "no tasks": lambda told: "no parallel region with tasks" +
                              (", and the program ended inside a region" if told["inside"] else ""),
+    "online": lambda told: "%(file)s has work and span by place, as they were measured" % told,
     "unwritten": lambda told: "%(file)s cannot be written" % told,
     "killed": killed,
     "running": lambda told: "the program still runs: the log is that of its first %s" % milliseconds(told["recorded"]),
@@ -105,9 +107,11 @@ class Told:
 
     def without(self, texts):
         """All but that these were written."""
-        return Told(self.loaded, [one for one in self.things if not (one["told"] == "text" and one["file"] in texts)])
+        return Told(self.loaded, [one for one in self.things
+                                  if not (one["told"] in ("text", "online") and one["file"] in texts)])
 
     def news(self, out, texts=(), remarks=()):
         """What the summary would not show, without the path of the files."""
-        rest = [one for one in self.without(texts).things if not (one["told"] == "remark" and one["remark"] in remarks)]
+        rest = [one for one in self.without(texts).things
+                if not (one["told"] == "remark" and remark_of(one["remark"]) in remarks)]
         return [in_words(one).replace(os.path.dirname(out) + os.sep, "") for one in rest]

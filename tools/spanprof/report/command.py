@@ -7,11 +7,13 @@ import sys
 from spanprof.command import Console, check_files, end_with
 from spanprof.errors import Fault
 from spanprof.head import said
+from spanprof.regions import program_of, table_beside
 from spanprof.report.large_answers import is_large
 from spanprof.report.large_page import page as page_of_any_size
 from spanprof.report.large_view import LargeView
 from spanprof.report.live import module
 from spanprof.report.page import page
+from spanprof.report.program_page import program_page, texts
 from spanprof.report.speedscope import speedscope_text
 from spanprof.report.summary_json import summary_json
 from spanprof.report.trace_events import trace_text
@@ -22,6 +24,7 @@ from spanprof.version import Version
 DESCRIPTION = "Writes one page (HTML that needs no other file and no network) on a program text of spanprof."
 ANSWER = ("work", "span", "was")
 LONGEST_WORDS = 100
+OF_ONE_TEXT = ("other", "trace", "speedscope", "factor", "json", "replay", "live")
 
 
 def beside(text):
@@ -43,7 +46,7 @@ def arguments(words):
     add("--factor", action="append", default=[], metavar="PLACE=F",
         help="what if the costs at PLACE were F times as much; may be given several times")
     add("--live", action="store_true",
-        help="the page carries spanprof as a WebAssembly module, and answers factors and threads at once")
+        help="the page carries spanprof as a WebAssembly module, which answers factors, threads, dropped waits at once")
     add("--trace", metavar="FILE.json", help="the runs as a trace for ui.perfetto.dev")
     add("--speedscope", metavar="FILE.json", help="the work and the span by place, for speedscope.app")
     add("--json", action="store_true", help="print the summary as JSON")
@@ -113,7 +116,7 @@ def write_all(chosen, views, factors):
 
 def write_large_page(chosen, progress):
     """Of a text beyond the limits of spanprof: what needs no table of its segments."""
-    if any(getattr(chosen, option) for option in ("other", "trace", "speedscope", "factor", "json", "replay", "live")):
+    if any(getattr(chosen, option) for option in OF_ONE_TEXT):
         raise Fault("%s: beyond the limits of spanprof, where there is only a page (-o)" % chosen.program)
     write(chosen.output, page_of_any_size(LargeView(chosen.program, chosen.threads, chosen.source, progress)))
     progress.end([chosen.output])
@@ -132,10 +135,25 @@ def write_the_rest(chosen, progress):
     progress.end(write_all(chosen, views, factors))
 
 
+def write_program_page(chosen, progress):
+    """Where the first text of a recording of several is named, and its page alone is asked for. Says whether it is."""
+    if any(getattr(chosen, option) for option in OF_ONE_TEXT) or (table_beside(chosen.program) or ("", 0))[1] != 1:
+        return False
+    program = program_of(chosen.program)
+    found = texts(program, chosen.program)
+    if not found or len(program.texts) == 1:
+        return False
+    write(chosen.output, program_page(program, found, chosen, progress))
+    progress.end([chosen.output])
+    return True
+
+
 def answer(chosen):
     for path in filter(None, (chosen.program, chosen.replay, chosen.other)):
         check_files(path)
-    (write_large_page if is_large(chosen.program) else write_the_rest)(chosen, Progress(sys.stderr))
+    progress = Progress(sys.stderr)
+    if not write_program_page(chosen, progress):
+        (write_large_page if is_large(chosen.program) else write_the_rest)(chosen, progress)
 
 
 def main(words):

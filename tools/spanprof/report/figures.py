@@ -8,14 +8,17 @@ from spanprof.report.markup import join, tag
 from spanprof.report.units import grouped
 
 MEASURED, RECORDED, PROVED, DECLARED = "measured", "recorded", "proved", "declared"
+PREDICTED, BURDENED = "predicted", "burdened"
 MEANINGS = {
     MEASURED: "read from the recorder's clock, or a sum or quotient of such readings",
     DECLARED: "stated by the text, with no recording behind it, or a sum of such statements",
     RECORDED: "taken from the run: tasks and segments, what waits for what, the order of events",
     PROVED: "follows from the costs and the shape that the text has, computed by a program that is proved correct; of "
             "the program that was recorded it says as much as the text is that program",
+    PREDICTED: "told by a model of the runtime's scheduling and of this machine, without a proof",
+    BURDENED: "the same of the text with what a dispatch takes put in its code",
 }
-LABELS = {PROVED: "proved of the text"}
+LABELS = {PROVED: "proved of the text", BURDENED: "proved of the burdened text"}
 
 
 def percent(part, whole):

@@ -9,7 +9,7 @@ from spanprof.head import head_text, read_head
 from spanprof.path.found import find_path, programs
 from spanprof.errors import Fault
 from spanprof.measure import HOW, measure, spanprof_large
-from spanprof.answers import LONGEST_CURVE, THREADS_WITHOUT_RECORDING
+from spanprof.answers import LONGEST_CURVE, Asked
 from spanprof.report.large_sums import sums_in
 from spanprof.whatif.numbers import LIMITS, LONGEST, ask_large
 
@@ -27,35 +27,24 @@ def is_large(path):
     return False
 
 
-class LargeAnswers:
+class LargeAnswers(Asked):
     """Like Answers, without what needs a table of all segments."""
 
     def __init__(self, path, threads=None, tell=None):
-        self.path, self.tell = path, tell or (lambda words: None)
-        self.name = os.path.basename(path)
+        super().__init__(path, threads, tell)
         self.head = read_head(head_text(path))
-        self.asked, self.wanted_threads, self.without_path = [], threads, ""
+        self.without_path = ""
         self.program = spanprof_large()
         if not self.program:
             raise Fault("%s: %s" % (path, HOW))
 
     def note(self, *words):
-        shown = " ".join(["spanprof_large", *words, "<", self.name])
-        self.tell(shown)
-        self.asked.append(shown)
+        self.noted(" ".join(["spanprof_large", *words, "<", self.name]))
 
     @cached_property
     def span_numbers(self):
         self.note()
         return measure(self.program, self.path)
-
-    @property
-    def work(self):
-        return self.span_numbers["work"]
-
-    @property
-    def span(self):
-        return self.span_numbers["span"]
 
     @property
     def tasks(self):
@@ -64,10 +53,6 @@ class LargeAnswers:
     @property
     def parts(self):
         return self.sums.parts
-
-    @property
-    def threads(self):
-        return min(self.wanted_threads or self.head.threads or THREADS_WITHOUT_RECORDING, 1024)
 
     @cached_property
     def curve(self):

@@ -3,6 +3,7 @@ import shlex
 
 from spanprof.report.figures import MEASURED, PROVED, badges
 from spanprof.report.markup import details, join, note, section, tag
+from spanprof.report.part_account import account_picture
 from spanprof.report.part_path import by_place
 from spanprof.report.part_tasks import MOST_PLACES, costs, creation
 from spanprof.report.part_timeline import colour_legend, controls
@@ -12,8 +13,8 @@ from spanprof.report.summary_words import covered, lead_words, lock_words, on_th
 from spanprof.report.tables import place_cell, table
 from spanprof.whatif.large_lead import TOGETHER
 
-PIECES = (recorded, covered, lead_words, tiles, on_the_threads, lock_words, which_binds, remarks, division,
-          kinds_explained)
+PIECES = (recorded, covered, lead_words, account_picture, tiles, on_the_threads, lock_words, which_binds, remarks,
+          division, kinds_explained)
 
 
 def summary_part(view):
@@ -71,19 +72,21 @@ TIMES = "Each bin of time is as high as the share of it that its thread was in c
     "that it was in most."
 
 
-def lane(title, run):
-    drawing = tag("div", class_="lanes", tabindex="0", role="application", data_program=0, data_run=run,
+def lane(title, run, program):
+    drawing = tag("div", class_="lanes", tabindex="0", role="application", data_program=program, data_run=run,
                   aria_label="Timeline; arrow keys move, plus and minus zoom")
     return tag("figure", tag("figcaption", title), controls(has_search=False), drawing,
                tag("p", class_="note stretch", role="status"), class_="timeline")
 
 
-def timeline_part(view):
+def timeline_part(view, program=0):
+    """`program` is the number of the program on the page."""
     greedy = join([tag("b", "The greedy run"), ", ", tag("span", "%d threads" % view.answers.threads, class_="given"),
                    " ", badges(PROVED)])
-    lanes = [lane(join([tag("b", "The run as it was"), " ", badges(MEASURED)]), "recorded")] if view.levels else []
+    lanes = [lane(join([tag("b", "The run as it was"), " ", badges(MEASURED)]), "recorded",
+                  program)] if view.levels else []
     if view.greedy_levels:
-        made = lane(greedy, "greedy")
+        made = lane(greedy, "greedy", program)
         lanes.append(details("The greedy run of the text on as many threads", made, class_="greedy") if lanes else made)
     return section("timeline", "Timeline", *lanes, colour_legend(view, has_segments=False), note(TIMES),
                    tag("div", class_="tip", role="status", aria_live="polite"))

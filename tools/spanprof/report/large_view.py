@@ -2,6 +2,7 @@
 import os
 from functools import cached_property
 
+from spanprof.account import account_beside, sums_of, timed_beside
 from spanprof.report.figures import Figures
 from spanprof.report.large_answers import LargeAnswers
 from spanprof.report.large_times import NoTimes, levels_in, levels_of_greedy
@@ -15,10 +16,10 @@ ASK = "the lines under Changes ask what one brings"
 
 
 class LargeView(Kinds):
-    def __init__(self, path, threads=None, source=None, tell=None):
+    def __init__(self, path, threads=None, source=None, tell=None, prefix=""):
         self.answers = LargeAnswers(path, threads, tell)
         self.units = Units(self.answers.head)
-        self.figures = Figures("", self.units)
+        self.figures = Figures(prefix, self.units)
         self.sources = Sources(source or [os.path.dirname(os.path.abspath(path)), os.getcwd()])
         self.places = self.code_places()
         self.task_places = sorted(self.answers.sums.tasks.values(), key=lambda place: place.number)
@@ -43,6 +44,16 @@ class LargeView(Kinds):
     def lead(self):
         answers = self.answers
         return large_lead(Bounded(answers.head, answers.work, answers.span, answers.tasks), ASK, self.most_tasks)
+
+    @cached_property
+    def account(self):
+        """The sums of the recorded run; None without a timed document beside the text."""
+        if os.path.exists(timed_beside(self.answers.path)):
+            self.answers.tell("where the time of %s went" % self.name)
+        found, _ = account_beside(self.answers, sums_of)
+        if found:
+            self.answers.asked.append("spanprof_large account < " + os.path.basename(timed_beside(self.answers.path)))
+        return found
 
     @property
     def most_tasks(self):

@@ -1,11 +1,14 @@
 """What a page needs to answer by itself: libspanprof for WebAssembly, the text, and the answers that it has to give."""
 import base64
 import os
+from functools import cached_property
 
 from spanprof.claims import why_not_of_more_threads
 from spanprof.errors import Fault
-from spanprof.report.markup import note, tag
+from spanprof.report.live_waits import Waits
+from spanprof.report.markup import join, note, tag
 from spanprof.report.what_if import FACTORS
+from spanprof.whatif.advice import with_article
 
 NAME = "spanprof.wasm"
 BEGINNING = b"\0asm\1\0\0\0"
@@ -43,21 +46,47 @@ def trial_rows(view, trials):
             yield [place.number, factor, told["work"], told["span"], trials.ends[place.number] if tells_end else None]
 
 
-def live_data(view, trials, wasm):
-    answers = view.answers
-    curve = [[threads, row["end"]] for threads, row in answers.curve.items() if "end" in row]
-    return {"module": base64.b64encode(wasm).decode(), "text": base64.b64encode(answers.text.encode()).decode(),
-            "threads": answers.threads, "curve": curve, "trials": list(trial_rows(view, trials))}
+class Live:
+    """What a live page has beside the others."""
+
+    def __init__(self, view, wasm):
+        self.view, self.wasm = view, wasm
+
+    @cached_property
+    def waits(self):
+        return Waits(self.view)
+
+    def data(self, trials):
+        answers = self.view.answers
+        curve = [[threads, row["end"]] for threads, row in answers.curve.items() if "end" in row]
+        module_words, text = [base64.b64encode(one).decode() for one in (self.wasm, answers.text.encode())]
+        return {"module": module_words, "text": text, "threads": answers.threads, "curve": curve,
+                "trials": list(trial_rows(self.view, trials)), **self.waits.data()}
 
 
-def live_line(view):
-    """The script shows it where the module answers."""
-    answers = view.answers
+def threads_box(answers):
     is_fixed = "" if why_not_of_more_threads(answers.head) else None
-    box = tag("input", type="number", id="live-threads", min=1, max=1024, step=1, value=answers.threads,
-              readonly=is_fixed)
+    return tag("input", type="number", id="live-threads", min=1, max=1024, step=1, value=answers.threads,
+               readonly=is_fixed)
+
+
+def wait_boxes(live):
+    boxes = [tag("label", tag("input", type="checkbox", class_="wait", data_number=number, data_place=wait.name),
+                 " without ", tag("span", with_article(wait.name), class_="place"))
+             for number, wait in live.waits.shown]
+    return tag("p", *boxes, class_="waits") if boxes else ""
+
+
+def live_line(live):
+    """The script shows it where the module answers."""
+    view = live.view
     trust = note("These numbers are computed here by the proved code, compiled for the page. It gave the answers that "
                  "stand on this page. Beyond the proof this trusts what compiled it for the page, its heap, the page's "
-                 "script and the browser.")
-    asked = tag("p", tag("label", "On ", box, " threads, with the factors of the table: "), tag("output"))
-    return tag("div", asked, trust, id="live", hidden="")
+                 "script, which writes the text without a wait, and the browser.")
+    asked = tag("p", tag("label", "On ", threads_box(view.answers), " threads, with the factors of the table: "),
+                tag("output"))
+    yours = tag("p", "Whether the program stays right without it is yours to know. The same from a terminal:",
+                class_="yours", hidden="")
+    line = tag("pre", tag("code", id="live-line", data_file=view.name),
+               tag("button", "copy", type="button", data_copy="live-line"), hidden="")
+    return tag("div", join([wait_boxes(live), asked, yours, line, trust]), id="live", hidden="")

@@ -3,7 +3,7 @@ import json
 import os
 
 from spanprof.report.colours import colour_rules
-from spanprof.report.live import live_data
+from spanprof.report.live import Live
 from spanprof.report.markup import Markup, join, markup, section, tag
 from spanprof.report.part_account import idle_part
 from spanprof.report.part_changes import changes_part
@@ -12,6 +12,7 @@ from spanprof.report.part_curve import curve_part
 from spanprof.report.part_graph import graph_part
 from spanprof.report.part_nesting import nesting_part
 from spanprof.report.part_path import path_part
+from spanprof.report.part_program import program_part
 from spanprof.report.part_source import source_part
 from spanprof.report.part_summary import summary_part
 from spanprof.report.part_tasks import tasks_part
@@ -35,33 +36,37 @@ def asked_part(views):
     shown = [line for line in words if not line.startswith("spanprof whatif")]
     if changed:
         shown.append("spanprof whatif SEGMENT=COST .., %d times" % changed)
+    shown += ["spanprof-record --scale, in %s.scale.json" % view.name.removesuffix(".tasks")
+              for view in views if view.scale]
     return section("sources", "Where the numbers come from",
                    tag("p", "Every number is what one of these commands printed, or a sum, difference or quotient of "
                             "such numbers, or it stands in the head of the text or in the table of times; its tooltip "
-                            "says of which. What a command answers is proved of the text that it reads; this "
-                            "page, its pictures and the recorder are plain programs."),
+                            "says of which. What spanprof and spanprof_large answer is proved of the text that they "
+                            "read; this page, its pictures, the model and the recorder are plain programs."),
                    tag("ul", *[tag("li", tag("code", line)) for line in shown]))
 
 
-def timelines(views):
+def timelines(views, first):
     out = []
     for number, view in enumerate(views):
         name, label = ("timeline-other", "The other's timeline") if number else ("timeline", "Timeline")
         title = "Timeline of " + view.name if len(views) > 1 else "Timeline"
-        out.append((name, label, timeline_part(view, number, name, title)))
+        out.append((name, label, timeline_part(view, first + number, name, title)))
     return out
 
 
-def parts(views, factors, trials, is_live=False):
-    """Of each part the name, the words that lead to it, and the part. Some texts have not all of them."""
+def parts(views, factors, trials, live=None, first=0, is_alone=True):
+    """Of each part the name, the words that lead to it, and the part. Some texts have not all of them. `first` is the
+    number of the first view on the page; where they are not alone on it, the whole program has a part of its own."""
     view = views[0]
     of = " of " + view.name if len(views) > 1 else ""
     made = [("summary", "Summary", summary_part(view, trials, of)),
+            ("program", "The whole program", program_part(view.program) if is_alone else ""),
             ("compared", "Side by side", compare_part(views) if len(views) > 1 else ""),
             ("idle", "Idle time", idle_part(view, of)),
-            ("speed-up", "Speed-up", curve_part(views)), *timelines(views),
+            ("speed-up", "Speed-up", curve_part(views)), *timelines(views, first),
             ("path", "Critical path", path_part(view, of)), ("changes", "Changes", changes_part(view, of)),
-            ("what-if", "What if", what_if_part(view, trials, factors, of, is_live)),
+            ("what-if", "What if", what_if_part(view, trials, factors, of, live, first)),
             ("tasks", "Tasks", tasks_part(view, of)),
             ("nesting", "Nesting", nesting_part(view, of)), ("source", "Source", source_part(view, of)),
             ("graph", "Graph", graph_part(view, of)), ("sources", "Sources", asked_part(views))]
@@ -85,8 +90,8 @@ def as_script(found):
 
 
 SCRIPTS = ("data.js", "level_run.js", "stretch.js", "ready.js", "drawing.js", "words.js", "chosen.js", "lanes.js",
-           "levels.js", "controls.js", "tables.js", "graph.js", "factors.js", "titles.js")
-LIVE_SCRIPTS = ("module.js", "live.js")
+           "levels.js", "controls.js", "tables.js", "graph.js", "changes.js", "factors.js", "titles.js", "chapters.js")
+LIVE_SCRIPTS = ("module.js", "changed_text.js", "live.js")
 
 
 def live_element(live):
@@ -103,18 +108,22 @@ def filled(text, pieces):
     return "".join(out)
 
 
-def whole(title, made, found, live=None):
-    """The page of parts, each with its name and the words that lead to it, and of what its script needs."""
+def filled_in(title, contents, body, found, live=None):
+    """The page of what leads to its parts, of these, and of what its script needs."""
     return filled(kept("page.html"), {
-        "title": markup(title), "parts": join([tag("a", label, href="#" + name) for name, label, _ in made]),
-        "main": join([part for _, _, part in made], "\n"), "data": as_script(found), "live": live_element(live),
-        "style": colour_rules() + kept("style.css"), "theme": kept("theme.js"),
+        "title": markup(title), "parts": join(contents), "main": body, "data": as_script(found),
+        "live": live_element(live), "style": colour_rules() + kept("style.css"), "theme": kept("theme.js"),
         "script": "\n".join(map(kept, SCRIPTS + (LIVE_SCRIPTS if live else ())))})
+
+
+def whole(title, made, found, live=None):
+    """The page of parts, each with its name and the words that lead to it."""
+    return filled_in(title, [tag("a", label, href="#" + name) for name, label, _ in made],
+                     join([part for _, _, part in made], "\n"), found, live)
 
 
 def page(views, factors=(), wasm=None):
     """The whole page as text. With the module `wasm` it answers what its boxes ask."""
-    trials = Trials(views[0])
-    made = parts(views, list(factors), trials, bool(wasm))
-    live = live_data(views[0], trials, wasm) if wasm else None
-    return whole(" and ".join(view.name for view in views), made, data(views), live)
+    trials, live = Trials(views[0]), Live(views[0], wasm) if wasm else None
+    made = parts(views, list(factors), trials, live)
+    return whole(" and ".join(view.name for view in views), made, data(views), live and live.data(trials))

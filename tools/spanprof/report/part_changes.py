@@ -3,8 +3,9 @@ halved. The answers stand on the page, and the line that asks for each."""
 import shlex
 
 from spanprof.claims import speaks_of, why_not_of_more_threads
-from spanprof.report.figures import PROVED, badges
-from spanprof.report.markup import details, note, section, tag
+from spanprof.report.figures import BURDENED, PREDICTED, PROVED, badge, badges
+from spanprof.report.markup import details, join, note, section, tag
+from spanprof.report.part_predicted import short_words
 from spanprof.report.tables import table
 from spanprof.whatif.advice import in_words
 from spanprof.whatif.tell import yours_to_know
@@ -32,11 +33,19 @@ def end_cells(view, number, trial, threads):
     return [show.time(end, source, PROVED), show.share(was - end, was, "%s - %s / %s" % (ended, source, ended), PROVED)]
 
 
+def predicted_cells(view, number, trial):
+    """The time by the model of the machine, where there is one, of the first changes."""
+    if not view.predicted_changes:
+        return []
+    found = view.predicted_changes.get(trial.request)
+    return [short_words(view, *found, "trial-predicted %d " % number) if found else ""]
+
+
 def row(view, number, trial, threads):
     show, named = view.figures, "trial %d " % number
     cells = [cell for p in threads for cell in end_cells(view, number, trial, p)]
-    return [change_cell(view, number, trial), *cells, show.time(trial.numbers.span, named + "span", PROVED),
-            show.time(trial.numbers.work, named + "work", PROVED)]
+    return [change_cell(view, number, trial), *cells, *predicted_cells(view, number, trial),
+            *[show.time(getattr(trial.numbers, name), named + name, PROVED) for name in ("span", "work")]]
 
 
 def told_threads(view):
@@ -44,15 +53,21 @@ def told_threads(view):
     return [p for p in dict.fromkeys(view.tried.trials.threads) if speaks_of(view.answers.head, p)]
 
 
-def heads(threads):
-    ends = [[tag("span", "end on %d thread%s" % (p, "" if p == 1 else "s"), class_="given"), "less"] for p in threads]
-    return ["change", *(words for pair in ends for words in pair), "span", "work"]
+def on_threads(words, p):
+    return tag("span", "%s on %d thread%s" % (words, p, "" if p == 1 else "s"), class_="given")
+
+
+def heads(view, threads):
+    ends = [[on_threads("end", p), "less"] for p in threads]
+    time = [join([on_threads("time", view.tried.trials.threads[0]), " ", badge(PREDICTED), ", at least ",
+                  badge(BURDENED)])]
+    return ["change", *(words for pair in ends for words in pair), *time * bool(view.predicted_changes), "span", "work"]
 
 
 def rows_table(view, chosen, threads):
     numbered = [(number, trial) for number, trial in enumerate(view.tried.trials.ranked) if chosen(trial)]
-    rows = [row(view, number, trial, threads) for number, trial in numbered]
-    return table(heads(threads), rows, numeric=range(1, 2 * len(threads) + 3), is_sortable=True) if rows else ""
+    rows, columns = [row(view, number, trial, threads) for number, trial in numbered], heads(view, threads)
+    return table(columns, rows, numeric=range(1, len(columns)), is_sortable=True) if rows else ""
 
 
 def silent(view):

@@ -1,16 +1,19 @@
 """The summary, piece by piece, in the order in which one reads: the cause first."""
 from spanprof.report.markup import section
 from spanprof.report.part_account import account_picture
+from spanprof.report.part_predicted import predicted_words
 from spanprof.report.summary_rest import division, kinds_explained, remarks
 from spanprof.report.summary_tiles import tiles
 from spanprof.report.summary_words import (covered, lead_words, lock_words, on_the_threads, recorded, what_pays,
                                            which_binds)
 
-OF_THE_RUN = (recorded, covered, lead_words, account_picture, tiles, on_the_threads, lock_words, which_binds)
+OF_THE_RUN = (recorded, covered, lead_words, account_picture, tiles, on_the_threads, lock_words, which_binds,
+              predicted_words)
 AFTER = (remarks, division, kinds_explained)
 
 
 def summary_part(view, trials, of=""):
     """`of` names the program where the page has two."""
-    return section("summary", "Summary" + of, *[piece(view) for piece in OF_THE_RUN], what_pays(view, trials),
+    return section("summary", "Summary" + of, *[piece(view) for piece in OF_THE_RUN],
+                   "" if view.lead else what_pays(view, trials),
                    *[piece(view) for piece in AFTER])

@@ -61,17 +61,18 @@ def line_to_run(name, file):
     return tag("pre", tag("code", id=name, data_file=file), copy)
 
 
-def lines_to_run(view):
-    """The script fills them in."""
+def lines_to_run(view, program):
+    """The script fills them in; `program` is the number of the program on the page."""
     return tag("div", tag("p", "Set factors in the last column: the lines that ask for the exact span come here.",
                           class_="hint"),
                tag("p", "For the exact span run:"), line_to_run("factors-line", view.name),
                tag("p", "Or, with spanprof alone, the same with each segment's changed cost:"),
-               line_to_run("changes-line", view.name), class_="to-run")
+               line_to_run("changes-line", view.name), class_="to-run", data_program=program)
 
 
-def what_if_part(view, trials, factors, of="", is_live=False):
-    """`of` names the program where the page has two."""
+def what_if_part(view, trials, factors, of="", live=None, program=0):
+    """`of` names the program where the page has two; `program` is its number there. `live` is what answers at once."""
+    trials.ask_all(is_on_threads(view))
     with_cost = sum(place.cost > 0 for place in view.places)
     end = tag("span", "%d threads: greedy run at half the cost" % view.answers.threads, class_="given")
     heads = ["all segments at a place", "of the span", *([end, "less"] if is_on_threads(view) else []),
@@ -83,5 +84,5 @@ def what_if_part(view, trials, factors, of="", is_live=False):
         "nothing: answers of ", tag("code", "spanprof whatif"), " and ", tag("code", "greedy"), " ", badges(PROVED),
         ". Odd costs are rounded to the nearest whole number, halves to even ones."),
         asked_for(view, factors), table(heads, rows, numeric=range(1, len(heads)), is_sortable=True),
-        note(more, " more places are left out.") if with_cost > len(rows) else "", live_line(view) if is_live else "",
-        lines_to_run(view))
+        note(more, " more places are left out.") if with_cost > len(rows) else "", live_line(live) if live else "",
+        lines_to_run(view, program))

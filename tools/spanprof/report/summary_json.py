@@ -1,6 +1,7 @@
 """The summary of a text and its recorded run, for programs: each number with what it is."""
 from spanprof.account_words import as_json as account_json
 from spanprof.claims import against_parallelism, against_span, is_partial, least_end, speaks_of, why_not_of_more_threads
+from spanprof.predict.words import time_json
 from spanprof.report.figures import MEASURED, PROVED, label
 
 
@@ -40,7 +41,8 @@ def summary_json(view):
     lead = view.lead and {"cause": view.lead.cause, "first change": view.lead.first, "then": view.lead.then}
     parallelism = answers.work / answers.span if answers.span else 1.0
     return {"text": view.name, "recording": of_the_recording(view), "lead": lead,
-            "account": account_json(view.account) if view.account else None,
+            "account": account_json(view.account) if view.account else None, "scale": view.scale,
+            "predicted": [time_json(*pair) for pair in view.predicted.found] or None,
             "work": number(answers.work, PROVED), "span": number(answers.span, PROVED, against_span(head)),
             "parallelism": number(round(parallelism, 6), PROVED, against_parallelism(head)),
             "tasks": number(answers.tasks, view.shape_kind),

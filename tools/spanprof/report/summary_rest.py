@@ -1,6 +1,6 @@
 """The rest of the summary: remarks, how the program's time divides, and what the words beside the numbers mean."""
 from spanprof.head import COSTS
-from spanprof.report.figures import MEANINGS, MEASURED, PROVED, RECORDED, badge
+from spanprof.report.figures import BURDENED, MEANINGS, MEASURED, PREDICTED, PROVED, RECORDED, badge
 from spanprof.report.markup import join, note, tag
 
 NAMES = {"elapsed": "in this region"}   # where the head says it otherwise
@@ -38,7 +38,9 @@ def division(view):
     head = view.answers.head
     wall = [(name, head.division[name]) for name in ("outside regions", "in other regions") if name in head.division]
     costs = [(name, head.division[name]) for name in COSTS if name in head.division]
-    if head.elapsed and wall:
+    if view.program:    # which has a part of its own
+        wall = []
+    elif head.elapsed and wall:
         wall.append(("elapsed", head.elapsed))
     return join([stack(view, "The whole program's time, by the clock", wall),
                  stack(view, "%s costs, all threads together" % ("The program's" if head.whole else "This region's"),
@@ -48,7 +50,7 @@ def division(view):
 def kinds_explained(view):
     """The legend of the words that stand beside the numbers."""
     kinds = dict.fromkeys([MEASURED] * bool(view.answers.head.elapsed) + [view.cost_kind, view.shape_kind] +
-                          [RECORDED] * bool(view.run) + [PROVED])
+                          [RECORDED] * bool(view.run) + [PROVED] + [PREDICTED, BURDENED] * bool(view.predicted.found))
     items = [piece for kind in kinds for piece in (tag("dt", badge(kind)), tag("dd", MEANINGS[kind]))]
     return tag("div", tag("h3", "What the words beside the numbers mean"), tag("dl", *items, class_="kinds-explained"),
                note("A number's tooltip has it in full, and names the answer of spanprof or the line of the text's "

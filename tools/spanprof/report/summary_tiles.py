@@ -13,8 +13,8 @@ def tile(label, figure, kinds, *below):
 
 def moved(view, *names):
     """What the recording remarks on one of these numbers, such as `span too low`; it leads to the remarks."""
-    effects = [remark.rpartition(": ")[2] for remark in view.answers.head.remarks]
-    own = dict.fromkeys(effect for effect in effects if any(name in effect for name in names))
+    own = dict.fromkeys(remark.effect for remark in view.answers.head.remarks
+                        if any(getattr(remark, name) for name in names))
     return tag("a", "remarked: ", "; ".join(own), href="#remarks", class_="moved") if own else ""
 
 
@@ -93,6 +93,19 @@ def busy_tile(view):
                 join(["on average, in this code; elapsed ", elapsed]))
 
 
+def true_tile(view):
+    """The true speed-up, where it was measured with this recording."""
+    point, show = max(view.true_times, key=lambda one: one.threads, default=None), view.figures
+    if not point or point.threads == 1:
+        return ""
+    named = "scale %d " % point.threads
+    least, most = [show.number(value, named + name, MEASURED, 2)
+                   for value, name in ((point.least, "speed-up-from"), (point.greatest, "speed-up-to"))]
+    return tile(tag("span", "True speed-up, %d threads" % point.threads, class_="given"),
+                show.number(point.speed_up, named + "speed-up", MEASURED, 2), [MEASURED],
+                join([least, " to ", most, ": the whole program, without the recorder"]))
+
+
 def tiles(view):
     return tag("div", work_tile(view), span_tile(view), parallelism_tile(view), tasks_tile(view), threads_tile(view),
-               busy_tile(view), class_="tiles")
+               busy_tile(view), true_tile(view), class_="tiles")

@@ -9,6 +9,7 @@ from spanprof.report.markup import join, tag
 
 SAID = "true speed-up against one thread: median of measured, unrecorded runs of the whole program, least and greatest"
 SOURCES = ("threads", "speed-up", "speed-up-from", "speed-up-to")
+NAMES = ("threads", "speed-up", "speed-up from", "speed-up to")
 
 
 @dataclass
@@ -20,23 +21,34 @@ class Point:
     greatest: float
 
 
+def is_time(value):
+    return isinstance(value, int) and not isinstance(value, bool)
+
+
 def is_of(answers, told):
     """Whether it was measured with this recording: another one has another date or work."""
     return isinstance(told, dict) and told.get("text") == answers.name and told.get("work") == answers.work \
         and told.get("date") == answers.head.date
 
 
-def points_beside(answers) -> List[Point]:
-    """Those that `spanprof-record --scale` wrote beside the text; none where the file is not of its recording."""
+def scale_beside(answers):
+    """What `spanprof-record --scale` wrote beside the text; None where the file is not of its recording."""
     path = re.sub(r"\.tasks$", "", answers.path) + ".scale.json"
     if not os.path.exists(path):
-        return []
+        return None
     try:
         with open(path, encoding="utf-8") as file:
             told = json.load(file)
-        names = ("threads", "speed-up", "speed-up from", "speed-up to")
-        return [Point(*(row[name] for name in names)) for row in told["threads"]] if is_of(answers, told) else []
-    except (OSError, ValueError, KeyError, TypeError):
+    except (OSError, ValueError):
+        return None
+    return told if is_of(answers, told) else None
+
+
+def points_in(told) -> List[Point]:
+    """None where it has another form."""
+    try:
+        return [Point(*(row[name] for name in NAMES)) for row in told["threads"]] if told else []
+    except (KeyError, TypeError):
         return []
 
 

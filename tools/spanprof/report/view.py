@@ -7,13 +7,16 @@ from typing import Optional
 from spanprof.account import account_beside, timed_beside
 from spanprof.answers import Answers
 from spanprof.errors import Fault
+from spanprof.regions import program_of
 from spanprof.report.figures import DECLARED, MEASURED, RECORDED, Figures
+from spanprof.report.gap import gap_in
 from spanprof.report.places import places, task_places
+from spanprof.report.predicted import Predicted, of_changes, predicted
 from spanprof.report.recorded_run import NoRun, RecordedRun, recorded_run
 from spanprof.report.source import Sources
 from spanprof.report.source_lines import stretches
 from spanprof.report.tried import tried
-from spanprof.report.true_times import points_beside
+from spanprof.report.true_times import points_in, scale_beside
 from spanprof.report.units import Units
 from spanprof.whatif.lead import lead
 
@@ -37,6 +40,8 @@ class Reached:
 
 class Kinds:
     """What the numbers of a text are, by its head."""
+    is_chapter = False      # of a page on the whole program, which tells how much of it the text is
+    predicted = Predicted([])
 
     @property
     def name(self):
@@ -61,9 +66,24 @@ class Kinds:
         return min(task_place.number, COLOURS - 1)
 
     @cached_property
+    def program(self):
+        """The whole program of which the text is a part; None without a table of its regions."""
+        return program_of(self.answers.path)
+
+    @cached_property
+    def scale(self):
+        """What was measured on several numbers of threads with this recording; else None."""
+        return scale_beside(self.answers)
+
+    @cached_property
     def true_times(self):
-        """The points of the true speed-up; none where they were not measured with this recording."""
-        return points_beside(self.answers)
+        """The points of the true speed-up."""
+        return points_in(self.scale)
+
+    @cached_property
+    def gap(self):
+        """What the threads did in all; None where that was not measured."""
+        return gap_in(self.scale)
 
     @cached_property
     def reached(self):
@@ -108,6 +128,19 @@ class View(Kinds):
         return tried(self.answers)
 
     @cached_property
+    def predicted(self):
+        found = predicted(self.answers, self.scale)
+        if found.found:
+            threads = ",".join(str(one.threads) for one, _ in found.found)
+            self.answers.noted("spanprof-predict %s --threads %s" % (self.name, threads))
+        return found
+
+    @cached_property
+    def predicted_changes(self):
+        """By their requests; nothing where no time of the text itself is predicted."""
+        return of_changes(self.answers, self.tried) if self.predicted.found and self.tried else {}
+
+    @cached_property
     def lead(self):
         """None where the text tells no time."""
         is_asked = self.tried and self.answers.threads == self.answers.head.threads
@@ -119,7 +152,7 @@ class View(Kinds):
         found, _ = account_beside(self.answers)
         if found:
             name = os.path.basename(timed_beside(self.answers.path))
-            self.answers.asked += ["spanprof_account%s < %s" % (words, name) for words in ("", " --rows")]
+            self.answers.asked += ["spanprof_large account%s < %s" % (words, name) for words in ("", " --rows")]
         return found
 
     @cached_property

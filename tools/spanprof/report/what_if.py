@@ -1,4 +1,6 @@
 """Other costs for the segments of a place, and what spanprof's `whatif` makes of them."""
+from spanprof.client import at_once
+
 FACTORS = (0.5, 0.0)
 MOST_PLACES = 30
 
@@ -15,6 +17,13 @@ class Trials:
     def __init__(self, view):
         self.view = view
         self.answers, self.ends = {}, {}
+
+    def ask_all(self, with_ends):
+        """All that the table of the page has, several answers at once."""
+        assert self.view.answers.text_without_costs     # which all of them need, so it is made before
+        at_once(lambda pair: self.at(*pair), [(place, factor) for place in self.places for factor in FACTORS])
+        if with_ends:
+            at_once(self.halved_end, self.places)
 
     def at(self, place, factor):
         key = place.number, factor

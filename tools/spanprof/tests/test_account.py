@@ -6,13 +6,14 @@ from unittest import mock
 from spanprof.account import Account, HeldUp, Row, account_beside, account_of, divide_busy, timed_beside
 from spanprof.account_program import HOW, NoAccount
 from spanprof.record.tests.made_up import Answers, Head
+from spanprof.remarks import FOLDS, remark_of
 
 SUMS = "threads 2\nelapsed 14\nbusy 11\ndelayed 7\nstarved 8\noutside 2\n"
 ROWS = "segment,thread,ready,begin,end\n0,0,0,0,5\n1,0,5,6,9\n2,0,5,9,11\n3,1,11,12,13\n"
 
 
 def told(words, path):
-    """spanprof_account of the worked run of docs/MODEL.md."""
+    """spanprof_large account of the worked run of docs/MODEL.md."""
     return ROWS if words else SUMS
 
 
@@ -93,7 +94,7 @@ class Beside(unittest.TestCase):
         self.made.path = os.path.join(kept.name, "mine.tasks")
 
     def beside(self, program=("told",)):
-        with mock.patch("spanprof.account.ask", told), mock.patch("spanprof.account.spanprof_account", lambda: program):
+        with mock.patch("spanprof.account.ask", told), mock.patch("spanprof.account.spanprof_large", lambda: program):
             found, why = account_beside(self.made)
         return found and found.busy, why
 
@@ -105,10 +106,10 @@ class Beside(unittest.TestCase):
     def test_why_there_is_none(self):
         self.assertEqual(self.beside(), (None, ""))
         self.assertEqual(self.beside(program=()), (None, HOW))
-        self.made.head.remarks = ["task that did not end, 1 time: work and span too low"]
+        self.made.head.remarks = [remark_of({"remark": "unfinished task", "times": 1, "work": "low", "span": "low"})]
         self.assertEqual(self.beside(), (None, "tasks did not run to their ends"))
-        for remark in ("folded task, 3 times: span too high, which is an upper bound", "exact fold, 3 times"):
-            self.made.head.remarks = [remark]
+        for name in FOLDS:
+            self.made.head.remarks = [remark_of({"remark": name, "times": 3})]
             self.assertEqual(self.beside()[1], "tasks are folded, and the times are not those of all of their code")
 
 

@@ -14,8 +14,8 @@ class Refused(unittest.TestCase):
                          "differ, or the runtime did not wait")
 
     def test_other_lines(self):
-        self.assertEqual(in_words("error: line 7: BadForm"), "spanprof_account: error: line 7: BadForm")
-        self.assertEqual(in_words(""), "spanprof_account: it ended without a word")
+        self.assertEqual(in_words("error: line 7: BadForm"), "spanprof_large account: error: line 7: BadForm")
+        self.assertEqual(in_words(""), "spanprof_large account: it ended without a word")
 
 
 class Asked(unittest.TestCase):
@@ -24,20 +24,20 @@ class Asked(unittest.TestCase):
             path = os.path.join(folder, "mine.timed")
             with open(path, "w", encoding="utf-8") as file:
                 file.write(text)
-            with mock.patch.dict(os.environ, {"SPANPROF_ACCOUNT": program}):
+            with mock.patch.dict(os.environ, {"SPANPROF_LARGE": program}):
                 return ask([], path)
 
     def test_the_document_is_its_input(self):
-        self.assertEqual(self.asked("cat"), "a document")
+        self.assertEqual(self.asked("sh -c cat"), "a document")
 
     def test_what_it_refuses(self):
         with self.assertRaisesRegex(NoAccount, "^segment 7 has no times$"):
             self.asked("sh -c 'echo error: NotTimed 7; exit 1'")
 
     def test_no_program(self):
-        with self.assertRaisesRegex(NoAccount, "^spanprof_account: .*No such file"):
+        with self.assertRaisesRegex(NoAccount, "^spanprof_large: .*No such file"):
             self.asked("/none")
-        with mock.patch("spanprof.account_program.spanprof_account", lambda: []):
+        with mock.patch("spanprof.account_program.spanprof_large", lambda: []):
             with self.assertRaises(NoAccount) as caught:
                 ask_of([], "a document")
         self.assertEqual(str(caught.exception), HOW)

@@ -4,7 +4,7 @@ import os
 import unittest
 from unittest import mock
 
-from spanprof import library
+from spanprof import c_calls, library
 
 TEXT = b"omptasks 1 work 5 task { work 3 } work 2 taskwait work 1"
 COSTS = [5, 3, 2, 1]
@@ -16,48 +16,53 @@ def fill(pointer, **values):
 
 
 class Written:
-    """Four segments in a row, under the costs that are given; a text that is no program is refused on line 7."""
+    """Four segments in a row, under the costs that are given; a text that is no program is refused on line 7, and one
+    that says `many` unless any size is allowed."""
 
     def __init__(self, costs=COSTS):
         self.own, self.asked = costs, []
 
-    def answers(self, text, costs, count, line):
+    def answers(self, text, any_size, costs, count, place):
         self.asked.append((text.value, list(costs[:count.value])))
-        line._obj.value = 0 if text.value.startswith(b"omptasks") else 7
-        if line._obj.value:
+        place._obj.line = 0 if text.value.startswith(b"omptasks") else 7
+        if place._obj.line:
             return 4
+        if any_size.value and b"omptasks 2" in text.value:
+            return 2
+        if b"many" in text.value and not any_size.value:
+            return 9
         return 16 if count.value not in (0, len(self.own)) else 0
 
     def under(self, costs, count):
         return list(costs[:count.value]) or self.own
 
-    def spanprof_measure(self, text, _bytes, costs, count, told, line):
-        number = self.answers(text, costs, count, line)
+    def spanprof_measure(self, text, _bytes, any_size, costs, count, told, place):
+        number = self.answers(text, any_size, costs, count, place)
         if number == 0:
             work = sum(self.under(costs, count))
             fill(told, segments=len(self.own), work=work, span=work)
         return number
 
-    def spanprof_segments(self, _text, _bytes, tasks, _many, costs, _also, _line):
+    def spanprof_segments(self, _text, _bytes, _any, tasks, _many, costs, _also, _place):
         tasks[:], costs[:] = [0, 1, 0, 0], self.own
         return 0
 
-    def spanprof_analyse(self, _text, _bytes, costs, count, starts, _s, slacks, _l, path, _p, told, _line):
+    def spanprof_analyse(self, _text, _bytes, _any, costs, count, starts, _s, slacks, _l, path, _p, told, _place):
         under = self.under(costs, count)
         starts[:], slacks[:], path[:] = [sum(under[:s]) for s in range(4)], [0] * 4, [0, 1, 2, 3]
         fill(told, work=sum(under), span=sum(under), path_length=3)
         return 0
 
-    def spanprof_greedy(self, _text, _bytes, costs, count, threads, starts, _s, on, _o, end, _line):
+    def spanprof_greedy(self, _text, _bytes, _any, costs, count, threads, starts, _s, on, _o, end, _place):
         starts[:], on[:] = [0, 1, 2, 3], [0, threads.value - 1, 0, library.NO_THREAD]
         end._obj.value = sum(self.under(costs, count))
         return 0
 
-    def spanprof_curve(self, _text, _bytes, _costs, _count, ends, many, _line):
+    def spanprof_curve(self, _text, _bytes, _any, _costs, _count, ends, many, _place):
         ends[:] = [100 - p for p in range(many.value)]
         return 0
 
-    def spanprof_is_legal(self, _text, _bytes, _costs, _count, starts, many, legal, _line):
+    def spanprof_is_legal(self, _text, _bytes, _any, _costs, _count, starts, many, legal, _place):
         legal._obj.value = list(starts[:many.value]) == [0, 1, 2, 3]
         return 0
 
@@ -65,12 +70,28 @@ class Written:
         fill(told, least=max(span.value, work.value // threads.value), greatest=work.value)
         return 0
 
+    def spanprof_account(self, _text, _bytes, _any, count, first, last, threads, _t, begins, _b, ends, _e, ready, many,
+                         told, place):
+        if threads[3] == 9:
+            place._obj.segment, place._obj.other = 3, 2
+            return 23
+        fill(told, busy=count.value, delayed=first.value, starved=last.value, outside=begins[1] + ends[1])
+        ready[:] = range(many.value)
+        return 0
+
+    def spanprof_check(self, document, _bytes, _any, told, place):
+        if b"chain" not in document.value:
+            place._obj.segment = 0
+            return 25
+        fill(told, segments=4, ends_at=9)
+        return 0
+
 
 class WithoutNumpy(unittest.TestCase):
     def setUp(self):
         self.written = Written()
         for name, value in (("shared", lambda: self.written), ("numpy", lambda: None)):
-            patch = mock.patch.object(library, name, value)
+            patch = mock.patch.object(c_calls, name, value)
             patch.start()
             self.addCleanup(patch.stop)
 
@@ -112,6 +133,42 @@ class Answers(WithoutNumpy):
         self.assertFalse(program.is_legal([]))
 
 
+class Runs(WithoutNumpy):
+    def test_an_account(self):
+        account = library.parse(TEXT).account([0, 1, 0, 1], [2, 5, 7, 9], [5, 7, 9, 12])
+        self.assertEqual(account[:4], (2, 2, 12, 12))
+        self.assertEqual(list(account.ready), [0, 1, 2, 3])
+
+    def test_threads_and_moments_that_are_said(self):
+        account = library.parse(TEXT).account([0] * 4, [2] * 4, [5] * 4, count=8, first=0, last=20)
+        self.assertEqual(account[:3], (8, 0, 20))
+
+    def test_times_that_are_refused(self):
+        program = library.parse(TEXT)
+        with self.assertRaises(library.Refused) as caught:
+            program.account([0, 0, 0, 9], [0] * 4, [1] * 4)
+        self.assertEqual((caught.exception.segments, str(caught.exception)), ((3, 2), "TooSoon 3 2"))
+        with self.assertRaisesRegex(library.Refused, "OutOfTime"):
+            program.account([0] * 4, [-1] * 4, [1] * 4)
+
+    def test_certificates(self):
+        self.assertEqual(library.check("omptasks 1\n---\nend 9 chain 0"), (4, 9))
+        with self.assertRaisesRegex(library.Refused, "^BadForm$"):
+            library.check(b"omptasks 1\n")
+
+
+class AnySize(WithoutNumpy):
+    def test_a_text_beyond_the_limits_is_read_all_the_same(self):
+        self.assertFalse(library.parse(TEXT).any_size)
+        program = library.parse(TEXT + b" many")
+        self.assertTrue(program.any_size)
+        self.assertTrue(program.what_if({1: 5}).any_size)
+
+    def test_one_of_version_2_stays_refused_for_its_size(self):
+        with self.assertRaisesRegex(library.Refused, "TooManyTasks"):
+            library.parse(b"omptasks 2 many")
+
+
 class OtherCosts(WithoutNumpy):
     def test_costs_of_some_segments(self):
         other = library.parse(TEXT).what_if({1: 30})
@@ -151,7 +208,7 @@ class Refusals(WithoutNumpy):
 
     def test_out_of_memory(self):
         with self.assertRaises(MemoryError):
-            library.refuse(13, 0)
+            c_calls.refuse(13, c_calls.Place())
 
     def test_no_file(self):
         with self.assertRaises(FileNotFoundError):
@@ -161,26 +218,26 @@ class Refusals(WithoutNumpy):
 class Finding(unittest.TestCase):
     def test_the_library_that_is_named(self):
         with mock.patch.dict(os.environ, SPANPROF_LIBRARY="/none/lib.so"):
-            self.assertEqual(library.places(), ["/none/lib.so"])
-            library.shared.cache_clear()
+            self.assertEqual(c_calls.places(), ["/none/lib.so"])
+            c_calls.shared.cache_clear()
             with self.assertRaisesRegex(library.NoLibrary, "/none/lib.so: .* SPANPROF_LIBRARY names it"):
-                library.shared()
+                c_calls.shared()
 
     def test_the_system_s_at_last(self):
         with mock.patch.dict(os.environ), mock.patch("os.path.exists", return_value=False):
             os.environ.pop("SPANPROF_LIBRARY", None)
-            self.assertEqual(library.places(), ["libspanprof.so"])
+            self.assertEqual(c_calls.places(), ["libspanprof.so"])
 
 
 class Arrays(unittest.TestCase):
     def test_an_empty_list_has_a_place(self):
-        pointer, count = library.passed(array.array("Q"))
+        pointer, count = c_calls.passed(array.array("Q"))
         self.assertEqual((len(pointer), count.value), (1, 0))
 
     def test_numpy_where_it_is_there(self):
-        if library.numpy() is None:
+        if c_calls.numpy() is None:
             self.skipTest("numpy is missing")
-        numbers = library.told(array.array("Q", [2 ** 63, 1]))
+        numbers = c_calls.told(array.array("Q", [2 ** 63, 1]))
         self.assertEqual((str(numbers.dtype), int(numbers[0])), ("uint64", 2 ** 63))
 
 

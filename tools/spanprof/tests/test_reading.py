@@ -17,7 +17,7 @@ TEXT = """\
 # in parts without tasks: 4
 # in tasks: 3000
 # lock critical at sort.c:9: 32 times, 77 inside, 5 waiting
-# remark: mutexinoutset, 12 times at sort.c:40: span too low
+# remark: {"remark": "all memory", "times": 12, "at": "sort.c:40", "span": "low"}
 omptasks 1
 # remark: not of the head
 work 1
@@ -61,7 +61,7 @@ class Heads(unittest.TestCase):
         self.assertEqual((head.region, head.number, head.elapsed, head.nanoseconds), ("sort.c:48", "2 of 5", 900, 250))
         self.assertEqual(head.division, {"outside regions": 20, "in other regions": 30, "in parts without tasks": 4,
                                          "in tasks": 3000})
-        self.assertEqual(said(TEXT), ["remark: mutexinoutset, 12 times at sort.c:40: span too low",
+        self.assertEqual(said(TEXT), ["remark: dependence on all memory, left out, 12 times at sort.c:40: span too low",
                                       "lock critical at sort.c:9: 32 times, 77 inside, 5 waiting"])
 
     def test_what_it_says_of_the_program(self):

@@ -4,7 +4,7 @@ import unittest
 from collections import Counter
 
 from spanprof import client, folders
-from spanprof.text import Statement, merged, statements, text_lines
+from spanprof.text import Statement, statements, text_lines
 from spanprof.whatif.tests.made_up import ROW, SORT, changed, read
 
 RECORDED = os.path.join(folders.TOP, "examples", "openmp", "recorded")
@@ -70,7 +70,8 @@ class Writing(unittest.TestCase):
     def test_neighbouring_work_is_one(self):
         pieces = [Statement("work", "here", 2), Statement("work", "there", 3), Statement("taskwait"),
                   Statement("work", "here", 0)]
-        self.assertEqual(list(merged(pieces)), [Statement("work", "here", 5), Statement("taskwait")])
+        self.assertEqual("".join(text_lines(pieces, 1)), "omptasks 1\nwork 5\ntaskwait\n")
+        self.assertEqual("".join(text_lines(pieces[:2], 1)), "omptasks 1\nwork 5\n")
 
 
 if __name__ == "__main__":

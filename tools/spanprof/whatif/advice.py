@@ -8,7 +8,7 @@ from spanprof.whatif.tell import grouped, in_unit, numbers_json, yours_to_know
 LEAST_GAIN = 0.01       # of the end, from which on a change is put first
 MOST_ROWS, MOST_OTHERS = 15, 5
 IN_WORDS = {"factor": "half the cost of %s",
-            "drop-wait": "without the %s, if the program stays right",
+            "drop-wait": "without %s, if the program stays right",
             "drop-depend": "without the depend items of %s, if the program stays right",
             "drop-name": "without the depend items on %s, if the program stays right",
             "split": "%s in %s tasks, if it can be divided",
@@ -19,10 +19,17 @@ PROVED = "proved of the text, and of each changed text: spanprof has read them a
 ROW = "%9s %9s %9s  %s"
 
 
+def with_article(wait):
+    """A wait whose place is not told has one in its name."""
+    return wait if wait.startswith("a ") else "the " + wait
+
+
 def in_words(request):
     place, _, number = request.word.rpartition("=")
     if request.option in ("split", "join"):
         return IN_WORDS[request.option] % (place, number)
+    if request.option == "drop-wait":
+        return IN_WORDS[request.option] % with_article(request.word)
     return IN_WORDS[request.option] % (place if request.option == "factor" else request.word)
 
 

@@ -9,6 +9,7 @@ from spanprof.answers import Answers
 from spanprof.cause import cause
 from spanprof.command import Console, check_files, count, end_with
 from spanprof.errors import Fault
+from spanprof.predict.predictions import changed_told
 from spanprof.version import Version
 from spanprof.whatif import advice
 from spanprof.whatif.creating import costs_for
@@ -78,7 +79,9 @@ def compare(chosen, text, before, path):
         raise Fault("nothing is changed by it: %s" % idle[0].words())
     after = measure(path, threads)
     told = list(notes(chosen.requests, made, costs, text.head, threads))
-    print(as_json(told, before, after) if chosen.json else "\n".join([*told, *lines(before, after, text.head.unit)]))
+    times, predicted = changed_told(chosen.text, path, threads[0]) if text.head.is_measured else ([], None)
+    print(as_json(told, before, after, predicted) if chosen.json else
+          "\n".join([*told, *lines(before, after, text.head.unit), *times]))
 
 
 def advise(chosen, text, threads):

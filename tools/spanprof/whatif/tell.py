@@ -75,7 +75,8 @@ def numbers_json(numbers):
             "threads": {str(p): row._asdict() for p, row in numbers.on.items()}}
 
 
-def as_json(told, before, after):
+def as_json(told, before, after, predicted=None):
+    """Without a model of the machine no time is predicted."""
     out = {"notes": list(told), "text": numbers_json(before), "changed text": numbers_json(after),
            "proved": proved(before, after)}
-    return json.dumps(out, indent=2)
+    return json.dumps({**out, "predicted": predicted} if predicted else out, indent=2)

@@ -4,6 +4,7 @@ from itertools import islice
 
 from spanprof import client
 from spanprof.head import head_text, read_head
+from spanprof.remarks import in_json
 from spanprof.text import has_loops, statements, text_lines
 
 ENCODING = {"encoding": "utf-8", "errors": "replace", "newline": "\n"}
@@ -42,7 +43,8 @@ def changed_head(text, made):
         if words.partition(": ")[0] not in OF_THE_RUN:
             yield words
     for one in made:
-        yield "remark: a changed text, %s: work and span too low or too high" % one.words().replace(": ", ", ")
+        words = "a changed text, " + one.words().replace(": ", ", ")
+        yield "remark: " + in_json("changed text", words, work="either", span="either")
 
 
 def write(path, text, stream, made):

@@ -75,14 +75,17 @@ def trials(text, seen, costs, threads, kinds=None, most=None):
     limits = dict(filter(lambda pair: pair[1], (("kinds", kinds), ("most", most))))
     tried = candidates(seen, threads, **limits)
     both = threads_of(threads)
-    before = by_spanprof(client.read(text.path), both)
-    out = Trials(both, before, left_out=list(tried.left_out), ordered=list(+seen.ordered))
-    for request in tried.requests:
+    out = Trials(both, by_spanprof(client.read(text.path), both), left_out=list(tried.left_out),
+                 ordered=list(+seen.ordered))
+
+    def found(request):
         try:
-            found = trial(request, kept, seen, costs, both)
+            return trial(request, kept, seen, costs, both)
         except Fault as fault:
-            out.left_out.append("--%s '%s': %s" % (*request, fault))
-            continue
-        if found:
-            out.made.append(found)
+            return fault
+    for request, one in zip(tried.requests, client.at_once(found, tried.requests)):
+        if isinstance(one, Fault):
+            out.left_out.append("--%s '%s': %s" % (*request, one))
+        elif one:
+            out.made.append(one)
     return out

@@ -2,12 +2,11 @@
 
 use super::{gives, repeated};
 use spanprof_command::Status;
-use spanprof_command::laws::one_report;
 use std::test::Fail;
 
 #[test]
 fn exit_statuses(rt: HostRuntime) {
-    one_report();
+    spanprof_command::laws::one_report();
     for (status, number) in [
         (Status::Done, 0),
         (Status::Refused, 1),

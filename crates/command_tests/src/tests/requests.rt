@@ -3,7 +3,6 @@
 use super::examples::place_asked;
 use super::words_of;
 use command_words::changes::Change;
-use command_words::laws::worked_words;
 use command_words::request::{Request, WordsFault, read_words};
 use std::alloc::{AllocGlobal, Global};
 use std::process::Abort;
@@ -71,7 +70,7 @@ fn commands(rt: HostRuntime) -> Result<(), Fail> {
     for (words, place) in COMMANDS {
         assert!(rt; place_asked(rt.alloc(), *words)? == Some(*place), "{place}");
     }
-    worked_words();
+    command_words::laws::worked_words();
     Ok(())
 }
 

@@ -6,10 +6,10 @@ use super::{Numbers, numbers_of};
 use large_text::fault::LargeFault;
 use large_text::{TextMeter, measure_text};
 use online_span::Meter;
-use program_text::fault::ReadKind;
 use std::alloc::Global;
 use std::process::Abort;
 use std::test::Fail;
+use task_program::fault::ReadKind;
 use task_program::name_key::NameKey;
 
 /// With comments, CR and names to cut, and with faults early, late and at the end.

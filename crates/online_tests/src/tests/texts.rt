@@ -4,11 +4,11 @@ use super::{Numbers, WORKED, assert_worked, numbers_of};
 use large_text::fault::LargeFault;
 use large_text::limits::MOST_LARGE_NESTING;
 use large_text::measure_text;
-use program_text::fault::ReadKind;
 use std::alloc::Global;
 use std::process::Abort;
 use std::test::Fail;
 use task_program::AllocFault;
+use task_program::fault::ReadKind;
 
 /// The numbers of a text.
 fn measured(alloc: Global, text: &str) -> Result<Numbers, LargeFault> {

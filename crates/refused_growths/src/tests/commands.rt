@@ -31,6 +31,8 @@ const LOGGED: &str =
     "omptasks 1\nwork 5 task { work 3 } work 2 taskwait work 1\n---\nstart 0 0\nfinish 0 0\n\
     start 0 2\nfinish 0 2\nstart 1 1\nfinish 1 1\nstart 0 3\nfinish 0 3\n";
 
+const LISTED: &str = "omptasks 1\nwork 5 task { work 3 } work 2 taskwait work 1\n---\n2=4\n1=5\n";
+
 const SLACKS: &str = "segment,task,cost,start,slack,chain\n0,0,5,0,0,1\n1,1,3,5,0,1\n2,0,2,5,1,0\n\
     3,0,1,8,0,1\n";
 
@@ -65,6 +67,8 @@ pub(super) enum AnySize {
     Greedy,
     Curve,
     WhatIf,
+    Listed,
+    Replay,
 }
 
 fn on_worked(words: &'static [&'static str], text: &'static str) -> Example {
@@ -72,6 +76,14 @@ fn on_worked(words: &'static [&'static str], text: &'static str) -> Example {
         words,
         input: WORKED,
         text,
+    }
+}
+
+fn on_log(words: &'static [&'static str]) -> Example {
+    Example {
+        words,
+        input: LOGGED,
+        text: "events 8\nfinished 4\npreds 0\npreds 1 0\npreds 2 0\npreds 3 1 2\n",
     }
 }
 
@@ -96,11 +108,7 @@ fn example_of(command: Command) -> Example {
             input: CERTIFICATE,
             text: "accepted\nsegments 4\nend 9\n",
         },
-        Command::Replay => Example {
-            words: &["spanprof", "replay"],
-            input: LOGGED,
-            text: "events 8\nfinished 4\npreds 0\npreds 1 0\npreds 2 0\npreds 3 1 2\n",
-        },
+        Command::Replay => on_log(&["spanprof", "replay"]),
         Command::AnySize(asked) => large_example_of(asked),
     }
 }
@@ -120,6 +128,12 @@ fn large_example_of(asked: AnySize) -> Example {
         AnySize::Greedy => on_worked(&["spanprof_large", "greedy", "--threads", "2"], GREEDY_RUN),
         AnySize::Curve => on_worked(&["spanprof_large", "curve", "--upto", "2"], CURVE),
         AnySize::WhatIf => on_worked(&["spanprof_large", "whatif", "2=4", "1=5"], CHANGED),
+        AnySize::Listed => Example {
+            words: &["spanprof_large", "whatif", "--listed"],
+            input: LISTED,
+            text: CHANGED,
+        },
+        AnySize::Replay => on_log(&["spanprof_large", "replay"]),
     }
 }
 

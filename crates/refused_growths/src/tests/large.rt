@@ -135,3 +135,38 @@ pub(super) fn table<H: AllocGlobal + Abort>(rt: &H, supply: &mut Supply) -> Resu
     assert_eq!(rt; rows, (8, 18));
     Ok(())
 }
+
+/// The canonical text of `DEEP`.
+const SHOWN: &[u8] = b"omptasks 1\nwork 1\n\
+    task depend(in: a, b, c) depend(out: d, e, f) {\ntaskgroup {\ntask if(0) {\nwork 2\n}\n}\n\
+    task {\nwork 3\ntask {\nwork 4\ntask {\ntask {\ntaskgroup {\nwork 5\n}\n}\n}\n}\n}\n\
+    work 13\n}\ntask depend(in: d) {\nwork 1\n}\ntaskwait\n";
+
+fn text_of(alloc: Global, supply: &mut Supply, text: &[u8]) -> Result<Option<Vec<u8>>, LargeFault>
+    requires { length text.now ≤ LARGEST_PIECE }
+{
+    supply.before_call();
+    let mut pieces = TextMeter::with_rows_and_text(alloc, NameKey::fixed())?;
+    supply.before_call();
+    pieces.take(text)?;
+    supply.before_call();
+    let (text, _) = pieces.finish_text()?;
+    Ok(text)
+}
+
+/// A text that is written anew. Where the meter was refused anything, the text is begun anew too.
+pub(super) fn shown<H: AllocGlobal + Abort>(rt: &H, supply: &mut Supply) -> Result<(), Fail> {
+    let text = match text_of(rt.alloc(), supply, DEEP) {
+        Ok(text) => text,
+        Err(fault) => {
+            supply.refused();
+            assert_eq!(rt; fault.kind, ReadKind::OutOfMemory);
+            text_of(rt.alloc(), supply, DEEP)?
+        }
+    };
+    match text {
+        Some(text) => assert!(rt; text.as_slice() == SHOWN),
+        None => assert!(rt; false),
+    }
+    Ok(())
+}

@@ -115,6 +115,11 @@ fn large_table(rt: HostRuntime) -> Result<(), Fail> {
 }
 
 #[test]
+fn large_show(rt: HostRuntime) -> Result<(), Fail> {
+    refuse_each(&rt, Calls::LargeShow)
+}
+
+#[test]
 fn command_span(rt: HostRuntime) -> Result<(), Fail> {
     refuse_each(&rt, Calls::Of(Command::Span))
 }
@@ -192,4 +197,14 @@ fn command_large_curve(rt: HostRuntime) -> Result<(), Fail> {
 #[test]
 fn command_large_whatif(rt: HostRuntime) -> Result<(), Fail> {
     refuse_each(&rt, Calls::Of(Command::AnySize(AnySize::WhatIf)))
+}
+
+#[test]
+fn command_large_listed(rt: HostRuntime) -> Result<(), Fail> {
+    refuse_each(&rt, Calls::Of(Command::AnySize(AnySize::Listed)))
+}
+
+#[test]
+fn command_large_replay(rt: HostRuntime) -> Result<(), Fail> {
+    refuse_each(&rt, Calls::Of(Command::AnySize(AnySize::Replay)))
 }

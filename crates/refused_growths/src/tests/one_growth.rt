@@ -1,4 +1,4 @@
-//! One allocation is refused, which `checks/refused_growths.py tests` does from outside: the first, the
+//! One allocation is refused, which `checks/hostile/refused_growths.py tests` does from outside: the first, the
 //! second, and so on.
 use super::commands::{AnySize, Command};
 use super::supply::Supply;
@@ -128,6 +128,11 @@ fn large_table(rt: HostRuntime) -> Result<(), Fail> {
 }
 
 #[test]
+fn large_show(rt: HostRuntime) -> Result<(), Fail> {
+    make_once(&rt, Calls::LargeShow)
+}
+
+#[test]
 fn command_span(rt: HostRuntime) -> Result<(), Fail> {
     make_once(&rt, Calls::Of(Command::Span))
 }
@@ -205,4 +210,14 @@ fn command_large_curve(rt: HostRuntime) -> Result<(), Fail> {
 #[test]
 fn command_large_whatif(rt: HostRuntime) -> Result<(), Fail> {
     make_once(&rt, Calls::Of(Command::AnySize(AnySize::WhatIf)))
+}
+
+#[test]
+fn command_large_listed(rt: HostRuntime) -> Result<(), Fail> {
+    make_once(&rt, Calls::Of(Command::AnySize(AnySize::Listed)))
+}
+
+#[test]
+fn command_large_replay(rt: HostRuntime) -> Result<(), Fail> {
+    make_once(&rt, Calls::Of(Command::AnySize(AnySize::Replay)))
 }

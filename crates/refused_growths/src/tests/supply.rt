@@ -30,7 +30,7 @@ pub(super) struct Supply {
     is_scarce: bool,
 }
 
-/// What `checks/refused_growths.py gate` is told.
+/// What `checks/hostile/refused_growths.py gate` is told.
 #[derive(Clone, Copy)]
 enum Event {
     TurnBegins,

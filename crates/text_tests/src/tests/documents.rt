@@ -1,7 +1,7 @@
 //! Documents in their two parts, and the words and numbers of what follows a program text.
-use program_text::document::split_document;
-use program_text::plain_words::{is_blank, read_number};
 use std::test::*;
+use task_program::document::split_document;
+use task_program::plain_words::{is_blank, read_number};
 
 /// The program of a document, and what follows it.
 fn parts_of(document: &[u8]) -> (&[u8], Option<&[u8]>) {

@@ -1,9 +1,9 @@
 //! The worked texts, by the reader and the printer themselves.
-use program_text::fault::ReadKind;
 use std::alloc::Global;
 use std::process::Abort;
 use std::test::Fail;
 use task_program::AllocFault;
+use task_program::fault::ReadKind;
 use task_program::print::print_program;
 use task_program::read::read_program;
 

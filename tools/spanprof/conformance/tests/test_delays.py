@@ -1,4 +1,4 @@
-"""Accounts and waits of timed runs; spanprof_account is a stub that knows one run."""
+"""Accounts and waits of timed runs; spanprof_large is a stub that knows one run."""
 import json
 import unittest
 from types import SimpleNamespace

@@ -59,6 +59,44 @@ class Emission(unittest.TestCase):
         self.assertIn("segment_start(6u);", lines)
         self.assertIn("segment_start(7u);", lines)
 
+    def test_taskloops_count_in_several_ways(self):
+        def head(first, last):
+            lines = lines_of(f"for i {first} {last} {{ #: taskloop\n task {{ }} }}")
+            return lines[lines.index(next(line for line in lines if "taskloop" in line)) + 1]
+
+        self.assertEqual(head(1, 3), "for (unsigned long long v_i = 1; v_i <= 3ull * conformance_yes; v_i++) {")
+        self.assertEqual(head(1, 4), "for (int v_i = 4; v_i >= 1; v_i--) {")
+        self.assertEqual(head(1, 5), "for (unsigned long long v_i = 5ull * conformance_yes; v_i >= 1; v_i--) {")
+        self.assertEqual(head(0, 1), "for (int v_i = 0; v_i <= 1; v_i++) {")
+
+    def test_chunks_of_a_taskloop(self):
+        def clause(form):
+            lines = lines_of(f"for i 0 2 {{ #: taskloop {form}\n task {{ }} }}")
+            return next(line for line in lines if "taskloop" in line)
+
+        self.assertEqual(clause("any"), "#pragma omp taskloop nogroup")
+        self.assertEqual(clause("grainsize(strict:2)"), "#pragma omp taskloop grainsize(STRICT 2) nogroup")
+
+    def test_copied(self):
+        lines = lines_of("task { } task { #: copied\n work 1 }")
+        self.assertEqual(lines[8:16], [
+            "segment_finish();", "{ unsigned copied[COPIED_LENGTH]; copied[0] = 1u;",
+            "#pragma omp task firstprivate(copied)", "{", "segment_start(3u);", "expect(copied[0] == 1u);",
+            "segment_finish();", "} }"])
+
+    def test_copied_by_a_taskloop(self):
+        lines = lines_of("taskgroup { #: taskloop reduction\n for i 1 3 { task { #: copied\n work 1 } } }")
+        self.assertIn("#pragma omp taskloop num_tasks(3) reduction(+: sum_1) firstprivate(copied)", lines)
+        self.assertIn("expect(copied[0] == 0u);", lines)
+
+    def test_target(self):
+        lines = lines_of("task depend(out: a) { #: target\n work 1 } taskwait")
+        self.assertEqual(lines[2:12], ["#ifdef HAS_HOST_TARGET", "if (conformance_in_region) {",
+                                       "#pragma omp target nowait depend(out: at_a)", "{ segment_pass_on_host(1u); }",
+                                       "} else", "#endif", "{", "#pragma omp task depend(out: at_a)",
+                                       "{ segment_pass_on_host(1u); }", "}"])
+        self.assertFalse([line for line in lines_of("task { #: target\n taskwait }") if "target" in line])
+
     def test_taskloop_in_a_final_task_is_a_loop(self):
         lines = lines_of("task final(1) { for i 0 2 { #: taskloop\n task { } } }")
         self.assertFalse([line for line in lines if "taskloop" in line])
@@ -95,6 +133,17 @@ class Emission(unittest.TestCase):
                             "for i 0 1 { #: taskloop\n task { } }")
         self.assertEqual(constructs(body), {"task", "tied", "if(0)", "if(0) with depend", "depend(in)", "depend(out)",
                                             "repeated item", "priority", "taskloop"})
+
+    def test_constructs_of_taskloops_and_targets(self):
+        body = read_program("omptasks 2 task { #: target\n } for i 0 1 { #: taskloop any\n task { } }"
+                            "for i 0 1 { #: taskloop num_tasks(strict:1)\n task { } }")
+        self.assertNotIn("priority in a task", constructs(read_program("omptasks 1 task { #: priority(2)\n}")))
+        self.assertIn("priority in a task",
+                      constructs(read_program("omptasks 1 task { task { #: priority(2)\n} }")))
+        self.assertIn("reduction in a task",
+                      constructs(read_program("omptasks 1 task { taskgroup { #: reduction\n task { } } }")))
+        self.assertEqual(constructs(body), {"task", "tied", "target", "taskloop", "taskloop of any size", "num_tasks",
+                                            "strict"})
 
 
 if __name__ == "__main__":

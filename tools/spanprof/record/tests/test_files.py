@@ -5,6 +5,7 @@ from unittest import mock
 from spanprof import built
 from spanprof.errors import Fault
 from spanprof.record import files, recorder, repeat
+from spanprof.remarks import in_words
 from spanprof.tests.in_folder import InFolder
 
 
@@ -28,11 +29,13 @@ class Recordings(OfARecording):
         self.assertEqual([bool(one.times) for one in found], [False, True])
 
     def test_regions_beyond_the_limits(self):
-        for name in ("mine.tasks", "mine.3.large.tasks", "mine.large.tasks", "mine.large.inout.tasks"):
+        for name in ("mine.tasks", "mine.replay", "mine.3.large.tasks", "mine.3.large.replay", "mine.large.tasks",
+                     "mine.large.inout.tasks"):
             self.write(name)
         found = files.large_recordings(self.out)
-        self.assertEqual([(os.path.basename(one.text), one.number, one.is_large) for one in found],
-                         [("mine.large.tasks", 1, True), ("mine.3.large.tasks", 3, True)])
+        self.assertEqual([(os.path.basename(one.text), os.path.basename(one.replay), one.number, one.is_large)
+                          for one in found],
+                         [("mine.large.tasks", "", 1, True), ("mine.3.large.tasks", "mine.3.large.replay", 3, True)])
         self.assertEqual([os.path.basename(one.text) for one in files.recordings(self.out)], ["mine.tasks"])
 
     def test_a_first_region_that_is_not_written(self):
@@ -45,7 +48,7 @@ class Recordings(OfARecording):
     def test_old_files_go_and_others_stay(self):
         for name in ("mine.tasks", "mine.3.replay", "mine.12.inout.tasks", "mine.large.tasks", "mine.2.large.tasks",
                      "mine.2.large.inout.tasks", "mine.scale.json",
-                     "mine.2.scale.json", "mine.c", "mine.html", "mine.x.tasks", "mine"):
+                     "mine.regions", "mine.2.scale.json", "mine.c", "mine.html", "mine.x.tasks", "mine"):
             self.write(name)
         files.remove_old(self.out)
         self.assertEqual(self.names(), ["mine", "mine.c", "mine.html", "mine.x.tasks"])
@@ -164,7 +167,7 @@ class Repeated(OfARecording):
         with open(self.out + ".tasks", encoding="utf-8") as file:
             text = file.read()
         self.assertIn("# runs: 3, and each cost is the median of theirs\n", text)
-        self.assertIn("# remark: each cost is the median of 3 recordings", text)
+        self.assertIn("# remark: each cost is the median of 3 recordings", in_words(text))
 
 
 if __name__ == "__main__":

@@ -5,6 +5,7 @@ import tempfile
 import unittest
 
 from spanprof.record.median import Differs, Unreadable, combine, main, read
+from spanprof.remarks import in_words
 
 TEXT = """\
 # recorded: from sort, 2026-11-24T00:10:02Z, threads 4, clock cpu, unit us
@@ -46,16 +47,16 @@ class Medians(unittest.TestCase):
         self.assertIn("work 5\n", self.text(recording("a", 1, 5, 4), recording("b", 1, 9, 4)))
 
     def test_every_remark_stands_once_with_one_on_the_median(self):
-        remark = "# remark: folded task, 3 times: span too high\n"
+        remark = '# remark: {"remark": "folded", "times": 3, "span": "high"}\n'
         text = self.text(recording("a", 1, 5, 4), recording("b", 1, 5, 4, remark), recording("c", 1, 5, 4, remark))
         self.assertEqual(text.count(remark), 1)
-        self.assertIn("# remark: each cost is the median of 3 recordings", text)
+        self.assertIn("# remark: each cost is the median of 3 recordings: work and span are of no", in_words(text))
 
     def test_a_remark_with_other_numbers_is_the_same(self):
-        text = self.text(*[recording("a", 1, 5, 4, "# remark: folded task, %d times: span too high\n" % i)
-                           for i in (3, 4)])
-        self.assertEqual([line for line in text.split("\n") if "folded task" in line],
-                         ["# remark: folded task, 3 times: span too high"])
+        folded = '# remark: {"remark": "folded", "times": %d}\n'
+        text = self.text(*[recording("a", 1, 5, 4, folded % i) for i in (3, 4)])
+        self.assertEqual([line for line in text.split("\n") if "folded\"" in line],
+                         ['# remark: {"remark": "folded", "times": 3}'])
 
     def test_lines_of_several_numbers(self):
         lock = "# lock critical at sort.c:9: %d times, %d inside, %d waiting\n"

@@ -13,7 +13,7 @@ from spanprof.record.target import find
 
 
 def options(**given):
-    known = dict(unit=None, clock=None, threads=None, fold=(), whole=False)
+    known = dict(unit=None, clock=None, threads=None, fold=(), whole=False, online=False)
     return argparse.Namespace(**dict(known, **given))
 
 

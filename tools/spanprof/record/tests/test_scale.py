@@ -5,12 +5,14 @@ import json
 import os
 import tempfile
 import unittest
+from collections import Counter
 from unittest import mock
 
-from spanprof.account import Account, HeldUp
+from spanprof.account import Account, HeldUp, Row
 from spanprof.record import command, scale
 from spanprof.record.options import parse
 from spanprof.record.scale_gap import NoGap, gap_of
+from spanprof.record.scale_places import Place, by_place, place_lines
 from spanprof.record.scale_words import gap_lines, scale_json, table_lines
 from spanprof.record.tests.made_up import Head as MadeUp
 from spanprof.record.told import Told
@@ -167,8 +169,8 @@ class Gaps(unittest.TestCase):
         four = made_up().regions[4]
         self.assertEqual(self.why_not(regions={4: four}),
                          "the recording on 1 thread has no such region within the limits of spanprof")
-        self.assertEqual(self.why_not(regions={1: region(1, why="spanprof_account is not found"), 4: four}),
-                         "the recording on 1 thread has no account: spanprof_account is not found")
+        self.assertEqual(self.why_not(regions={1: region(1, why="spanprof_large is not found"), 4: four}),
+                         "the recording on 1 thread has no account: spanprof_large is not found")
         whole = region(1, work=5)
         whole.head.whole = "2 regions"
         self.assertTrue(self.why_not(regions={1: whole, 4: four}).endswith("are not timed one by one"))
@@ -184,6 +186,29 @@ class Gaps(unittest.TestCase):
             "the code differs: 7 tasks are recorded on one thread, and 9 on 4; that is among inflation",
             "code without times, which is idle here: up to 0 ns on one thread, 3 ns on 4",
             "beside this region the recorded program took 25.0 us on 4 threads, which is no part of the sum"])
+
+
+class Places(unittest.TestCase):
+    """On 2 threads up to 40: `a` runs alone from 5 to 20, and `b`, ready from 10 on, alone from 20 to 30."""
+
+    def made_up(self):
+        rows = [Row(0, 0, 5, 20), Row(1, 10, 20, 30)]
+        two = Account(2, 40, 25, 10, 15, 30, rows=rows, places=["a", "b"])
+        found = made_up(regions={1: region(1, Account(1, 30, 20, 0, 0, 10), costs=Counter(a=10, b=10)),
+                                 2: region(2, two, costs=Counter(a=12, b=9))})
+        found.times = {1: [20], 2: [40]}
+        return found
+
+    def test_the_sum_is_exact(self):
+        found = by_place(self.made_up())
+        self.assertEqual(found, [Place("b", 10, -1, 1, 10, 10), Place("a", 10, 2, 3, 0, 5)])
+        self.assertEqual(sum(one.whole for one in found) + 30, 2 * 40)
+
+    def test_lines(self):
+        self.assertEqual(place_lines(self.made_up()), [
+            "25.0 % lost at b: -1.2 % inflation, 1.2 % held up or the recorder's, 12.5 % idle beside it, "
+            "12.5 % idle while it ran (measured)",
+            "12.5 % lost at a: 2.5 % inflation, 3.8 % held up or the recorder's, 6.2 % idle while it ran (measured)"])
 
 
 class Words(unittest.TestCase):
@@ -222,6 +247,12 @@ class Words(unittest.TestCase):
         four = told["threads"][1]
         self.assertEqual((four["median"], four["speed-up"], four["speed-up from"], four["speed-up to"]),
                          (50, 2.4, 2, 3))
+        self.assertEqual([row["recording"] for row in told["threads"]], [None, None])
+        found = made_up()
+        for threads, path in ((1, "/tmp/mine.scale/threads1.tasks"), (4, "/tmp/mine.tasks")):
+            found.regions[threads].path = path
+        self.assertEqual([row["recording"] for row in scale_json(found)["threads"]],
+                         ["mine.scale/threads1.tasks", "mine.tasks"])
         without = scale_json(made_up(regions={}))
         self.assertEqual((without["text"], "gap" in without), (None, False))
         self.assertIn("no such region", without["no gap"])

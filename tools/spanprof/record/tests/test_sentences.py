@@ -6,6 +6,7 @@ from spanprof.claims import is_divided
 from spanprof.record.large import LargeAnswers, large_summary
 from spanprof.record.summary import summary
 from spanprof.record.tests.made_up import Answers, Head
+from spanprof.remarks import read_remark, remark_of
 
 OF_WHAT = ("proved of the recorded text", "proved of this text")
 HEADS = {
@@ -13,9 +14,9 @@ HEADS = {
     "divided": [dict(), dict(divided=["loops, 3 times at a.c:3"])],
     "covered": [dict(), dict(covered=10), dict(covered=None, thread_time=None), dict(covers_at_most=True)],
     "locks": [dict(), dict(locks=["critical: 1 time"], most_held=90), dict(locks=["critical: 1 time"], most_held=1)],
-    "remarks": [dict(), dict(remarks=["a: span too high"]), dict(remarks=["a: span too low"]),
-                dict(remarks=["a: work and span too low"]), dict(remarks=["a: work and span too high or too low"]),
-                dict(remarks=["a: work too low, span too high"])],
+    "remarks": [dict()] + [dict(remarks=[remark_of(dict(remark="a", work=work, span=span))]) for work, span in (
+        ("", "high"), ("", "low"), ("low", "low"), ("either", "either"), ("low", "high"))] + [
+            dict(remarks=[read_remark("in words of its own")])],
     "runs": [dict(), dict(runs=5, is_median=True, spread={"work": (90, 100, 110), "span": (60, 70, 80)})],
 }
 
@@ -50,9 +51,9 @@ class Proved(unittest.TestCase):
     def test_nothing_against_a_remark(self):
         for head in heads():
             for lines in summaries(head):
-                if any("span too high" in remark or "high or" in remark for remark in head.remarks):
+                if any(remark.span in ("high", "either") for remark in head.remarks):
                     self.assertNotIn("proved", line_of(lines, "span ") + line_of(lines, "parallelism"))
-                if any("work too low" in remark or "work and span too low" in remark for remark in head.remarks):
+                if any(remark.work in ("low", "either") for remark in head.remarks):
                     self.assertNotIn("proved", line_of(lines, "parallelism"))
 
     def test_a_part_is_called_one(self):

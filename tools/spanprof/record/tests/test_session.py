@@ -13,6 +13,9 @@ from spanprof.record import command, session
 from spanprof.record.files import Recording
 from spanprof.record.tests.made_up import Answers, Head
 from spanprof.record.told import Told
+from spanprof.remarks import remark_of
+
+FOLDED = {"remark": "folded", "span": "high"}
 
 
 class Reasons(unittest.TestCase):
@@ -125,8 +128,8 @@ class Summaries(unittest.TestCase):
         self.assertIn("remarks       a note\nother regions a.tasks", told.getvalue())
 
     def test_a_remark_of_another_region_is_told_once(self):
-        answers = Answers(head=Head(remarks=["folded task: span too high"]))
-        said = Told(True, [{"told": "remark", "name": "/tmp/mine", "remark": "folded task: span too high"}])
+        answers = Answers(head=Head(remarks=[remark_of(FOLDED)]))
+        said = Told(True, [{"told": "remark", "name": "/tmp/mine", "remark": FOLDED}])
         told = io.StringIO()
         with mock.patch("spanprof.record.command.Answers", return_value=answers), contextlib.redirect_stderr(told):
             made = mock.Mock(notes=[], rank=None, out="/tmp/mine", options=argparse.Namespace(json=None))
@@ -174,6 +177,7 @@ class Large(unittest.TestCase):
         made = mock.Mock(notes=["a note"], rank=None, out=self.out, options=argparse.Namespace(html=None, json=None))
         told = io.StringIO()
         with mock.patch("spanprof.record.command.spanprof_large", return_value=program), \
+                mock.patch("spanprof.account.spanprof_large", return_value=program), \
                 contextlib.redirect_stderr(told), \
                 mock.patch("spanprof.record.large.heaviest_places", **places):
             command.report(made, found, Told(True, self.things))
@@ -187,14 +191,13 @@ mine.large.tasks, region at mine.c:9, 4 threads, costs in us of wall time
 cause         too few tasks: for 38 % of the threads' time they idled with nothing ready (measured, beside what every \
 greedy run of the recorded text reaches)
 first change  spanprof-whatif tells what a change brings, and --places what can be changed
-covers        95.1 % of the program's thread-time in code; not covered: 49 outside regions (measured)
+covers        95.1 % of the program's thread-time in code; not covered: 49 us outside regions (measured)
 tasks         9,000, in 20,001 segments (recorded)
 runs          1: another run has other costs
 work          100 us: code on 4 threads, added up (measured)
 span          30 us: it ends no sooner on any number of threads (proved of the recorded text)
 parallelism   3.34: work / span; it gains no more on any number of threads (proved of the recorded text)
 elapsed       40 us on 4 threads: 2.50 of them busy in this code on average (measured)
-account       not told: the text is beyond the limits of spanprof_account
 span by place 66.7 % of the span, 50.0 % of the work: task at mine.c:12 (measured)
               33.3 % of the span, 10.0 % of the work: the beginning (measured)
 remarks       a note
@@ -254,7 +257,7 @@ class Statuses(unittest.TestCase):
         with mock.patch("spanprof.record.command.Session") as made, contextlib.redirect_stderr(io.StringIO()), \
                 mock.patch("spanprof.record.command.report", side_effect=reported):
             made.return_value.record.side_effect = [recorded]
-            return command.record_and_report(argparse.Namespace(scale=None))
+            return command.record_and_report(argparse.Namespace(scale=None, online=False))
 
     def test_the_program_decides(self):
         self.assertEqual(self.status((0, ["a"], None)), 0)
@@ -276,7 +279,7 @@ class Pages(unittest.TestCase):
     def test_the_words_of_the_reporter(self):
         with mock.patch("subprocess.run", return_value=mock.Mock(returncode=0)) as run:
             self.page()
-        self.assertEqual(run.call_args.args[0][2:], ["mine.tasks", "-o", "p.html", "--replay", "mine.replay"])
+        self.assertEqual(run.call_args.args[0][2:], ["mine.tasks", "-o", "p.html"])
 
     def test_the_browser(self):
         done = mock.Mock(returncode=0)

@@ -8,6 +8,7 @@ from spanprof.record.files import Recording
 from spanprof.record.summary import other_region, summary
 from spanprof.record.tests.made_up import Answers, Head
 from spanprof.record.verdict import verdict
+from spanprof.remarks import remark_of
 from spanprof.report.figures import rounded_down, rounded_up
 from spanprof.whatif.lead import Lead
 
@@ -55,9 +56,10 @@ class Lines(unittest.TestCase):
         self.assertIn("task at sort.c:9 in merge (measured)", "".join(summary(answers)))
 
     def test_remarks_locks_and_news(self):
-        head = Head(remarks=["folded task: span too high"], locks=["critical at a.c:3: 2 times"], elapsed=None)
+        folded = remark_of({"remark": "folded", "span": "high"})
+        head = Head(remarks=[folded], locks=["critical at a.c:3: 2 times"], elapsed=None)
         lines = summary(Answers(head=head), news=["mine.2 is not written"])
-        self.assertEqual(lines[-3:], ["remarks       folded task: span too high",
+        self.assertEqual(lines[-3:], ["remarks       folded task: span too high, which is an upper bound",
                                       "              lock critical at a.c:3: 2 times",
                                       "              mine.2 is not written"])
         self.assertIn("elapsed       not told", lines)
@@ -134,7 +136,7 @@ class WhatTheTextIsNot(unittest.TestCase):
                          "sort.tasks, region at sort.c:48, only 38.1 % of the program's thread-time, 4 threads, "
                          "costs in us of wall time")
         self.assertEqual(lines["covers"], ["38.1 % of the program's thread-time in code; not covered: "
-                                           "19 outside regions, 600 in other regions (measured)"])
+                                           "19 us outside regions, 600 us in other regions (measured)"])
         for name in ("span", "parallelism", "threads"):
             self.assertTrue(lines[name][0].endswith(part), name)
 
@@ -148,21 +150,21 @@ class WhatTheTextIsNot(unittest.TestCase):
                          ["not told how much of the program's thread-time"])
 
     def test_remarks(self):
-        too_high = lines_of(remarks=["folded task, 1 time at a.c:3: span too high (an upper bound)"])
+        too_high = lines_of(remarks=[remark_of({"remark": "folded", "span": "high"})])
         self.assertEqual(too_high["span"][0], "70 us: a longest chain of the recorded text; the program's may be less "
                                               "(remarks)")
         self.assertNotIn("proved", too_high["parallelism"][0] + too_high["threads"][0])
         self.assertEqual(len(too_high["threads"]), 2)
-        too_low = lines_of(remarks=["mutexinoutset: span too low, and too high in the text .inout.tasks"])
+        too_low = lines_of(remarks=[remark_of({"remark": "mutexinoutset", "span": "low"})])
         self.assertIn("(proved of the recorded text)", too_low["span"][0])
         self.assertEqual(len(too_low["threads"]), 1)
-        either = lines_of(remarks=["cancellation: work and span too high or too low"])
+        either = lines_of(remarks=[remark_of({"remark": "cancellation", "work": "either", "span": "either"})])
         self.assertNotIn("proved", "".join(either["span"] + either["parallelism"] + either["threads"]))
 
     def test_both_clocks(self):
         told = {"affected": 72, "work": 101, "by": 3000, "times": 9}
         self.assertEqual(lines_of(clocks_differ=told)["both clocks"], [
-            "in 71.2 % of the work they differ by more than a twentieth, together by 3,000 us (measured)"])
+            "in 71.2 % of the work they differ by more than a twentieth, together by 3.00 ms (measured)"])
         self.assertNotIn("both clocks", lines_of())
 
     def test_locks(self):
@@ -174,7 +176,7 @@ class WhatTheTextIsNot(unittest.TestCase):
         self.assertNotIn("proved", lines["threads"][0])
 
     def test_a_lock_beside_a_remark(self):
-        remark = "off the processor in the midst of code, 9 times: work and span too high, since the wall clock went on"
+        remark = remark_of({"remark": "preempted", "times": 9, "work": "high", "span": "high"})
         lines = lines_of(locks=["critical at a.c:3: 2 times, 80 inside, 0 waiting"], most_held=80, remarks=[remark])
         self.assertEqual(lines["locks"], ["80 us inside the most held one; another run may hold it for less, beside "
                                           "its work (remarks) (measured)"])
@@ -188,8 +190,8 @@ class WhatTheTextIsNot(unittest.TestCase):
     def test_the_spread_of_several_runs(self):
         lines = lines_of(runs=7, is_median=True, spread={"work": (90, 100, 120), "span": (60, 70, 75)})
         self.assertEqual(lines["runs"], ["7, and each cost is the median of theirs (measured)"])
-        self.assertTrue(lines["work"][0].startswith("100 us (90 to 120 in 7 runs): code"))
-        self.assertTrue(lines["span"][0].startswith("70 us (60 to 75 in 7 runs): it ends"))
+        self.assertTrue(lines["work"][0].startswith("100 us (90 us to 120 us in 7 runs): code"))
+        self.assertTrue(lines["span"][0].startswith("70 us (60 us to 75 us in 7 runs): it ends"))
 
     def test_several_runs_without_a_median(self):
         told = lines_of(runs=7, is_median=False)["runs"]

@@ -5,7 +5,8 @@ from spanprof.record import told
 from spanprof.record.told import Told
 
 TEXT = {"told": "text", "file": "/tmp/mine.tasks", "tasks": 3, "segments": 7, "work": 10, "unit": "ns"}
-REMARK = {"told": "remark", "name": "/tmp/mine", "remark": "mutexinoutset, 1 time: span too low"}
+REMARK = {"told": "remark", "name": "/tmp/mine", "remark": {"remark": "all memory", "times": 1, "span": "low"}}
+IN_WORDS = "dependence on all memory, left out, 1 time: span too low"
 LARGE = {"told": "too large", "file": "/tmp/mine.3.tasks", "what": "tasks", "program": "spanprof", "has": 21890,
          "takes": 4096}
 FOLDS = dict(LARGE, advice="folds", work=1000, span=20, exact=3000,
@@ -59,10 +60,10 @@ class News(unittest.TestCase):
         second = dict(TEXT, file="/tmp/mine.2.tasks")
         said = Told(True, [REMARK, TEXT, second, LARGE])
         large = "mine.3.tasks is not written: 21890 tasks, and spanprof takes 4096"
-        self.assertEqual(said.news("/tmp/mine", [TEXT["file"]], {REMARK["remark"]}),
+        self.assertEqual(said.news("/tmp/mine", [TEXT["file"]], {IN_WORDS}),
                          ["mine.2.tasks: 3 tasks, 7 segments, work 10 ns", large])
         self.assertEqual(said.news("/tmp/mine", [TEXT["file"], second["file"]]),
-                         ["mine: mutexinoutset, 1 time: span too low", large])
+                         ["mine: " + IN_WORDS, large])
 
     def test_a_text_that_is_one_of_several_runs(self):
         self.assertEqual(Told(True, [REMARK, TEXT]).without([TEXT["file"]]).things, [REMARK])

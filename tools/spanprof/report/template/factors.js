@@ -2,39 +2,27 @@
 
 const quoted = (words) => "'" + words.replaceAll("'", "'\\''") + "'";
 
-const chosenFactors = () => [...document.querySelectorAll("input.factor")]
+const chosenFactors = (part = document) => [...part.querySelectorAll("input.factor")]
   .filter((box) => box.value !== "" && box.validity.valid && Number(box.value) !== 1);
 
-// To the nearest whole number, and halfway to the even one, as spanprof-report rounds.
-function rounded(value) {
-  const near = Math.round(value);
-  return value % 1 === 0.5 && near % 2 ? near - 1 : near;
-}
-
-// `segment=cost` of each segment that has another cost, in the order of their numbers.
-function changes(program, boxes) {
-  const factorOf = new Map(boxes.map((box) => [Number(box.dataset.number), Number(box.value)]));
-  return program.cost.flatMap((cost, segment) => {
-    const factor = factorOf.get(program.place[segment]);
-    return cost && factor !== undefined ? [`${segment}=${rounded(cost * factor)}`] : [];
-  });
-}
-
-function showLines() {
-  const boxes = chosenFactors(), line = byId("factors-line"), exact = byId("changes-line");
-  if (!line) return;
+// `toRun` is where the lines of one part of the page stand.
+function showLines(toRun) {
+  const boxes = chosenFactors(toRun.closest("section")), [line, exact] = toRun.querySelectorAll("code[data-file]");
   const words = boxes.map((box) => "--factor " + quoted(box.dataset.place + "=" + box.value));
   line.textContent = ["spanprof-report", quoted(line.dataset.file), ...words].join(" ");
-  const changed = changes(programs[0], boxes);
+  const changed = changes(programs[Number(toRun.dataset.program)], boxes);
   const command = changed.length ? ["spanprof whatif", ...changed] : ["spanprof span"];
   exact.textContent = [...command, "<", quoted(exact.dataset.file)].join(" ");
   for (const one of [line, exact].map((code) => code.closest("pre"))) {
     one.hidden = one.previousElementSibling.hidden = !boxes.length;
   }
-  document.querySelector(".to-run .hint").hidden = boxes.length > 0;
+  toRun.querySelector(".hint").hidden = boxes.length > 0;
 }
-document.querySelectorAll("input.factor").forEach((box) => box.addEventListener("input", showLines));
-showLines();
+document.querySelectorAll(".to-run").forEach((toRun) => {
+  toRun.closest("section").querySelectorAll("input.factor").forEach((box) =>
+    box.addEventListener("input", () => showLines(toRun)));
+  showLines(toRun);
+});
 
 document.querySelectorAll("[data-copy]").forEach((button) => button.addEventListener("click", async () => {
   const source = byId(button.dataset.copy);

@@ -1,7 +1,7 @@
 // libspanprof in the page: text and costs in, numbers out. Numbers of 64 bits cross as BigInt.
 
 const REFUSALS = { 13: "memory ran out", 15: "1 to 1,024 threads", 17: "the costs are more than 10^15 together" };
-const NO_THREAD = 2 ** 32 - 1;
+const NO_THREAD = 2 ** 32 - 1, ANY_SIZE = 0;    // the page has texts within the limits
 const bytesOf = (base64) => Uint8Array.from(atob(base64), (sign) => sign.charCodeAt(0));
 
 class Refused extends Error {
@@ -21,7 +21,7 @@ class Library {
 
   // Calls `name` of the text with arguments as they are, and with lists: arrays to be read, or to be filled anew.
   call(name, words) {
-    const taken = [], line = new Uint32Array(1);
+    const taken = [], where = new Uint32Array(4);    // the line, as two numbers, and two segments
     const place = (list) => {
       const at = this.calls.room(BigInt(list.byteLength));
       if (!at) throw new Refused(13);
@@ -33,7 +33,7 @@ class Library {
     const passed = (word) => (ArrayBuffer.isView(word) ? [place(word), BigInt(word.length)] :
       word.told ? [place(word.told)] : [word]);
     try {
-      const number = this.calls["spanprof_" + name](...[this.text, ...words, { told: line }].flatMap(passed));
+      const number = this.calls["spanprof_" + name](...[this.text, ANY_SIZE, ...words, { told: where }].flatMap(passed));
       if (number) throw new Refused(number);
       const now = ([at, list]) => new list.constructor(this.calls.memory.buffer, Number(at), list.length);
       taken.slice(1).forEach((block) => block[1].set(now(block)));

@@ -1,13 +1,17 @@
 """Compares each number of a page with what it has to be.
 
-    python3 -m spanprof.report.tests.compare PAGE.html MINE.tasks [OTHER.tasks]    in tools/; status 1 if one is wrong
+    python3 -m spanprof.report.tests.compare PAGE.html [MINE.tasks [OTHER.tasks]]    in tools/; status 1 if one is wrong
+Without texts they are those of the page's own names, beside it.
 """
 import json
 import math
+import os
+import re
 import sys
 from itertools import zip_longest
 
-from spanprof.report.tests.expected import Program, table, unpacked
+from spanprof.regions import table_beside
+from spanprof.report.tests.expected import Program, WholeProgram, table, unpacked
 from spanprof.report.tests.page_reader import read_page
 
 
@@ -15,8 +19,12 @@ def expected_value(programs, source):
     if source.startswith("change "):
         before, after = (program.value(source.removeprefix("change ")) for program in programs)
         return 100 * (after - before) / before
-    is_other = source.startswith("other ")
-    return programs[is_other].value(source.removeprefix("other "))
+    named = re.match(r"(other|program|region (\d+)) (.*)", source)
+    if not named:
+        return programs[0].value(source)
+    if named[1] == "program":
+        return WholeProgram(table_beside(programs[0].file)[0]).value(named[3])
+    return programs[int(named[2] or 2) - 1].value(named[3])
 
 
 def is_same(shown, expected):
@@ -97,10 +105,17 @@ def differences(page, paths, ask):
     return wrong, sum(len(figure.sources) for figure in reader.figures)
 
 
+def texts_beside(path, page):
+    """The texts that the page's script knows, where none are named."""
+    return [os.path.join(os.path.dirname(path), program["name"])
+            for program in json.loads(read_page(page).data)["programs"]]
+
+
 def main(paths):
     from spanprof import client
     with open(paths[0], encoding="utf-8") as file:
-        wrong, count = differences(file.read(), paths[1:], client.ask)
+        page = file.read()
+    wrong, count = differences(page, paths[1:] or texts_beside(paths[0], page), client.ask)
     for line in wrong:
         print(line)
     print("%d numbers, %d wrong" % (count, len(wrong)))

@@ -9,6 +9,10 @@ from spanprof.account import account_of
 from spanprof.changed_text import with_costs, without_costs
 from spanprof.client import segments
 from spanprof.head import read_head
+from spanprof.predict.machine import machine_file, read_machine
+from spanprof.predict.predictions import by_the_model, of_changed
+from spanprof.predict.recorded import recorded
+from spanprof.report.predicted import changed_text, recordings
 from spanprof.text import has_loops, statements, text_lines
 from spanprof.whatif.creating import costs_for
 from spanprof.whatif.requests import Request, applied, changes
@@ -33,13 +37,33 @@ def recorded_waits(answer):
     return {int(s): [int(p) for p in rest] for s, *rest in lines}
 
 
-class Program:
+class Sums:
+    """What has terms by name, and sums, differences and quotients of them."""
+
+    def term(self, words):
+        name, *rest = words.split()
+        return getattr(self, name.replace("-", "_"))(*rest)
+
+    def value(self, source):
+        """Of `[percent] A [+ B ..] [- B ..] [/ C]`."""
+        is_percent = source.startswith("percent ")
+        above, _, below = source.removeprefix("percent ").partition(" / ")
+        signed = re.split(r" ([+-]) ", "+ " + above)
+        first, rest = signed[0].removeprefix("+ "), zip(signed[1::2], signed[2::2])
+        value = self.term(first) + sum(self.term(other) * (1 if sign == "+" else -1) for sign, other in rest)
+        if below:
+            whole = self.term(below)
+            value = value / whole if whole else 0.0 if is_percent else 1.0
+        return 100 * value if is_percent else value
+
+
+class Program(Sums):
     """One program; `ask` gives what spanprof prints for words and a text. Sources begin with a method's name."""
 
     def __init__(self, path, data, ask):
         with open(path, encoding="utf-8") as file:
             self.text = file.read()
-        self.base, self.ask = os.path.splitext(path)[0], ask
+        self.file, self.base, self.ask = path, os.path.splitext(path)[0], ask
         self.place_of, self.task_place_of = unpacked(data["place"]), unpacked(data["taskPlace"])
         self.slack = table(ask(["slack"], self.text))
         self.cost = [int(row["cost"]) for row in self.slack]
@@ -208,11 +232,44 @@ class Program:
         seen = survey(self.statements)
         return seen, costs_for(read_head(self.text), seen)
 
-    def scale(self, threads, name):
-        """Of the true speed-up, as `spanprof-record --scale` wrote it beside the text."""
+    @cached_property
+    def measured(self):
+        """What `spanprof-record --scale` wrote beside the text."""
         with open(self.base + ".scale.json", encoding="utf-8") as file:
-            rows = {row["threads"]: row for row in json.load(file)["threads"]}
+            return json.load(file)
+
+    def scale(self, threads, name):
+        rows = {row["threads"]: row for row in self.measured["threads"]}
         return rows[int(threads)][name.replace("-up-", "-up ")]
+
+    def gap(self, what):
+        """The whole is the sum of its parts."""
+        found = self.measured["gap"]
+        parts = {name.replace(" ", "-"): time for name, time in found["parts"].items()}
+        return {**parts, "elapsed": found["elapsed"], "whole": sum(parts.values())}[what]
+
+    def gap_place(self, number, what):
+        return self.measured["gap"]["places"][int(number)][what]
+
+    def predicted(self, threads, what):
+        """By the model of the machine."""
+        if ("predicted", threads) not in self.kept:
+            told = self.measured if os.path.exists(self.base + ".scale.json") else None
+            found = by_the_model(recordings(self.file, told), [int(threads)])[2]
+            self.kept["predicted", threads] = self.as_told(*found[0])
+        return self.kept["predicted", threads][what]
+
+    def trial_predicted(self, number, what):
+        if ("trial-predicted", number) not in self.kept:
+            tried = self.data["tried"]
+            changed = changed_text(self.statements, Request(*tried["requests"][int(number)]), self.surveyed)
+            told = recorded(self.file), changed, read_machine(machine_file()), tried["threads"][0]
+            self.kept["trial-predicted", number] = self.as_told(*of_changed(*told))
+        return self.kept["trial-predicted", number][what]
+
+    @staticmethod
+    def as_told(one, least):
+        return {"time": one.time, "low": one.low, "high": one.high, "least": least}
 
     def count(self, number):
         """Of threads, as the page names them."""
@@ -286,18 +343,37 @@ class Program:
         return {"end": round(end), "busy": sum(end - start for start, end, _ in bars),
                 "time": end * self.threads()}[what]
 
-    def term(self, words):
-        name, *rest = words.split()
-        return getattr(self, name.replace("-", "_"))(*rest)
 
-    def value(self, source):
-        """Of `[percent] A [+ B ..] [- B ..] [/ C]`."""
-        is_percent = source.startswith("percent ")
-        above, _, below = source.removeprefix("percent ").partition(" / ")
-        signed = re.split(r" ([+-]) ", "+ " + above)
-        first, rest = signed[0].removeprefix("+ "), zip(signed[1::2], signed[2::2])
-        value = self.term(first) + sum(self.term(other) * (1 if sign == "+" else -1) for sign, other in rest)
-        if below:
-            whole = self.term(below)
-            value = value / whole if whole else 0.0 if is_percent else 1.0
-        return 100 * value if is_percent else value
+class WholeProgram(Sums):
+    """By the table of a program's regions."""
+
+    def __init__(self, path):
+        with open(path, encoding="utf-8") as file:
+            self.rows = [line.split(",", 9) for line in file.read().splitlines()[1:]]
+
+    def regions(self, number=None):
+        """Those of a place, or all: begin, end, threads, tasks, loops, code, whether inside another one."""
+        names = list(dict.fromkeys(row[9] for row in self.rows[1:]))
+        return [tuple(map(int, row[2:9])) for row in self.rows[1:] if number is None or row[9] == names[int(number)]]
+
+    def elapsed(self):
+        return int(self.rows[0][3])
+
+    def outside_code(self):
+        return int(self.rows[0][7])
+
+    def outside(self):
+        inside, end = 0, 0
+        for begin, over, *_, is_inside in sorted(self.regions()):
+            inside += 0 if is_inside else max(0, over - max(begin, end))
+            end = end if is_inside else max(end, over)
+        return self.elapsed() - inside
+
+    def place(self, number, what):
+        own = self.regions(number)
+        lengths = sorted(over - begin for begin, over, *_ in own)
+        return {"count": len(own), "median": lengths[(len(own) - 1) // 2],
+                "elapsed": sum(over - begin for begin, over, *_, is_inside in own if not is_inside),
+                "tasks": sum(row[3] for row in own), "loops": sum(row[4] for row in own),
+                "code": sum(row[5] for row in own),
+                "thread-time": sum(row[2] * (row[1] - row[0]) for row in own)}[what]

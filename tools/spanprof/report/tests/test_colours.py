@@ -55,7 +55,8 @@ class Bars(unittest.TestCase):
 
 class Words(unittest.TestCase):
     def test_words_can_be_read_on_paper_and_panel(self):
-        for name in ("ink", "soft", "accent", "red", "measured", "recorded", "proved", "declared"):
+        for name in ("ink", "soft", "accent", "red", "measured", "recorded", "proved", "declared",
+                     "predicted"):
             for number in (0, 1):
                 for ground in ("paper", "panel"):
                     self.assertGreater(contrast(COLOURS[name][number], COLOURS[ground][number]), 4.5, (name, ground))

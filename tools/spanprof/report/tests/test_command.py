@@ -48,8 +48,8 @@ class Command(unittest.TestCase):
         told = io.StringIO()
         with contextlib.redirect_stdout(told):
             main([worked.path("mesh.tasks"), "--factor", "task at mesh.c:8=0.5"])
-        self.assertEqual(told.getvalue(), "remark: mutexinoutset, 2 times at mesh.c:10: span too low\n"
-                         "lock critical at mesh.c:9: 3 times, 2 inside, 1 waiting\n"
+        self.assertEqual(told.getvalue(), "remark: mutexinoutset, 2 times at mesh.c:10: span too low, and too high in "
+                         "the text .inout.tasks\nlock critical at mesh.c:9: 3 times, 2 inside, 1 waiting\n"
                          "1 segment changed\nwork 35\nspan 25\nwas 31\n")
 
     def copied(self, name="mesh"):
@@ -75,11 +75,13 @@ class Command(unittest.TestCase):
         self.assertEqual((found["on threads"]["threads"], found["account"]), (2, None))
         self.assertFalse(os.path.exists(self.out("mesh.html")))
 
-    def test_the_account_is_in_it(self):
+    def test_what_was_measured_and_predicted_is_in_it(self):
         told = io.StringIO()
         with contextlib.redirect_stdout(told):
             main([worked.path("split.tasks"), "--json"])
-        self.assertEqual(json.loads(told.getvalue())["account"]["threads"], 2)
+        found = json.loads(told.getvalue())
+        self.assertEqual((found["account"]["threads"], found["scale"]["gap"]["elapsed"]), (2, 30000))
+        self.assertEqual([one["threads"] for one in found["predicted"]], [2, 4])
 
     def test_refusals(self):
         mesh = worked.path("mesh.tasks")

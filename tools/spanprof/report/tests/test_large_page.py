@@ -9,6 +9,7 @@ import unittest
 from unittest import mock
 
 from spanprof import client
+from spanprof.account import Account
 from spanprof.path.table import Place
 from spanprof.errors import Fault
 from spanprof.answers import named_numbers
@@ -83,6 +84,13 @@ class OfAnySize(unittest.TestCase):
         view = self.view()
         view.answers.head.most_held = 60
         self.assertTrue(view.lead.first.startswith("shorter code inside the lock"))
+
+    def test_where_the_time_of_the_threads_went(self):
+        view = self.view()
+        self.assertNotIn("idle though a task was ready", page(view))
+        view = self.view()
+        view.account = Account(2, 100, 120, 40, 30, 10)
+        self.assertIn("idle though a task was ready", page(view))
 
     def test_without_a_path_it_says_so(self):
         with mock.patch("spanprof.report.large_answers.LargeAnswers.path_of", side_effect=Fault("no g++")):

@@ -63,7 +63,14 @@ class Pages(unittest.TestCase):
         for words in ("live-data", "WebAssembly", "compiled for the page"):
             self.assertNotIn(words, text)
 
+    def test_the_text_without_each_wait(self):
+        found = self.data_of(live_page("mesh"))
+        self.assertEqual(sorted(found["shape"]), ["lines", "place", "version", "wait"])
+        self.assertEqual([one["number"] for one in found["dropped"]], [0, 1])
+        self.assertEqual(found["dropped"][0]["threads"][0], found["threads"])
+
     def test_it_says_what_it_is(self):
         text = live_page("mesh")
+        self.assertIn('without <span class="place">the taskwait at mesh.c:14</span>', text)
         self.assertIn("computed here by the proved code, compiled for the page", text)
         self.assertIn('id="live" hidden=""', text)

@@ -53,8 +53,10 @@ class Pages(unittest.TestCase):
 
 class WrongNumbers(unittest.TestCase):
     def setUp(self):
-        with worked.patched():
-            self.text = worked.page_text(["mesh", "split"])
+        patch = worked.patched()
+        patch.start()
+        self.addCleanup(patch.stop)
+        self.text = worked.page_text(["mesh", "split"])
 
     def faults(self, old, new):
         self.assertIn(old, self.text)

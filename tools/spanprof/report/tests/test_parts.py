@@ -13,8 +13,11 @@ from spanprof.report.part_timeline import timeline_part
 from spanprof.report.part_what_if import what_if_part
 from spanprof.report.summary_tiles import moved
 from spanprof.answers import Row
+from spanprof.remarks import remark_of
 from spanprof.report.tests import worked
 from spanprof.report.what_if import Trials
+
+FOLDED = remark_of({"remark": "folded", "span": "high"})
 
 
 def seen(piece):
@@ -56,7 +59,9 @@ class OfOneProgram(unittest.TestCase):
         self.assertIn("What bounds its end there is the most held lock ,", words)
         self.assertNotIn("pays most", words)
 
-    def test_what_pays_on_the_threads(self):
+    def test_what_pays_on_the_threads_of_a_text_without_a_cause(self):
+        self.assertNotIn("pays most", self.told())
+        self.view.lead = None
         self.assertIn("Of the places below, half the cost of task at mesh.c:8 pays most there: the greedy run of the "
                       "text would end at 25 µs in place of 31 µs , 19.4 % less, and the span be 25 µs , 19.4 % less "
                       "proved of", self.told())
@@ -69,7 +74,7 @@ class OfOneProgram(unittest.TestCase):
         self.assertIn("The most held lock was held for 36 µs , by one thread at a time: no run of this code is more "
                       "than 1.14 times as fast as its work in a row measured .", words)
         self.assertIn("1.14: work / time inside the most held lock", curve_part([self.view]))
-        words = self.told(most_held=36, remarks=["a: work and span too high"])
+        words = self.told(most_held=36, remarks=[remark_of({"remark": "a", "work": "high", "span": "high"})])
         self.assertIn("held for 36 µs measured ; another run may hold it for less, beside its work (remarks).", words)
         self.assertNotIn("most held", self.told(most_held=30) + curve_part([self.view]))
 
@@ -108,16 +113,16 @@ class OfOneProgram(unittest.TestCase):
 
     def test_no_claim_against_a_remark(self):
         self.assertIn("Span 31 µs measured proved of the text it ends no sooner on any number", self.told())
-        words = self.told(remarks=["folded task: span too high"])
+        words = self.told(remarks=[FOLDED])
         self.assertIn("Span 31 µs measured a longest chain of the text; the program's may be less (remarks) remarked",
                       words)
         self.assertNotRegex(words, "ends no sooner on any number|gains no more on any number")
 
     def test_what_is_said_on_the_threads_is_a_claim_of_the_text(self):
-        for head in (dict(remarks=[]), dict(remarks=["a: span too high"]), dict(locks=[]), dict(most_held=90)):
+        for head in (dict(remarks=[]), dict(remarks=[FOLDED]), dict(locks=[]), dict(most_held=90)):
             for sentence in re.split(r"(?<=[a-z])\. ", self.told(**head)):
                 if "proved" in sentence:
-                    self.assertIn("proved of the text", sentence)
+                    self.assertRegex(sentence, "proved of the text|of the burdened text|a model of")
 
     def test_no_guess_at_why_a_run_is_slow(self):
         words = seen(summary_part(self.view, self.trials))

@@ -4,6 +4,7 @@ import tempfile
 import unittest
 
 from spanprof.answers import Answers, Row
+from spanprof.remarks import remark_of
 from spanprof.report.recorded_run import NoRun, events, place_in_time, recorded_run
 from spanprof.report.tests import worked
 from spanprof.report.tests.recorded_runs import refused
@@ -60,7 +61,7 @@ class ByClock(unittest.TestCase):
         with open(worked.path("split.times"), encoding="utf-8") as file:
             times = file.read()
         answers = Answers(worked.path("split.tasks"))
-        answers.head.remarks.append("folded task, 3 times: span too high, which is an upper bound")
+        answers.head.remarks.append(remark_of({"remark": "folded", "times": 3, "span": "high"}))
         self.assertFalse(self.run_with(times, answers).is_timed)
 
     def test_a_table_of_another_program(self):

@@ -9,7 +9,7 @@ from spanprof.report.part_curve import curve_part
 from spanprof.report.tests import worked
 from spanprof.report.tests.expected import Program
 from spanprof.report.tests.page_reader import read_page
-from spanprof.report.true_times import Point, points_beside
+from spanprof.report.true_times import Point, points_in, scale_beside
 
 DATE = "2026-11-27T11:02:55Z"
 TOLD = {"text": "mine.tasks", "work": 9, "date": DATE, "threads": [
@@ -28,10 +28,10 @@ class Files(unittest.TestCase):
     def points(self, told):
         with open(self.base + ".scale.json", "w", encoding="utf-8") as file:
             file.write(told if isinstance(told, str) else json.dumps(told))
-        return points_beside(self.answers)
+        return points_in(scale_beside(self.answers))
 
     def test_those_of_this_recording(self):
-        self.assertEqual(points_beside(self.answers), [])
+        self.assertEqual(points_in(scale_beside(self.answers)), [])
         self.assertEqual(self.points(TOLD), [Point(4, 2.5, 2.0, 3.0)])
 
     def test_others(self):

@@ -47,8 +47,13 @@ class Kept:
         return answer
 
     def of_times(self, words, file):
-        """What spanprof_account answers on a timed document."""
+        """What spanprof_large account answers on a timed document."""
         return self(["account", *words], document(file))
+
+
+def with_a_machine():
+    """Times are predicted by the model of a machine that is kept here, and not of this one."""
+    return mock.patch.dict(os.environ, SPANPROF_MACHINE=path("machine.json"))
 
 
 class Patched:
@@ -56,7 +61,8 @@ class Patched:
 
     def __init__(self):
         kept = Kept()
-        self.patches = [mock.patch("spanprof.client.ask", kept), mock.patch("spanprof.account.ask", kept.of_times)]
+        self.patches = [mock.patch("spanprof.client.ask", kept), mock.patch("spanprof.account.ask", kept.of_times),
+                        with_a_machine()]
 
     def start(self):
         for patch in self.patches:
@@ -77,10 +83,14 @@ def patched():
     return Patched()
 
 
-def view(name="mesh", **more):
+def view_without_page(name, **more):
     from spanprof.report.view import View
+    return View(path(name + ".tasks"), source=[FOLDER], **more)
+
+
+def view(name="mesh", **more):
     with patched():
-        made = View(path(name + ".tasks"), source=[FOLDER], **more)
+        made = view_without_page(name, **more)
         from spanprof.report.page import page
         page([made])    # asks for all that the page needs
     return made
@@ -114,16 +124,16 @@ def noting(out, ask, key_of):
 
 
 def asked_now():
-    """All that the pages and their comparison ask of spanprof and spanprof_account, with what they answer."""
+    """All that the pages and their comparison ask of spanprof and spanprof_large, with what they answer."""
     from spanprof import account, client
-    from spanprof.account_program import spanprof_account
+    from spanprof.measure import spanprof_large
     from spanprof.report.tests.compare import differences
     from spanprof.report.tests.recorded_runs import refused
     out = {}
     asked = noting(out, client.ask, key)
-    of_times = account.ask if spanprof_account() else Kept().of_times     # that program need not be there
+    of_times = account.ask if spanprof_large() else Kept().of_times     # that program need not be there
     times = noting(out, of_times, lambda words, file: key(["account", *words], document(file)))
-    with mock.patch("spanprof.client.ask", asked), mock.patch("spanprof.account.ask", times):
+    with mock.patch("spanprof.client.ask", asked), mock.patch("spanprof.account.ask", times), with_a_machine():
         for names, factors in pages():
             wrong, _ = differences(page_text(names, factors), [path(name + ".tasks") for name in names], asked)
             if wrong:

@@ -29,6 +29,13 @@ NOTHING, LOSS = ("task", "the beginning"), ("join", "task at a.c:4=4")
 ALL = tried((NOTHING, (100, 60)), (LOSS, (160, 90)), (DROP, (80, 60)), (HALF, (60, 30, 200)))
 
 
+class Words(unittest.TestCase):
+    def test_a_wait_has_one_article(self):
+        self.assertEqual([advice.in_words(Request("drop-wait", name)).partition(",")[0]
+                          for name in ("taskwait at a.c:3", "a taskgroup")],
+                         ["without the taskwait at a.c:3", "without a taskgroup"])
+
+
 class First(unittest.TestCase):
     def test_halved_costs_come_after_what_one_can_do(self):
         self.assertEqual(advice.first_change(SHAPE, ALL, Head()),

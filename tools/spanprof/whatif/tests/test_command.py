@@ -3,6 +3,7 @@ import os
 import unittest
 from unittest import mock
 
+from spanprof.remarks import in_words
 from spanprof.tests.in_folder import InFolder, answered
 from spanprof.whatif import command
 from spanprof.whatif.tests.made_up import SORT
@@ -65,10 +66,10 @@ proved of the text, and of the changed text: spanprof has read both
         self.assertEqual(self.told("--drop-wait", "taskgroup", "-o", kept)[0], 0)
         with open(kept, encoding="utf-8") as file:
             text = file.read()
-        self.assertTrue(text.startswith("# recorded: from sort, threads 2, clock cpu, unit us\n"
-                                        "# remark: a changed text, 1 wait dropped, taskgroup at sort.c:7: "
-                                        "work and span too low or too high\n"
-                                        "omptasks 1\nwork 4\ntask {  # sort.c:8\n"))
+        self.assertTrue(in_words(text).startswith(
+            "# recorded: from sort, threads 2, clock cpu, unit us\n"
+            "# remark: a changed text, 1 wait dropped, taskgroup at sort.c:7: work and span too low or too high\n"
+            "omptasks 1\nwork 4\ntask {  # sort.c:8\n"))
         self.assertEqual(sorted(os.listdir(self.folder)), ["kept.tasks", "large", "mine.tasks", "spanprof"])
 
     def test_a_text_beyond_the_limits(self):

@@ -14,4 +14,4 @@ returns c =
     let curve =
     c.in_ok-command-3.ensures ∙ ap₂ and_then greedy (c.in_ok-with_option-2.ensures.app) in
     IfOk-weaker c.with_command-4.result _ _ (λ command added. added
-    ∙ ap₂ and_then curve c.in_ok-with_changes.ensures.app) c.with_command-4.ensures
+    ∙ ap₂ and_then curve c.in_ok-what_if_command.ensures.app) c.with_command-4.ensures

@@ -1,6 +1,5 @@
-use Rattle.std.proofs.Common.{rules}
+use Rattle.std.proofs.Common.{inr, rules}
 use Rattle.std.proofs.lemmas.Result.{IfOk-weaker}
-use Rattle.command_words.specs.declared.large.LargeRequest.TheVariants.{OfMeter}
 use Rattle.large_command.proofs.Told.{accepts, is_of_program, refuses}
 use Rattle.large_command.proofs.numbers.answer_meter.Goals as goal
 
@@ -19,6 +18,6 @@ returns-in-Ok c =
 pub returns-else-eq : goal.returns-else-eq
 returns-else-eq c =
     IfOk-weaker c.text_refusal.result _ _
-    (λ report says bytes taken. refuses (OfMeter c.args.asked) bytes c.in-Err.fault report
-    (c.in-Err.ensures.refused (search rules) bytes taken) says)
+    (λ report says bytes taken. inr (refuses bytes c.in-Err.fault report
+    (c.in-Err.ensures.refused (search rules) bytes taken) says))
     c.text_refusal.ensures

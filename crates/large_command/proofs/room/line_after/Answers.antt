@@ -1,4 +1,3 @@
-use Rattle.std.proofs.Common.{arith}
 use Rattle.large_command.proofs.Lines.{ends_in_line, line_begins, line_goes_on}
 use Rattle.large_command.proofs.room.line_after.Goals as goal
 

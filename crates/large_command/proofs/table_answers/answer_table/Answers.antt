@@ -1,20 +1,25 @@
-use Rattle.std.proofs.Common.{◌≡◌, Some, rules}
+use Rattle.std.proofs.Common.{inr, subst}
 use Rattle.std.proofs.lemmas.Result.{IfOk-weaker}
-use Rattle.command_words.specs.declared.large.LargeRequest.TheVariants.{OfTable}
-use Rattle.large_command.proofs.Told.{accepts_found, refuses}
+use Rattle.std.specs.Prelude.{MatchResult}
+use Rattle.program_text.specs.Tokens.{tokens_of}
+use Rattle.large_command.specs.LargeReports.{RefusesText}
+use Rattle.large_command.proofs.Told.{accepts_table}
+use Rattle.large_text.specs.Measured.{IsTableOfText}
 use Rattle.large_command.proofs.table_answers.answer_table.Goals as goal
 
-pub returns-in-Ok-Some : goal.returns-in-Ok-Some
-returns-in-Ok-Some g c =
-    let is : c.in-Ok-Some.field-0 ≡ Some c.in-Ok-Some.table = search rules in
+pub returns-in-Ok : goal.returns-in-Ok
+returns-in-Ok g c =
     IfOk-weaker c.tell_table.result _ _
-    (λ report tells bytes taken. accepts_found c.args.asked.now bytes c.in-Ok-Some.field-0
-    c.in-Ok-Some.table report is (c.in-Ok-Some.ensures.table bytes taken) tells)
+    (λ report tells bytes taken.
+    let of : IsTableOfText (tokens_of bytes) c.in-Ok.table =
+    subst (λ read. MatchResult read (IsTableOfText (tokens_of bytes)) (RefusesText bytes))
+    c.in-Ok.is (c.in_ok-table.ensures bytes taken) in
+    accepts_table c.args.asked.now bytes c.in-Ok.table report of tells)
     c.tell_table.ensures
 
-pub returns-else-eq : goal.returns-else-eq
-returns-else-eq g c =
-    IfOk-weaker c.text_refusal.result _ _
-    (λ report says bytes taken. refuses (OfTable c.args.asked.now) bytes c.in-Err.fault report
-    (c.in-Err.ensures.refused (search rules) bytes taken) says)
-    c.text_refusal.ensures
+pub returns-in-Err : goal.returns-in-Err
+returns-in-Err g c = λ bytes taken.
+    let refused : RefusesText bytes c.in-Err.report =
+    subst (λ read. MatchResult read (IsTableOfText (tokens_of bytes)) (RefusesText bytes))
+    c.in-Err.is (c.in_ok-table.ensures bytes taken) in
+    inr refused

@@ -14,7 +14,8 @@ returns-in_err-line-clause-refused c =
     let reader = c.new-reader.result in
     let meter = c.new-meter.result in
     let fault = c.in_err-line.field-0.0 in
-    let h = taken_none text reader meter c.new-reader.ensures c.new-meter.ensures in
+    let h = taken_none text reader meter c.new-reader.ensures.read c.new-reader.ensures.items
+    c.new-meter.ensures in
     let stops : fault.kind ≢ OutOfMemory
     → IsLargeFirstFault (tokens_of text) (line_at_end 1 text) fault =
     λ some. fault_last None text text text 1 reader meter fault refl refl h
@@ -27,7 +28,8 @@ returns-in_err-finish-clause-refused c =
     let reader = c.new-reader.result in
     let meter = c.new-meter.result in
     let fault = c.in_err-finish.field-0.0 in
-    let h = taken_none text reader meter c.new-reader.ensures c.new-meter.ensures in
+    let h = taken_none text reader meter c.new-reader.ensures.read c.new-reader.ensures.items
+    c.new-meter.ensures in
     let stops : IsLargeFirstFault (tokens_of text) (line_at_end 1 text) fault =
     ends_early None text text text 1 c.in_ok-line.line reader c.take_tokens.new.reader meter
     c.take_tokens.new.meter fault refl refl h c.in_ok-line.ensures.line c.in_ok-line.ensures.reads
@@ -39,7 +41,8 @@ returns-clause-measured c =
     let text = c.args.text.now in
     let reader = c.new-reader.result in
     let meter = c.new-meter.result in
-    let h = taken_none text reader meter c.new-reader.ensures c.new-meter.ensures in
+    let h = taken_none text reader meter c.new-reader.ensures.read c.new-reader.ensures.items
+    c.new-meter.ensures in
     subst (MeasuresText (tokens_of text)) (sym c.into_meter.ensures)
     (of_tally (tokens_of text) c.take_tokens.new.meter
     (ends_whole None text text text 1 reader c.take_tokens.new.reader meter
@@ -51,7 +54,8 @@ returns-in_err-finish-clause-memory c =
     let reader = c.new-reader.result in
     let meter = c.new-meter.result in
     let fault = c.in_err-finish.field-0.0 in
-    let h = taken_none text reader meter c.new-reader.ensures c.new-meter.ensures in
+    let h = taken_none text reader meter c.new-reader.ensures.read c.new-reader.ensures.items
+    c.new-meter.ensures in
     let line_is : fault.kind ≡ OutOfMemory → fault.line ≡ 0 =
     line_of_first (tokens_of text) (line_at_end 1 text) fault
     (ends_early None text text text 1 c.in_ok-line.line reader c.take_tokens.new.reader meter

@@ -12,6 +12,7 @@ tokens-init c = (
   goes_first c.args.text.now c.args.lines c.new-scanner.result c.args.reader.now
       c.args.meter.now c.new-scanner.ensures.rest c.new-scanner.ensures.line,
   refl,
+  refl,
 )
 
 pub take_token-requires : goal.take_token-requires
@@ -26,6 +27,7 @@ tokens-preserved c = (
       c.args.meter.now c.tokens.meter c.take_token.new.meter c.tokens.invariant.0
       c.in-Some.ensures.first c.in-Some.ensures.line c.in_ok-take_token.ensures.reads,
   c.take_token.ensures.rows ∙ c.tokens.invariant.1,
+  c.take_token.ensures.text ∙ c.tokens.invariant.2,
 )
 
 pub returns-clause-reads : goal.returns-clause-reads

@@ -1,7 +1,6 @@
-use Rattle.std.proofs.Common.{ℕ, ◌≡◌, List, None, sym, ap, arith, ◌∙◌}
+use Rattle.std.proofs.Common.{ℕ, ◌≡◌, List, sym, arith, ◌∙◌}
 use Rattle.std.specs.Prelude.{slice_set}
 use Rattle.std.proofs.lemmas.Option.{slice_get_within}
-use Rattle.open_segments.specs.Entry.{entry}
 use Rattle.open_segments.proofs.Turning.{items_at, push_item, pushed_none, pushed_at}
 use Rattle.open_segments.proofs.Rooms.{is_valued, is_valueless, room_of, fuller_same, fuller_at}
 use Rattle.open_segments.specs.NumberLists.{lists_of}

@@ -1,10 +1,9 @@
-use Rattle.std.proofs.Common.{ℕ, ◌<◌, ◌≡◌, List, None, length, take, get_or, sym, subst, arith}
+use Rattle.std.proofs.Common.{ℕ, ◌<◌, ◌≡◌, List, None, length, take, get_or, sym, arith}
 use Rattle.std.specs.Prelude.{slice_index_or, Contains}
 use Rattle.std.proofs.lemmas.List.{get_or_default, take_all}
 use Rattle.std.proofs.lemmas.List.Elements.{Contains-get_or}
 use Rattle.open_segments.specs.Entry.{entry}
-use Rattle.open_segments.specs.NumberLists.{lists_of, ArePushed}
-use Rattle.open_segments.specs.Rooms.{IsFuller}
+use Rattle.open_segments.specs.NumberLists.{lists_of}
 use Rattle.open_segments.proofs.Falls.{fresh_next}
 use Rattle.open_segments.proofs.Turning.{pushed_none, pushed_step}
 use Rattle.open_segments.proofs.Rooms.{fuller_same, fuller_step}

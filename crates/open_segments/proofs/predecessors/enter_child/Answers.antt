@@ -1,17 +1,14 @@
 use Rattle.std.proofs.Common.{rules}
-use Rattle.std.proofs.Common.{ℕ, ◌+◌, ◌≡◌, List, Some, sym, subst}
-use Rattle.std.specs.Prelude.{slice_get}
+use Rattle.std.proofs.Common.{ℕ, subst}
 use Rattle.task_segments.specs.Table.{Table}
-use Rattle.depend_table.specs.Siblings.{Sibling}
-use Rattle.depend_table.specs.KeptEdges.{IsKeptEdge, children_below}
+use Rattle.depend_table.specs.KeptEdges.{IsKeptEdge}
 use Rattle.depend_table.specs.Lists.{Lists}
-use Rattle.open_segments.specs.KeptLists.{AreEntered}
-use Rattle.open_segments.proofs.KeptLists.{entered_child, entered_so_far}
+use Rattle.open_segments.proofs.Depending.{families_child, families_so_far}
 use Rattle.open_segments.proofs.SiblingSteps.{above_root}
 use Rattle.open_segments.proofs.predecessors.enter_child.Goals as goal
 
-pub kept_siblings-requires : goal.kept_siblings-requires
-kept_siblings-requires g c = (
+pub kept_children-requires : goal.kept_children-requires
+kept_children-requires g c = (
   search rules,
   (
     ((c.reads_in_place.ensures.creates c.args.creator c.args.child c.requires.known
@@ -20,30 +17,26 @@ kept_siblings-requires g c = (
       (let facts = c.reads_in_place.ensures in
           let made = facts.creates c.args.creator c.args.child c.requires.known c.requires.creates in
           above_root c.args.table.now c.args.child c.args.creator facts made.1),
-      (λ parent of_parent. subst
-          (λ (l : List (List Sibling)). slice_get l parent
-          ≡ Some (children_below c.args.table.now parent c.args.child))
-          (sym c.as_slice.ensures.value)
-          (entered_so_far c.args.table.now c.args.creator c.args.child parent c.args.siblings.now.items
-          c.reads_in_place.ensures c.requires.known c.requires.creates of_parent c.requires.so_far)),
+      (λ parent of_parent. families_so_far c.args.table.now c.args.creator c.args.child parent
+          c.args.families.now c.reads_in_place.ensures c.requires.known c.requires.creates of_parent
+          c.requires.so_far),
     ),
   ),
 )
 
-pub add_sibling-requires : goal.add_sibling-requires
-add_sibling-requires g c = (
+pub enter_depending-requires : goal.enter_depending-requires
+enter_depending-requires g c = (
   search rules,
   (
-    (search rules),
+    ((c.reads_in_place.ensures.creates c.args.creator c.args.child c.requires.known
+        c.requires.creates).0),
     (
       (let facts = c.reads_in_place.ensures in
           let made = facts.creates c.args.creator c.args.child c.requires.known c.requires.creates in
           above_root c.args.table.now c.args.child c.args.creator facts made.1),
-      (
-        (search rules),
-        (λ parent of_parent. entered_so_far c.args.table.now c.args.creator c.args.child parent c.args.siblings.now.items
-            c.reads_in_place.ensures c.requires.known c.requires.creates of_parent c.requires.so_far),
-      ),
+      (λ parent of_parent. families_so_far c.args.table.now c.args.creator c.args.child parent
+          c.args.families.now c.reads_in_place.ensures c.requires.known c.requires.creates of_parent
+          c.requires.so_far),
     ),
   ),
 )
@@ -64,7 +57,7 @@ returns-clause-entered g c =
     let facts = c.reads_in_place.ensures in
     let made = facts.creates creator child c.requires.known c.requires.creates in
     let below = facts.below_root child (above_root table child creator facts made.1) made.0 in
-    subst (λ (siblings : List (List Sibling)). AreEntered table (creator + 1) siblings)
-    (sym (c.in_ok-add_sibling.ensures.added below.parent below.is_parent))
-    (entered_child table creator child below.parent c.args.siblings.now.items facts c.requires.known
-    c.requires.creates below.is_parent c.requires.so_far)
+    families_child table creator child below.parent c.args.families.now c.enter_depending.new.families
+    facts c.requires.known c.requires.creates below.is_parent c.requires.so_far
+    (c.in_ok-enter_depending.ensures.entered below.parent below.is_parent)
+    (λ other apart. c.in_ok-enter_depending.ensures.others below.parent other below.is_parent apart)

@@ -5,8 +5,9 @@ use Rattle.std.specs.Prelude.{IfOk, OnOk}
 use Rattle.task_segments.specs.Table.{Table, segment, task}
 use Rattle.depend_table.specs.KeptEdges.{IsKeptEdge}
 use Rattle.depend_table.specs.Lists.{Lists}
-use Rattle.open_segments.specs.KeptLists.{AreEntered}
-use Rattle.open_segments.proofs.KeptLists.{entered_still, on_ok}
+use Rattle.open_segments.specs.Families.{AreInFamilies}
+use Rattle.open_segments.proofs.Depending.{families_still}
+use Rattle.open_segments.proofs.KeptLists.{on_ok}
 use Rattle.open_segments.proofs.predecessors.predecessors.Goals as goal
 
 pub returns-in-Creates-clause-kept : goal.returns-in-Creates-clause-kept
@@ -21,7 +22,7 @@ returns-in-Creates-clause-entered g c =
     let next : (c.args.segment - 1) + 1 ≡ c.args.segment = let later = c.requires.later in
     omega (arith, later) in
     subst (λ (t : ℕ). OnOk c.enter_child.result
-    (AreEntered c.args.table.now t c.enter_child.new.siblings.items)) next
+    (AreInFamilies c.args.table.now t c.enter_child.new.families)) next
     c.enter_child.ensures.entered
 
 pub after_opener-requires : goal.after_opener-requires
@@ -59,7 +60,7 @@ returns-clause-entered g c =
     let none : (child : ℕ) → ¬ ((task table child).creator ≡ Some before) = λ child by.
     c.in_default.not-Creates child (c.closing.ensures
     ∙ (facts.created before child (facts.with_creator child before by) by).1) in
-    let entered : AreEntered table c.args.segment c.args.siblings.now.items =
-    subst (λ (t : ℕ). AreEntered table t c.args.siblings.now.items) next
-    (entered_still table before c.args.siblings.now.items known none c.requires.so_far) in
+    let entered : AreInFamilies table c.args.segment c.args.families.now =
+    subst (λ (t : ℕ). AreInFamilies table t c.args.families.now) next
+    (families_still table before c.args.families.now known none c.requires.so_far) in
     on_ok c.after_opener.result entered

@@ -3,4 +3,4 @@ use Rattle.task_segments.specs.Table.{segment}
 use Rattle.spanprof_c.proofs.filling.put_tasks.Given as goal
 
 abbrev pub invariant-loop-segment : goal.invariant-loop-segment
-invariant-loop-segment l = (k : ℕ) → k < l.segment → get_or l.tasks k 0 ≡ (segment l.table k).task
+invariant-loop-segment g l = (k : ℕ) → k < l.segment → get_or l.tasks k 0 ≡ (segment l.table k).task

@@ -1,10 +1,10 @@
 //! Any bytes get their fault.
 use super::{fault_of, shown};
-use program_text::fault::ReadKind;
 use std::alloc::Global;
 use std::process::Abort;
 use std::test::Fail;
 use task_program::AllocFault;
+use task_program::fault::ReadKind;
 
 /// This text with a byte between its halves.
 fn with_byte(alloc: Global, before: &[u8], byte: u8, after: &[u8]) -> Result<Vec<u8>, AllocFault> {

@@ -1,11 +1,11 @@
 //! What the calls on a program answer.
 use super::{assert_named, assert_names};
-use program_text::fault::{ReadFault, ReadKind};
-use program_text::statement::{Body, DependKind, Item, Items, Stmt, conflicts};
 use std::alloc::Global;
 use std::process::Abort;
 use std::test::Fail;
+use task_program::fault::{ReadFault, ReadKind};
 use task_program::read::read_program;
+use task_program::statement::{Body, DependKind, Item, Items, Stmt, conflicts};
 
 /// Whether these are the items, in this order.
 fn are_items(items: &Items, wanted: &[Item]) -> bool {

@@ -1,10 +1,10 @@
 //! Each limit of a program, at it and one past it.
 use super::{assert_fault, fault_of, lines};
-use program_text::fault::ReadKind;
 use std::alloc::Global;
 use std::process::Abort;
 use std::test::Fail;
 use task_program::AllocFault;
+use task_program::fault::ReadKind;
 
 /// A text is a header and then each of these lines so many times.
 type Lines = &'static [(&'static str, u32)];

@@ -1,10 +1,10 @@
 //! Texts of very many bytes.
 use super::{fault_of, shown, zeros};
-use program_text::fault::ReadKind;
 use std::alloc::Global;
 use std::process::Abort;
 use std::test::Fail;
 use task_program::AllocFault;
+use task_program::fault::ReadKind;
 
 /// A byte, how many of it, the fault, and the line.
 const OF_ONE_BYTE: &[(u8, usize, ReadKind, u32)] = &[

@@ -1,10 +1,10 @@
 //! Texts of version 2: what they are read as, and what is wrong with them.
 use super::{assert_fault, assert_named, assert_names, assert_shown, zeros};
-use program_text::fault::ReadKind;
 use std::alloc::Global;
 use std::process::Abort;
 use std::test::Fail;
 use task_program::AllocFault;
+use task_program::fault::ReadKind;
 use task_program::read::read_program;
 
 /// A body on the line after the header.

@@ -4,13 +4,12 @@ use Rattle.std.proofs.lemmas.Iterator.Consumers.{YieldsList-at, YieldsList-from_
 use Rattle.std.proofs.lemmas.Iterator.Splits.{YieldsList-from_slice_split}
 use Rattle.program_text.specs.PlainWords.{has_byte}
 use Rattle.program_text.specs.Tokens.{is_blank}
-use Rattle.time_text.specs.declared.line.TheConstants.{MOST_WORDS}
 use Rattle.time_text.proofs.line.first_words.Goals as goal
 
 pub returns : goal.returns
 returns c =
     map_from_collect _ c.collect.ensures.ran
-    (YieldsList-from_take MOST_WORDS
+    (YieldsList-from_take c.args.most
     (YieldsList-at c.take.ensures.source
     (YieldsList-from_filter _ has_byte
     (YieldsList-at c.filter.ensures.source

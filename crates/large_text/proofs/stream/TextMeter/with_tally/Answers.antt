@@ -10,5 +10,5 @@ returns-clause-taken c = record {
   fits = fits_none;
   last = ap (λ tail. count_by is_line_feed tail) c.new-2.ensures.items;
   taken = subst (λ tail. HasTakenLines [] tail 1 c.new.result c.args.meter)
-      (sym c.new-2.ensures.items) (taken_first c.new.result c.args.meter c.new.ensures c.requires);
+      (sym c.new-2.ensures.items) (taken_first c.new.result c.args.meter c.new.ensures.read c.new.ensures.items c.requires);
 }

@@ -11,11 +11,11 @@ returns g c =
       preds = c.in_ok-no_lists.field-0;
       successors = c.in_ok-no_lists-2.field-0;
       counts = c.in_ok-copies_of.field-0;
-      siblings = c.in_ok-no_siblings.field-0;
+      siblings = c.in_ok-empty_tables.field-0;
     })
     c.serves_runs.ensures
     (c.in_ok-no_lists.ensures ∙ ap (λ (n : ℕ). replicate {A = List ℕ} n []) c.len.ensures)
     (c.in_ok-no_lists-2.ensures ∙ ap (λ (n : ℕ). replicate {A = List ℕ} n []) c.len-2.ensures)
     (c.in_ok-copies_of.ensures ∙ ap (λ (n : ℕ). replicate {A = ℕ} n 0) c.len-3.ensures)
-    (c.in_ok-no_siblings.ensures
+    (c.in_ok-empty_tables.ensures
     ∙ ap (λ (n : ℕ). replicate {A = List Sibling} n []) c.tasks.ensures)

@@ -1,0 +1,167 @@
+#!/usr/bin/env python3
+"""Finds a critical path of random programs, of the examples and of programs of a million tasks by tools/spanprof-path,
+and compares: its own comparisons hold, the masked text has this span by a plain program that keeps the whole graph
+(checks/agree/large_recordings), and each place has the costs that spanprof.text finds there in text and masked text.
+Of the large programs it tells time and memory.
+
+    checks/agree/large_path.py [COUNT]     COUNT random programs of each of two kinds (200)
+
+Needs a compiler of C++17 and make; build spanprof_large first, or let SPANPROF_LARGE name it.
+"""
+import os
+import random
+import re
+import subprocess
+import sys
+import tempfile
+from collections import Counter
+from pathlib import Path
+
+TOP = Path(__file__).resolve().parents[2]
+sys.path[:0] = [str(TOP / folder) for folder in ("checks/agree/large_recordings", "tools")]
+sys.dont_write_bytecode = True
+
+import any_size  # noqa: E402
+import whole_graph  # noqa: E402
+from spanprof.errors import Fault  # noqa: E402
+from spanprof.measure import HOW, measure, spanprof_large  # noqa: E402
+from spanprof.path.found import find_path, programs  # noqa: E402
+from spanprof.text import segments_of as segments  # noqa: E402
+
+COMMAND = TOP / "tools" / "spanprof-path"
+RUN = """
+import resource, subprocess, sys, time
+began = time.monotonic()
+status = subprocess.call(sys.argv[2:], stdout=open(sys.argv[1], "wb"))
+print(time.monotonic() - began, resource.getrusage(resource.RUSAGE_CHILDREN).ru_maxrss)
+sys.exit(status)
+"""  # in a process of its own: one that is started counts as much memory as whoever starts it
+COMMENTS = ("", "  # a.c:1", "# a.c:2, again", " # \"b\"", "  # work 7 { }")
+
+
+class Wrong(Exception):
+    pass
+
+
+def commented(text, rng):
+    """With comments behind some of the lines, and blanks in front."""
+    return "".join(" " * rng.choice((0, 0, 3)) + line + rng.choice(COMMENTS) + "\n" for line in text.split("\n"))
+
+
+def find(by, text, folder):
+    masked, table = [str(folder / name) for name in ("masked.tasks", "table")]
+    path = find_path(by, str(text), measure(by.large, str(text)), masked, table)
+    if path.faults:
+        raise Wrong("; ".join(path.faults))
+    return path, Path(masked)
+
+
+def costs(text):
+    """The sum at each place; places without costs are left out."""
+    sums = Counter()
+    for segment in segments(text):
+        sums[segment.place()] += segment.cost
+    return +sums
+
+
+def compare(by, text, folder):
+    """One program, whose file is `text`."""
+    path, masked = find(by, text, folder)
+    whole, left = text.read_text(), masked.read_text()
+    graph = whole_graph.read(left.splitlines())
+    if not graph.work == graph.span == path.numbers["span"]:
+        raise Wrong("work %d and span %d by the whole graph, and not %d" % (graph.work, graph.span,
+                                                                            path.numbers["span"]))
+    for what, wanted, found in (("work", costs(whole), {place.name: place.work for place in path.places()}),
+                                ("span", costs(left), {place.name: place.span for place in path.places()})):
+        if +Counter(found) != wanted:
+            raise Wrong("%s by place: %s, and not %s" % (what, +Counter(found), wanted))
+
+
+def random_programs(count, folder):
+    """Pairs of a name and a text, of two generators."""
+    subprocess.run([sys.executable, TOP / "bench/random_texts.py", folder, str(count)], check=True)
+    for number in range(count):
+        rng = random.Random(number)
+        yield "program %d of any_size" % number, commented(any_size.draw(number), rng)
+        yield "program %d of random_texts" % number, commented((folder / ("%d.tasks" % number)).read_text(), rng)
+
+
+def examples():
+    for path in sorted((TOP / "examples").rglob("*.tasks")):
+        text = path.read_text()
+        if re.match(r"(\s|#[^\n]*\n)*omptasks\s+0*1\b", text):
+            yield str(path.relative_to(TOP)), text
+
+
+def compare_all(by, named, folder):
+    count, file = 0, folder / "text.tasks"
+    for name, text in named:
+        file.write_text(text)
+        try:
+            compare(by, file, folder)
+        except (Wrong, Fault) as wrong:
+            raise Wrong("%s: %s" % (name, wrong)) from wrong
+        count += 1
+    return count
+
+
+def run(words, file):
+    """The seconds that it took, and the most memory of one process in MB; the file takes what it prints."""
+    words = [sys.executable, "-c", RUN, file] + words
+    done = subprocess.run([str(word) for word in words], capture_output=True, text=True, check=False)
+    if done.returncode or done.stderr:
+        raise Wrong("%s: status %d, %s" % (words[4], done.returncode, done.stderr.strip()))
+    seconds, most = done.stdout.split()
+    return float(seconds), int(most) // 1024
+
+
+def measure_large(by, name, made, folder):
+    """By the command, on a program whose numbers are known."""
+    text, (tasks, count, work, span) = made
+    file = folder / "large.tasks"
+    file.write_text(text)
+    alone, most = run([by.path, file, folder / "large_masked.tasks"], folder / "table")
+    took, _ = run([COMMAND, file], folder / "told")
+    told = (folder / "told").read_text()
+    wanted = "work %d, span %d, parallelism %.1f, " % (work, span, work / span)
+    if not told.startswith(wanted) or " of %d segments on" % count not in told:
+        raise Wrong("%s: %s, and not %s" % (name, told.split("\n")[0], wanted))
+    print("%s: %s tasks, %.1f MB of text; spanprof_path %.2f s and %d MB, with all comparisons %.2f s (measured)" % (
+        name, format(tasks, ","), len(text) / 1e6, alone, most, took), flush=True)
+
+
+def one_line(count):
+    """What has no ends of lines is no slower."""
+    text, numbers = any_size.independent(count)
+    return "omptasks 1 " + text.split("\n", 1)[1].replace("\n", " ") + "# all\n", numbers
+
+
+def check(by, count):
+    with tempfile.TemporaryDirectory(prefix="large_path-") as name:
+        folder = Path(name)
+        print("%d examples: the same" % compare_all(by, examples(), folder), flush=True)
+        compared = compare_all(by, random_programs(count, folder), folder)
+        print("%d random programs: the same" % compared, flush=True)
+        for name, made in (("nested", any_size.nested(any_size.MILLION)), ("tree", any_size.tree(20)),
+                           ("chain", any_size.chain(any_size.MILLION)),
+                           ("independent", any_size.independent(any_size.MILLION)),
+                           ("one line", one_line(any_size.MILLION // 10))):
+            measure_large(by, name, made, folder)
+
+
+def main():
+    large = spanprof_large()
+    if not large:
+        sys.exit("large_path: " + HOW)
+    os.environ["SPANPROF_LARGE"] = " ".join(large)
+    try:
+        by = programs(large, print)
+        subprocess.run(["make", "-s", "-C", TOP / "tools/large_path", "test"], check=True)
+        check(by, int(sys.argv[1]) if len(sys.argv) > 1 else 200)
+    except (Wrong, Fault, subprocess.CalledProcessError) as wrong:
+        sys.exit("FAILED: %s" % wrong)
+
+
+if __name__ == "__main__":
+    main()

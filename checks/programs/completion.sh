@@ -1,0 +1,82 @@
+#!/usr/bin/env bash
+# Completes lines by the functions of tools/completion, in bash, and in zsh where there is one, and compares what comes
+# with what has to come. A prefix may be named on which `make -C tools install` has put them.
+set -euo pipefail
+cd "$(dirname "$0")/../.."
+top=$PWD
+bash_file=$top/tools/completion/spanprof.bash zsh_folder=$top/tools/completion
+if [ $# -gt 0 ]; then
+    bash_file=$1/share/bash-completion/completions/spanprof-record zsh_folder=$1/share/zsh/site-functions
+else
+    export PATH=$top/tools:$PATH
+fi
+folder=$(mktemp -d)
+trap 'rm -rf "$folder"' EXIT
+cp "$zsh_folder/_spanprof" "$folder"
+cd "$folder"
+mkdir sources
+touch mine.tasks mine.replay mine.html
+wrong=0
+expect() { # SHELL GOT WANTED LINE
+    [ "$2" = "$3" ] || { echo "  $1: '$4' becomes '$2', and not '$3'"; wrong=$((wrong + 1)); }
+}
+in_bash() { # LINE: what its last word becomes
+    local words
+    read -ra words <<< "$1"
+    case $1 in *' ') words+=('') ;; esac
+    bash "$top/checks/programs/completion/complete.bash" "$bash_file" "${words[@]}" | tr '\n' ' ' | sed 's/ *$//'
+}
+in_zsh() { # LINE: what it becomes
+    zsh -f "$top/checks/programs/completion/complete.zsh" "$folder" "$1" | sed 's/^<//; s/ *>$//'
+}
+
+while IFS='|' read -r line completed; do
+    expect bash "$(in_bash "$line")" "$completed" "$line"
+    if command -v zsh > /dev/null; then expect zsh "$(in_zsh "$line")" "${line% *} $completed" "$line"; fi
+    echo "$line"
+done <<'LINES'
+spanprof gre|greedy
+spanprof greedy --|--threads
+spanprof curve --|--upto
+spanprof run --|--workers
+spanprof_large --|--upto
+spanprof_large bo|bounds
+spanprof_large greedy --|--threads
+spanprof_large account --r|--rows
+spanprof_large whatif --|--listed
+spanprof_large rep|replay
+spanprof_large cer|certify
+spanprof-record --uni|--unit
+spanprof-record --clock c|cpu
+spanprof-record --html mi|mine.html
+spanprof-report mi|mine.tasks
+spanprof-report mine.tasks --rep|--replay
+spanprof-report --replay mi|mine.replay
+spanprof-report mine.tasks --source so|sources
+spanprof-path mi|mine.tasks
+spanprof-path mine.tasks --cs|--csv
+spanprof-path -o mi|mine.tasks
+spanprof-predict mi|mine.tasks
+spanprof-predict mine.tasks --ma|--machine
+spanprof-whatif mi|mine.tasks
+spanprof-whatif mine.tasks --cut|--cutoff
+spanprof-whatif -o mi|mine.tasks
+spanprof-conformance mu|mutants
+spanprof-conformance run --tasks un|untied
+spanprof-conformance run --pre|--preload
+LINES
+
+every=$(in_bash 'spanprof ')
+expect bash "$every" 'span show slack greedy curve whatif certify check run replay' 'spanprof '
+for name in record report path whatif; do
+    listed=$(spanprof-$name --help | grep -oE -e '(^| )--[a-z-]+' | tr -d ' ' | sort -u)
+    expect bash "$(in_bash "spanprof-$name --" | tr ' ' '\n' | grep -e '--.' | sort -u)" "$listed" "spanprof-$name --"
+    for option in $listed; do
+        grep -qF -e "$option" "$folder/_spanprof" || { echo "  zsh: no option $option"; wrong=$((wrong + 1)); }
+    done
+done
+echo "all options"
+
+command -v zsh > /dev/null || echo "skipped: zsh is missing"
+echo "$wrong wrong"
+[ "$wrong" -eq 0 ]

@@ -1,0 +1,83 @@
+#!/usr/bin/env bash
+# Runs tools/conformance: its unit tests; on gcc's and LLVM's runtimes the directed part and a few random programs,
+# which have to be accepted and to try every rule, and both in the other settings; all mutants at the entry points,
+# which have to be caught; a campaign that is killed and goes on, and one in two parts; and the example's pool of
+# threads, of which the broken one has to be refused. checks/programs/mutants.sh has the mutants in the sources. Build spanprof
+# first. It may be named, or told by SPANPROF, or stand on the PATH. LLVM's runtime is that of version 16, on which all
+# mutants were caught, or of another where that is missing; it gets tied tasks alone.
+set -euo pipefail
+cd "$(dirname "$0")/../.."
+# shellcheck source=checks/llvm.sh
+. checks/llvm.sh
+program=${1:-${SPANPROF:-crates/spanprof/out/spanprof}}
+program=$(command -v "$program" || command -v spanprof) || { echo "no program spanprof"; exit 1; }
+program=$(realpath "$program")
+export SPANPROF=$program
+if [ -z "${LLVM:-}" ] && checks/llvm/versions.py 16 > /dev/null; then LLVM=16; fi
+find_llvm || llvm=
+folder=$(mktemp -d)
+trap 'rm -rf "$folder"' EXIT
+wrong=0
+fail() { echo "  $1"; wrong=$((wrong + 1)); }
+
+test_runtime() { # COMPILER TASKS [FLAGS] of the compiler
+    local kept=$folder/kept-${1//\//_}
+    ../spanprof-conformance run --cc "$1" --cflags="${3:-}" --tasks "$2" --threads 2,4 --programs 10 --runs 2 \
+        --timeout 60 --keep "$kept" --settings free,pinned,bound,active,passive \
+        > "$folder/run.txt" || fail "$1: a run is not accepted"
+    cat "$folder/run.txt"
+    ../spanprof-conformance run --cc "$1" --cflags="${3:-}" --tasks "$2" --threads 2,4 --programs 10 --runs 2 \
+        --timeout 60 --keep "$kept" --settings priorities,sleepy,perturbed,stacks,unlogged,orphaned,nested \
+        > "$folder/settings.txt" ||
+        fail "$1: a run in another setting is not accepted"
+    head -n 8 "$folder/settings.txt"
+    grep -q '^Never held back by this rule alone: none of these\.$' "$folder/run.txt" || fail "$1: a rule is not tried"
+    ../spanprof-conformance mutants --cc "$1" --cflags="${3:-}" --threads 4 --runs 4 --timeout 3 ||
+        fail "$1: a mutant is not caught"
+}
+
+test_parts() {
+    for part in 1/2 2/2; do
+        ../spanprof-conformance run --cc gcc --tasks tied --threads 2 --runs 1 --programs 4 --no-directed \
+            --shard "$part" --state "$folder/part-${part%/2}.jsonl" > "$folder/part.txt" || return 1
+    done
+    ../spanprof-conformance merge "$folder"/part-*.jsonl --report "$folder/parts.xml" > "$folder/parts.txt"
+    grep -q '^| all | 2 | 4 | 4 |' "$folder/parts.txt" && grep -q 'tests="4"' "$folder/parts.xml"
+}
+
+test_bisect() {
+    ../spanprof-conformance bisect directed/taskwait_child.tasks --cc gcc --threads 2 --runs 4 > "$folder/bisect.txt"
+}
+
+# A program does not hang while nobody reads what it writes.
+test_slow_reader() {
+    ../spanprof-conformance emit directed/pressure_waits_long.tasks > "$folder/slow.c"
+    cc -O1 -fopenmp -Iharness "$folder/slow.c" harness/*.c -o "$folder/slow"
+    "$folder/slow" 2 4 0 0 5 | (sleep 12; cat) > "$folder/slow.log"
+    [ "$(grep -c '^done' "$folder/slow.log")" = 4 ]
+}
+
+test_futures() { # FLAGS of the compiler
+    cc -O1 -Wall -Wextra -Werror -pthread "$@" -Iharness examples/futures.c harness/log.c harness/output.c \
+        -o "$folder/futures"
+    "$folder/futures" 4 20 > "$folder/futures.log"
+    ../spanprof-conformance judge examples/futures.tasks "$folder/futures.log" > "$folder/judged.txt"
+}
+
+cd tools/conformance
+(cd .. && python3 -B -m unittest discover -s spanprof/conformance/tests -t .) || fail "unit tests"
+test_futures || fail "the pool of threads: a run is not accepted"
+test_futures -DDONE_TOO_EARLY && fail "the broken pool of threads is accepted"
+grep -q '^run 0: refused: ' "$folder/judged.txt" || fail "the broken pool of threads is not refused"
+test_parts || fail "the report of two parts is not that of the whole"
+test_slow_reader || fail "a program hangs while nobody reads"
+test_bisect || fail "a program that is fine fails for git bisect"
+../../checks/programs/conformance_resumed.py || fail "a campaign does not go on"
+test_runtime gcc tied,untied,mixed
+if [ -n "${llvm:-}" ]; then
+    test_runtime "clang-$llvm" tied "${llvm_flags[*]}"
+else
+    echo "skipped: $no_llvm"
+fi
+echo "$wrong wrong"
+[ "$wrong" -eq 0 ]

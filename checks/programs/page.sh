@@ -1,0 +1,141 @@
+#!/usr/bin/env bash
+# Tries tools/spanprof-report: its unit tests; then for each example, each recorded text, a text at the limits and,
+# where clang and LLVM's OpenMP runtime are there, each program of docs/TUNING.md recorded anew and programs that are
+# slow for a known cause: the page is made, each of its numbers is compared with spanprof's answers, its first words with
+# that cause, and it is opened in Chromium: errors, sizes, looks in light, dark, narrow, wide and print, keys, mouse and
+# fingers. One program is measured on several numbers of threads, and times are predicted by the machine of
+# checks/programs/predictions. Then the page of a million tasks, where spanprof_large is there. Build spanprof first.
+#
+#     checks/programs/page.sh [PROGRAM [FOLDER]]    instead of crates/spanprof/out/spanprof; where pages and pictures go
+set -euo pipefail
+cd "$(dirname "$0")/../.."
+# shellcheck source=checks/llvm.sh
+. checks/llvm.sh
+program=$(realpath "${1:-crates/spanprof/out/spanprof}")
+[ -x "$program" ] || { echo "no program $program"; exit 1; }
+export SPANPROF=$program SPANPROF_MACHINE=$PWD/checks/programs/predictions/machine.json
+large=crates/spanprof_large/out/spanprof_large    # where it is there, pages of recordings have the account
+[ -n "${SPANPROF_LARGE:-}" ] || [ ! -x "$large" ] || export SPANPROF_LARGE=$PWD/$large
+if [ $# -gt 1 ]; then
+    folder=$(realpath -m "$2")
+    mkdir -p "$folder"
+else
+    folder=$(mktemp -d)
+    trap 'rm -rf "$folder"' EXIT
+fi
+wrong=0
+fail() { echo "  $1"; wrong=$((wrong + 1)); }
+
+unit_tests() {
+    python3 -m unittest discover -s tools/spanprof/report/tests -t tools || fail "unit tests of the page"
+    python3 -m unittest discover -s checks/programs/page/tests -t checks/programs/page || fail "unit tests of the client"
+    (cd tools && python3 -m spanprof.report.tests.worked check) ||
+        fail "spanprof answers otherwise than the unit tests have it"
+}
+
+record() { # NAME CLOCK WORD ..: a program of examples/openmp, which `compile` has made
+    local name=$1 clock=$2
+    shift 2
+    SPANPROF_QUIET=1 OMP_TOOL_LIBRARIES=$PWD/tools/openmp_recorder/librecorder.so OMP_NUM_THREADS=4 SPANPROF_UNIT=us \
+        SPANPROF_CLOCK=$clock SPANPROF_OUT=$folder/$name-$clock "$folder/$name" "$@" > "$folder/said" 2>&1 ||
+        fail "$name cannot be recorded: $(tail -1 "$folder/said")"
+    SPANPROF_UNIT=us tools/spanprof-convert --times "$folder/$name-$clock.log" > "$folder/said" 2>&1 ||
+        fail "$name cannot be converted: $(tail -1 "$folder/said")"
+}
+
+record_all() { # the programs of docs/TUNING.md, by both clocks
+    make -s -C tools/openmp_recorder LLVM="$llvm"
+    while read -r name words; do
+        "clang-$llvm" -O2 -g -fopenmp "examples/openmp/$name.c" -o "$folder/$name" -lm "${llvm_flags[@]}"
+        # shellcheck disable=SC2086
+        for clock in wall cpu; do record "$name" $clock $words; done
+    done <<'PROGRAMS'
+merge_sort
+merge_sort_split
+wavefront
+wavefront_overlapped
+fibonacci 27 16
+cholesky 4
+PROGRAMS
+}
+
+record_causes() { # each program of checks/programs/whatif/causes as its users would, with the page
+    "clang-$llvm" -O2 -g -fopenmp checks/programs/whatif/causes/causes.c -o "$folder/causes" "${llvm_flags[@]}"
+    for cause in small serial wait lock machine dear balanced; do
+        tools/spanprof-record --out "$folder/cause_$cause" --unit us --threads 4 \
+            --html "$folder/cause_$cause.html" -- "$folder/causes" "$cause" > "$folder/said" 2>&1 ||
+            fail "$cause cannot be recorded: $(tail -1 "$folder/said")"
+    done
+    checks/programs/page/first_screens.py "$folder" || fail "first screens"
+}
+
+record_scale() { # a small program on several numbers of threads; it is one of the texts then
+    tools/spanprof-record --scale 1,2,4 --runs 2 --out "$folder/scaled" --unit us -- "$folder/cholesky" 4 \
+        > "$folder/said" 2>&1 || fail "no scale is recorded: $(tail -1 "$folder/said")"
+}
+
+several_regions() { # a program of 121 regions at three places, with its page, as its users would
+    mkdir -p "$folder/several"
+    "clang-$llvm" -O2 -g -fopenmp checks/programs/page/regions.c -o "$folder/regions" "${llvm_flags[@]}"
+    tools/spanprof-record --out "$folder/several/regions" --unit us --threads 4 \
+        --html "$folder/several/regions.html" -- "$folder/regions" > "$folder/said" 2>&1 ||
+        fail "regions cannot be recorded: $(tail -1 "$folder/said")"
+    (cd tools && python3 -m spanprof.report.tests.compare "$folder/several/regions.html") > "$folder/compared" ||
+        { fail "regions:"; head -20 "$folder/compared"; }
+    echo "regions: $(tail -1 "$folder/compared"), $(wc -c < "$folder/several/regions.html") bytes"
+    visit "$folder/several" regions
+}
+
+visit() { # FOLDER NAME ..
+    local status=0
+    checks/programs/page/visit.py "$program" "$@" || status=$?
+    if [ $status = 2 ]; then echo "skipped: no page is opened"; elif [ $status != 0 ]; then fail "pages in the browser"; fi
+}
+
+large_page() { # where spanprof_large is built
+    local large=${SPANPROF_LARGE:-crates/spanprof_large/out/spanprof_large} status=0
+    [ -x "$large" ] || { echo "skipped: no page of a million tasks: no program $large"; return; }
+    SPANPROF_LARGE=$(realpath "$large") checks/programs/page/large_page.py "$folder" || status=$?
+    if [ $status = 1 ]; then fail "the page of a million tasks"; fi
+    rm -f "$folder"/million.*
+}
+
+make_page() { # NAME OPTION ..: the page of a text of the folder, and its numbers; further texts by --with
+    local name=$1 other=()
+    shift
+    [ "${1:-}" = --with ] && other=("$2")
+    tools/spanprof-report "$folder/$name.tasks" -o "$folder/$name.html" --source examples/openmp "$@" ||
+        { fail "$name has no page"; return; }
+    (cd tools && python3 -m spanprof.report.tests.compare "$folder/$name.html" "$folder/$name.tasks" "${other[@]}") \
+        > "$folder/compared" || { fail "$name:"; head -20 "$folder/compared"; }
+    echo "$name: $(tail -1 "$folder/compared"), $(wc -c < "$folder/$name.html") bytes"
+}
+
+unit_tests
+cp examples/*.tasks "$folder"
+for text in examples/openmp/recorded/*.tasks; do cp "$text" "$folder/kept_$(basename "$text")"; done
+checks/programs/page/large_text.py "$folder"
+large_page
+if find_llvm; then record_all; record_causes; record_scale; several_regions; else echo "skipped: no program is recorded: $no_llvm"; fi
+
+names=()
+for text in "$folder"/*.tasks; do names+=("$(basename "$text" .tasks)"); done
+TIMEFORMAT="large: the page took %R seconds, and %U of processor time"
+for name in "${names[@]}"; do
+    [ "$name" = large ] || make_page "$name"
+done
+time tools/spanprof-report "$folder/large.tasks" -o "$folder/large.html" 2> /dev/null
+make_page large
+for pair in kept_merge_sort:kept_merge_sort_split kept_wavefront:kept_wavefront_overlapped \
+        merge_sort-wall:merge_sort_split-wall wavefront-cpu:wavefront_overlapped-cpu; do
+    first=${pair%:*} second=${pair#*:}
+    [ -e "$folder/$first.tasks" ] || continue
+    for ending in tasks replay times timed; do
+        [ ! -e "$folder/$first.$ending" ] || cp "$folder/$first.$ending" "$folder/${first}_and_other.$ending"
+    done
+    make_page "${first}_and_other" --with "$folder/$second.tasks"
+    names+=("${first}_and_other")
+done
+visit "$folder" "${names[@]}"
+echo "$wrong wrong"
+[ "$wrong" -eq 0 ]

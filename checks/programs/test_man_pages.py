@@ -1,0 +1,49 @@
+"""Tests of man_pages.py: python3 -m unittest checks/programs/test_man_pages.py"""
+import pathlib
+import sys
+import unittest
+
+sys.path.insert(0, str(pathlib.Path(__file__).resolve().parent))
+from man_pages import NAME, differences, options_of_page, section, told_in_page
+
+PAGE = """\
+COMMANDS
+       span   The span.
+       greedy --threads P
+              A table.
+EXIT STATUS
+       0      The report was written.
+       3      Memory ran out.
+ERRORS
+       error: line L: KIND
+              Such as error: line 2: Unclosed.
+       error: BadForm
+       error: wrong words
+SEE ALSO
+       error: of another page
+"""
+
+
+class Pages(unittest.TestCase):
+    def test_what_a_page_tells(self):
+        self.assertEqual(told_in_page(PAGE), {
+            "error lines": {"line", "BadForm", "wrong words"}, "kinds": {"Unclosed", "BadForm"},
+            "commands": {"span", "greedy"}, "exit statuses": {"0", "3"}})
+
+    def test_options(self):
+        page = "\nOPTIONS\n   -o X, --output X\n   --no-directed\n\nEXIT STATUS\n   --none\n"
+        self.assertEqual(options_of_page(page), {"--output", "--no-directed"})
+
+    def test_both_directions(self):
+        self.assertEqual(list(differences("a.1", {"x", "z"}, {"x", "y"})),
+                         ["a.1: the page lacks y", "a.1: only the page has z"])
+
+    def test_a_section_ends_at_the_next_heading(self):
+        self.assertEqual(section("# One\na\n## Two\nb\n# Three\nc\n", "Two").strip(), "b")
+
+    def test_kinds_are_words_of_several_capitals(self):
+        self.assertEqual(NAME.findall("TooDeep Lines Unopened OutOfMemory A"), ["TooDeep", "Unopened", "OutOfMemory"])
+
+
+if __name__ == "__main__":
+    unittest.main()

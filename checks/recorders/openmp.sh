@@ -1,0 +1,112 @@
+#!/usr/bin/env bash
+# Records real OpenMP programs: builds the recorder and examples/openmp, runs each program on 1, 2 and 4 threads, and
+# has spanprof accept every recorded run whole. Segments are compared with counts by hand; a span, two folds and a limit
+# are tried too. Build spanprof first. Another program than crates/spanprof/out/spanprof may be named.
+set -euo pipefail
+cd "$(dirname "$0")/../.."
+# shellcheck source=checks/needs.sh
+. checks/needs.sh
+needs_spanprof "$@"
+program=$SPANPROF
+needs_llvm
+
+folder=$(mktemp -d)
+trap 'rm -rf "$folder"' EXIT
+make -s -C tools/openmp_recorder LLVM="$llvm"
+export OMP_TOOL_LIBRARIES=$PWD/tools/openmp_recorder/librecorder.so
+export OMP_NUM_THREADS SPANPROF_OUT=$folder/out
+export SPANPROF_PARTS=none  # the counts by hand are of tasks alone
+wrong=0
+fail() { # WHAT: tells it, with the last that the recorder said
+    echo "  $1"
+    [ ! -e "$folder/told" ] || tail -2 "$folder/told" | sed 's/^/    /'
+    wrong=$((wrong + 1))
+}
+
+compile() { # SOURCE: to a program of the folder
+    "clang-$llvm" -O2 -g -fopenmp -fopenmp-version=51 "$1" -o "$folder/$(basename "$1" .c)" -lm \
+        "${llvm_flags[@]}"
+}
+record() { # NAME WORD ..: runs a program of the folder
+    rm -rf "$folder"/out.*
+    "$folder/$1" "${@:2}" > "$folder/printed" 2> "$folder/told" || fail "$* fails on $OMP_NUM_THREADS threads"
+    tools/spanprof-convert "$folder/out.log" 2>> "$folder/told" || fail "$*: its log is not converted"
+}
+number() { # WORD: the number after it in what `span` prints
+    "$program" span < "$folder/out.tasks" | sed -n "s/^$1 //p"
+}
+expect_whole() { # WHAT: the run has each segment's start and finish, and is legal
+    local told expected
+    told=$("$program" replay < "$folder/out.replay" | sed -n '1,2p' | tr '\n' ' ')
+    expected="events $((2 * $(number segments))) finished $(number segments) "
+    [ "$told" = "$expected" ] || fail "$1: $told, and not $expected"
+}
+
+# Each program with its words, and by hand, for two threads or more: the tasks that it makes, and the waits and ends of
+# groups that it meets; `-` where that depends on the run.
+while read -r name tasks waits words; do
+    compile "examples/openmp/$name.c"
+    for threads in 1 2 4; do
+        OMP_NUM_THREADS=$threads
+        # shellcheck disable=SC2086
+        record "$name" $words
+        expect_whole "$name on $threads threads"
+        [ "$tasks" = - ] && continue
+        expected=$((1 + 2 * tasks + waits))
+        [ "$(number segments)" = $expected ] || fail "$name: $(number segments) segments, and not $expected"
+    done
+    echo "$name"
+done <<'PROGRAMS'
+cholesky 20 0 4
+fibonacci 24 12 24 20
+merge_sort - - 60000
+merge_sort_split - - 60000
+n_queens 6 1 6 1
+sparse_lu - - 6
+strassen 7 1 128
+taskloop 8 1 20000 8
+wavefront 384 6
+wavefront_overlapped 384 0
+PROGRAMS
+
+# A span by hand: ten links of one chain that each wait 2 ms, beside ten tasks of 1 ms.
+cat > "$folder/chain.c" <<'C'
+#include <unistd.h>
+int main(void) {
+    char link;
+#pragma omp parallel
+#pragma omp single
+    for (int i = 0; i < 10; i++) {
+#pragma omp task depend(inout: link)
+        usleep(2000);
+#pragma omp task
+        usleep(1000);
+    }
+    return 0;
+}
+C
+compile "$folder/chain.c"
+SPANPROF_UNIT=ms record chain
+if [ "$(number span)" -lt 20 ] || [ "$(number work)" -lt $(($(number span) + 10)) ]; then
+    fail "chain: work $(number work), span $(number span)"
+fi
+echo "a span by hand"
+
+# A fold keeps the run legal, and a limit that is passed is told.
+OMP_NUM_THREADS=2
+SPANPROF_FOLD_DEPTH=6 record fibonacci 27 12
+expect_whole "fold by depth"
+SPANPROF_FOLD_CHUNK=3 record taskloop 20000 8
+expect_whole "fold by chunks"
+SPANPROF_CLOCK=cpu SPANPROF_FOLD_COST=100000 record fibonacci 27 12
+expect_whole "fold by cost"
+record fibonacci 27 10
+grep -q 'is not written: .* tasks, and spanprof takes 4096' "$folder/told" || fail "no word of a limit"
+advised=$(grep -o -- '--fold [a-z]*=[0-9]*' "$folder/told" | head -1)
+# shellcheck disable=SC2086
+tools/spanprof-convert ${advised:?} "$folder/out.log" 2>> "$folder/told" || fail "the fold that was advised"
+expect_whole "the fold that was advised"
+echo "folds and a limit"
+
+echo "$wrong wrong"
+[ "$wrong" -eq 0 ]

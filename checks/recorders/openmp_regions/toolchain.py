@@ -1,0 +1,134 @@
+"""Compiles a program, runs it with the recorder, and has spanprof replay its run."""
+import glob
+import os
+import shutil
+import subprocess
+import sys
+from dataclasses import dataclass
+
+sys.path.append(os.path.join(os.path.dirname(os.path.abspath(__file__)), "..", "..", "llvm"))
+from versions import Version, asked  # noqa: E402
+
+SECONDS = 60  # for one run
+TOP = os.path.dirname(os.path.dirname(os.path.dirname(os.path.dirname(os.path.abspath(__file__)))))
+CONVERT = os.path.join(TOP, "tools", "spanprof-convert")
+LARGE = os.path.join(TOP, "crates", "spanprof_large", "out", "spanprof_large")
+
+
+@dataclass
+class Tools:
+    """Where things are."""
+    recorder: str
+    spanprof: list
+    llvm: Version
+
+
+@dataclass
+class Run:
+    """What one run left: its exit status, the processor time and the works done that it printed, its texts by name."""
+    status: object
+    nanoseconds: int
+    works: int
+    texts: dict
+    said: str
+
+
+def newest(number=""):
+    """Of LLVM's versions that are there, or this one."""
+    there = asked(number)
+    if not there:
+        sys.exit("LLVM%s: no compiler with its runtime" % (" " + number if number else ""))
+    return there[0]
+
+
+class Refused(Exception):
+    """The compiler refused the program."""
+
+
+def compile_words(tools, compiler, source, program):
+    """So that each call keeps the line of its directive: without tail calls, and no two calls made one."""
+    common = ["-g", "-fopenmp", "-o", program, "-x", "c++" if compiler.endswith("++") else "c", source]
+    if not compiler.startswith("clang"):
+        return [compiler, "-O0"] + common
+    words = [compiler + "-" + tools.llvm.number, "-O1", "-fno-optimize-sibling-calls", "-fopenmp-version=51"]
+    words += tools.llvm.flags()
+    for option in ("simplifycfg-sink-common=false", "simplifycfg-hoist-common=false", "enable-tail-merge=0"):
+        words += ["-mllvm", "-" + option]
+    return words + common
+
+
+def build(tools, compiler, source, program):
+    done = subprocess.run(compile_words(tools, compiler, source, program), capture_output=True, text=True)
+    if done.returncode:
+        raise Refused(done.stderr.strip().split("\n")[0])
+
+
+def environment(tools, drawn, threads, folder, is_recorded):
+    out = dict(os.environ, OMP_NUM_THREADS=str(threads), OMP_MAX_ACTIVE_LEVELS="4", OMP_DYNAMIC="false",
+               OMP_WAIT_POLICY="passive", KMP_TASKLOOP_MIN_TASKS="100000")
+    if is_recorded:
+        out.update(OMP_TOOL_LIBRARIES=tools.recorder, SPANPROF_OUT=os.path.join(folder, "out"),
+                   SPANPROF_CLOCK=drawn.clock)
+    if drawn.compiler in ("gcc", "g++"):
+        out["LD_PRELOAD"] = tools.llvm.runtime
+    return out
+
+
+def read_texts(folder):
+    texts = {}
+    for path in glob.glob(os.path.join(folder, "out*.tasks")):
+        if path.endswith(".inout.tasks"):
+            continue  # the other bound of a region with mutexinoutset
+        with open(path, encoding="utf-8") as file:
+            texts[os.path.basename(path)[:-6]] = file.read()
+    return texts
+
+
+def run(tools, drawn, threads, program, folder, is_recorded=True):
+    """Runs the program once; earlier recordings of the folder are removed."""
+    for path in glob.glob(os.path.join(folder, "out*")):
+        shutil.rmtree(path) if os.path.isdir(path) else os.remove(path)
+    try:
+        done = subprocess.run([program, str(threads)], capture_output=True, text=True, timeout=SECONDS,
+                              env=environment(tools, drawn, threads, folder, is_recorded))
+    except subprocess.TimeoutExpired:
+        return Run("no end after %d seconds" % SECONDS, 0, 0, {}, "")
+    printed = [int(word) for word in done.stdout.split()] if done.returncode == 0 else [0, 0]
+    said = done.stderr + (converted(folder) if is_recorded else "")
+    return Run(done.returncode, printed[0], printed[1], read_texts(folder), said)
+
+
+def converted(folder):
+    """What is said of the run's log when it is made texts."""
+    words = [CONVERT, "--regions", "1000", "--times"] + glob.glob(os.path.join(folder, "out*.log"))
+    return subprocess.run(words, capture_output=True, text=True, timeout=SECONDS).stderr
+
+
+def replay(tools, folder, name):
+    """What spanprof says of the recorded run: words where it is not whole or not legal, else nothing."""
+    path = os.path.join(folder, name + ".replay")
+    if not os.path.exists(path):
+        return "no replay document"
+    with open(path, "rb") as file:
+        done = subprocess.run(tools.spanprof + ["replay"], stdin=file, capture_output=True, text=True)
+    if done.returncode:
+        return done.stdout.strip()
+    with open(path, encoding="utf-8") as file:
+        span = subprocess.run(tools.spanprof + ["span"], input=file.read().split("\n---\n")[0] + "\n",
+                              capture_output=True, text=True)
+    segments = int(span.stdout.split()[1])
+    events, finished = [int(line.split()[1]) for line in done.stdout.split("\n")[:2]]
+    return "" if (events, finished) == (2 * segments, segments) else "%d of %d segments finished" % (finished, segments)
+
+
+def account(folder, name):
+    """What spanprof_large says against the times of the run; nothing where they are legal, or it is not there."""
+    program = os.environ.get("SPANPROF_LARGE") or LARGE
+    path = os.path.join(folder, name + ".timed")
+    if not os.path.exists(program):
+        return ""
+    if not os.path.exists(path):
+        return "no timed document"
+    with open(path, "rb") as file:
+        done = subprocess.run([program, "account"], stdin=file, capture_output=True, text=True)
+    return done.stdout.strip() if done.returncode else ""

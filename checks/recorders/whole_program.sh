@@ -1,0 +1,24 @@
+#!/usr/bin/env bash
+# Records programs whose work and span are known by how they are made (checks/recorders/whole_program/shapes.c) on 1 to 8 threads,
+# each as one text, and holds work, span, what the head says is covered, and the summary against that. Build spanprof
+# first.
+#
+#     checks/recorders/whole_program.sh [SHAPE ..]    these shapes, or all
+# Variables: SPANPROF (crates/spanprof/out/spanprof), LLVM (the newest version that has compiler and runtime; chunks of
+# loops are told from 16 on), LLVM_FOLDERS (checks/llvm/versions.py).
+set -euo pipefail
+cd "$(dirname "$0")/../.."
+# shellcheck source=checks/needs.sh
+. checks/needs.sh
+needs_spanprof
+python3 -B -m unittest discover -q -s checks/recorders/whole_program/tests -t checks/recorders/whole_program
+
+needs_llvm
+[ "$llvm" -ge 16 ] || skip "LLVM $llvm does not tell the chunks of loops"
+folder=$(mktemp -d)
+trap 'rm -rf "$folder"' EXIT
+"clang-$llvm" -O1 -g -fopenmp checks/recorders/whole_program/shapes.c -o "$folder/shapes" "${llvm_flags[@]}"
+echo "LLVM $llvm"
+make -s -C tools/openmp_recorder LLVM="$llvm"
+python3 -B checks/recorders/whole_program/judge.py "$folder/shapes" "$@"
+[ $# -gt 0 ] || python3 -B checks/recorders/whole_program/covering.py

@@ -1,0 +1,40 @@
+#!/usr/bin/env python3
+"""Compares VERSION with CHANGELOG.md, the tools' package and the documents: one version, one logic.
+
+    checks/sources/version.py
+"""
+import pathlib
+import re
+import sys
+
+TOP = pathlib.Path(__file__).resolve().parents[2]
+LOGIC = re.compile(r"\blogic ([0-9a-f]{16})\b")
+
+
+def faults(version, changes, package, documents):
+    """What disagrees with the text of VERSION: the changes' newest section, the package's version, each logic that
+    documents name."""
+    number, logic = (version.splitlines() + ["", ""])[:2]
+    if not re.fullmatch(r"\d+\.\d+\.\d+", number) or not LOGIC.fullmatch(logic):
+        yield "VERSION has no version and no logic on its two lines"
+        return
+    newest = re.search(r"^## (\S+)", changes, re.M)
+    if not newest or newest[1] != number:
+        yield "CHANGELOG.md begins with %s, and VERSION has %s" % (newest[1] if newest else "nothing", number)
+    if 'version = "%s"\n' % number not in package:
+        yield "tools/pyproject.toml has not version %s" % number
+    for name, text in documents.items():
+        yield from ("%s names logic %s" % (name, one) for one in LOGIC.findall(text) if "logic " + one != logic)
+
+
+def main():
+    read = {path: path.read_text(encoding="utf-8") for path in [*TOP.glob("*.md"), *(TOP / "docs").glob("*.md")]}
+    documents = {str(path.relative_to(TOP)): text for path, text in sorted(read.items())}
+    version, package = ((TOP / name).read_text(encoding="utf-8") for name in ("VERSION", "tools/pyproject.toml"))
+    wrong = list(faults(version, documents["CHANGELOG.md"], package, documents))
+    print(*wrong, "%d wrong" % len(wrong), sep="\n")
+    return 1 if wrong else 0
+
+
+if __name__ == "__main__":
+    sys.exit(main())

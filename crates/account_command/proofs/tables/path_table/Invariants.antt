@@ -1,8 +1,0 @@
-use Rattle.std.proofs.Common.{◌≡◌}
-use Rattle.account_command.specs.Accounts.{path_header, path_row}
-use Rattle.spanprof_command.specs.Tables.{numbered_table}
-use Rattle.account_command.proofs.tables.path_table.Given as goal
-
--- the rows so far
-abbrev pub invariant-loop-place : goal.invariant-loop-place
-invariant-loop-place l = l.rows ≡ numbered_table path_header (path_row l.times l.path) 0 l.place

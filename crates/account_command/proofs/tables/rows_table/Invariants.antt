@@ -1,8 +1,0 @@
-use Rattle.std.proofs.Common.{◌≡◌}
-use Rattle.account_command.specs.Accounts.{rows_header, rows_row}
-use Rattle.spanprof_command.specs.Tables.{numbered_table}
-use Rattle.account_command.proofs.tables.rows_table.Given as goal
-
--- the rows so far
-abbrev pub invariant-loop-segment : goal.invariant-loop-segment
-invariant-loop-segment l = l.rows ≡ numbered_table rows_header (rows_row l.first l.readies l.times) 0 l.segment

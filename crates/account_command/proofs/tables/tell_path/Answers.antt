@@ -1,6 +1,0 @@
-use Rattle.account_command.proofs.Members.{members_of_path}
-use Rattle.account_command.proofs.tables.tell_path.Goals as goal
-
-pub path_table-requires : goal.path_table-requires
-path_table-requires c =
-    rw c.as_slice.ensures.value (members_of_path _ _ _ _ c.requires c.in_ok-path.ensures)

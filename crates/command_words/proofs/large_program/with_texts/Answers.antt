@@ -1,0 +1,13 @@
+use Rattle.clap.specs.Words.{app_of}
+use Rattle.std.proofs.Common.{◌∙◌, ap, ap₂}
+use Rattle.std.proofs.lemmas.Result.{IfOk-weaker}
+use Rattle.command_words.specs.Program.{and_then}
+use Rattle.command_words.proofs.large_program.with_texts.Goals as goal
+
+-- each command in turn
+pub returns : goal.returns
+returns c =
+    let above = app_of c.args.command in
+    let show = c.in_ok-command.ensures ∙ ap (and_then above) (c.new.ensures.app) in
+    IfOk-weaker c.with_command-2.result _ _ (λ command added. added
+    ∙ ap₂ and_then show c.new-2.ensures.app) c.with_command-2.ensures

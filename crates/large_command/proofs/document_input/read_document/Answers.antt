@@ -1,0 +1,41 @@
+use Rattle.std.proofs.Common.{◌≤◌, length, arith, rules}
+use Rattle.std.proofs.lemmas.Grind.{common_steps}
+use Rattle.std.proofs.lemmas.List.{take-append-le}
+use Rattle.large_command.proofs.TextInput.{IsKept, as_many_more, is_taken, line_fits}
+use Rattle.large_command.proofs.TextInput.{reads_too_long}
+use Rattle.large_command.proofs.document_input.read_document.Goals as goal
+
+pub after-requires-clause-line : goal.after-requires-clause-line
+after-requires-clause-line g c =
+    line_fits _ _ c.pieces.room _ c.pieces.invariant.taken
+
+pub returns-in-None-clause-too_long : goal.returns-in-None-clause-too_long
+returns-in-None-clause-too_long g c = λ told.
+    reads_too_long _ _ _ c.pieces.room c.in-Ok.taken c.read_piece.new.buffer _ _
+    c.pieces.invariant.taken c.in-Ok.ensures.reads
+    (take-append-le c.in-Ok.taken c.read_piece.new.buffer _
+    (omega (arith, c.in-Ok.ensures.within, c.in-Ok.ensures.room)))
+    (grind (arith, common_steps)) (grind (arith, common_steps)) c.in-None.ensures
+
+pub returns-in-None-clause-limited : goal.returns-in-None-clause-limited
+returns-in-None-clause-limited g c =
+    as_many_more _ _ _ c.pieces.room c.in-Ok.taken c.read_piece.new.buffer _
+    c.pieces.invariant.taken c.in-Ok.ensures.reads (grind (arith, common_steps))
+
+pub returns-then-is_err-clause-limited : goal.returns-then-is_err-clause-limited
+returns-then-is_err-clause-limited g c =
+    as_many_more _ _ _ c.pieces.room c.in-Ok.taken c.read_piece.new.buffer _
+    c.pieces.invariant.taken c.in-Ok.ensures.reads (grind (arith, common_steps))
+
+pub pieces-preserved : goal.pieces-preserved
+pieces-preserved g c =
+    let within : c.in-Ok.taken ≤ length c.read_piece.new.buffer =
+    omega (arith, c.in-Ok.ensures.within, c.in-Ok.ensures.room) in
+    record {
+      taken = is_taken _ _ _ c.pieces.room c.in-Some.rest _ _ _
+          (IsKept c.extend_from_slice.new.self.items) c.pieces.invariant.taken c.in-Ok.ensures.reads
+          (take-append-le c.in-Ok.taken c.read_piece.new.buffer _ within) c.in-Some.ensures
+          (λ text fits is. search rules);
+      fewer = omega arith;
+      paid = omega (arith, c.in-Ok.ensures.paid, c.pieces.invariant.paid);
+    }

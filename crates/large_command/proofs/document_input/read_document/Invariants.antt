@@ -1,0 +1,18 @@
+use Rattle.std.proofs.Common.{◌≡◌, ◌+◌, ◌≤◌}
+use Rattle.counted_io.specs.Counted.{inner_of, faults_of}
+use Rattle.large_command.proofs.TextInput.{IsKept, IsTaken}
+use Rattle.large_command.proofs.document_input.read_document.Given as goal
+
+-- what was read so far is kept, and each interruption was paid for
+abbrev pub invariant-pieces : goal.invariant-pieces
+invariant-pieces g l =
+    let remaining = g.R.Read.remaining in
+    record {
+      taken : IsTaken (remaining (inner_of l.fn.reader)) (remaining (inner_of l.reader)) l.room
+          (IsKept l.document.items);
+      fewer : l.retries ≤ l.fn.retries;
+      paid : faults_of l.reader + l.retries ≡ faults_of l.fn.reader + l.fn.retries;
+    }
+
+abbrev pub decreases-pieces : goal.decreases-pieces
+decreases-pieces g l = l.room.left

@@ -1,0 +1,47 @@
+use Rattle.std.proofs.Common.{◌<◌, ◌^◌, IfSome, List, Option, arith, inr, length, subst, sym, ℕ}
+use Rattle.std.proofs.lemmas.Result.{IfOk-weaker}
+use Rattle.std.specs.Prelude.{MatchResult}
+use Rattle.program_text.specs.Tokens.{tokens_of}
+use Rattle.large_text.specs.Measured.{IsTableOfText}
+use Rattle.large_text.specs.Streamed.{FitsText}
+use Rattle.large_command.specs.LargeReports.{RefusesText}
+use Rattle.large_command.proofs.Parts.{fits_program, rest_within}
+use Rattle.large_command.proofs.Told.{accepts_document}
+use Rattle.large_command.proofs.documents.answer_document.Goals as goal
+
+pub read_table-requires : goal.read_table-requires
+read_table-requires c =
+    subst (λ (bytes : List ℕ). FitsText bytes) (sym c.split_document.ensures.program)
+    (fits_program c.args.document.now c.requires)
+
+pub tell_document-requires-clause-program : goal.tell_document-requires-clause-program
+tell_document-requires-clause-program c =
+    let fits = subst (λ (bytes : List ℕ). FitsText bytes) (sym c.split_document.ensures.program)
+    (fits_program c.args.document.now c.requires) in
+    omega (arith, fits.short)
+
+pub tell_document-requires-clause-rest : goal.tell_document-requires-clause-rest
+tell_document-requires-clause-rest c =
+    subst (λ (rest : Option (List ℕ)). IfSome rest (λ bytes. length bytes < 2 ^ 63))
+    (sym c.split_document.ensures.rest)
+    (rest_within c.args.document.now (2 ^ 63) (omega (arith, c.requires.short)))
+
+pub returns-in-Ok : goal.returns-in-Ok
+returns-in-Ok c =
+    let of : IsTableOfText (tokens_of c.split_document.result.program.now) c.in-Ok.table =
+    subst (λ read. MatchResult read
+    (IsTableOfText (tokens_of c.split_document.result.program.now))
+    (RefusesText c.split_document.result.program.now)) c.in-Ok.is c.in_ok-table.ensures in
+    IfOk-weaker c.tell_document.result _ _
+    (λ report tells. accepts_document c.args.asked c.args.document.now _ _ c.in-Ok.table report
+    c.split_document.ensures.program c.split_document.ensures.rest of tells)
+    c.tell_document.ensures
+
+pub returns-in-Err : goal.returns-in-Err
+returns-in-Err c =
+    let refused : RefusesText c.split_document.result.program.now c.in-Err.report =
+    subst (λ read. MatchResult read
+    (IsTableOfText (tokens_of c.split_document.result.program.now))
+    (RefusesText c.split_document.result.program.now)) c.in-Err.is c.in_ok-table.ensures in
+    inr (subst (λ (text : List ℕ). RefusesText text c.in-Err.report)
+    c.split_document.ensures.program refused)

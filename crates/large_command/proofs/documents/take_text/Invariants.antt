@@ -1,0 +1,10 @@
+use Rattle.std.proofs.Common.{length}
+use Rattle.large_command.proofs.Parts.{IsTakenUpTo}
+use Rattle.large_command.proofs.documents.take_text.Given as goal
+
+-- the meter has taken what stands before the rest
+abbrev pub invariant-pieces : goal.invariant-pieces
+invariant-pieces l = IsTakenUpTo l.text l.rest l.meter
+
+abbrev pub decreases-pieces : goal.decreases-pieces
+decreases-pieces l = length l.rest

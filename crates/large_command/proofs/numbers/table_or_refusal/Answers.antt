@@ -1,0 +1,9 @@
+use Rattle.std.proofs.Common.{◌≡◌, Some, rules}
+use Rattle.large_command.proofs.Told.{found_table}
+use Rattle.large_command.proofs.numbers.table_or_refusal.Goals as goal
+
+pub returns-in-Ok-Some : goal.returns-in-Ok-Some
+returns-in-Ok-Some c =
+    let is : c.in-Ok-Some.field-0 ≡ Some c.in-Ok-Some.table = search rules in
+    λ bytes taken. rw is (found_table bytes c.in-Ok-Some.field-0 c.in-Ok-Some.table is
+    (c.in-Ok-Some.ensures.table bytes taken))

@@ -1,0 +1,110 @@
+//! What the program answers to a document.
+ghost use Rattle.std.specs.Prelude.{◌≡◌, ◌-◌, ◌<◌, ◌^◌, [], IfOk, IfSome, MatchResult, OnOk, length};
+ghost use Rattle.std.specs.Option.{option_copied};
+ghost use Rattle.command_words.specs.declared.large.LargeRequest.TheVariants.{OfDocument};
+ghost use Rattle.program_text.specs.Tokens.{tokens_of};
+ghost use Rattle.large_text.specs.Measured.{IsTableOfText};
+ghost use Rattle.large_text.specs.Streamed.{FitsText, HasTaken};
+ghost use Rattle.spanprof_command.specs.Replaying.{bad_form};
+ghost use Rattle.large_command.specs.DocumentReports.{TellsBehind, TellsRest};
+ghost use Rattle.large_command.specs.LargeReports.{Answers, RefusesText};
+
+use crate::numbers::table_or_refusal;
+use crate::text_input::PIECE;
+use command_words::large::DocumentRequest;
+use large_documents::tell_rest;
+use large_text::TextMeter;
+use spanprof_command::{Report, Status};
+use std::alloc::{AllocError, Global};
+use task_program::document::{Document, split_document};
+use task_program::name_key::NameKey;
+use task_segments::table::LargeTable;
+
+/// What is asked of a document, or what is wrong with it. Its program's own fault comes first, then
+/// `error: BadForm` where there is no divider, then what is wrong with what stands behind it.
+pub(crate) fn answer_document(
+    alloc: Global,
+    key: NameKey,
+    asked: DocumentRequest,
+    document: &[u8],
+) -> Result<Report, AllocError>
+    requires { FitsText document.now }
+    ensures { IfOk result (λ report. Answers (OfDocument asked) document.now report) }
+{
+    let Document { program, rest } = split_document(document);
+    match read_table(alloc, key, program)? {
+        Ok(table) => tell_document(alloc, asked, program, rest, table),
+        Err(report) => Ok(report),
+    }
+}
+
+/// The table of a text, or the line of its first fault.
+fn read_table(
+    alloc: Global,
+    key: NameKey,
+    text: &[u8],
+) -> Result<Result<LargeTable, Report>, AllocError>
+    requires { FitsText text.now }
+    ensures { IfOk result (λ read.
+        MatchResult read (IsTableOfText (tokens_of text.now)) (RefusesText text.now)) }
+{
+    let mut meter = TextMeter::with_rows(alloc, key)?;
+    take_text(&mut meter, text)?;
+    table_or_refusal(alloc, meter)
+}
+
+/// Hands a text to a meter, piece by piece.
+fn take_text(meter: &mut TextMeter, text: &[u8]) -> Result<(), AllocError>
+    requires fits { FitsText text.now }
+    requires first { HasTaken [] meter.old }
+    ensures { OnOk result (HasTaken text.now meter.new) }
+{
+    let mut rest = text;
+    'pieces: while !rest.is_empty() {
+        let (piece, later) = rest.split_at(rest.len().min(PIECE));
+        meter.take(piece)?;
+        rest = later;
+    }
+    Ok(())
+}
+
+/// What is told of a program with this text and this table, and of what stands behind it.
+fn tell_document(
+    alloc: Global,
+    asked: DocumentRequest,
+    program: &[u8],
+    rest: Option<&[u8]>,
+    table: LargeTable,
+) -> Result<Report, AllocError>
+    requires program { length program.now < 2 ^ 63 - 1 }
+    requires rest { IfSome (option_copied rest) (λ bytes. length bytes < 2 ^ 63) }
+    ensures { IfOk result (λ report.
+        TellsBehind asked program.now (option_copied rest.entry) table report) }
+{
+    match rest {
+        Some(rest) => tell_behind(alloc, asked, program, rest, table),
+        None => bad_form(alloc),
+    }
+}
+
+fn bad_form(alloc: Global) -> Result<Report, AllocError>
+    ensures { IfOk result (λ report. report ≡ bad_form) }
+{
+    Report::of_line(alloc, b"error: BadForm\n", Status::Refused)
+}
+
+fn tell_behind(
+    alloc: Global,
+    asked: DocumentRequest,
+    program: &[u8],
+    rest: &[u8],
+    table: LargeTable,
+) -> Result<Report, AllocError>
+    requires program { length program.now < 2 ^ 63 - 1 }
+    requires rest { length rest.now < 2 ^ 63 }
+    ensures { IfOk result (λ report. TellsRest asked program.now rest.now table report) }
+{
+    // Does nothing when it runs: its clauses tell the proof how many rows there are at most.
+    task_segments::laws::within_rows(&table);
+    tell_rest(alloc, asked, program, rest, table)
+}

@@ -1,0 +1,11 @@
+mod Lines
+mod Members
+mod OneAccount
+mod OneFault
+mod OnePath
+pub mod OneRest
+mod SomeAccount
+mod SomeFault
+mod ListSteps
+mod ListWords
+mod OneList

@@ -1,0 +1,75 @@
+-- Which times there are, and what is told of them.
+use Rattle.std.proofs.Common.{◌≡◌, ◌⊎◌, ◌-◌, ◌<◌, ℕ, zero, suc, List, length, arith, ap, sym, refl}
+use Rattle.std.proofs.Common.{subst, inl, map, ◌∙◌}
+use Rattle.std.proofs.lemmas.List.{get_or_default, length-map}
+use Rattle.dispatch_core.specs.Graph.{IsGraphOf}
+use Rattle.dispatch_core.specs.RecordedGraph.{IsGraph, RecordedGraph}
+use Rattle.program_text.specs.Document.{lines_of}
+use Rattle.spanprof_command.specs.Report.{Report}
+use Rattle.task_segments.specs.Schedule.{at}
+use Rattle.task_segments.specs.Table.{Table}
+use Rattle.task_segments.specs.declared.table.Segment.{Segment}
+use Rattle.time_accounts.specs.OwnPath.{IsOwnPath}
+use Rattle.time_accounts.specs.TimedRun.{IsTimedRun, TimedRun}
+use Rattle.time_text.specs.TimesTexts.{TellsTimes}
+use Rattle.time_text.specs.declared.line.RegionTimes.{RegionTimes}
+use Rattle.time_text.specs.declared.line.SegmentTimes.{SegmentTimes}
+use Rattle.large_documents.specs.AccountReports.{AcceptsRun, RefusesRun, TakesTimes}
+use Rattle.large_documents.specs.Accounts.{wait_at}
+use Rattle.large_documents.specs.Places.{AreMembers, AreTimes}
+use Rattle.command_words.specs.declared.large.AccountRequest.{AccountRequest}
+
+pub times_of_legal : (n p first last : ℕ) (R : ℕ → ℕ → Type 0) (run : TimedRun)
+    → IsTimedRun n R p first last run → AreTimes n run
+times_of_legal n p first last R run legal = record {
+  threads = legal.each_thread;
+  begins = legal.each_begin;
+  ends = legal.each_end;
+}
+
+member_below : (n : ℕ) (R : ℕ → ℕ → Type 0) (run : TimedRun) (path : List ℕ)
+    → IsOwnPath n R run path → (k : ℕ) → k < length path → at path k < n
+member_below n R run path is k inside =
+    is.segments (at path k) (k, inside, get_or_default path k (at path k) 0 inside)
+
+pub members_of_path : (n : ℕ) (R : ℕ → ℕ → Type 0) (run : TimedRun) (path : List ℕ)
+    → AreTimes n run → IsOwnPath n R run path → AreMembers run path
+members_of_path n R run path times is = record {
+  begins = λ k inside. omega (arith, times.begins, member_below n R run path is k inside);
+  ends = λ k inside. omega (arith, times.ends, member_below n R run path is k inside);
+}
+
+-- the wait before a member that is not the first
+pub wait_before : (run : TimedRun) (path : List ℕ) (k : ℕ) → 0 < k
+    → at run.begins (at path k) - at run.ends (at path (k - 1)) ≡ wait_at run path k
+wait_before run path zero some = absurd (omega (arith, some))
+wait_before run path (suc k) some =
+    let before : suc k - 1 ≡ k = omega arith in
+    ap (λ (j : ℕ). at run.begins (at path (suc k)) - at run.ends (at path j)) before
+
+pub first_wait : (run : TimedRun) (path : List ℕ) (k : ℕ) → k ≡ 0 → 0 ≡ wait_at run path k
+first_wait run path k none = rw none refl
+
+-- as many costs as segments
+pub same_count : (table : Table) (graph : RecordedGraph) → IsGraphOf table graph
+    → length table.segments ≡ length graph.costs
+same_count table graph of =
+    sym (ap length of.costs ∙ length-map table.segments (λ (row : Segment). row.cost))
+
+-- the times of a table's segments are answered
+pub taken : (asked : AccountRequest) (rest : List ℕ) (table : Table) (region : RegionTimes)
+    (segments : List SegmentTimes) (graph : RecordedGraph) (output : Report)
+    → TellsTimes (length table.segments) (lines_of rest) region segments
+    → IsGraph graph
+    → IsGraphOf table graph
+    → AcceptsRun asked graph region segments output ⊎ RefusesRun graph region segments output
+    → TakesTimes asked rest table output
+taken asked rest table region segments graph output tells is of answers = record {
+  region = region;
+  segments = segments;
+  tells = tells;
+  graph = graph;
+  is_graph = is;
+  is_graph_of = of;
+  answers = answers;
+}

@@ -1,0 +1,9 @@
+pub mod Times
+pub mod Accounts
+pub mod AccountReports
+pub mod ChangeLists
+pub mod Listing
+pub mod ListReports
+pub mod RestReports
+pub mod OneRest
+pub mod Places

@@ -1,0 +1,81 @@
+//! What is told of a program and the times of a run of it.
+ghost use Rattle.std.specs.Prelude.{◌≡◌, ◌⊎◌, ◌-◌, ◌<◌, ◌^◌, IfOk, length};
+ghost use Rattle.large_documents.specs.AccountReports.{AcceptsRun, RefusesRun, SaysOfTimes};
+ghost use Rattle.large_documents.specs.Times.{run_of};
+
+use crate::run_tables::tell_run;
+use crate::time_refusals::{text_refused, times_refused};
+use command_words::large::AccountRequest;
+use dispatch_core::graph::{Graph, graph_of};
+use spanprof_command::Report;
+use std::alloc::{AllocError, Global};
+use task_segments::table::LargeTable;
+use time_accounts::checks::check_times;
+use time_accounts::fault::TimesFault;
+use time_accounts::region::Region;
+use time_accounts::times::Times;
+use time_text::{SegmentTimes, TimeTextFault, TimesText, read_times};
+
+/// What is told of a program with this text and this table, by the lines behind it: what is wrong
+/// with the lines comes first, then why they are not the times of a legal run. The table is dropped
+/// once its graph is made.
+pub(crate) fn tell_account(
+    alloc: Global,
+    asked: AccountRequest,
+    program: &[u8],
+    rest: &[u8],
+    table: LargeTable,
+) -> Result<Report, AllocError>
+    requires program { length program.now < 2 ^ 63 - 1 }
+    requires rest { length rest.now < 2 ^ 63 }
+    ensures { IfOk result (λ report. SaysOfTimes asked program.now rest.now table report) }
+{
+    let graph = graph_of(alloc, &table)?;
+    drop(table);
+    dispatch_core::laws::is_graph(&graph);
+    match read_times(alloc, rest, graph.len()) {
+        Ok(times) => answer_run(alloc, asked, &graph, &times),
+        Err(TimeTextFault::OutOfMemory) => Err(AllocError),
+        Err(fault) => text_refused(alloc, program, fault),
+    }
+}
+
+/// What is told of a run, or why it is not legal.
+fn answer_run(
+    alloc: Global,
+    asked: AccountRequest,
+    graph: &Graph,
+    told: &TimesText,
+) -> Result<Report, AllocError>
+    requires { length told.now.segments.items ≡ length graph.now.costs }
+    ensures { IfOk result (λ report.
+        AcceptsRun asked graph.now told.now.region told.now.segments.items report
+        ⊎ RefusesRun graph.now told.now.region told.now.segments.items report) }
+{
+    let region = Region {
+        threads: told.region.threads,
+        first: told.region.first,
+        last: told.region.last,
+    };
+    let times = times_of(alloc, told.segments.as_slice())?;
+    match check_times(alloc, graph, region, &times) {
+        Ok(()) => tell_run(alloc, asked, graph, told.region, &times),
+        Err(TimesFault::OutOfMemory) => Err(AllocError),
+        Err(fault) => times_refused(alloc, fault),
+    }
+}
+
+/// The times of a run in three lists.
+fn times_of(alloc: Global, segments: &[SegmentTimes]) -> Result<Times, AllocError>
+    ensures { IfOk result (λ times. times ≡ run_of segments.now) }
+{
+    let mut threads = Vec::with_capacity(alloc, segments.len())?;
+    let mut begins = Vec::with_capacity(alloc, segments.len())?;
+    let mut ends = Vec::with_capacity(alloc, segments.len())?;
+    for times in segments {
+        threads.push(times.thread)?;
+        begins.push(times.begin)?;
+        ends.push(times.end)?;
+    }
+    Ok(Times::new(threads, begins, ends))
+}

@@ -1,0 +1,12 @@
+//! What is told of documents of any size: a text, its divider, and what stands behind it.
+#![tactic(auto)]
+
+mod accounts;
+mod change_list;
+pub mod laws;
+mod listed;
+mod rest;
+mod run_tables;
+mod time_refusals;
+
+pub use rest::{MOST_LARGE_EVENTS, tell_rest};

@@ -1,0 +1,23 @@
+#include "joined_times.hpp"
+
+#include <algorithm>
+
+namespace {
+void renumber(Event &event, const std::vector<unsigned> &left_out) {
+  auto at = std::lower_bound(left_out.begin(), left_out.end(), event.segment);
+  event.taken_back = event.taken_back || (at != left_out.end() && *at == event.segment);
+  event.segment -= static_cast<unsigned>(at - left_out.begin());
+}
+}  // namespace
+
+void JoinedTimes::apply(std::vector<Event> &events) const {
+  std::unordered_map<const Task *, int64_t> ends;
+  for (const Event &event : events)
+    if (!event.start) ends[event.task] = event.at;
+  for (Event &event : events) {
+    auto last = lasts.find(event.task);
+    if (last != lasts.end() && !event.start) event.at = ends[last->second];
+    auto part = left_out.find(event.task);
+    if (part != left_out.end()) renumber(event, part->second);
+  }
+}

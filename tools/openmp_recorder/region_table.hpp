@@ -1,0 +1,14 @@
+// The program's regions in the order of time, those without tasks too: NAME.regions.
+#pragma once
+#include <string>
+
+#include "run.hpp"
+#include "source.hpp"
+
+struct WholeTime {
+  int64_t start, end;  // of the program, on the wall clock
+  int64_t outside;  // what it cost outside of regions
+};
+
+std::vector<const void *> codes_of_regions(const Run &run);
+std::string region_table(const Run &run, const WholeTime &time, const Places &places);

@@ -1,0 +1,64 @@
+// Which regions are written, and the table of them all.
+#include "../chosen.hpp"
+#include "../region_table.hpp"
+#include "check.hpp"
+
+namespace {
+const char codes[2] = {};
+
+// Regions of these works at the first place, and then at the second.
+std::deque<Region> regions_of(const std::vector<int64_t> &first, const std::vector<int64_t> &second) {
+  std::deque<Region> out;
+  for (const auto *works : {&first, &second})
+    for (int64_t work : *works) {
+      Region &region = out.emplace_back();
+      region.code = &codes[works == &second];
+      region.in_tasks = work;
+      region.place = out.size();
+    }
+  return out;
+}
+
+std::string works_of(std::deque<Region> regions, size_t most) {
+  std::vector<Region *> all;
+  for (Region &region : regions) all.push_back(&region);
+  std::string out;
+  for (const Region *region : chosen(all, most)) out += std::to_string(work_of(*region)) + " ";
+  return out;
+}
+}  // namespace
+
+TEST(all_regions_are_written_where_there_is_room) { EXPECT(works_of(regions_of({5, 9}, {1}), 3), "5 9 1 "); }
+
+TEST(of_a_place_those_next_to_the_median_are_written) {
+  EXPECT(works_of(regions_of({50, 10, 30, 900, 20}, {}), 1), "30 ");
+  EXPECT(works_of(regions_of({50, 10, 30, 900, 20}, {}), 3), "50 30 20 ");
+  EXPECT(works_of(regions_of({50, 10, 900, 20}, {}), 1), "20 ");
+}
+
+TEST(places_take_turns_those_with_the_most_work_first) {
+  EXPECT(works_of(regions_of({1, 2, 3}, {40, 50, 60}), 1), "50 ");
+  EXPECT(works_of(regions_of({1, 2, 3}, {40, 50, 60}), 3), "2 50 60 ");
+}
+
+TEST(regions_are_told_in_the_order_of_time) {
+  Run run;
+  for (uint32_t number : {1, 2, 3}) {
+    Region &region = *(run.regions[number] = std::make_unique<Region>());
+    region.code = &codes[number == 2];
+    region.threads = 4;
+    region.created = 10 * number + number;
+    region.chunks = number;  // which are no tasks of the program
+    region.cost = 7 * number;
+    int64_t begin = 1100 - 100 * int64_t{number};
+    region.time = {number, number != 1, begin, number == 1 ? 0 : begin + 50};
+    region.text = number == 2 ? 1 : 0;
+  }
+  run.regions[3]->divided[Divided::Loops].times = 2;
+  Places places;
+  places.put(&codes[0], "steps.c:9");
+  EXPECT(codes_of_regions(run).size(), 2u);
+  EXPECT(region_table(run, {500, 1500, 80}, places),
+         "number,text,begin_ns,end_ns,threads,tasks,loops,code_ns,inside,place\n0,0,0,1000,1,0,0,80,0,\n"
+         "1,0,300,350,4,30,2,21,0,steps.c:9\n2,1,400,450,4,20,0,14,0,\n3,0,500,1000,4,10,0,7,1,steps.c:9\n");
+}

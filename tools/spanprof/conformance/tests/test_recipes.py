@@ -1,0 +1,72 @@
+"""Random programs of forms that are known to be hard."""
+import random
+import unittest
+
+from spanprof.conformance.constructs import constructs
+from spanprof.conformance.generate import RECIPES
+from spanprof.conformance.program import Group, Loop, Task, nodes, segment_count
+from spanprof.conformance.reader import read_program
+from spanprof.conformance.recipes import Recipes
+from spanprof.conformance.segments import Table
+from spanprof.conformance.text import text_of
+
+KINDS = ("in", "out", "inout")
+SEEDS = range(40)
+
+
+def made(name, without=()):
+    return [RECIPES[name](Recipes(random.Random(seed), KINDS, without)) for seed in SEEDS]
+
+
+def most_turns(body):
+    return max((node.turns for node in nodes(body) if isinstance(node, Loop)), default=0)
+
+
+class Made(unittest.TestCase):
+    def test_all_come_back_from_their_texts(self):
+        for name in RECIPES:
+            for body in made(name):
+                self.assertEqual(read_program(text_of(body)), body, name)
+                self.assertLess(segment_count(body), 5000, name)
+
+    def test_without_loops(self):
+        for name in RECIPES:
+            self.assertFalse([node for body in made(name, ["loop"]) for node in nodes(body) if isinstance(node, Loop)])
+
+    def test_more_ready_tasks_than_are_queued(self):
+        for body in made("many"):
+            self.assertGreater(most_turns(body), 64)
+
+    def test_more_locations_than_there_is_room_for(self):
+        for body in made("table"):
+            places = {place for task in Table(body).tasks for _, place in task.items}
+            self.assertGreaterEqual(len(places), 12)
+
+    def test_few_locations_in_each_of_many_tasks(self):
+        for body in made("probes"):
+            self.assertEqual(most_turns(body), 33)
+            self.assertLessEqual(2, len({place for task in Table(body).tasks[:5] for _, place in task.items}))
+
+    def test_groups_of_tasks_that_all_wait(self):
+        def all_wait(node):
+            inner = [task for task in nodes(node.body) if isinstance(task, Task)]
+            return bool(inner) and all(task.items for task in inner)
+
+        self.assertTrue([node for body in made("fan") for node in nodes(body)
+                         if isinstance(node, Group) and all_wait(node)])
+
+    def test_waits_again_and_again(self):
+        found = set().union(*(constructs(body) for body in made("rounds")))
+        self.assertLessEqual({"taskwait", "taskgroup", "if(0) with depend", "taskwait with depend"}, found)
+        for body in made("rounds"):
+            self.assertGreaterEqual(most_turns(body), 8)
+
+    def test_cancelled_groups(self):
+        for body in made("cancel"):
+            self.assertIn("cancel", constructs(body))
+            self.assertTrue(any(task.cancellers for task in Table(body).tasks))
+        self.assertNotIn("cancel", set().union(*(constructs(body) for body in made("cancel", ["cancel"]))))
+
+
+if __name__ == "__main__":
+    unittest.main()

@@ -1,0 +1,37 @@
+"""A text with what the runtime takes for each task put where it falls, as `work`.
+
+A deferred task has the dispatch before its code. What creating it takes stands in the code of its parent as it was
+recorded. A steal hangs on the schedule and stands in no text.
+"""
+from spanprof.head import comments
+from spanprof.text import Cutter, Statement, statements, text_lines
+
+
+def burdened(program, costs, dispatch):
+    """The costs with the dispatch of each deferred task."""
+    out = list(costs)
+    for number in range(1, len(program.tasks)):
+        if not program.tasks[number].is_undeferred:
+            out[program.first_segment(number)] += dispatch
+    return out
+
+
+def with_costs(stream, costs):
+    """The statements of a text, where segment s costs `costs[s]`."""
+    cutter = Cutter()
+    yield Statement("work", cost=costs[0])
+    for one in stream:
+        if one.kind == "work":
+            continue
+        yield one
+        cutter.take(one)
+        if one.kind != "taskgroup":
+            yield Statement("work", cost=costs[cutter.current])
+
+
+def burdened_text(text, costs, remark=""):
+    """A text of version 1 with these costs, in nanoseconds; its head tells where the text is from, and the remark."""
+    head = ["# %s\n" % line for line in comments(text) if line.startswith(("recorded: ", "region: ", "place "))]
+    head = [line.replace(", unit us", ", unit ns").replace(", unit ms", ", unit ns") for line in head]
+    body = text_lines(with_costs(statements(text.split("\n")), costs), 1)
+    return "".join([*head, *(["# remark: %s\n" % remark] if remark else []), *body])

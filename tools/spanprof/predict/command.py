@@ -1,0 +1,59 @@
+"""spanprof-predict: the time of a recorded program on some threads."""
+import argparse
+import json
+
+from spanprof.command import Console, check_files, count, end_with
+from spanprof.predict.burden import burdened_text
+from spanprof.predict.estimate import LLVM, RUNTIMES
+from spanprof.predict.machine import machine_file, read_machine
+from spanprof.predict.predictions import by_threads, predictions
+from spanprof.predict.words import as_json, burden_words, lines
+from spanprof.remarks import in_json
+from spanprof.version import Version
+
+DESCRIPTION = """Tells how long the recorded region would take on some threads, and from which to which time, by a model
+of the runtime's scheduling. Several texts are recordings of one program on different numbers of threads: from these it takes
+how code gets dearer."""
+AFTER = """What the runtime takes for a task is that of this machine, which spanprof-record measures once.
+Exit status 1: a file is missing, or a text tells no time; 2: wrong words."""
+MOST_THREADS = 1024
+
+
+def numbers(word):
+    read = count(1, MOST_THREADS)
+    return sorted({read(one) for one in word.split(",")})
+
+
+def parse(words):
+    parser = argparse.ArgumentParser(prog="spanprof-predict", description=DESCRIPTION, epilog=AFTER, allow_abbrev=False)
+    add = parser.add_argument
+    add("texts", nargs="+", metavar="MINE.tasks", help="the recordings")
+    add("--threads", type=numbers, metavar="P,..", help="without it as many as were recorded, and twice as many")
+    add("--machine", metavar="FILE", help="the model of the machine; without it that of this one")
+    add("--runtime", choices=RUNTIMES, default=LLVM, help="whose scheduling: llvm (without it), or gnu, gcc's")
+    add("-o", "--output", metavar="BURDENED.tasks", help="keep the burdened text, for the last number of threads")
+    add("--json", action="store_true", help="print JSON")
+    add("--version", action=Version)
+    return parser.parse_args(words)
+
+
+def remark(one):
+    return in_json("burdened text", "a burdened text, with %s for %d threads" % (
+        burden_words(one.dispatch), one.threads), "work and span are of no recorded run")
+
+
+def answer(chosen):
+    for path in chosen.texts:
+        check_files(path, chosen.output, "burdened")
+    machine, recordings = read_machine(chosen.machine or machine_file()), by_threads(chosen.texts)
+    found = predictions(recordings, machine, chosen.threads, chosen.runtime)
+    if chosen.output:
+        one = found[-1][0]
+        with open(chosen.output, "w", encoding="utf-8") as file:
+            file.write(burdened_text(one.base.text, one.costs, remark(one)))
+    told = recordings[max(recordings)], machine, found
+    print(json.dumps(as_json(*told), indent=2) if chosen.json else "\n".join(lines(*told)))
+
+
+def main(words):
+    end_with(Console("spanprof-predict"), answer, parse(words))

@@ -1,0 +1,105 @@
+"""The program's time on some threads, by a simulation of a runtime's scheduling on the burdened text. It is a model:
+nothing of it is proved. The interval is that which held in nine of ten programs that it was not fitted to."""
+import statistics
+from dataclasses import dataclass
+from math import exp, log
+from typing import List
+
+from spanprof.errors import Fault
+from spanprof.predict.burden import burdened
+from spanprof.predict.gnu import GnuSimulation
+from spanprof.predict.growth import Growth
+from spanprof.predict.policy import Simulation, Spent
+from spanprof.predict.recorded import Recorded
+from spanprof.predict.times import on_threads
+
+RUNTIMES = LLVM, GNU = "llvm", "gnu"
+RUNS = 3            # simulations, which differ in whom a thread steals from
+# How far the truth may be from a prediction, as logarithms: fitted to half the programs of checks/programs/predictions.
+AS_RECORDED = 0.08  # on as many threads as were recorded
+ON_OTHERS = 0.07    # on another number, where two recordings tell how code grows
+OF_GROWTH = 0.5     # and more for what was added by that, by its logarithm
+ALONE = 0.29        # on another number, of one recording
+
+
+@dataclass
+class Estimate:
+    """In nanoseconds. `costs` are those of the burdened text, that of the recording `base`."""
+    base: Recorded
+    threads: int
+    time: int
+    low: int
+    high: int
+    costs: List[int]
+    outside: int
+    dispatch: int = 0
+    steal: int = 0
+    grown: float = 0.0      # the logarithm of the work over that which was recorded
+    by_lock: bool = False
+    unmatched: float = 0.0  # of the work, what only the recording on more threads has
+    runtime: str = LLVM
+
+
+def base_of(recordings, threads):
+    """The recording on this number of threads, or that on the most; and how code grows from the one before it on."""
+    if threads in recordings:
+        return recordings[threads], None
+    numbers = sorted(recordings)
+    most = recordings[numbers[-1]]
+    if most.threads == 1:
+        raise Fault("%s is of one thread, whose tasks are all undeferred: it tells no time on more" % most.name)
+    return most, Growth(recordings[numbers[-2]], most) if len(numbers) > 1 else None
+
+
+def outside_on(base, growth, threads):
+    return int(growth.outside(threads)) if growth else base.outside
+
+
+def simulated(simulation, program, costs, threads, spent, came=()):
+    """The median end of some runs."""
+    return statistics.median_low(
+        simulation(program, costs, threads, spent, seed, came).run().end for seed in range(RUNS))
+
+
+def spent_on(machine, threads, base=None):
+    """A wake-up was measured with the creation of the task, and its steal. A dispatch that a recording tells has its
+    steals in it."""
+    creation, steal, wake_up = (machine.cost(name, threads) for name in ("creation", "steal", "wake_up"))
+    is_told = base is not None and base.dispatch is not None
+    return Spent(0 if is_told else steal, max(wake_up - creation - steal, 0))
+
+
+def width(base, growth, threads, grown):
+    if base.threads == threads:
+        return AS_RECORDED
+    return ON_OTHERS + OF_GROWTH * abs(grown) if growth else ALONE
+
+
+def dispatch_on(machine, threads, base=None):
+    """As the recording tells it, or else the machine. On one thread tasks are run where they are made."""
+    if threads == 1:
+        return 0
+    return base.dispatch if base and base.dispatch is not None else machine.cost("dispatch", threads)
+
+
+def runs_of(runtime, base, machine, threads):
+    """How a run is simulated, what a dispatch takes, what else is spent, and when the threads come. What is recorded is
+    a run with LLVM's runtime; gcc's takes its lock, and how its threads come is not known."""
+    spent = spent_on(machine, threads, base)
+    if runtime == GNU:
+        return GnuSimulation, 0, Spent(0, spent.wake), ()
+    return Simulation, dispatch_on(machine, threads, base), spent, on_threads(base.arrivals, threads)
+
+
+def estimate(recordings, machine, threads, runtime=LLVM):
+    """Of recordings by their number of threads."""
+    base, growth = base_of(recordings, threads)
+    costs = growth.costs(threads) if growth else base.program.costs
+    grown = log(max(sum(costs), 1) / max(base.work, 1))
+    simulation, dispatch, spent, came = runs_of(runtime, base, machine, threads)
+    costs = burdened(base.program, costs, dispatch)
+    outside = outside_on(base, growth, threads)
+    end = simulated(simulation, base.program, costs, threads, spent, came) + outside
+    time, far = max(end, base.held), width(base, growth, threads, grown)
+    return Estimate(base, threads, time, int(time / exp(far)), int(time * exp(far)), costs, outside, dispatch,
+                    spent.steal, grown, base.held > end, growth.unmatched if growth else 0.0, runtime)

@@ -1,0 +1,78 @@
+"""Predictions of recordings, each with what no schedule of the burdened text passes."""
+import os
+
+from spanprof import client
+from spanprof.answers import named_numbers
+from spanprof.errors import Fault
+from spanprof.predict.burden import burdened_text
+from spanprof.predict.estimate import LLVM, estimate
+from spanprof.predict.machine import machine_file, read_machine
+from spanprof.predict.recorded import recorded, with_text
+from spanprof.predict.words import as_json, changed_json, changed_words, lines
+
+
+def by_threads(paths):
+    """The recordings of one region by their numbers of threads."""
+    found = {}
+    for path in paths:
+        one = recorded(path)
+        if one.threads in found:
+            raise Fault("%s and %s are both of %d threads" % (found[one.threads].name, one.name, one.threads))
+        found[one.threads] = one
+    places = {one.head.region for one in found.values()}
+    if len(places) > 1:
+        raise Fault("the texts are not of one region, but of those at %s" % " and ".join(sorted(places)))
+    return found
+
+
+def least_end(text, costs, threads):
+    """What no schedule on so many threads passes, by what spanprof tells of the burdened text."""
+    numbers = named_numbers(client.ask(["span"], burdened_text(text, costs)))
+    return max(numbers["span"], -(-numbers["work"] // threads))
+
+
+def predictions(recordings, machine, numbers=None, runtime=LLVM):
+    """Pairs of an estimate and its least end; without numbers, on as many threads as recorded and on twice as many."""
+    most = max(recordings)
+    found = [estimate(recordings, machine, threads, runtime) for threads in numbers or [most, 2 * most]]
+    return [(one, least_end(one.base.text, one.costs, one.threads)) for one in found]
+
+
+def by_the_model(paths, numbers=None):
+    """The recording on the most threads, the model of this machine, and the predictions; None without a model."""
+    if not os.path.exists(machine_file()):
+        return None
+    machine, recordings = read_machine(machine_file()), by_threads(paths)
+    return recordings[max(recordings)], machine, predictions(recordings, machine, numbers)
+
+
+def told_of(paths):
+    """For a summary, lines and JSON. There is nothing without a model of the machine."""
+    try:
+        told = by_the_model(paths)
+    except Fault as why:
+        return ["not told: %s" % why], {"none": str(why)}
+    return (lines(*told), as_json(*told)) if told else ([], None)
+
+
+def of_changed(base, text, machine, threads):
+    """Of a recording with a changed text: an estimate and its least end."""
+    found = estimate({base.threads: with_text(base, text)}, machine, threads)
+    return found, least_end(text, found.costs, threads)
+
+
+def of_both(path, changed, threads):
+    """Pairs as above of a recording's text and of the changed one in another file; None without a model."""
+    if not os.path.exists(machine_file()):
+        return None
+    machine, base = read_machine(machine_file()), recorded(path)
+    return [of_changed(base, text, machine, threads) for text in (base.text, client.read(changed))]
+
+
+def changed_told(path, changed, threads):
+    """The same in a line and as JSON, or why no time is told; none as above."""
+    try:
+        both = of_both(path, changed, threads)
+    except Fault as why:
+        return ["no time is predicted: %s" % why], {"none": str(why)}
+    return ([changed_words(threads, *both)], changed_json(threads, *both)) if both else ([], None)

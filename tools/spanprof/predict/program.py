@@ -1,0 +1,122 @@
+"""A program text as tasks, each with the steps of its code: what a simulation of a runtime goes through."""
+from dataclasses import dataclass, field
+from typing import List, Tuple
+
+from spanprof.text import Cutter, statements
+
+WORK, CREATE, WAIT, BEGIN, END = range(5)
+
+
+@dataclass
+class Task:
+    """`steps` are pairs of a kind and what it is of: a segment, a task, or a group."""
+    parent: int
+    depth: int
+    place: str
+    is_undeferred: bool = False
+    groups: Tuple[int, ...] = ()    # in which it stands, each with all below it
+    steps: List[Tuple[int, int]] = field(default_factory=list)
+    awaits: int = 0                 # how many earlier siblings by `depend`
+    followers: List[int] = field(default_factory=list)  # the later siblings that wait for it
+
+
+@dataclass
+class Program:
+    tasks: List[Task]
+    costs: List[int]
+    places: List[str]   # of the segments
+    owners: List[int]   # the task of each segment
+    groups: int
+
+    def first_segment(self, task):
+        return self.tasks[task].steps[0][1]
+
+
+class Depends:
+    """The latest items of siblings, by parent and name: tasks that conflict with one another stand in different
+    generations, and one waits for those of the generation before its own."""
+
+    def __init__(self):
+        self.names = {}
+
+    @staticmethod
+    def kind_of(item):
+        return item if item in ("in", "inoutset") else "out"
+
+    def before(self, parent, task, items):
+        """The tasks for which a new one waits."""
+        found = set()
+        for item, name in items:
+            generations = self.names.setdefault((parent, name), [])
+            kind = self.kind_of(item)
+            if generations and generations[-1][1] == {task}:
+                if generations[-1][0] != kind:
+                    generations[-1][0] = "out"
+            elif generations and kind != "out" and generations[-1][0] == kind:
+                generations[-1][1].add(task)
+            else:
+                generations.append([kind, {task}])
+                del generations[:-2]
+            if len(generations) > 1:
+                found |= generations[-2][1]
+        return found - {task}
+
+
+class Builder:
+    """Builds a program statement by statement."""
+
+    def __init__(self):
+        self.cutter, self.depends = Cutter(), Depends()
+        self.tasks = [Task(-1, 0, "", steps=[(WORK, 0)])]
+        self.open_tasks, self.open_groups, self.blocks, self.groups = [0], [], [], 0
+
+    def step(self, kind, of=0):
+        self.tasks[self.open_tasks[-1]].steps.append((kind, of))
+
+    def take(self, one):
+        if one.kind == "task":
+            self.begin_task(one)
+        elif one.kind == "taskgroup":
+            self.step(BEGIN, self.groups)
+            self.open_groups.append(self.groups)
+            self.blocks.append(one.kind)
+            self.groups += 1
+        elif one.kind == "taskwait":
+            self.step(WAIT)
+        elif one.kind == "end":
+            self.end()
+        self.cutter.take(one)
+        if one.kind not in ("work", "taskgroup"):
+            self.step(WORK, self.cutter.current)
+
+    def begin_task(self, one):
+        parent, number = self.open_tasks[-1], len(self.tasks)
+        self.step(CREATE, number)
+        made = Task(parent, self.tasks[parent].depth + 1, one.comment, one.is_undeferred, tuple(self.open_groups))
+        if one.items:
+            before = self.depends.before(parent, number, one.items)
+            made.awaits = len(before)
+            for other in before:
+                self.tasks[other].followers.append(number)
+        self.tasks.append(made)
+        self.open_tasks.append(number)
+        self.blocks.append(one.kind)
+
+    def end(self):
+        if self.blocks.pop() == "task":
+            self.open_tasks.pop()
+        else:
+            self.step(END, self.open_groups.pop())
+
+    def built(self):
+        code = self.cutter.out
+        return Program(self.tasks, [one.cost for one in code], [one.place() for one in code],
+                       [one.task for one in code], self.groups)
+
+
+def read_program(text):
+    """Of a text of version 1 that spanprof has taken."""
+    builder = Builder()
+    for one in statements(text.split("\n")):
+        builder.take(one)
+    return builder.built()

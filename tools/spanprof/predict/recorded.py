@@ -1,0 +1,96 @@
+"""A recording as predictions take it, in nanoseconds."""
+import os
+from dataclasses import dataclass, replace
+from typing import Optional, Tuple
+
+from spanprof import client
+from spanprof.account import timed_beside
+from spanprof.claims import is_divided, is_folded
+from spanprof.errors import Fault
+from spanprof.head import Head, read_head
+from spanprof.predict.program import Program, read_program
+from spanprof.predict.times import rows_of, times_of
+from spanprof.text import DIVIDER, has_loops
+
+
+@dataclass
+class Recorded:
+    """`outside` is the region's time before its code begins and after it has ended."""
+    program: Program
+    threads: int
+    elapsed: int = 0
+    outside: int = 0
+    held: int = 0           # inside the most held lock, one thread at a time
+    name: str = ""
+    head: Optional[Head] = None
+    text: str = ""
+    is_timed: bool = True
+    arrivals: Tuple[int, ...] = ()  # of the threads, after the code has begun
+    dispatch: Optional[int] = None  # what it took to begin a task, where the times tell it
+
+    @property
+    def work(self):
+        return sum(self.program.costs)
+
+
+def outside_of(timed):
+    """By the lines of a timed document: `times THREADS FIRST LAST`, then `SEGMENT THREAD BEGIN END`."""
+    words = [line.split() for line in timed if line.strip()]
+    if not words or words[0][0] != "times" or len(words) == 1:
+        return 0
+    first, last = map(int, words[0][2:])
+    return min(int(row[2]) for row in words[1:]) - first + last - max(int(row[3]) for row in words[1:])
+
+
+def lines_after_the_divider(path):
+    with open(path, encoding="utf-8", errors="replace") as file:
+        for line in file:
+            if line.rstrip("\r\n") == DIVIDER:
+                return list(file)
+    return []
+
+
+def why_not(head, text):
+    """Why a text tells no time of its program; empty where nothing is known against it."""
+    if has_loops(text) or not head.nanoseconds or not head.threads:
+        return "it is no recording"
+    if is_folded(head):
+        return "tasks are folded, and what they cost the runtime is not told"
+    if head.whole:
+        return "it is of a whole program"
+    return "its code is divided among its threads" if is_divided(head) else ""
+
+
+def recorded_as(text, name, outside=None):
+    """A text that spanprof has taken; without `outside` it has no times."""
+    head = read_head(text)
+    why = why_not(head, text)
+    if why:
+        raise Fault("%s: no time is predicted: %s" % (name, why))
+    program = read_program(text)
+    program.costs = [cost * head.nanoseconds for cost in program.costs]
+    return Recorded(program, head.threads, (head.elapsed or 0) * head.nanoseconds, outside or 0,
+                    (head.most_held or 0) * head.nanoseconds, os.path.basename(name), head, text, outside is not None)
+
+
+def with_text(base, text):
+    """The same recording with a changed text in its unit: the times around its code stay."""
+    program = read_program(text)
+    program.costs = [cost * base.head.nanoseconds for cost in program.costs]
+    return replace(base, program=program, text=text)
+
+
+def take_times(one, timed):
+    """What the lines of its timed document tell, after the divider."""
+    one.outside, one.is_timed = outside_of(timed), True
+    times = times_of(one.program, rows_of(timed))
+    if times:
+        one.arrivals, one.dispatch = times.arrivals(), times.dispatch()
+
+
+def recorded(path):
+    """That of a file, with the times beside it where they are there."""
+    one, timed = recorded_as(client.read(path), path), timed_beside(path)
+    if os.path.exists(timed):
+        take_times(one, lines_after_the_divider(timed))
+    return one

@@ -1,0 +1,72 @@
+import unittest
+
+from spanprof.predict.gnu import LOCK, MOST, GnuSimulation
+from spanprof.predict.policy import Spent
+from spanprof.predict.program import read_program
+
+
+class Order(GnuSimulation):
+    """Keeps which tasks were begun, and by which thread."""
+
+    def __init__(self, text, threads):
+        program = read_program("omptasks 1 " + text)
+        super().__init__(program, program.costs, threads, Spent())
+        self.began = []
+
+    def take(self, thread):
+        spent = super().take(thread)
+        if spent is not None:
+            self.began.append((thread, self.stacks[thread][-1][0]))
+        return spent
+
+
+class Queues(unittest.TestCase):
+    def test_an_idle_thread_takes_the_oldest(self):
+        run = Order("task { } task { } task { }", 1)
+        run.run()
+        self.assertEqual(run.began, [(0, 1), (0, 2), (0, 3)])
+
+    def test_one_that_waits_takes_its_newest_child(self):
+        run = Order("task { } task { } task { } taskwait", 1)
+        run.run()
+        self.assertEqual(run.began, [(0, 3), (0, 2), (0, 1)])
+
+    def test_and_no_other_task(self):
+        """The second thread waits in the first task for its child, and leaves the others to the first one."""
+        text = "task { task { work 50000 } work 10 taskwait } work 100 task { work 9000 } work 90000"
+        run = Order(text, 2)
+        run.run()
+        self.assertEqual([number for _, number in run.began], [1, 2, 3])
+        self.assertEqual(run.began[2][0], 1)    # after its wait
+        self.assertGreaterEqual(run.last, 50000 + 9000)
+
+    def test_the_end_of_a_group_takes_the_groups(self):
+        run = Order("task { } taskgroup { task { } task { } }", 1)
+        run.run()
+        self.assertEqual(run.began, [(0, 3), (0, 2), (0, 1)])
+
+    def test_depend(self):
+        run = Order("task depend(out: a) { work 5 } task depend(in: a) { } task { } taskwait", 1)
+        run.run()
+        self.assertEqual([number for _, number in run.began], [3, 1, 2])
+
+
+class Costs(unittest.TestCase):
+    def test_the_lock_is_taken_by_one_thread_at_a_time(self):
+        program = read_program("omptasks 1" + " task { }" * 4)
+        self.assertEqual(GnuSimulation(program, program.costs, 4, Spent()).run().end, 4 * LOCK)
+
+    def test_too_many_tasks_are_run_at_once(self):
+        """On one thread, each beyond 65 that lie ready is run where it is made, and costs no lock."""
+        program = read_program("omptasks 1" + " task { work 1000 }" * 100)
+        run = GnuSimulation(program, program.costs, 1, Spent()).run()
+        self.assertEqual((run.dispatches, run.end), (MOST + 1, 100 * 1000 + (MOST + 1) * LOCK))
+
+    def test_one_that_waits_by_depend_is_not_run_before(self):
+        text = "omptasks 1" + " task { work 9 }" * 65 + " task depend(out: a) { work 7 } task depend(in: a) { work 7 }"
+        program = read_program(text)
+        self.assertEqual(GnuSimulation(program, program.costs, 1, Spent()).run().dispatches, MOST + 1)
+
+
+if __name__ == "__main__":
+    unittest.main()

@@ -1,0 +1,89 @@
+"""What the times of a recording tell of its threads: when they come, and what the runtime takes to begin a task.
+
+The runtime starts or wakes the threads of a region one after the other, and meanwhile the first one is at work: on a
+short region that is a good part of its time.
+"""
+from spanprof.predict.program import CREATE
+
+MOST_GAP = 20000    # nanoseconds: what is longer is another program's turn, and nothing of the runtime
+LEAST_GAPS = 10
+
+
+def rows_of(timed):
+    """Of the lines of a timed document: `times THREADS FIRST LAST`, then `SEGMENT THREAD BEGIN END`."""
+    return [tuple(map(int, line.split())) for line in timed[1:] if line.strip()]
+
+
+class Times:
+    """Of a recording's segments, in nanoseconds."""
+
+    def __init__(self, program, rows):
+        self.program = program
+        self.begins, self.ends = {row[0]: row[2] for row in rows}, {row[0]: row[3] for row in rows}
+        self.by_thread = {}
+        for segment, thread, begin, end in rows:
+            self.by_thread.setdefault(thread, []).append((begin, end, segment))
+        for one in self.by_thread.values():
+            one.sort()
+        self.ready = self.ready_at()
+
+    def ready_at(self):
+        """When each task could begin: it was made, and those that it waits for had ended."""
+        ready = [0] * len(self.program.tasks)
+        for task in self.program.tasks:
+            for (_, segment), (kind, number) in zip(task.steps, task.steps[1:]):
+                if kind == CREATE:
+                    ready[number] = max(ready[number], self.ends[segment])
+            over = self.ends[task.steps[-1][1]]
+            for follower in task.followers:
+                ready[follower] = max(ready[follower], over)
+        return ready
+
+    def deferred(self):
+        """By their first segment."""
+        return {self.program.first_segment(number): number for number, task in enumerate(self.program.tasks)
+                if number and not task.is_undeferred}
+
+    def lay_ready_until(self):
+        """Until when, from the first task on, some task always lay ready."""
+        lain = sorted((self.ready[number], self.begins[segment]) for segment, number in self.deferred().items())
+        until = lain[0][0] if lain else 0
+        for ready, begin in lain:
+            if ready > until:
+                break
+            until = max(until, begin)
+        return until
+
+    def arrivals(self):
+        """Sorted, after the first segment's begin. A thread was not there while a task always lay ready that it did
+        not begin; later, nothing tells it from a thread that had nothing to do."""
+        first = [one[0][0] for one in self.by_thread.values()]
+        start, until = min(first), self.lay_ready_until()
+        return tuple(sorted(max(min(one, until) - start, 0) for one in first))
+
+    def gaps(self):
+        """The times between two segments of a thread where the second begins a task that was ready before."""
+        tasks = self.deferred()
+        for one in self.by_thread.values():
+            for (_, end, _), (begin, _, segment) in zip(one, one[1:]):
+                if segment in tasks and self.ready[tasks[segment]] <= end and begin - end <= MOST_GAP:
+                    yield begin - end
+
+    def dispatch(self):
+        """What the runtime takes to begin a task, wherever it lay, with what the recorder takes there: the mean, since
+        they add up. None where too few tell it."""
+        found = list(self.gaps())
+        return sum(found) // len(found) if len(found) >= LEAST_GAPS else None
+
+
+def times_of(program, rows):
+    """None where times and text are not of the same segments."""
+    return Times(program, rows) if len({row[0] for row in rows}) == len(program.costs) else None
+
+
+def on_threads(found, threads):
+    """Arrivals of another number of threads: more of them come as far apart as these."""
+    if len(found) < 2:
+        return ()
+    step = found[-1] // (len(found) - 1)
+    return tuple(found[:threads]) + tuple(found[-1] + step * i for i in range(1, threads - len(found) + 1))

@@ -1,0 +1,143 @@
+"""The regions of a recorded program in the order of time, by the table NAME.regions that the converter writes beside
+the texts: those without tasks too, and those of which no text is written."""
+import os
+import re
+from dataclasses import dataclass, field
+from statistics import median_low
+from typing import List, NamedTuple
+
+from spanprof.errors import Fault
+
+COLUMNS = ("number", "text", "begin_ns", "end_ns", "threads", "tasks", "loops", "code_ns", "inside", "place")
+UNKNOWN = "a region"
+
+
+class Region(NamedTuple):
+    """Times are of the wall clock, in nanoseconds since the program began; `code` is of the clock of costs."""
+    number: int     # 0 is the program, and its code that outside of all regions
+    text: int       # the number of its text; 0 where it has none
+    begin: int
+    end: int
+    threads: int
+    tasks: int
+    loops: int      # and sections, that were divided among its threads
+    code: int
+    inside: int     # whether it was met inside another one
+    place: str
+
+    @property
+    def elapsed(self):
+        return self.end - self.begin
+
+    @property
+    def thread_time(self):
+        return self.threads * self.elapsed
+
+
+@dataclass
+class Place:
+    """All regions that began at one place, in the order of time."""
+    name: str
+    number: int = 0
+    regions: List[Region] = field(default_factory=list)
+
+    def total(self, what):
+        return sum(getattr(region, what) for region in self.regions)
+
+    @property
+    def is_inside(self):
+        return all(region.inside for region in self.regions)
+
+    @property
+    def outermost(self):
+        """What elapsed in those that were met inside no other."""
+        return sum(region.elapsed for region in self.regions if not region.inside)
+
+    @property
+    def median(self):
+        """What the median one of them took."""
+        return median_low(region.elapsed for region in self.regions)
+
+    @property
+    def shown(self):
+        """Of those with a text the one nearest to the median in code; None where none has one."""
+        ranked = sorted(self.regions, key=lambda region: (region.code, region.number))
+        middle = (len(ranked) - 1) / 2
+        found = [(abs(rank - middle), rank, region) for rank, region in enumerate(ranked) if region.text]
+        return min(found)[2] if found else None
+
+
+@dataclass
+class Program:
+    elapsed: int
+    outside_code: int
+    regions: List[Region]
+
+    @property
+    def places(self):
+        """In the order in which the program comes to them."""
+        found = {}
+        for region in self.regions:
+            name = region.place or UNKNOWN
+            found.setdefault(name, Place(name, len(found))).regions.append(region)
+        return list(found.values())
+
+    @property
+    def stretches(self):
+        """The program's time piece by piece: begin, end, and the number of the region's place, or None outside."""
+        number, now, out = {place.name: place.number for place in self.places}, 0, []
+        for region in self.regions:
+            begin, end = max(region.begin, now), min(region.end, self.elapsed)
+            if region.inside or end <= begin:
+                continue
+            out += [(now, begin, None)] * (begin > now) + [(begin, end, number[region.place or UNKNOWN])]
+            now = end
+        return out + [(now, self.elapsed, None)] * (self.elapsed > now)
+
+    @property
+    def texts(self):
+        """Of each text, by its number, the place of its region."""
+        return {region.text: region.place for region in self.regions if region.text}
+
+    @property
+    def outside(self):
+        return sum(end - begin for begin, end, place in self.stretches if place is None)
+
+
+def table_beside(text):
+    """Where the table of a recording lies, by the name of one of its texts, and that text's number; or None."""
+    words = re.fullmatch(r"(?s)(.*?)(?:\.(\d+))?(?:\.large)?\.tasks", text)
+    if not words:
+        return None
+    stem, number = words.groups()
+    named = [(stem + ".regions", int(number or 1))]
+    if number:      # a process's own name may end with a number
+        named.insert(0, ("%s.%s.regions" % (stem, number), 1))
+    return next((pair for pair in named if os.path.exists(pair[0])), None)
+
+
+def told_first(program):
+    """The number of the text that stands for the place with the most code; 0 where no place has one."""
+    found = [place for place in program.places if place.shown]
+    heaviest = max(found, key=lambda place: place.total("code"), default=None)
+    return heaviest.shown.text if heaviest else 0
+
+
+def read_regions(path):
+    try:
+        with open(path, encoding="utf-8", errors="replace") as file:
+            heads, *lines = file.read().splitlines()
+        rows = [line.split(",", len(COLUMNS) - 1) for line in lines]
+        regions = [Region(*map(int, row[:-1]), row[-1]) for row in rows]
+        whole, *rest = regions
+    except (OSError, TypeError, ValueError) as wrong:
+        raise Fault("%s is no table of regions: %s" % (path, wrong)) from wrong
+    if heads != ",".join(COLUMNS) or whole.number != 0 or not whole.elapsed > 0:
+        raise Fault("%s is no table of regions" % path)
+    return Program(whole.elapsed, whole.code, rest)
+
+
+def program_of(text):
+    """The program of which the text is a part; None without a table of its regions."""
+    found = table_beside(text)
+    return read_regions(found[0]) if found else None

@@ -1,0 +1,107 @@
+"""What a recording lacks: the head of a text has an object of JSON for each remark, and the words of it are made here.
+
+A remark has a name (`remark`). It may say how often it was seen and where, and in which direction the text's work or
+span differs from the program's: `low`, `high` or `either`. What stands there in words of its own says nothing of that.
+"""
+import json
+
+DIRECTIONS = {"low": "too low", "high": "too high", "either": "too low or too high"}
+OF_ROUNDING = ("rounding to whole units, more than a fiftieth of the work", "")
+# Of each name what was seen, and what is to be added to how it moves a number.
+WORDS = {
+    "one thread": ("on one thread every task is undeferred (if(0))", ""),
+    "mutexinoutset": ("mutexinoutset", "and too high in the text .inout.tasks"),
+    "mutexinoutset as inout": ("mutexinoutset, written as inout", ""),
+    "mutexinoutset as inoutset": ("mutexinoutset, taken as inoutset", ""),
+    "all memory": ("dependence on all memory, left out", ""),
+    "unknown item": ("depend item of an unknown type, written as inout", ""),
+    "between turns": ("dependence between turns of a loop (ordered), left out",
+                      "since waiting for other turns counts as code"),
+    "wait for a turn": ("wait for another turn of a loop, whose beginning is not told, taken off as it seems", ""),
+    "detach": ("detach, written as complete where the code ends", ""),
+    "unseen detach": ("detach of gcc's code, which LLVM's runtime does not see", "and the program may crash"),
+    "unseen target": ("target of gcc's code, which its own runtime runs beside LLVM's",
+                      "and with nowait or depend the program's results may be wrong"),
+    "cancellation": ("cancellation, left out", "as another run may cancel sooner or later"),
+    "target": ("target task, left out", ""),
+    "region in a task": ("parallel region inside a task, whose time counts there", ""),
+    "region beyond its task": ("parallel region inside a task, whose other threads ran longer than the task", ""),
+    "ended inside": ("the program ended inside the region", ""),
+    "records full": ("the records were full inside the region", ""),
+    "unfinished task": ("task that did not end", ""),
+    "told late": ("untied task whose end was told late", ""),
+    "told elsewhere": ("untied task whose end another thread told", ""),
+    "parts left out": ("parts without tasks, left out", ""),
+    "equal turns": ("chunk of several turns of a loop, written as equal pieces", ""),
+    "turns together": ("chunk with more turns than pieces", ""),
+    "other thread": ("thread that the program made itself, beside the first one from its beginning", ""),
+    "folded": ("folded task", "which is an upper bound"),
+    "folded exactly": ("exact fold", "work and span are the whole's, other numbers the fold's"),
+    "held lock": ("time inside locks, which exclude each other", ""),
+    "line of another": ("construct at the line of another, since the compiler kept none of its own",
+                        "work and span are right, places are not: compile with -g -Og, or by clang with "
+                        "-fno-optimize-sibling-calls"),
+    "preempted": ("off the processor in the midst of code, where the wall clock goes on", ""),
+    "slept": ("asleep or waiting in the midst of code, where the processor's clock stands still", ""),
+    "rounded down": OF_ROUNDING,
+    "rounded up": OF_ROUNDING,
+}
+FOLDS = ("folded", "folded exactly")
+UNFINISHED = ("unfinished task", "ended inside", "records full")
+
+
+class Remark(str):
+    """The words, and what they are made of."""
+    name = ""
+    work = span = ""    # how the text's differ from the program's
+
+    @property
+    def effect(self):
+        return effect_of(self.work, self.span)
+
+
+def effect_of(work, span):
+    """`span too low`, `work too low, span too high`."""
+    numbers = (("work and span", work),) if work == span else (("work", work), ("span", span))
+    return ", ".join("%s %s" % (number, DIRECTIONS[moved]) for number, moved in numbers if moved)
+
+
+def seen(told):
+    """`3 times at file.c:10`."""
+    times = "%d time%s" % (told["times"], "s" * (told["times"] != 1))
+    return times + (" at " + told["at"] if "at" in told else ", first at " + told["first"] if "first" in told else "")
+
+
+def remark_of(told):
+    """Of an object of JSON."""
+    what, more = WORDS.get(told["remark"], (told["remark"], ""))
+    work, span = told.get("work", ""), told.get("span", "")
+    effect = ", ".join(filter(None, (effect_of(work, span), told.get("more", more))))
+    out = Remark(told.get("words", what) + (", " + seen(told) if "times" in told else "")
+                 + (": " + effect if effect else ""))
+    out.name, out.work, out.span = told["remark"], work, span
+    return out
+
+
+def read_remark(value):
+    """What stands behind `# remark: `."""
+    if value.startswith("{"):
+        try:
+            return remark_of(json.loads(value))
+        except (ValueError, KeyError, TypeError):
+            pass
+    out = Remark(value)
+    out.work = out.span = "either"
+    return out
+
+
+def in_json(name, words, more="", **moved):
+    """A remark that has words of its own."""
+    return json.dumps({"remark": name, "words": words, **moved, **({"more": more} if more else {})})
+
+
+def in_words(head):
+    """The lines of a text's head, with what is remarked in words."""
+    begin = "# remark: "
+    return "".join(begin + read_remark(line[len(begin):].rstrip("\n")) + "\n" if line.startswith(begin) else line
+                   for line in head.splitlines(True))

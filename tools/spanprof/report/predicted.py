@@ -1,0 +1,53 @@
+"""Times by the model of the machine: of the recording on some threads, and of its first changes."""
+import os
+from typing import Any, List, NamedTuple, Tuple
+
+from spanprof.errors import Fault
+from spanprof.predict.machine import machine_file, read_machine
+from spanprof.predict.predictions import by_the_model, of_changed
+from spanprof.predict.recorded import recorded
+from spanprof.text import text_lines
+from spanprof.whatif.requests import applied, changes
+from spanprof.whatif.survey import survey
+from spanprof.whatif.texts import Text, version_of
+
+MOST_CHANGES = 8    # of which a time is predicted; a simulation of thousands of tasks takes a second
+
+
+class Predicted(NamedTuple):
+    """`found` has pairs of an estimate and its least end; without them `why_not` says why, where that is worth it."""
+    found: List[Tuple[Any, int]]
+    machine: Any = None
+    why_not: str = ""
+
+
+def recordings(path, told):
+    """The text, and those on other numbers of threads that were measured with it."""
+    rows = told.get("threads") if told else []
+    others = [row.get("recording") for row in rows if isinstance(row, dict)] if isinstance(rows, list) else []
+    paths = [os.path.join(os.path.dirname(path), other) for other in others if isinstance(other, str)]
+    return [path] + [other for other in paths if os.path.exists(other) and not os.path.samefile(other, path)]
+
+
+def predicted(answers, told):
+    """On the page's threads and on twice as many. `told` is what was measured on several numbers of threads."""
+    if not answers.head.is_measured:
+        return Predicted([])
+    try:
+        found = by_the_model(recordings(answers.path, told), [answers.threads, 2 * answers.threads])
+    except Fault as why:
+        return Predicted([], why_not=str(why))
+    return Predicted(found[2], found[1]) if found else Predicted([])
+
+
+def changed_text(stream, request, surveyed):
+    return "".join(text_lines(applied(stream, changes([request], *surveyed)), 1))
+
+
+def of_changes(answers, tried):
+    """Pairs as above of the first changes that bring something, by their requests."""
+    machine, base = read_machine(machine_file()), recorded(answers.path)
+    stream = list(Text(answers.path, version_of(answers.path)).statements())
+    surveyed, threads = (survey(stream), tried.costs), tried.trials.threads[0]
+    return {trial.request: of_changed(base, changed_text(stream, trial.request, surveyed), machine, threads)
+            for trial in tried.trials.sooner[:MOST_CHANGES]}

@@ -1,0 +1,75 @@
+"""The table of a program's regions, and what is made of it."""
+import os
+import tempfile
+import unittest
+
+from spanprof.errors import Fault
+from spanprof.regions import Place, Region, program_of, read_regions, table_beside, told_first
+
+TABLE = """\
+number,text,begin_ns,end_ns,threads,tasks,loops,code_ns,inside,place
+0,0,0,1000,1,0,0,290,0,
+1,1,100,300,4,10,0,700,0,steps.c:9
+2,0,300,350,2,0,3,40,0,loop, of.c:5
+3,2,400,500,4,10,0,310,0,steps.c:9
+4,3,600,900,4,12,0,900,0,steps.c:9
+5,0,650,700,2,2,0,80,1,inner.c:3
+"""
+
+
+class Tables(unittest.TestCase):
+    def setUp(self):
+        folder = tempfile.TemporaryDirectory()
+        self.addCleanup(folder.cleanup)
+        self.folder = folder.name
+
+    def kept(self, name="mine.regions", words=TABLE):
+        path = os.path.join(self.folder, name)
+        with open(path, "w", encoding="utf-8") as file:
+            file.write(words)
+        return path
+
+    def test_a_program(self):
+        program = read_regions(self.kept())
+        self.assertEqual((program.elapsed, program.outside_code, len(program.regions)), (1000, 290, 5))
+        self.assertEqual([place.name for place in program.places], ["steps.c:9", "loop, of.c:5", "inner.c:3"])
+        self.assertEqual([place.outermost for place in program.places], [600, 50, 0])
+        self.assertEqual([place.is_inside for place in program.places], [False, False, True])
+        self.assertEqual(program.stretches, [(0, 100, None), (100, 300, 0), (300, 350, 1), (350, 400, None),
+                                             (400, 500, 0), (500, 600, None), (600, 900, 0), (900, 1000, None)])
+        self.assertEqual(program.outside, 350)
+        self.assertEqual(program.texts, {1: "steps.c:9", 2: "steps.c:9", 3: "steps.c:9"})
+
+    def test_the_median_stands_for_a_place(self):
+        steps, loop, _ = read_regions(self.kept()).places
+        self.assertEqual((steps.shown.number, steps.median, loop.shown), (1, 200, None))
+        self.assertEqual(told_first(read_regions(self.kept())), 1)
+
+    def test_the_nearest_to_the_median_that_has_a_text(self):
+        regions = [Region(i + 1, text, 0, 1, 1, 1, 0, code, 0, "a.c:1") for i, (text, code) in
+                   enumerate([(1, 5), (0, 30), (0, 20), (2, 90), (3, 25)])]
+        self.assertEqual(Place("a.c:1", 0, regions).shown.code, 25)
+
+    def test_regions_that_overlap_count_once(self):
+        program = read_regions(self.kept(words=TABLE.replace("2,0,300,350", "2,0,250,350")))
+        self.assertEqual(program.outside, 350)
+
+    def test_where_it_lies(self):
+        path = self.kept()
+        self.assertEqual(table_beside(path.replace(".regions", ".tasks")), (path, 1))
+        self.assertEqual(table_beside(path.replace(".regions", ".3.large.tasks")), (path, 3))
+        self.assertIsNone(table_beside(os.path.join(self.folder, "other.tasks")))
+        self.assertIsNone(table_beside(path))
+        self.assertIsNone(program_of(os.path.join(self.folder, "other.tasks")))
+        own = self.kept("mine.4711.regions")
+        self.assertEqual(table_beside(own.replace(".regions", ".tasks")), (own, 1))
+
+    def test_what_is_no_table(self):
+        for words in ("", TABLE.replace("place\n", "where\n"), TABLE.replace("4,3,600", "4,x,600"),
+                      TABLE.replace("0,0,0,1000", "0,0,0,0"), TABLE.replace(",310,0,steps.c:9", "")):
+            with self.assertRaisesRegex(Fault, "mine.regions is no table of regions"):
+                read_regions(self.kept(words=words))
+
+
+if __name__ == "__main__":
+    unittest.main()
