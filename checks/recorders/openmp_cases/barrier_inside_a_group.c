@@ -1,5 +1,5 @@
 // A barrier waits for the tasks of the groups around it: each group is one before it and one after it.
-// env: SPANPROF_CLOCK=cpu
+// clock: counted
 // expect: tasks = 4
 // expect: span >= 5000000
 // expect: span <= 9000000

@@ -2,6 +2,7 @@
 
     // compiler: gcc              in the place of clang; the program then runs on LLVM's runtime in the place of gcc's
     // needs: LLVM N              that version or a later one, to compile it
+    // clock: counted             costs by a clock that counts its readings (counted_clock.c)
     // env: NAME=VALUE            a variable of the run
     // status: N                  its exit status, 0 where none is named; negative for a signal
     // old: FILE ..               files of an earlier run that lie there
@@ -19,7 +20,8 @@ import re
 from collections import defaultdict
 from dataclasses import dataclass, field
 
-KEYS = ("compiler", "needs", "env", "status", "old", "again", "says", "text", "no text", "file", "no file", "expect")
+KEYS = ("compiler", "needs", "clock", "env", "status", "old", "again", "says", "text", "no text", "file", "no file",
+        "expect")
 COMPARE = {"<=": operator.le, ">=": operator.ge, "=": operator.eq}
 
 
@@ -47,6 +49,11 @@ def wants(source):
 
 def is_of_gcc(wanted):
     return wanted["compiler"] == ["gcc"]
+
+
+def is_counted(wanted):
+    """Whether costs are by the clock that counts its readings."""
+    return wanted["clock"] == ["counted"]
 
 
 def needed_version(wanted):

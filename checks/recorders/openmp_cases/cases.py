@@ -11,7 +11,7 @@ import subprocess
 import sys
 import tempfile
 
-from case import (Left, count_tasks, first_faults, is_of_gcc, last_faults, needed_version, numbers_of_head,
+from case import (Left, count_tasks, first_faults, is_counted, is_of_gcc, last_faults, needed_version, numbers_of_head,
                   second_setting, unfolded_span, wants)
 
 HERE = os.path.dirname(os.path.abspath(__file__))
@@ -23,6 +23,7 @@ from versions import asked  # noqa: E402
 
 SPANPROF = os.environ.get("SPANPROF", os.path.join(TOP, "crates/spanprof/out/spanprof"))
 SECONDS = 120  # for one run
+TRIES = 3
 TRIED = "19,16"
 
 
@@ -78,11 +79,22 @@ def converted(folder, environment):
     return done.stderr
 
 
+def preloaded(wanted, version, folder):
+    """What stands in place of the libraries that the program was linked with."""
+    out = [version.runtime] if is_of_gcc(wanted) else []
+    if is_counted(wanted):
+        out.append(os.path.join(folder, "counted_clock.so"))
+        source = os.path.join(HERE, "counted_clock.c")
+        subprocess.run(["cc", "-O2", "-shared", "-fPIC", source, "-o", out[-1]], check=True)
+    return out
+
+
 def faults_of(wanted, program, folder, version):
     for name in " ".join(wanted["old"]).split():
         with open(os.path.join(folder, name), "w", encoding="utf-8") as file:
             file.write("of an earlier run\n")
-    settings = {"LD_PRELOAD": version.runtime} if is_of_gcc(wanted) else {}
+    settings = {"LD_PRELOAD": ":".join(preloaded(wanted, version, folder))}
+    settings.update({"SPANPROF_CLOCK": "cpu"} if is_counted(wanted) else {})
     settings.update(words.split("=", 1) for words in wanted["env"])
     left = run([program], folder, settings)
     out = list(first_faults(wanted, left))
@@ -92,6 +104,18 @@ def faults_of(wanted, program, folder, version):
             return out + ["nothing is " + words]
         left = run([program], folder, dict(settings, **dict([setting])))
     return out + list(last_faults(wanted, left))
+
+
+def faults_of_all_tries(wanted, program, folder, version):
+    """What is wrong with the last of some tries, and nothing where one was right: runs of real programs differ."""
+    faults = []
+    for number in range(TRIES):
+        ours = os.path.join(folder, str(number))
+        os.mkdir(ours)
+        faults = faults_of(wanted, program, ours, version)
+        if not faults:
+            break
+    return faults
 
 
 def judge(source, version):
@@ -106,7 +130,7 @@ def judge(source, version):
     with tempfile.TemporaryDirectory() as folder:
         program = os.path.join(folder, os.path.basename(source)[:-2])
         build(source, program, is_of_gcc(wanted), version)
-        return faults_of(wanted, program, folder, version)
+        return faults_of_all_tries(wanted, program, folder, version)
 
 
 def main(names):

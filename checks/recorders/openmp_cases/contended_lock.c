@@ -1,5 +1,5 @@
 // 32 tasks of 1 ms and 1 ms in one critical section: waiting is no cost, and the lock is told.
-// env: SPANPROF_CLOCK=cpu
+// clock: counted
 // expect: work >= 64000000
 // expect: work <= 90000000
 // text: # lock critical at contended_lock.c:\d+: 32 times, (3[2-9]|4\d)\d{6} inside

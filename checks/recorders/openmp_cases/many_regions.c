@@ -1,7 +1,7 @@
 // More regions at a place than are written: the median one is, and the one next to it; the others are told with their
 // work.
 // env: SPANPROF_REGIONS=2
-// env: SPANPROF_CLOCK=cpu
+// clock: counted
 // says: 3 more regions with tasks are not written, work \d+ ns: of each place those next to its median are
 // text: # region: at many_regions.c:16, 1 of 5
 // file: out.tasks out.2.tasks out.regions

@@ -1,5 +1,5 @@
 // A region inside a task, in which only the other thread works: by the processor's clock the task does not take its time.
-// env: SPANPROF_CLOCK=cpu
+// clock: counted
 // env: OMP_WAIT_POLICY=passive
 // expect: span <= 9000000
 // text: # not covered: \d+ outside regions, [12]\d{7} in other regions

@@ -2,7 +2,7 @@
 // text: # remark: mutexinoutset, 12 times at tasks_that_exclude_each_other.c:\d+: span too low, and too high in
 // text: depend\(inoutset: a0\)
 // file: out.inout.tasks
-// env: SPANPROF_CLOCK=cpu
+// clock: counted
 // expect: span <= 8000000
 // expect: inout span >= 12000000
 #include "spend.h"

@@ -1,6 +1,6 @@
 // Tasks in tasks, 200 levels deep, each level with a task of 1 ms beside the next. Folded by depth as advised, what
 // lies below is one work: the advice says what parallelism that leaves, and the text what the span is without the fold.
-// env: SPANPROF_CLOCK=cpu
+// clock: counted
 // says: not written: .* inside each other
 // says: parallelism is \d{2,}\.\d.* --fold depth=63 \(\d+ tasks left, parallelism 1\.\d\)
 // no file: out.tasks

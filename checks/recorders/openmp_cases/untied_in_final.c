@@ -1,5 +1,5 @@
 // An untied task in a final one is left and taken up again while its parent waits: no cost counts twice.
-// env: SPANPROF_CLOCK=cpu
+// clock: counted
 // expect: work >= 12000000
 // expect: work <= 20000000
 // text: task if\(0\) \{  # untied_in_final.c:16

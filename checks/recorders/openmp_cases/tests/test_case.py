@@ -1,6 +1,6 @@
 import unittest
 
-from case import (Left, count_tasks, first_faults, is_of_gcc, last_faults, needed_version, numbers_of_head,
+from case import (Left, count_tasks, first_faults, is_counted, is_of_gcc, last_faults, needed_version, numbers_of_head,
                   second_setting, unfolded_span, wants)
 
 SOURCE = """\
@@ -35,6 +35,10 @@ class Wanted(unittest.TestCase):
     def test_the_compiler(self):
         self.assertFalse(is_of_gcc(self.wanted))
         self.assertTrue(is_of_gcc(wants("// compiler: gcc\n")))
+
+    def test_the_clock(self):
+        self.assertFalse(is_counted(self.wanted))
+        self.assertTrue(is_counted(wants("// clock: counted\n")))
 
     def test_the_version(self):
         self.assertEqual(needed_version(wants("// needs: LLVM 16\n")), 16)
