@@ -2,7 +2,7 @@
 
     // compiler: gcc              in the place of clang; the program then runs on LLVM's runtime in the place of gcc's
     // needs: LLVM N              that version or a later one, to compile it
-    // clock: counted             costs by a clock that counts its readings (counted_clock.c)
+    // clock: counted             costs by a clock that counts its readings (clock/counted_clock.c)
     // env: NAME=VALUE            a variable of the run
     // status: N                  its exit status, 0 where none is named; negative for a signal
     // old: FILE ..               files of an earlier run that lie there
