@@ -15,7 +15,7 @@ import pathlib
 import sys
 
 from believed.library import read_library
-from believed.page import with_tables
+from believed.page import with_lists
 
 TOP = pathlib.Path(__file__).resolve().parents[2]
 PAGE = TOP / "docs" / "BELIEVE.md"
@@ -45,7 +45,7 @@ def list_rest(library, promises):
 def compare(library, promises):
     """Whether the page has the counts of the crates; tells where it has not."""
     told = PAGE.read_text()
-    counted = with_tables(told, library, promises)
+    counted = with_lists(told, library, promises)
     sys.stdout.writelines(difflib.unified_diff(
         told.splitlines(True), counted.splitlines(True), "docs/BELIEVE.md", "counted", n=0))
     return told == counted
@@ -57,7 +57,7 @@ def main(words):
     if unknown:
         sys.exit(f"no public function with clauses: {', '.join(unknown)}")
     if words == ["--write"]:
-        PAGE.write_text(with_tables(PAGE.read_text(), library, promises))
+        PAGE.write_text(with_lists(PAGE.read_text(), library, promises))
     elif words == ["--all"]:
         for title, promise in sorted(promises.items()):
             print(f"{total(library.rests_on(promise)):5} {title}")

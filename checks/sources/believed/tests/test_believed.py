@@ -3,6 +3,7 @@ import unittest
 from believed.clauses import promises_of
 from believed.definitions import arms_of, definitions_of, imports_of
 from believed.library import Library
+from believed.page import with_lists
 
 LOW = """-- Numbers.
 use Rattle.std.specs.Prelude.{ℕ}
@@ -104,6 +105,13 @@ class Walk(unittest.TestCase):
     def test_a_path_into_a_module(self):
         meaning = self.library.meaning(self.library.imports["high.specs.More"], "high.specs.More", "low.Side")
         self.assertEqual(meaning, ("low.specs.Numbers", "Side"))
+
+    def test_a_page_lists_what_is_new(self):
+        page = "`high::quadruple`: 9 lines, none of them new here.\n\n- `low`: `Old` 9,\n  `Older` 3\n\nA word.\n"
+        self.assertEqual(with_lists(page, self.library, self.promises), "`high::quadruple`: 6 lines, all of them new "
+                         "here.\n\n- `low`: `Numbers` 4\n- `high`: `More` 2\n\nA word.\n")
+        again = page + "\n`high::quadruple`: 1 lines, 1 of them new here.\n"
+        self.assertTrue(with_lists(again, self.library, self.promises).endswith("6 lines, none of them new here.\n"))
 
 
 if __name__ == "__main__":
