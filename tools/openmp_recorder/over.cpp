@@ -15,7 +15,8 @@ bool Reader::is_over(const Region &region) const {
 
 void Reader::let_go_if_over(Region &region) {
   bool is_inside = region.met.region;  // another one, which is compared with it in the end
-  if (how.most_held == UINT64_MAX || run.whole || is_inside || how.held.count(region.number) || !is_over(region)) return;
+  bool is_needed = run.whole || is_inside || how.held.count(region.number);
+  if (how.most_held == UINT64_MAX || is_needed || !is_over(region)) return;
   if (held + region.tasks.size() > how.most_held) let_go(region);
   else held += region.tasks.size();
 }

@@ -1,5 +1,6 @@
 // Reads the records in their order and makes tasks, steps and events of them. What the runtime tells at each construct,
-// and in which order, is written down in README.md. Its functions stand in run.cpp, over.cpp, waits.cpp, whole.cpp and turns.cpp.
+// and in which order, is written down in README.md. Its functions stand in run.cpp, over.cpp, waits.cpp, whole.cpp and
+// turns.cpp.
 #pragma once
 #include <cstdint>
 #include <map>
