@@ -4,6 +4,7 @@
 #include <unistd.h>
 
 #include <exception>
+#include <memory>
 #include <new>
 #include <string>
 
@@ -62,14 +63,20 @@ void tell_ending(const LogFolder &log, const Ending &ending) {
   else if (ending.killed) Line("killed").put("recorded", recorded).put("inside", ending.wall != 0);
 }
 
+std::vector<Records *> threads_of(const LogFolder &log) {
+  std::vector<Records *> out;
+  for (auto &thread : log.threads) out.push_back(thread.get());
+  return out;
+}
+
 void convert(const std::string &folder, const std::string &out) {
   LogFolder log(folder);
   const Head &head = log.head;
   Options options = read_options();
   options.processor_clock = head.by_processor;
   set_record_clock({options.processor_clock, head.in_a_record});
-  std::vector<Records *> threads;
-  for (auto &thread : log.threads) threads.push_back(thread.get());
+  std::unique_ptr<LogFolder> second;
+  std::vector<Records *> threads = threads_of(log);
   bool is_known = head.how_ended != HowEnded::Not && head.end_thread < threads.size();
   Ending ending = ending_of(log);
   remove_texts(out);
@@ -84,7 +91,11 @@ void convert(const std::string &folder, const std::string &out) {
           is_known ? &threads[head.end_thread]->log : nullptr,
           head.end_processor,
           head.is_child != 0,
-          unseen(head)};
+          unseen(head),
+          [&] {
+            second = std::make_unique<LogFolder>(folder);
+            return threads_of(*second);
+          }};
   if (options.online || !log.measured.empty()) report_online(job, ending, log.measured);
   else report(job, ending);
   if (log.measured.empty()) tell_ending(log, ending);

@@ -1,5 +1,6 @@
 // Reads the records in their order and makes tasks, steps and events of them. What the runtime tells at each construct,
-// and in which order, is written down in README.md. Its functions stand in run.cpp, waits.cpp and whole.cpp.
+// and in which order, is written down in README.md. Its functions stand in run.cpp, over.cpp, waits.cpp, whole.cpp and
+// turns.cpp.
 #pragma once
 #include <cstdint>
 #include <map>
@@ -69,6 +70,7 @@ class Reader {
     if (!number) return;
     if (number >= tasks.size()) tasks.resize(number + 1);
     tasks[number] = task;
+    if (task) task->number = number;
   }
   Worker &worker() { return workers[log->worker]; }
   void turn_to(const Log &of) {
@@ -105,6 +107,13 @@ class Reader {
   void close_tasks(Region &region);
   void close_whole(int64_t end);
   void end_tasks();
+
+  // over.cpp: regions that are over
+  uint64_t held = 0;  // their tasks
+  bool is_over(const Region &region) const;
+  void let_go_if_over(Region &region);
+  void forget(const Region &region);
+  void let_go(Region &region);
 
   // waits.cpp: dependences, barriers, groups, `taskwait`
   static void begin_group(Task *t, const void *code);

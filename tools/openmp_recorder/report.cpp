@@ -265,7 +265,7 @@ void Reporter::tell_outside(const Seen &outside) {
 }
 
 // The chosen ones, in the order of time; the others are told with their work.
-void choose(std::vector<Region *> &regions, const Options &options) {
+std::vector<Region *> choose(const std::vector<Region *> &regions, const Options &options) {
   int64_t all = 0, kept = 0;
   for (const Region *region : regions) all += work_of(*region);
   std::vector<Region *> few = chosen(regions, options.regions);
@@ -275,8 +275,7 @@ void choose(std::vector<Region *> &regions, const Options &options) {
         .put("regions", uint64_t{regions.size() - few.size()})
         .put("work", (all - kept) / options.unit)
         .put("unit", options.unit_name);
-  regions = few;
-  for (size_t i = 0; i < few.size(); i++) few[i]->text = i + 1;
+  return few;
 }
 
 // Of a run without regions there is no table.
@@ -288,6 +287,7 @@ void Reporter::write_regions(const Run &run, const WholeTime &time, const std::s
 
 bool folds_asked(const Options &options) { return options.fold_depth || options.fold_chunk || options.fold_cost; }
 
+constexpr uint64_t most_held = 1 << 18;  // tasks of regions that are over, while it is not known which are written
 constexpr uint64_t most_timed = 1 << 18;  // tasks and chunks of loops, of which many are written together
 
 // The most tasks of a region of which the run is kept, or of the whole program.
@@ -327,7 +327,22 @@ HowToRead how_to_read(const Job &job) {
           job.last,
           job.options.times,
           job.start,
-          job.end};
+          job.end,
+          most_held};
+}
+
+// These regions, composed. Where some were let go, the log is read again, and all but these are.
+std::vector<Region *> held(const std::vector<Region *> &few, const Job &job, Ending ending, Run &run) {
+  if (std::none_of(few.begin(), few.end(), [](auto *region) { return region->let_go; })) return few;
+  HowToRead how = how_to_read(job);
+  how.most_held = 0;
+  for (const Region *region : few) how.held.insert(region->number);
+  run = Run();
+  run = read_run(job.read_again(), ending, how);
+  std::vector<Region *> out;
+  for (Region *region : compose_all(run, job.options))
+    if (how.held.count(region->number)) out.push_back(region);
+  return out;
 }
 
 void report_whole(const Job &job, Run &run, Recording recording, int64_t end) {
@@ -343,6 +358,7 @@ void report_whole(const Job &job, Run &run, Recording recording, int64_t end) {
 }  // namespace
 
 void report(const Job &job, Ending &ending) {
+  const Ending unread = ending;
   Run &run = *new Run(read_run(job.threads, ending, how_to_read(job)));  // given back by the end of the process
   int64_t end = ending.killed ? ending.last : job.end;
   ProgramTime time = divide_time(job.threads, job.start, end);
@@ -352,11 +368,13 @@ void report(const Job &job, Ending &ending) {
   Recording recording{job.program, job.date, with_tasks.size(), time, threads};
   Reporter reporter(job.options, std::move(recording), job.modules);
   if (with_tasks.empty() && !job.may_be_empty) Line("no tasks").put("inside", ending.wall != 0);
-  for (Region *region : with_tasks)
-    for (Remark remark : job.unseen) region->remarks[remark];
-  choose(with_tasks, job.options);
+  std::vector<Region *> written = held(choose(with_tasks, job.options), job, unread, run);
+  for (size_t i = 0; i < written.size(); i++) {
+    written[i]->text = i + 1;
+    for (Remark remark : job.unseen) written[i]->remarks[remark];
+  }
   reporter.write_regions(run, {job.start, end, threads.outside}, job.out);
-  for (size_t i = 0; i < with_tasks.size(); i++)
-    reporter.write(*with_tasks[i], job.out + (i ? "." + std::to_string(i + 1) : ""));
+  for (size_t i = 0; i < written.size(); i++)
+    reporter.write(*written[i], job.out + (i ? "." + std::to_string(i + 1) : ""));
   reporter.tell_outside(run.outside);
 }

@@ -5,6 +5,7 @@
 #include <deque>
 #include <map>
 #include <memory>
+#include <set>
 #include <vector>
 
 #include "locations.hpp"
@@ -84,6 +85,7 @@ struct Task {
       const void *loop;  // the taskloop that it is in
       uint32_t interrupted;  // the task that the thread left for it, by number
       unsigned open_groups;  // of its own code
+      uint32_t number;
       bool running, waiting, over;
     };
     struct {  // while it is written
@@ -115,7 +117,7 @@ inline void Task::begin_reading(Region *of) {
   since = started = 0;
   wait = nullptr;
   loop = nullptr;
-  interrupted = open_groups = 0;
+  interrupted = open_groups = number = 0;
   running = waiting = over = false;
 }
 
@@ -205,8 +207,12 @@ struct Chunk {
 };
 
 struct Region {
+  uint32_t number = 0;
   const void *code = nullptr;
-  unsigned threads = 0;
+  unsigned threads = 0, ended = 0;  // of its implicit tasks those that ended
+  bool over = false;  // by the thread that met it
+  bool let_go = false;  // with its tasks, though not with its sums
+  bool makes_tasks = false;  // where it was let go
   uint64_t place = 0;  // in the order of time, from 1
   uint64_t text = 0;  // the number of its text, from 1; 0 where none is written
   RegionTime time{};
@@ -277,6 +283,8 @@ struct HowToRead {
   const Log *last = nullptr;  // of the thread that ended it, whose clock that is by the processor's
   bool times = false;  // of the whole program's segments
   int64_t start_wall = 0, end_wall = 0;  // of the program
+  uint64_t most_held = UINT64_MAX;  // tasks of regions that are over: what comes beyond them is let go as it ends
+  std::set<uint32_t> held{};  // regions by number, that never are
 };
 
 Run read_run(const std::vector<Records *> &threads, Ending &ending, const HowToRead &how = {});

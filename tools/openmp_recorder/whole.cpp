@@ -63,7 +63,7 @@ void Reader::meet_region(Region &region) {
 // Of what the whole program's text has otherwise than it ran.
 void Reader::give_up_times() {
   run.whole->has_events = false;
-  run.whole->events = {};
+  run.whole->events = std::vector<Event>();
 }
 
 // What a task that met a region does between its groups, and between the parts that it makes there, takes no time:
@@ -98,7 +98,10 @@ void Reader::join_with_before(Task &t, size_t end, int64_t since) {
 
 void Reader::parallel_end() {
   auto region = run.regions.find(r->other);
-  if (region == run.regions.end() || !region->second->owner) return;
+  if (region == run.regions.end()) return;
+  region->second->over = true;
+  let_go_if_over(*region->second);
+  if (!region->second->owner) return;
   Task *owner = region->second->owner;
   unsigned segment = owner->segment;
   std::vector<Part> parts = place_region(*region->second);

@@ -16,6 +16,7 @@ def with_others(first, others):
 def environment(base, options, library, preload, out):
     """The variables of a recorded run. What is not asked for stays as it is."""
     new = dict(base, OMP_TOOL="enabled", SPANPROF_OUT=out, SPANPROF_QUIET="1")
+    new.pop("SPANPROF_RECORD", None)
     new["OMP_TOOL_LIBRARIES"] = with_others(library, base.get("OMP_TOOL_LIBRARIES"))
     if preload:
         new["LD_PRELOAD"] = with_others(preload, base.get("LD_PRELOAD"))
@@ -28,11 +29,14 @@ def environment(base, options, library, preload, out):
     return new
 
 
-def without_recorder(base, preload, threads):
-    """The variables of an unrecorded run: on the runtime of the recorded ones, which loads no tool."""
+def without_recorder(base, preload, threads, library=""):
+    """The variables of an unrecorded run: on the runtime of the recorded ones, which loads no tool. Of gcc's code it
+    asks the recorder's library, which gives processors back (openmp_recorder/gcc_places.cpp) and is no tool then."""
     new = dict(base, OMP_TOOL="disabled", OMP_NUM_THREADS=str(threads))
     if preload:
         new["LD_PRELOAD"] = with_others(preload, base.get("LD_PRELOAD"))
+    if preload and library:
+        new.update(OMP_TOOL="enabled", OMP_TOOL_LIBRARIES=library, SPANPROF_RECORD="0")
     return new
 
 

@@ -89,7 +89,8 @@ def unrecorded(session, numbers, runs):
         for threads in numbers:
             this = "unrecorded run %d of %d %s" % (turn, runs, on_threads(threads))
             tell(this)
-            elapsed, status = timed_run(session, without_recorder(os.environ, session.preload, threads))
+            variables = without_recorder(os.environ, session.preload, threads, session.library)
+            elapsed, status = timed_run(session, variables)
             if status:
                 raise Failed(status, this)
             times[threads].append(elapsed)

@@ -8,7 +8,7 @@ from unittest import mock
 
 from spanprof.errors import NO_PROGRAM, NOT_EXECUTABLE, Fault
 from spanprof.record.options import parse
-from spanprof.record.run import PassedOn, end_as, environment, run, signal_name
+from spanprof.record.run import PassedOn, end_as, environment, run, signal_name, without_recorder
 from spanprof.record.target import find
 
 
@@ -36,6 +36,13 @@ class Environment(unittest.TestCase):
                           "/r.so", "/llvm.so", "o")
         self.assertEqual((new["LD_PRELOAD"], new["OMP_TOOL_LIBRARIES"], new["OMP_TOOL"]),
                          ("/llvm.so:/a.so", "/r.so:/b.so", "enabled"))
+
+    def test_unrecorded_runs(self):
+        self.assertEqual(without_recorder({}, "", 3, "/r.so"), {"OMP_TOOL": "disabled", "OMP_NUM_THREADS": "3"})
+        self.assertEqual(without_recorder({"OMP_TOOL": "disabled"}, "/llvm.so", 3, "/r.so"),
+                         {"OMP_TOOL": "enabled", "OMP_TOOL_LIBRARIES": "/r.so", "SPANPROF_RECORD": "0",
+                          "LD_PRELOAD": "/llvm.so", "OMP_NUM_THREADS": "3"})
+        self.assertNotIn("SPANPROF_RECORD", environment({"SPANPROF_RECORD": "0"}, options(), "/r.so", "", "o"))
 
 
 class Ends(unittest.TestCase):

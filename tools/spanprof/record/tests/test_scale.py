@@ -67,7 +67,7 @@ class Unrecorded(unittest.TestCase):
             asked.append((int(variables["OMP_NUM_THREADS"]), variables["OMP_TOOL"]))
             return next(left)
         with mock.patch("spanprof.record.scale.timed_run", side_effect=run):
-            return scale.unrecorded(argparse.Namespace(preload=""), [1, 4], 2), asked
+            return scale.unrecorded(argparse.Namespace(preload="", library="/r.so"), [1, 4], 2), asked
 
     def test_in_turns(self):
         times, asked = self.measure([(10, 0), (3, 0), (12, 0), (4, 0)])

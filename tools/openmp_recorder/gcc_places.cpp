@@ -1,0 +1,51 @@
+#include "gcc_places.hpp"
+
+#include <dlfcn.h>
+#include <sched.h>
+
+#include <vector>
+
+namespace {
+// Of OpenMP, as gcc's runtime has them.
+struct Places {
+  int (*count)() = nullptr;
+  int (*processors)(int place) = nullptr;
+  void (*numbers)(int place, int *out) = nullptr;
+  explicit operator bool() const { return count && processors && numbers; }
+};
+
+template <class Function>
+void find(void *library, const char *name, Function &function) {
+  function = reinterpret_cast<Function>(dlsym(library, name));
+}
+
+Places places_of_gcc() {
+  Places out;
+  void *library = dlopen("libgomp.so.1", RTLD_LAZY | RTLD_NOLOAD);
+  if (!library) return out;
+  find(library, "omp_get_num_places", out.count);
+  find(library, "omp_get_place_num_procs", out.processors);
+  find(library, "omp_get_place_proc_ids", out.numbers);
+  dlclose(library);  // the program has it
+  return out;
+}
+
+void add(const Places &places, int place, cpu_set_t &set) {
+  std::vector<int> numbers(static_cast<size_t>(places.processors(place)));
+  places.numbers(place, numbers.data());
+  for (int number : numbers)
+    if (number >= 0 && number < CPU_SETSIZE) CPU_SET(number, &set);
+}
+}  // namespace
+
+void give_processors_back() {
+  Places places = places_of_gcc();
+  if (!places || places.count() < 2) return;
+  cpu_set_t first, all, now;
+  CPU_ZERO(&first);
+  CPU_ZERO(&all);
+  add(places, 0, first);
+  for (int place = 0; place < places.count(); place++) add(places, place, all);
+  bool is_bound = !sched_getaffinity(0, sizeof now, &now) && CPU_EQUAL(&now, &first);
+  if (is_bound) sched_setaffinity(0, sizeof all, &all);
+}

@@ -1,0 +1,47 @@
+// Regions that are over. Few of them are written, and all together may hold more than there is memory for. So beyond
+// some tasks each is let go when it ends, but for the sums that the choice goes by; what is chosen is read again.
+#include <algorithm>
+
+#include "auxiliary.hpp"
+#include "compose.hpp"
+#include "reader.hpp"
+
+// No record that follows is of one of its tasks.
+bool Reader::is_over(const Region &region) const {
+  auto is_open = [](const Task &t) { return !t.over && t.parent && !t.part; };
+  return region.over && region.ended >= region.threads && region.left_in_groups.empty() &&
+         std::none_of(region.tasks.begin(), region.tasks.end(), is_open);
+}
+
+void Reader::let_go_if_over(Region &region) {
+  bool is_inside = region.met.region;  // another one, which is compared with it in the end
+  bool is_needed = run.whole || is_inside || how.held.count(region.number);
+  if (how.most_held == UINT64_MAX || is_needed || !is_over(region)) return;
+  if (held + region.tasks.size() > how.most_held) let_go(region);
+  else held += region.tasks.size();
+}
+
+// Its tasks, by whatever they are known.
+void Reader::forget(const Region &region) {
+  auto is_of_it = [&](const Task *t) { return t && t->region == &region; };
+  for (const Task &t : region.tasks)
+    if (find(t.number) == &t) tasks[t.number] = nullptr;
+  for (Worker &w : workers) {
+    w.waits.erase(std::remove_if(w.waits.begin(), w.waits.end(), is_of_it), w.waits.end());
+    if (is_of_it(w.resumed.task) || is_of_it(w.resumed.left)) w.resumed = {};
+  }
+}
+
+void Reader::let_go(Region &region) {
+  forget(region);
+  for (Task &t : region.tasks) t.end_reading();
+  leave_out_auxiliary(region);
+  region.makes_tasks = makes_tasks(region);
+  if (region.makes_tasks) divide_work(region);
+  region.let_go = true;
+  region.parts = std::vector<Part>();
+  region.events = std::vector<Event>();
+  region.has_events = false;
+  region.locations = Locations();
+  region.tasks.clear();
+}

@@ -1,0 +1,97 @@
+// Regions that are let go when they are over.
+#include "../chosen.hpp"
+#include "../compose.hpp"
+#include "../program_time.hpp"
+#include "check.hpp"
+#include "made.hpp"
+
+namespace {
+// Two threads, of which the first makes a task that costs 500, and the parts of 30 and 70 that end last.
+Made with_a_task() {
+  Made made(2);
+  made.create(0, 1, 3).run(0, 1, 3, 500).after(30).barrier(0, 1).after(40).barrier(1, 2);
+  return made;
+}
+
+Made &end_threads(Made &made) { return made.add(0, Told::ImplicitEnd, 1, 1).add(1, Told::ImplicitEnd, 2, 1); }
+
+Made over() {
+  Made made = with_a_task();
+  end_threads(made).add(0, Told::ParallelEnd, 0, 1);
+  return made;
+}
+
+HowToRead holding(uint64_t most) {
+  HowToRead how;
+  how.most_held = most;
+  return how;
+}
+
+Region &region_of(Run &run) { return *run.regions.begin()->second; }
+}  // namespace
+
+TEST(what_is_let_go_has_the_sums_of_what_is_held) {
+  Run all = over().read(), few = over().read({}, holding(2));
+  Region &held = region_of(all), &gone = region_of(few);
+  EXPECT(gone.let_go, true);
+  EXPECT(gone.tasks.size(), 0u);
+  EXPECT(held.tasks.size(), 3u);
+  EXPECT(compose(gone), compose(held));
+  EXPECT(work_of(gone), work_of(held));
+  EXPECT(gone.in_parts, held.in_parts);
+  EXPECT(in_code(gone), in_code(held));
+  EXPECT(gone.created, held.created);
+}
+
+TEST(a_region_without_tasks_is_let_go_too) {
+  Made made;
+  made.after(50).barrier(0, 1).add(0, Told::ImplicitEnd, 1, 1).add(0, Told::ParallelEnd, 0, 1);
+  Run run = made.read({}, holding(0));
+  EXPECT(region_of(run).let_go, true);
+  EXPECT(compose(region_of(run)), false);
+  EXPECT(in_code(region_of(run)), 50);
+}
+
+TEST(what_there_is_room_for_is_held) {
+  Run run = over().read({}, holding(3));
+  EXPECT(region_of(run).let_go, false);
+}
+
+TEST(what_is_asked_for_is_held) {
+  HowToRead how = holding(0);
+  how.held = {1};
+  Run run = over().read({}, how);
+  EXPECT(region_of(run).let_go, false);
+}
+
+TEST(threads_may_end_after_their_region) {
+  Made made = with_a_task();
+  end_threads(made.add(0, Told::ParallelEnd, 0, 1));
+  Run run = made.read({}, holding(0));
+  EXPECT(region_of(run).let_go, true);
+}
+
+TEST(a_region_is_held_while_a_thread_is_in_it) {
+  Made made = with_a_task();
+  made.add(0, Told::ImplicitEnd, 1, 1).add(0, Told::ParallelEnd, 0, 1);
+  Run run = made.read({}, holding(0));
+  EXPECT(region_of(run).let_go, false);
+}
+
+TEST(a_region_is_held_where_a_task_did_not_end) {
+  Made made = with_a_task();
+  made.create(0, 1, 4);
+  end_threads(made).add(0, Told::ParallelEnd, 0, 1);
+  Run run = made.read({}, holding(0));
+  EXPECT(region_of(run).let_go, false);
+}
+
+TEST(a_region_in_a_task_of_another_is_held) {
+  Made made(2);
+  made.create(0, 1, 3).go(0, 1, 3).add(0, Told::ParallelBegin, 3, 2).add(0, Told::ImplicitBegin, 4, 2, 0, 1);
+  made.after(10).add(0, Told::ImplicitEnd, 4, 2).add(0, Told::ParallelEnd, 3, 2).go(0, 3, 1, ompt_task_complete);
+  end_threads(made).add(0, Told::ParallelEnd, 0, 1);
+  Run run = made.read({}, holding(0));
+  EXPECT(region_of(run).let_go, true);
+  EXPECT(run.regions[2]->let_go, false);
+}
