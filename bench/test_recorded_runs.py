@@ -63,7 +63,7 @@ class Regions(unittest.TestCase):
     def test_what_the_recorder_tells(self):
         with tempfile.TemporaryDirectory() as folder:
             pathlib.Path(folder, "record.tasks").write_text(
-                "# region: 1 of 1\n# elapsed: 2500000\n# in tasks: 7\nomptasks 1\n", encoding="utf-8")
+                "# region: {}\n# elapsed: 2500000\n# in tasks: 7\nomptasks 1\n", encoding="utf-8")
             self.assertEqual(region_recorded(folder), 2.5)
 
     def test_from_the_first_event_of_the_log_to_its_last(self):

@@ -6,6 +6,7 @@
 #include <set>
 #include <vector>
 
+#include "json.hpp"
 #include "text.hpp"
 
 namespace {
@@ -28,12 +29,10 @@ class Head {
   Head(const Options &chosen, const Places &known) : options(chosen), places(known) {}
   std::string words;
   void first_lines(const Region &region, const Recording &recording);
-  void whole(const WholeProgram &program);
   void covered(const Region &region, const ThreadTime &threads);
   void covered_of_whole(const WholeProgram &program, const ThreadTime &threads);
   void divided(const Region &region);
   void clocks(const Region &region);
-  void differing(const char *name, const char *by, const Differing &seen, int64_t work);
   void times(const Region &region, const Recording &recording);
   void locks(const Region &region);
   void remarks(const Region &region);
@@ -43,43 +42,44 @@ class Head {
   const Options &options;
   const Places &places;
   int64_t in_units(int64_t nanoseconds) { return (nanoseconds + options.unit / 2) / options.unit; }
-  std::string units(int64_t nanoseconds) { return std::to_string(in_units(nanoseconds)); }
-  std::string with_unit(int64_t nanoseconds) { return units(nanoseconds) + unit(); }
-  std::string unit() {  // one that is a number of nanoseconds is a factor
-    return (options.unit_name.find(' ') == std::string::npos ? " " : " x ") + options.unit_name;
+  void line(const char *name, const Object &told) { words += std::string("# ") + name + ": " + told.end() + "\n"; }
+  void line(const char *name, int64_t number) {
+    words += std::string("# ") + name + ": " + std::to_string(number) + "\n";
   }
-  void line(const std::string &one) { words += "# " + one + "\n"; }
-  void lock(const std::string &name, const LockUse &use);
+  void whole(const WholeProgram &program);
+  void covers(int64_t text, int64_t all, bool is_whole);
+  void differing(const char *name, const Differing &seen, int64_t work);
+  void lock(Object &told, const LockUse &use);
 };
 
 void Head::first_lines(const Region &region, const Recording &recording) {
-  line("recorded: from " + recording.program + ", " + recording.date + ", threads " + std::to_string(region.threads) +
-       ", clock " + (options.processor_clock ? "cpu" : "wall") + ", unit " + options.unit_name);
+  line("recorded", Object()
+                       .put("program", recording.program)
+                       .put("date", recording.date)
+                       .put("threads", region.threads)
+                       .put("clock", options.processor_clock ? "cpu" : "wall")
+                       .put("unit", options.unit_name));
   if (recording.whole) return whole(*recording.whole);
+  Object told;
   std::string at = places.at(region.code);
-  line("region: " + (at.empty() ? "" : "at " + at + ", ") + std::to_string(region.place) + " of " +
-       std::to_string(recording.regions));
-}
-
-std::string counted(uint64_t count, const std::string &what) {
-  return std::to_string(count) + " " + what + (count == 1 ? "" : "s");
+  if (!at.empty()) told.put("at", at);
+  line("region", told.put("number", region.place).put("of", recording.regions));
 }
 
 // How loops are written, which on other threads would be cut otherwise.
 void Head::whole(const WholeProgram &program) {
-  std::string words = "whole program: " + counted(program.regions, "region");
-  if (program.pieces) {
-    words += ", " + counted(program.loops, "loop") + " in " + counted(program.pieces, "piece") +
-             "; a chunk of k turns is k equal pieces";
-    if (program.least_piece < INT64_MAX)
-      words += ", together where they are shorter than " + std::to_string(program.least_piece) + " ns";
-  }
-  line(words);
+  Object told;
+  told.put("regions", program.regions);
+  if (program.pieces) told.put("loops", program.loops).put("pieces", program.pieces);
+  if (program.pieces && program.least_piece < INT64_MAX) told.put("together below", program.least_piece);
+  line("whole program", told);
 }
 
-std::string in_percent(int64_t part, int64_t whole) {  // rounded down to a tenth
-  int64_t tenths = static_cast<int64_t>(1000.0L * part / whole);
-  return std::to_string(tenths / 10) + "." + std::to_string(tenths % 10) + " %";
+void Head::covers(int64_t text, int64_t all, bool is_whole) {
+  Object told;
+  told.put("text", text).put("program", all);
+  if (!is_whole) told.put("at most", true);
+  line("covers", told);
 }
 
 // How much of the program's thread-time in code the text has, and where the rest was.
@@ -87,20 +87,20 @@ void Head::covered(const Region &region, const ThreadTime &threads) {
   int64_t all = in_units(threads.all()), own = std::min(in_units(in_code(region)), all);
   int64_t text = std::clamp<int64_t>(in_units(region.root->total - region.in_own_regions), 0, own);
   if (!all) return;
-  line("covers: " + std::string(threads.whole ? "" : "at most ") + in_percent(text, all) +
-       " of the program's thread-time (" + std::to_string(text) + " of " + std::to_string(all) + unit() + ")");
+  covers(text, all, threads.whole);
   int64_t outside = std::min(in_units(threads.outside), all - own);
-  line("not covered: " + std::to_string(outside) + " outside regions, " + std::to_string(all - own - outside) +
-       " in other regions, " + std::to_string(own - text) + " of this region");
+  line("not covered", Object()
+                          .put("outside regions", outside)
+                          .put("in other regions", all - own - outside)
+                          .put("of this region", own - text));
 }
 
 // The thread-time in the text over that of the program.
 void Head::covered_of_whole(const WholeProgram &program, const ThreadTime &threads) {
   int64_t all = in_units(threads.all()), text = std::min(in_units(program.root->total), all);
   if (!all) return;
-  line("covers: " + std::string(threads.whole ? "" : "at most ") + in_percent(text, all) +
-       " of the program's thread-time (" + std::to_string(text) + " of " + std::to_string(all) + unit() + ")");
-  line("not covered: " + std::to_string(all - text) + " of the program");
+  covers(text, all, threads.whole);
+  line("not covered", Object().put("of the program", all - text));
 }
 
 // What the parts of each phase cost with their tasks, but for the longest of it, and without chunks of loops.
@@ -132,51 +132,51 @@ Beside beside_each_other(const Region &region) {
 
 // What was divided among as many threads as this run had.
 void Head::divided(const Region &region) {
-  if (region.threads == 1)
-    return line("one thread: every task is undeferred, so that this text says nothing of more threads");
-  std::string divided = "divided among " + std::to_string(region.threads) + " threads: ";
-  for (auto &[what, met] : region.divided)
-    line(divided + (what == Divided::Loops ? "loops, " : "sections, ") + times_and_place(met, places));
+  if (region.threads == 1) return;
+  auto begin = [&](const char *what) { return Object().put("what", what).put("threads", region.threads); };
+  for (auto &[what, met] : region.divided) {
+    Object told = begin(what == Divided::Loops ? "loops" : "sections");
+    line("divided", put_seen(told, met, places));
+  }
   Beside beside = beside_each_other(region);
-  if (!beside.parts) return;
-  line(divided + "code of the region, " + std::to_string(beside.parts) + " parts, " + with_unit(beside.cost) +
-       " beside the longest");
+  if (beside.parts) line("divided", begin("code").put("parts", beside.parts).put("beside", in_units(beside.cost)));
 }
 
 void Head::clocks(const Region &region) {
-  line("clock reading: " + std::to_string(record_clock().reading) + " ns, taken off at each record");
-  differing("clocks differ: ", "by ", region.differing, region.cost);
-  differing("slept: ", "for ", region.asleep, region.cost);
-  if (region.untimed >= least_difference) line("untimed: " + with_unit(region.untimed) + " before segments were left");
+  line("clock reading", record_clock().reading);
+  differing("clocks differ", region.differing, region.cost);
+  differing("slept", region.asleep, region.cost);
+  if (region.untimed >= least_difference) line("untimed", in_units(region.untimed));
 }
 
-void Head::differing(const char *name, const char *by, const Differing &seen, int64_t work) {
+void Head::differing(const char *name, const Differing &seen, int64_t work) {
   if (seen.off < least_difference) return;
-  std::string times = std::to_string(seen.at.times) + (seen.at.times == 1 ? " time" : " times");
-  line(name + ("in " + units(seen.cost)) + " of " + with_unit(work) + " of the work, " + by + with_unit(seen.off) +
-       ", " + times);
+  line(name, Object()
+                 .put("affected", in_units(seen.cost))
+                 .put("work", in_units(work))
+                 .put("by", in_units(seen.off))
+                 .put("times", seen.at.times));
 }
 
 void Head::times(const Region &region, const Recording &recording) {
   int64_t elapsed = region.time.end - region.time.begin;
-  line("elapsed: " + units(elapsed));
+  line("elapsed", in_units(elapsed));
   int64_t others = recording.time.in_regions - (region.time.is_outermost ? elapsed : 0);
   if (recording.whole) {
-    line("in serial code: " + units(recording.whole->serial));
-    line("in loops: " + units(recording.whole->in_loops));
+    line("in serial code", in_units(recording.whole->serial));
+    line("in loops", in_units(recording.whole->in_loops));
   } else {
-    line("outside regions: " + units(recording.time.outside));
-    line("in other regions: " + units(std::max<int64_t>(others, 0)));
+    line("outside regions", in_units(recording.time.outside));
+    line("in other regions", in_units(std::max<int64_t>(others, 0)));
   }
-  line("in parts without tasks: " + units(region.in_parts));
-  line("in tasks: " + units(region.in_tasks));
-  if (region.remarks.count(Remark::Folded))
-    line("span without folds: " + units(region.span) + ", as the recorder adds it up");
+  line("in parts without tasks", in_units(region.in_parts));
+  line("in tasks", in_units(region.in_tasks));
+  if (region.remarks.count(Remark::Folded)) line("span without folds", in_units(region.span));
 }
 
-void Head::lock(const std::string &name, const LockUse &use) {
-  line("lock " + name + ": " + std::to_string(use.times) + (use.times == 1 ? " time, " : " times, ") +
-       units(use.inside) + " inside, " + units(use.waiting) + " waiting");
+void Head::lock(Object &told, const LockUse &use) {
+  told.put("times", use.times).put("inside", in_units(use.inside)).put("waiting", in_units(use.waiting));
+  line("lock", told);
 }
 
 void Head::locks(const Region &region) {
@@ -185,32 +185,47 @@ void Head::locks(const Region &region) {
   std::stable_sort(uses.begin(), uses.end(), [](auto &a, auto &b) { return a.inside > b.inside; });
   int64_t alone = 0;
   for (const LockUse &use : uses) alone = std::max(alone, use.alone);
-  if (alone) line("most held lock: " + with_unit(alone) + " inside, one thread at a time");
+  if (alone) line("most held lock", in_units(alone));
   LockUse others;
   for (size_t i = 0; i < uses.size(); i++) {
+    if (i >= most_locks) {
+      others.add(uses[i]);
+      continue;
+    }
+    Object told;
     std::string at = places.at(uses[i].code);
-    if (i < most_locks) lock(kind_name(uses[i].kind) + (at.empty() ? "" : " at " + at), uses[i]);
-    else others.add(uses[i]);
+    told.put("kind", kind_name(uses[i].kind));
+    if (!at.empty()) told.put("at", at);
+    lock(told, uses[i]);
   }
-  if (others.times) lock(std::to_string(uses.size() - most_locks) + " others together", others);
+  Object told;
+  if (others.times) lock(told.put("others", uses.size() - most_locks), others);
 }
 
-std::string words_of(const std::vector<Frame> &frames) {
-  std::string words = "in " + frames[0].function;
-  for (size_t i = 1; i < frames.size(); i++) words += ", inlined into " + frames[i].function + " at " + frames[i].at;
-  return words;
+// A place, and the functions that it is in, from the innermost on.
+std::string place_in_json(const std::string &at, const std::vector<Frame> &frames) {
+  std::string inlined;
+  for (size_t i = 1; i < frames.size(); i++) {
+    Object into;
+    into.put("in", frames[i].function).put("at", frames[i].at);
+    inlined += (i > 1 ? ", " : "") + into.end();
+  }
+  Object told;
+  told.put("at", at).put("in", frames[0].function);
+  if (!inlined.empty()) told.put_bare("inlined", "[" + inlined + "]");
+  return told.end();
 }
 
 // Of each place; a place that stands in several functions has a line for each.
 void Head::functions(const Region &region) {
   std::set<std::string> lines;
   for (const void *code : codes_of(region))
-    if (!places.frames(code).empty()) lines.insert("place " + places.at(code) + ": " + words_of(places.frames(code)));
-  for (const std::string &one : lines) line(one);
+    if (!places.frames(code).empty()) lines.insert(place_in_json(places.at(code), places.frames(code)));
+  for (const std::string &one : lines) words += "# place: " + one + "\n";
 }
 
 void Head::remarks(const Region &region) {
-  for (auto &[what, seen] : region.remarks) line("remark: " + remark_in_json(what, seen, places));
+  for (auto &[what, seen] : region.remarks) words += "# remark: " + remark_in_json(what, seen, places) + "\n";
 }
 }  // namespace
 

@@ -1,7 +1,7 @@
 #include "remarks.hpp"
 
+#include "json.hpp"
 #include "source.hpp"
-#include "tell.hpp"
 
 namespace {
 constexpr Moved Not = Moved::Not, Low = Moved::Low, High = Moved::High, Either = Moved::Either;
@@ -44,24 +44,25 @@ constexpr RemarkLine lines[] = {
 };
 static_assert(std::size(lines) == all_remarks, "one line for each");
 
-std::string direction(const char *number, Moved moved) {
-  if (moved == Not) return "";
-  return std::string(", \"") + number + "\": \"" + (moved == Low ? "low" : moved == High ? "high" : "either") + "\"";
+void put_direction(Object &told, const char *number, Moved moved) {
+  if (moved != Not) told.put(number, moved == Low ? "low" : moved == High ? "high" : "either");
 }
 }  // namespace
 
 const RemarkLine &line_of(Remark remark) { return lines[static_cast<std::size_t>(remark)]; }
 
-std::string times_and_place(const Seen &seen, const Places &places) {
-  std::string at = places.at(seen.code);
-  std::string times = std::to_string(seen.times) + (seen.times == 1 ? " time" : " times");
-  return times + (at.empty() ? "" : seen.elsewhere ? ", first at " + at : " at " + at);
+Object &put_seen(Object &told, const Seen &seen, const Places &places) {
+  const std::string &at = places.at(seen.code);
+  told.put("times", seen.times);
+  return at.empty() ? told : told.put(seen.elsewhere ? "first" : "at", at);
 }
 
 std::string remark_in_json(Remark what, const Seen &seen, const Places &places) {
   const RemarkLine &line = line_of(what);
-  std::string out = "{\"remark\": " + in_json(line.name), at = places.at(seen.code);
-  if (line.counted) out += ", \"times\": " + std::to_string(seen.times);
-  if (line.counted && !at.empty()) out += std::string(seen.elsewhere ? ", \"first\": " : ", \"at\": ") + in_json(at);
-  return out + direction("work", line.work) + direction("span", line.span) + "}";
+  Object told;
+  told.put("remark", line.name);
+  if (line.counted) put_seen(told, seen, places);
+  put_direction(told, "work", line.work);
+  put_direction(told, "span", line.span);
+  return told.end();
 }

@@ -58,7 +58,8 @@ const RemarkLine &line_of(Remark remark);
 
 using Remarks = std::map<Remark, Seen>;
 
+class Object;
 class Places;
 // As an object of JSON, of which spanprof/remarks.py makes words; `# remark: ` stands before it in a text's head.
 std::string remark_in_json(Remark what, const Seen &seen, const Places &places);
-std::string times_and_place(const Seen &seen, const Places &places);  // `3 times at file.c:10`
+Object &put_seen(Object &told, const Seen &seen, const Places &places);  // how often, and where or where first

@@ -20,7 +20,7 @@
 namespace {
 constexpr size_t most_workers = 64;
 
-Line &put_excess(Line &line, const Excess &over) {
+Object &put_excess(Object &line, const Excess &over) {
   return line.put("what", over.what).put("program", over.program).put("has", over.has).put("takes", over.takes);
 }
 
@@ -46,16 +46,16 @@ class Reporter {
   std::string head(Region &region, int64_t work);
   Text finish(Region &region, bool exclusion_as_order);
   void tell_remarks(const Region &region, const std::string &name);
-  bool has_run(const Region &region, Line &line);
-  void write_run(const Region &region, const std::string &name, const Text &text, Line &line);
-  void write_replay(const std::string &name, const Text &text, const Events &events, Line &line);
-  void write_timed(const Region &region, const std::string &name, const Text &text, const Events &events, Line &line);
+  bool has_run(const Region &region, Object &line);
+  void write_run(const Region &region, const std::string &name, const Text &text, Object &line);
+  void write_replay(const std::string &name, const Text &text, const Events &events, Object &line);
+  void write_timed(const Region &region, const std::string &name, const Text &text, const Events &events, Object &line);
   bool write_piece_by_piece(Region &region, const std::string &file, const std::string &head, const Style &style,
                             const std::string &behind = "");
   void write_large(Region &region, const std::string &name, const Size &size);
-  void write_large_run(Region &region, const std::string &name, const std::string &head, Line &line);
+  void write_large_run(Region &region, const std::string &name, const std::string &head, Object &line);
   void tell_advice(Region &region, const std::string &file, const Excess &over);
-  Line &put_size(Line &line, const std::string &file, const Size &size, int64_t work);
+  Object &put_size(Object &line, const std::string &file, const Size &size, int64_t work);
 };
 
 void remark_folds(Region &region, const Size &size) {
@@ -105,7 +105,7 @@ void Reporter::tell_remarks(const Region &region, const std::string &name) {
 
 // Whether the run can stand behind the text; where it cannot, the line tells why. Of the whole program no events are
 // replayed, and of a large region they are kept where times are wanted.
-bool Reporter::has_run(const Region &region, Line &line) {
+bool Reporter::has_run(const Region &region, Object &line) {
   if (recording.whole) {
     if (options.times && !region.has_events) line.put("no times", "whole");
     return options.times && region.has_events;
@@ -117,7 +117,7 @@ bool Reporter::has_run(const Region &region, Line &line) {
 }
 
 // Which files hold the run.
-void Reporter::write_run(const Region &region, const std::string &name, const Text &text, Line &line) {
+void Reporter::write_run(const Region &region, const std::string &name, const Text &text, Object &line) {
   if (!has_run(region, line)) return;
   Events events = event_lines(region);
   if (!recording.whole) write_replay(name, text, events, line);
@@ -125,14 +125,14 @@ void Reporter::write_run(const Region &region, const std::string &name, const Te
 }
 
 // Whether a replay document can have these; where it cannot, the line tells why.
-bool can_be_replayed(const Events &events, Line &line) {
+bool can_be_replayed(const Events &events, Object &line) {
   if (events.workers > most_workers) line.put("no replay", "workers").put("workers", events.workers);
   else if (!events.whole) line.put("no replay", "unfinished");
   else return true;
   return false;
 }
 
-void Reporter::write_replay(const std::string &name, const Text &text, const Events &events, Line &line) {
+void Reporter::write_replay(const std::string &name, const Text &text, const Events &events, Object &line) {
   if (!can_be_replayed(events, line)) return;
   if (!options.processor_clock) write_file(name + ".times", times_table(events));
   if (write_file(name + ".replay", text.words + "---\n" + events.words)) line.put("replay", name + ".replay");
@@ -145,7 +145,7 @@ const char *why_no_times(const Region &region, const Events &events) {
 }
 
 void Reporter::write_timed(const Region &region, const std::string &name, const Text &text, const Events &events,
-                           Line &line) {
+                           Object &line) {
   if (const char *why = why_no_times(region, events)) line.put("no times", why);
   else if (write_file(name + ".timed", text.words + "---\n" + timed_lines(region, events)))
     line.put("times", name + ".timed");
@@ -170,7 +170,7 @@ bool Reporter::write_piece_by_piece(Region &region, const std::string &file, con
 }
 
 // The text is written once more in front of each.
-void Reporter::write_large_run(Region &region, const std::string &name, const std::string &head, Line &line) {
+void Reporter::write_large_run(Region &region, const std::string &name, const std::string &head, Object &line) {
   if (!has_run(region, line)) return;
   Events events = event_lines(region);
   auto write = [&](const char *what, const std::string &file, const std::string &behind) {
@@ -199,7 +199,7 @@ void Reporter::write_large(Region &region, const std::string &name, const Size &
     write_piece_by_piece(region, name + ".large.inout.tasks", head(region, work), {options.unit, true, true, false});
 }
 
-Line &Reporter::put_size(Line &line, const std::string &file, const Size &size, int64_t work) {
+Object &Reporter::put_size(Object &line, const std::string &file, const Size &size, int64_t work) {
   return line.put("file", file)
       .put("tasks", size.tasks)
       .put("segments", size.segments)
@@ -208,8 +208,9 @@ Line &Reporter::put_size(Line &line, const std::string &file, const Size &size, 
 }
 
 std::string offer_in_json(const Offer &offer) {
-  return "{\"fold\": " + in_json(std::string_view(offer.fold)) + ", \"value\": " + std::to_string(offer.value) +
-         ", \"tasks\": " + std::to_string(offer.tasks) + ", \"span\": " + std::to_string(offer.span) + "}";
+  Object told;
+  told.put("fold", offer.fold).put("value", offer.value).put("tasks", offer.tasks).put("span", offer.span);
+  return told.end();
 }
 
 // Folds that fit a part of a region say nothing of the whole.
@@ -259,7 +260,8 @@ void Reporter::write(Region &region, const std::string &name) {
 void Reporter::tell_outside(const Seen &outside) {
   if (!outside.times) return;
   if (options.lines) places.look_up({outside.code});
-  Line("outside").put("seen", times_and_place(outside, places));
+  Line line("outside");
+  put_seen(line, outside, places);
 }
 
 // The chosen ones, in the order of time; the others are told with their work.

@@ -96,7 +96,7 @@ def read_rows(table):
 
 def at_locks(head):
     """How long threads waited for locks of OpenMP, in the text's unit."""
-    return sum(int(found[1]) for found in (re.search(r"(\d+) waiting\b", line) for line in head.locks) if found)
+    return sum(lock.waiting for lock in head.locks)
 
 
 def within(parts, whole):

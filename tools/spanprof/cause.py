@@ -84,7 +84,7 @@ def lock(answers):
         "lock", "a lock, inside which %s of the work is, one thread at a time (measured)" %
         percent(min(1.0, head.most_held / answers.work)),
         instead="shorter code inside the lock%s; no text tells what that brings" %
-        (", " + head.locks[0].partition(": ")[0] if head.locks else ""))
+        (", " + head.locks[0].name if head.locks else ""))
 
 
 def share_off(head, account):

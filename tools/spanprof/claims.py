@@ -36,14 +36,12 @@ def is_folded(head):
 
 
 def is_of_one_thread(head):
-    return head.one_thread or head.threads == 1
+    return head.threads == 1
 
 
 def is_divided(head):
     """Whether code is divided among the run's threads: by loops or sections, or else a twentieth of the text."""
-    if all(line.startswith("code of the region") for line in head.divided):
-        return bool(head.divided) and 20 * (head.beside or 0) >= (head.covered or 0)
-    return True
+    return bool(head.divided) or head.beside is not None and 20 * head.beside >= (head.covered or 0)
 
 
 def why_not_of_more_threads(head):

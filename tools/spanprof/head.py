@@ -1,22 +1,36 @@
-"""What the comments at the head of a recorded text tell of its recording."""
+"""What the comments at the head of a recorded text tell of its recording: each line is a name and JSON."""
+import json
 import re
 from dataclasses import dataclass, field
 from itertools import takewhile
 from typing import Dict, List, Optional, Tuple
 
-from spanprof.remarks import Remark, read_remark
+from spanprof.remarks import Remark, read_remark, seen
 
 NANOSECONDS = {"ns": 1, "us": 1000, "ms": 1000000}
-NUMBERS = {"clock reading": "clock_reading", "most held lock": "most_held", "untimed": "untimed"}
 DIVISION = ("outside regions", "in other regions", "in serial code", "in loops", "in parts without tasks", "in tasks")
 COSTS = DIVISION[2:]  # of the text; the others are wall time of the program
+OLDER = "the head is that of an older version of the recorder, and is not read: convert the log again, or record again"
+
+
+def counted(number, what):
+    return "%d %s%s" % (number, what, "s" * (number != 1))
+
+
+class Lock(str):
+    """Words on a lock of OpenMP, or on several together. `waiting` is how long threads waited, in the text's unit."""
+    def __new__(cls, name, times, inside, waiting):
+        out = super().__new__(cls, "%s: %s, %d inside, %d waiting" % (name, counted(times, "time"), inside, waiting))
+        out.name, out.waiting = name, waiting
+        return out
 
 
 @dataclass
 class Head:
     program: str = ""
     region: str = ""        # the place of the parallel region
-    whole: str = ""         # where the text is of the whole program: how many regions and loops
+    whole: str = ""         # where the text is of the whole program: how many regions and loops, in words
+    pieces: int = 0         # of its loops and sections
     number: str = ""        # its place in time among the regions with tasks: `2 of 5`
     date: str = ""
     threads: Optional[int] = None
@@ -28,20 +42,20 @@ class Head:
     thread_time: Optional[int] = None  # of the program, in code
     covers_at_most: bool = False       # recording ended before the program did
     not_covered: Dict[str, int] = field(default_factory=dict)  # the rest, by where it passed
-    divided: List[str] = field(default_factory=list)  # what was divided among as many threads as the run had
+    divided: List[str] = field(default_factory=list)  # loops and sections, among as many threads as the run had
     beside: Optional[int] = None       # what the region's parts cost, but for the longest of each phase
-    one_thread: bool = False
     clock_reading: Optional[int] = None  # in nanoseconds
     clocks_differ: Dict[str, int] = field(default_factory=dict)  # affected, work, by, times
     slept: Dict[str, int] = field(default_factory=dict)          # the same of code that slept, by the wall clock
     untimed: int = 0                   # of segments, before they were left in their midst
     most_held: Optional[int] = None    # inside one lock, one thread at a time
+    unfolded_span: Optional[int] = None     # of a folded text, as the recorder adds it up
     runs: Optional[int] = None         # where the program was recorded several times
     is_median: bool = False            # each cost is the median of those runs; else it is one of them
     spread: Dict[str, Tuple[int, int, int]] = field(default_factory=dict)  # of work, span: least, median, most
     functions: Dict[str, str] = field(default_factory=dict)  # by a place: `in merge, inlined into sort at sort.c:9`
     remarks: List[Remark] = field(default_factory=list)
-    locks: List[str] = field(default_factory=list)
+    locks: List[Lock] = field(default_factory=list)
 
     @property
     def is_measured(self):
@@ -76,100 +90,92 @@ def head_text(path):
         return "".join(takewhile(lambda line: line.startswith("#"), file))
 
 
-def read_recorded(head, words):
-    """`recorded: from sort, 2026-11-24T00:10:02Z, threads 4, clock cpu, unit us`."""
-    for part in words.split(", "):
-        name, _, value = part.strip().partition(" ")
-        if name == "from":
-            head.program = value
-        elif name == "threads" and value.isdigit():
-            head.threads = int(value)
-        elif name in ("clock", "unit"):
-            setattr(head, name, value)
-        elif re.match(r"\d{4}-\d\d-\d\d", part):
-            head.date = part.strip()
+def read_recorded(head, told):
+    for name in ("program", "date", "threads", "clock", "unit"):
+        setattr(head, name, told.get(name, getattr(head, name)))
 
 
-def read_coverage(head, value):
-    """`93.1 % of the program's thread-time (931 of 1000 us)`, maybe after `at most`."""
-    found = re.search(r"\((\d+) of (\d+) ", value)
-    if found:
-        head.covered, head.thread_time = int(found[1]), int(found[2])
-        head.covers_at_most = value.startswith("at most ")
+def read_region(head, told):
+    head.region, head.number = told.get("at", ""), "%d of %d" % (told["number"], told["of"])
 
 
-def read_divided(head, value):
-    head.divided.append(value)
-    found = re.match(r"code of the region, \d+ parts, (\d+) ", value)
-    if found:
-        head.beside = int(found[1])
+def read_whole(head, told):
+    """Also in words: how loops are written, which on other threads would be cut otherwise."""
+    head.whole, head.pieces = counted(told["regions"], "region"), told.get("pieces", 0)
+    if head.pieces:
+        head.whole += ", %s in %s; a chunk of k turns is k equal pieces" % (
+            counted(told["loops"], "loop"), counted(head.pieces, "piece"))
+    if "together below" in told:
+        head.whole += ", together where they are shorter than %d ns" % told["together below"]
 
 
-def differing(value):
-    """`in 4000 of 4200 us of the work, by 3000 us, 9 times`, or `for 3000 us`; a unit may be `x 250 ns`."""
-    found = re.match(r"in (\d+) of (\d+) .* of the work, (?:by|for) (\d+) .*, (\d+) times?$", value)
-    return dict(zip(("affected", "work", "by", "times"), map(int, found.groups()))) if found else {}
+def read_coverage(head, told):
+    head.covered, head.thread_time = told["text"], told["program"]
+    head.covers_at_most = told.get("at most", False)
 
 
-def read_spread(head, what, value):
-    found = re.match(r"(\d+) least, (\d+) median, (\d+) most$", value)
-    if found:
-        head.spread[what] = tuple(map(int, found.groups()))
+def read_divided(head, told):
+    if told["what"] == "code":
+        head.beside = told["beside"]
+    else:
+        head.divided.append("%s, %s" % (told["what"], seen(told)))
 
 
-def read_rest(head, value):
-    """`5000 outside regions, 1877 in other regions, 0 of this region`."""
-    for part in value.split(", "):
-        number, _, where = part.partition(" ")
-        if number.isdigit():
-            head.not_covered[where] = int(number)
+def read_runs(head, told):
+    head.runs, head.is_median = told["runs"], told["median"]
 
 
-def read_of_the_program(head, name, value):
-    """The lines that tell what the text says of the program, and what not."""
-    first = re.match(r"\d+", value)
-    if name == "covers":
-        read_coverage(head, value)
-    elif name == "not covered":
-        read_rest(head, value)
-    elif name.startswith("divided among "):
-        read_divided(head, value)
-    elif name == "one thread":
-        head.one_thread = True
-    elif name == "clocks differ":
-        head.clocks_differ = differing(value)
-    elif name == "slept":
-        head.slept = differing(value)
-    elif name in ("work of the runs", "span of the runs"):
-        read_spread(head, name.split()[0], value)
-    elif name == "runs" and first:
-        head.runs, head.is_median = int(first[0]), "each cost is the median" in value
-    elif name in NUMBERS and first:
-        setattr(head, NUMBERS[name], int(first[0]))
+def read_place(head, told):
+    words = "in " + told["in"] + "".join(", inlined into %(in)s at %(at)s" % one for one in told.get("inlined", []))
+    head.functions.setdefault(told["at"], words)
+
+
+def read_lock(head, told):
+    """One, or several others together."""
+    name = "%d others together" % told["others"] if "others" in told else \
+        told["kind"] + (" at " + told["at"] if "at" in told else "")
+    head.locks.append(Lock(name, told["times"], told["inside"], told["waiting"]))
+
+
+def kept(field_name, kind=int):
+    def read(head, told):
+        if not isinstance(told, kind):
+            raise TypeError(field_name)
+        setattr(head, field_name, told)
+    return read
+
+
+def spread_of(what):
+    return lambda head, told: head.spread.update({what: (told["least"], told["median"], told["most"])})
+
+
+def part_of_time(name):
+    return lambda head, told: head.division.update({name: told})
+
+
+LINES = {
+    "recorded": read_recorded, "region": read_region, "whole program": read_whole, "covers": read_coverage,
+    "not covered": kept("not_covered", dict), "divided": read_divided, "clock reading": kept("clock_reading"),
+    "clocks differ": kept("clocks_differ", dict), "slept": kept("slept", dict), "untimed": kept("untimed"),
+    "elapsed": kept("elapsed"), "most held lock": kept("most_held"), "span without folds": kept("unfolded_span"),
+    "lock": read_lock, "place": read_place,
+    "runs": read_runs, "work of the runs": spread_of("work"), "span of the runs": spread_of("span"),
+    **{name: part_of_time(name) for name in DIVISION},
+}
 
 
 def read_line(head, words):
+    """A name and JSON. Other lines are comments of somebody's own."""
     name, _, value = words.partition(": ")
-    first = re.match(r"\d+", value)
-    if name == "recorded":
-        read_recorded(head, value)
-    elif name == "elapsed" and first:
-        head.elapsed = int(first[0])
-    elif name in DIVISION and first:
-        head.division[name] = int(first[0])
-    elif name == "region":
-        place, _, head.number = value.rpartition(", ")
-        head.region = place.removeprefix("at ")
-    elif name == "whole program":
-        head.whole = value
-    elif name == "remark":
+    if name == "remark":
         head.remarks.append(read_remark(value))
-    elif name.startswith("place "):
-        head.functions.setdefault(name[len("place "):], value)
-    elif name.startswith("lock "):
-        head.locks.append("%s: %s" % (name[len("lock "):], value))
-    else:
-        read_of_the_program(head, name, value)
+    if name not in LINES:
+        return
+    try:
+        LINES[name](head, json.loads(value))
+    except (ValueError, KeyError, TypeError, AttributeError):
+        if name == "recorded":
+            head.remarks.append(read_remark(OLDER))
 
 
 def read_head(text):

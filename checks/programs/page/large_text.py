@@ -14,8 +14,8 @@ def cost_of(task):
 
 
 def text():
-    lines = ["# recorded: from large, 2026-01-02T03:04:05Z, threads %d, clock wall, unit ns" % WORKERS, "omptasks 1",
-             "work 7"]
+    lines = ['# recorded: {"program": "large", "date": "2026-01-02T03:04:05Z", "threads": %d, "clock": "wall", '
+             '"unit": "ns"}' % WORKERS, "omptasks 1", "work 7"]
     for i in range(TASKS):
         row, column = divmod(i, ROW)
         lines += ["task depend(inout: r%d) depend(inout: c%d) {  # %s" % (row, column, PLACE % (10 + i)),

@@ -5,9 +5,9 @@ import os
 import sys
 
 TASKS, THREADS = 1000000, 4
-HEAD = """# recorded: from million, 2026-01-02T03:04:05Z, threads %d, clock wall, unit ns
-# region: at million.c:7, 1 of 1
-# elapsed: %d ns
+HEAD = """# recorded: {"program": "million", "date": "2026-01-02T03:04:05Z", "threads": %d, "clock": "wall", "unit": "ns"}
+# region: {"at": "million.c:7", "number": 1, "of": 1}
+# elapsed: %d
 omptasks 1
 work 900
 """

@@ -50,7 +50,7 @@ def text_of(out):
 
 
 def is_otherwise(head):
-    return "piece" in head.whole or any(remark.name in OTHERWISE for remark in head.remarks)
+    return head.pieces or any(remark.name in OTHERWISE for remark in head.remarks)
 
 
 def by_text(out):

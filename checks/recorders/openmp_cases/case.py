@@ -2,7 +2,7 @@
 
     // compiler: gcc              in the place of clang; the program then runs on LLVM's runtime in the place of gcc's
     // needs: LLVM N              that version or a later one, to compile it
-    // clock: counted             costs by a clock that counts its readings (counted_clock.c)
+    // clock: counted             costs by a clock that counts its readings (clock/counted_clock.c)
     // env: NAME=VALUE            a variable of the run
     // status: N                  its exit status, 0 where none is named; negative for a signal
     // old: FILE ..               files of an earlier run that lie there
@@ -16,9 +16,14 @@
 """
 import fnmatch
 import operator
+import os
 import re
+import sys
 from collections import defaultdict
 from dataclasses import dataclass, field
+
+sys.path.append(os.path.join(os.path.dirname(os.path.abspath(__file__)), "..", "..", "..", "tools"))
+from spanprof.head import read_head  # noqa: E402
 
 KEYS = ("compiler", "needs", "clock", "env", "status", "old", "again", "says", "text", "no text", "file", "no file",
         "expect")
@@ -103,9 +108,9 @@ def last_faults(wanted, left):
 
 
 def unfolded_span(text):
-    """The line of a folded text's head, as a number by its name."""
-    found = re.search(r"^# (span without folds): (\d+)", text, re.M)
-    return {found[1]: int(found[2])} if found else {}
+    """The number of a folded text's head, by its name."""
+    span = read_head(text).unfolded_span
+    return {} if span is None else {"span without folds": span}
 
 
 def count_tasks(text):
@@ -116,10 +121,11 @@ def count_tasks(text):
 
 def numbers_of_head(text):
     """Numbers of the head's lines that tell what a text says of its program, by the names of the lines."""
-    patterns = {"covers": r"# covers: (?:at most )?(\d+\.\d) %", "most held lock": r"# most held lock: (\d+) ",
-                "affected": r"# clocks differ: in (\d+) of", "off the processor": r"# clocks differ: .*, by (\d+) "}
-    found = {name: re.search(pattern, text) for name, pattern in patterns.items()}
-    return {name: float(match[1]) for name, match in found.items() if match}
+    head = read_head(text)
+    found = {"covers": 100 * head.covered / head.thread_time if head.thread_time else None,
+             "most held lock": head.most_held, "affected": head.clocks_differ.get("affected"),
+             "off the processor": head.clocks_differ.get("by")}
+    return {name: number for name, number in found.items() if number is not None}
 
 
 def second_setting(words, said):

@@ -84,7 +84,7 @@ def preloaded(wanted, version, folder):
     out = [version.runtime] if is_of_gcc(wanted) else []
     if is_counted(wanted):
         out.append(os.path.join(folder, "counted_clock.so"))
-        source = os.path.join(HERE, "counted_clock.c")
+        source = os.path.join(HERE, "clock", "counted_clock.c")
         subprocess.run(["cc", "-O2", "-shared", "-fPIC", source, "-o", out[-1]], check=True)
     return out
 

@@ -2,7 +2,7 @@
 // clock: counted
 // expect: work >= 64000000
 // expect: work <= 90000000
-// text: # lock critical at contended_lock.c:\d+: 32 times, (3[2-9]|4\d)\d{6} inside
+// text: # lock: \{"kind": "critical", "at": "contended_lock.c:\d+", "times": 32, "inside": (3[2-9]|4\d)\d{6},
 // expect: most held lock >= 32000000
 // text: # remark: time inside locks, which exclude each other, 32 times at contended_lock.c:\d+: span too low
 #include "spend.h"

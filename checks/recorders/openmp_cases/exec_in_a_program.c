@@ -1,7 +1,7 @@
 // What was recorded before `exec` is there, and what the process goes over to has a log of its own.
 // file: out.tasks out.[0-9]*.tasks
 // says: the log ends \d+.\d ms after recording began, outside of regions
-// text: 1 of 1
+// text: "number": 1, "of": 1\}
 // expect: tasks = 2
 #include <unistd.h>
 

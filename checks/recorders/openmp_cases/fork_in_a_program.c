@@ -1,6 +1,6 @@
 // A child writes files of its own, and the parent's stay the parent's.
 // file: out.tasks out.[0-9]*.tasks
-// text: 1 of 1
+// text: "number": 1, "of": 1\}
 // expect: work >= 2000000
 #include <sys/wait.h>
 #include <unistd.h>

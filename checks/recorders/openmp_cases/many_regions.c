@@ -3,7 +3,7 @@
 // env: SPANPROF_REGIONS=2
 // clock: counted
 // says: 3 more regions with tasks are not written, work \d+ ns: of each place those next to its median are
-// text: # region: at many_regions.c:16, 1 of 5
+// text: # region: \{"at": "many_regions.c:16", "number": 1, "of": 5\}
 // file: out.tasks out.2.tasks out.regions
 // no file: out.3.tasks
 // expect: work >= 6000000

@@ -1,7 +1,7 @@
 // On one thread every task is undeferred, and the text says so.
-// text: # one thread: every task is undeferred, so that this text says nothing of more threads
+// text: # recorded: .*"threads": 1,
 // text: # remark: on one thread every task is undeferred \(if\(0\)\), 4 times,? (first )?at one_thread.c:\d+: span too high
-// no text: # divided among
+// no text: # divided
 // expect: parallelism = 1
 #include "spend.h"
 

@@ -2,7 +2,7 @@
 // clock: counted
 // env: OMP_WAIT_POLICY=passive
 // expect: span <= 9000000
-// text: # not covered: \d+ outside regions, [12]\d{7} in other regions
+// text: # not covered: \{"outside regions": \d+, "in other regions": [12]\d{7},
 // text: # remark: parallel region inside a task, whose other threads ran longer than the task, 1 time at region_in_a_task.c:\d+: work and span too low
 // no text: span too high
 #include <omp.h>

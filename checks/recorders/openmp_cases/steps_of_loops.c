@@ -4,9 +4,9 @@
 // expect: work >= 240000000
 // expect: covers >= 90
 // expect: tasks = 60
-// text: # divided among 4 threads: loops, 60 times at steps_of_loops.c:15
-// text: # divided among 4 threads: sections, 1 time at steps_of_loops.c:29
-// text: # divided among 4 threads: code of the region, \d+ parts, 1[4-9]\d{7} ns beside the longest
+// text: # divided: \{"what": "loops", "threads": 4, "times": 60, "at": "steps_of_loops.c:15"
+// text: # divided: \{"what": "sections", "threads": 4, "times": 1, "at": "steps_of_loops.c:29"
+// text: # divided: \{"what": "code", "threads": 4, "parts": \d+, "beside": 1[4-9]\d{7}\}
 // no text: # remark: parts without tasks
 #include "spend.h"
 

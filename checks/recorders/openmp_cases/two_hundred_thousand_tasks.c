@@ -4,7 +4,7 @@
 // no file: out.tasks
 // again: SPANPROF_FOLD_CHUNK=49
 // text: # remark: folded task, 195918 times.*: span too high
-// text: # span without folds: \d+, as the recorder adds it up
+// text: # span without folds: \d+
 // expect: tasks = 4082
 // expect: parallelism >= 1.2
 static volatile int turn;

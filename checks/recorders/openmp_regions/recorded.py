@@ -6,7 +6,7 @@ import sys
 from structure import Node, Recorded, every_node, nodes
 
 sys.path.append(os.path.join(os.path.dirname(os.path.abspath(__file__)), "..", "..", "..", "tools"))
-from spanprof.remarks import read_remark  # noqa: E402
+from spanprof.head import read_head  # noqa: E402
 from spanprof.text import statements  # noqa: E402
 
 PART = "one of the region's threads"
@@ -42,15 +42,12 @@ def read(text):
 
     Under gcc's code LLVM may tell the region's line for a construct in it; that counts as a line that is not known.
     """
-    head = text.partition("omptasks 1\n")[0]
-    where = re.search(r"region: at \S*?:(\d+)", head)
+    head = read_head(text)
     root = []
     open_bodies = [root]
     for one in statements(text.split("\n")):
         add(open_bodies, one)
-    region = int(where.group(1)) if where else 0
+    region = line_of(head.region)
     for node in every_node(root):
         node.line = 0 if node.line == region else node.line
-    reading = re.search(r"^# clock reading: (\d+) ns", head, re.M)
-    remarks = [read_remark(one) for one in re.findall(r"^# remark: (.*)$", head, re.M)]
-    return Recorded(region, phases(root), remarks, int(reading.group(1)) if reading else 0)
+    return Recorded(region, phases(root), head.remarks, head.clock_reading or 0)

@@ -8,7 +8,6 @@ status is 0 where none is less.
 """
 import glob
 import os
-import re
 import sys
 import tempfile
 
@@ -18,6 +17,7 @@ CASES = os.path.join(os.path.dirname(HERE), "openmp_cases")
 sys.path.append(CASES)
 import cases  # noqa: E402
 from case import is_of_gcc, needed_version, wants  # noqa: E402
+from spanprof.head import read_head  # noqa: E402
 
 COVERED = 95.0
 WORDS = {"cholesky": ["6"], "fibonacci": ["27", "12"], "merge_sort": ["60000"], "merge_sort_split": ["60000"],
@@ -26,13 +26,13 @@ WORDS = {"cholesky": ["6"], "fibonacci": ["27", "12"], "merge_sort": ["60000"], 
 
 def judged(text):
     """What is wrong with a text's head; empty where nothing is."""
-    head = "".join(line for line in text.splitlines(True) if line.startswith("#"))
-    found = re.search(r"^# covers: (at most )?([\d.]+) %", head, re.M)
-    if not re.search("^# whole program: ", head, re.M):
+    head = read_head(text)
+    if not head.whole:
         return "it is not the whole program's"
-    if not found:
+    if not head.thread_time:
         return "it does not say what it covers"
-    return "" if found[1] or float(found[2]) >= COVERED else "it covers %s %%" % found[2]
+    covered = 100 * head.covered / head.thread_time
+    return "" if head.covers_at_most or covered >= COVERED else "it covers %.1f %%" % covered
 
 
 def texts(files):

@@ -15,6 +15,9 @@ from judging import faults, refuted
 from sentences import read
 
 TOP = os.path.dirname(os.path.dirname(os.path.dirname(os.path.dirname(os.path.abspath(__file__)))))
+sys.path.append(os.path.join(TOP, "tools"))
+from spanprof.head import read_head  # noqa: E402
+
 RECORD = os.path.join(TOP, "tools", "spanprof-record")
 SPANPROF = os.environ.get("SPANPROF", os.path.join(TOP, "crates/spanprof/out/spanprof"))
 THREADS = (1, 2, 4, 8)
@@ -65,8 +68,8 @@ def of_every_program(text, shape):
 
 def covered(text):
     with open(text, encoding="utf-8") as file:
-        found = re.search(r"# covers: ([\d.]+) %", file.read())
-    return float(found[1]) if found else 0.0
+        head = read_head(file.read())
+    return 100 * head.covered / head.thread_time if head.thread_time else 0.0
 
 
 def told_threads(shape):

@@ -161,11 +161,12 @@ TEST(the_head_tells_what_a_whole_programs_text_has) {
   Recording recording{"sort", "2026-11-24T00:10:02Z", 0, {100, 12 * us}, {100, 24 * us + 100, true}, &whole};
   std::string head = head_of(whole, recording, Options(), Places());
   EXPECT_PART(head,
-              "# whole program: 1 region, 1 loop in 4 pieces; a chunk of k turns is k equal pieces, together "
-              "where they are shorter than 1000 ns\n# covers: 99.5 % of the program's thread-time (24100 of 24200 ns)\n"
-              "# not covered: 100 of the program\n");
+              R"(# whole program: {"regions": 1, "loops": 1, "pieces": 4, "together below": 1000}
+# covers: {"text": 24100, "program": 24200}
+# not covered: {"of the program": 100}
+)");
   EXPECT_PART(head, "# in serial code: 100\n# in loops: 8000\n# in parts without tasks: 12000\n# in tasks: 4000\n");
-  EXPECT_PART(head, "# divided among 2 threads: code of the region, 2 parts, 4000 ns beside the longest\n");
+  EXPECT_PART(head, R"(# divided: {"what": "code", "threads": 2, "parts": 2, "beside": 4000})");
   EXPECT_PART(head, "# remark: {\"remark\": \"equal turns\", \"times\": 1, \"span\": \"low\"}\n");
 }
 

@@ -145,7 +145,8 @@ TEST(the_head_tells_the_functions_of_places) {
   Places places;
   places.put(code, "sort.c:9");
   places.put_frames(code, {{"merge", "sort.c:9"}, {"sort", "sort.c:30"}});
-  EXPECT_PART(head_of(region, {}, Options(), places), "# place sort.c:9: in merge, inlined into sort at sort.c:30\n");
+  EXPECT_PART(head_of(region, {}, Options(), places),
+              R"(# place: {"at": "sort.c:9", "in": "merge", "inlined": [{"in": "sort", "at": "sort.c:30"}]})");
 }
 
 TEST(the_head_tells_the_recording) {
@@ -163,19 +164,34 @@ TEST(the_head_tells_the_recording) {
   options.unit_name = "ns";
   Recording recording{"sort", "2026-11-24T00:10:02Z", 5, {100, 9000}, {100, 7798, true}};
   std::string head = head_of(region, recording, options, Places());
-  EXPECT(head, "# recorded: from sort, 2026-11-24T00:10:02Z, threads 2, clock wall, unit ns\n# region: 2 of 5\n"
-               "# covers: 69.6 % of the program's thread-time (5498 of 7898 ns)\n"
-               "# not covered: 100 outside regions, 2300 in other regions, 0 of this region\n"
-               "# divided among 2 threads: loops, 4 times\n"
-               "# divided among 2 threads: code of the region, 2 parts, 1499 ns beside the longest\n"
-               "# clock reading: 0 ns, taken off at each record\n"
-               "# clocks differ: in 3000 of 5498 ns of the work, by 50000 ns, 2 times\n"
-               "# slept: in 500 of 5498 ns of the work, for 60000 ns, 1 time\n"
-               "# untimed: 70000 ns before segments were left\n"
-               "# elapsed: 3999\n# outside regions: 100\n# in other regions: 5001\n# in parts without tasks: 1499\n"
-               "# in tasks: 3999\n# most held lock: 300 ns inside, one thread at a time\n"
-               "# lock critical: 3 times, 400 inside, 90 waiting\n"
-               "# remark: {\"remark\": \"detach\", \"times\": 1, \"span\": \"low\"}\n");
+  EXPECT(head,
+         R"(# recorded: {"program": "sort", "date": "2026-11-24T00:10:02Z", "threads": 2, "clock": "wall", "unit": "ns"}
+# region: {"number": 2, "of": 5}
+# covers: {"text": 5498, "program": 7898}
+# not covered: {"outside regions": 100, "in other regions": 2300, "of this region": 0}
+# divided: {"what": "loops", "threads": 2, "times": 4}
+# divided: {"what": "code", "threads": 2, "parts": 2, "beside": 1499}
+# clock reading: 0
+# clocks differ: {"affected": 3000, "work": 5498, "by": 50000, "times": 2}
+# slept: {"affected": 500, "work": 5498, "by": 60000, "times": 1}
+# untimed: 70000
+# elapsed: 3999
+# outside regions: 100
+# in other regions: 5001
+# in parts without tasks: 1499
+# in tasks: 3999
+# most held lock: 300
+# lock: {"kind": "critical", "times": 3, "inside": 400, "waiting": 90}
+# remark: {"remark": "detach", "times": 1, "span": "low"}
+)");
+}
+
+TEST(locks_beyond_ten_are_told_together) {
+  Run run = two_tasks();
+  Region &region = only_region(run);
+  for (uint64_t name = 1; name <= 13; name++) region.locks[name] = {ompt_mutex_lock, nullptr, 1, 40, 2, 0};
+  EXPECT_PART(head_of(region, {}, Options(), Places()),
+              "# lock: {\"others\": 3, \"times\": 3, \"inside\": 120, \"waiting\": 6}\n");
 }
 
 TEST(the_head_says_what_is_not_in_the_text) {
@@ -186,14 +202,16 @@ TEST(the_head_says_what_is_not_in_the_text) {
   options.unit = 1000, options.unit_name = "us";
   Recording recording{"sort", "", 5, {100, 9000}, {1000, 6000, false}};
   std::string head = head_of(region, recording, options, Places());
-  EXPECT_PART(head, "# covers: at most 42.8 % of the program's thread-time (3 of 7 us)\n"
-                    "# not covered: 1 outside regions, 3 in other regions, 0 of this region\n");
+  EXPECT_PART(head, R"(# covers: {"text": 3, "program": 7, "at most": true}
+# not covered: {"outside regions": 1, "in other regions": 3, "of this region": 0}
+)");
 }
 
-TEST(a_text_of_one_thread_is_told) {
+TEST(code_of_one_thread_is_not_divided) {
   Run run = Made().create(0, 1, 2, is_undeferred).run(0, 1, 2, 5).barrier(0, 1).read();
   std::string head = head_of(only_region(run), {"sort", "", 1, {}, {}}, {}, Places());
-  EXPECT_PART(head, "# one thread: every task is undeferred, so that this text says nothing of more threads\n");
+  EXPECT_PART(head, "\"threads\": 1, ");
+  EXPECT(head.find("# divided"), std::string::npos);
 }
 
 TEST(locks_that_take_a_hundredth_are_remarked) {

@@ -11,10 +11,12 @@ from spanprof.conformance.judge import Missing
 ENOUGH = 2        # programs that fail, after which a campaign ends
 SEEDS_APART = 10_000
 # Parts of the names of programs that try a rule, where those are not the rule's own.
-TRY = {"dependence": ("depend", "fan", "table", "probes"), "taskgroup": ("group", "taskloop", "makers", "fan"),
-       "undeferred": ("undeferred", "final", "rounds"), "taskwait": ("wait", "rounds"), "copy": ("copied",),
+TRY = {"dependence": ("depend", "fan", "table", "probes", "stream", "members"),
+       "taskgroup": ("group", "taskloop", "makers", "fan"),
+       "undeferred": ("undeferred", "final", "rounds"), "taskwait": ("wait", "rounds", "hurry"), "copy": ("copied",),
        "taskwait depend": ("taskwait_depend", "rounds"), "once": ("taskloop", "tree", "rounds"),
-       "progress": ("pressure", "rounds"), "region": ("threads", "tree", "many"), "memory": ("memory", "fan"),
+       "progress": ("pressure", "rounds", "hurry", "stream"), "region": ("threads", "tree", "many"),
+       "memory": ("memory", "fan"), "mutexinoutset": ("mutexinoutset", "members"),
        "grainsize": ("num_tasks", "grainsize", "uneven", "strict")}
 
 

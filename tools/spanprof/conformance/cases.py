@@ -3,7 +3,7 @@ import collections
 import itertools
 import shutil
 import zlib
-from dataclasses import dataclass, field
+from dataclasses import dataclass, field, replace
 
 from spanprof.conformance.coverage import Coverage
 from spanprof.conformance.discarding import completed, record_of, without_discarded
@@ -20,7 +20,10 @@ from spanprof.conformance.toolchain import BuildFailed
 
 # Settings that programs take for the first of every two numbers of threads, by how their names begin.
 FAVOURED = {"priority": "priorities", "memory": "perturbed", "cancel": "cancellable", "many": "priorities",
-            "rounds": "interrupted", "pressure": "interrupted"}
+            "rounds": "interrupted", "pressure": "interrupted", "hurry": "unlogged"}
+# Programs so short that so many times as many runs take no longer than those of others: in the setting that they
+# favour, in which logs are equal, and without delays.
+HURRIED, TIMES_AS_MANY = "hurry", 16
 
 
 @dataclass(frozen=True)
@@ -77,8 +80,13 @@ class Plan:
         favoured = next((FAVOURED[begin] for begin in FAVOURED if case.name.startswith(begin)), "")
         if favoured in self.settings:
             settings = [setting if number % 2 else favoured for number, setting in enumerate(settings)]
-        return [Conditions(threads, self.runs, self.seed, case.unit, self.timeout, setting)
-                for threads, setting in zip(self.threads, settings)]
+        return [self.conditions_in(case, threads, setting) for threads, setting in zip(self.threads, settings)]
+
+    def conditions_in(self, case, threads, setting):
+        """Those of a case on a number of threads in a setting."""
+        usual = Conditions(threads, self.runs, self.seed, case.unit, self.timeout, setting)
+        hurried = case.name.startswith(HURRIED) and setting == FAVOURED[HURRIED]
+        return replace(usual, runs=TIMES_AS_MANY * self.runs, seed=0) if hurried else usual
 
 
 class Examined:

@@ -3,8 +3,8 @@ import random
 from dataclasses import dataclass, replace
 
 from spanprof.conformance.forms import addends
+from spanprof.conformance.location_recipes import LocationRecipes
 from spanprof.conformance.program import Group, Index, Item, Loop, Task, Wait, Work, segment_count
-from spanprof.conformance.recipes import Recipes
 
 NAMES = ("a", "b", "c", "d")
 MOST_ITEMS = 6
@@ -59,8 +59,10 @@ SHAPES = {
 
 
 # Forms of their own beside the shapes, each as the function that makes a body of it.
-RECIPES = {"many": Recipes.crowd, "fan": Recipes.fan, "rounds": Recipes.rounds, "makers": Recipes.makers,
-           "table": Recipes.table, "probes": Recipes.probes, "cancel": Recipes.cancelled}
+RECIPES = {"many": LocationRecipes.crowd, "fan": LocationRecipes.fan, "rounds": LocationRecipes.rounds,
+           "hurry": LocationRecipes.hurry, "makers": LocationRecipes.makers, "cancel": LocationRecipes.cancelled,
+           "table": LocationRecipes.table, "probes": LocationRecipes.probes, "stream": LocationRecipes.stream,
+           "members": LocationRecipes.members}
 
 
 class Generator:
@@ -193,7 +195,7 @@ def random_program(seed, kinds, without=()):
     rng = random.Random(seed)
     name = rng.choice([*SHAPES, *RECIPES])
     if name in RECIPES:
-        return name, RECIPES[name](Recipes(rng, kinds, without))
+        return name, RECIPES[name](LocationRecipes(rng, kinds, without))
     least, most = SHAPES[name].sizes
     while True:
         body = Generator(rng, SHAPES[name], kinds, without).program()

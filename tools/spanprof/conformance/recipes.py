@@ -1,11 +1,11 @@
 """Random programs of forms that are known to be hard on a runtime: crowds of ready tasks, many tasks that wait for one,
-short rounds that end with a wait, again and again, many locations, and groups that are cancelled."""
+short rounds that end with a wait, again and again, and groups that are cancelled."""
 from spanprof.conformance.program import Group, Index, Item, Loop, Task, Wait, Work, segment_count
 
 LONG = 2000     # the cost of a task that keeps a thread busy while hundreds are created
 MOST_ITEMS = 24
-APART = (0, 3, 13, 16, 26, 29)   # places of locations that a table of 13 looks for in one another's places
 ROUNDS = 800    # segments of a program of rounds, about
+HURRIED = 500   # of one that runs very often
 
 
 def task(*body, items=(), undeferred=False, final=False, clauses=()):
@@ -22,6 +22,9 @@ class Recipes:
     def __init__(self, rng, kinds, without):
         self.rng, self.without = rng, without
         self.kinds = [kind for kind in ("in", "out", "inout") if kind in kinds]
+        self.sets = ["inoutset"] * ("inoutset" in kinds)
+        if "mutexinoutset" in kinds and "depend(mutexinoutset)" not in without:
+            self.sets.append("mutexinoutset")
 
     def may(self, construct, likely):
         return construct not in self.without and self.rng.random() < likely
@@ -94,6 +97,17 @@ class Recipes:
             return body
         return (many,) if apart == 1 else (Loop("j", 1, apart, (task(many),)), Wait())
 
+    def hurry(self):
+        """Rounds with as little in them as there can be: one falls into the middle of another now and then."""
+        tasks = self.rng.choice(((task(),), (task(), task()), (task(task()),),
+                                 (task(items=[item("out")]), task(items=[item("in")]))))
+        wait = task(items=[item("out")], undeferred=True)
+        body = self.rng.choice(((*tasks, Wait()), (*tasks, Wait()), (Group(tasks),),
+                                (*tasks, wait if "if(0)" not in self.without else Wait())))
+        apart = self.rng.choice((1, 1, 2, 3))
+        many = self.loop(HURRIED // apart // segment_count(body), *body)
+        return (many,) if apart == 1 or "loop" in self.without else (Loop("j", 1, apart, (task(many),)), Wait())
+
     def round(self):
         """Some tasks, and one of the statements that wait for them."""
         places, pace = self.rng.choice((1, 1, 2, MOST_ITEMS)), self.rng.choice((0, 0, 5, 30))
@@ -119,33 +133,6 @@ class Recipes:
         if number == 0:
             return task(*body, items=[item("out", "a", place) for place in range(places)])
         return task(*body, items=[item("in", "a", 0)] if self.rng.random() < .6 else [])
-
-    def table(self):
-        """More locations than a runtime has room for at first, below the root or another task."""
-        turns, apart = self.rng.choice((12, 40, 150, 300)), self.rng.choice((0, 1, 13, 31, 61))
-        body = [self.over(turns, [("out", 0)], Work(self.rng.choice((1, 20, 100))))]
-        for _ in range(self.rng.randint(1, 2)):
-            places = [(self.rng.choice(self.kinds), 0)] + [("in", apart)] * (apart > 0 and self.rng.random() < .7)
-            body.append(self.over(turns, places, undeferred=self.may("if(0)", .3)))
-        return self.around(body) if self.rng.random() < .5 else (task(*body, Wait()), Wait())
-
-    def over(self, turns, places, *body, undeferred=False):
-        """A task for each turn, with items of these kinds at the turn's place and so many places further."""
-        if "loop" in self.without:
-            return task(*body, items=[item(kind, "x", place) for kind, place in places], undeferred=undeferred)
-        items = [Item(kind, "x", Index("i", place)) for kind, place in places]
-        return Loop("i", 1, turns, (task(*body, items=items, undeferred=undeferred),))
-
-    def probes(self):
-        """In each of several tasks a few locations that a small table keeps in one another's places: the last one is
-        still written while the others have ended, and later tasks look for each."""
-        var, undeferred = None if "loop" in self.without else "i", self.may("if(0)", .7)
-        places = [Index(var, place) for place in self.rng.sample(APART, self.rng.randint(2, 4))]
-        fast = [task(items=[Item("out", "x", place)]) for place in places[:-1]]
-        slow = task(Work(LONG), items=[Item("out", "x", places[-1])])
-        readers = [task(items=[Item("in", "x", place)], undeferred=undeferred) for place in places]
-        one = task(*fast, slow, *readers)
-        return (Loop("i", 1, 33, (one,)) if var else one, Wait())
 
     def cancelled(self):
         """Groups of which a task is cancelled, one after another, among tasks that are not in them."""

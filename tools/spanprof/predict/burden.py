@@ -3,8 +3,12 @@
 A deferred task has the dispatch before its code. What creating it takes stands in the code of its parent as it was
 recorded. A steal hangs on the schedule and stands in no text.
 """
+import json
+
 from spanprof.head import comments
 from spanprof.text import Cutter, Statement, statements, text_lines
+
+KEPT = ("recorded: {", "region: ", "place: ")  # lines of the head
 
 
 def burdened(program, costs, dispatch):
@@ -29,9 +33,14 @@ def with_costs(stream, costs):
             yield Statement("work", cost=costs[cutter.current])
 
 
+def in_nanoseconds(line):
+    """A line of a head, for costs in that unit."""
+    name, _, value = line.partition(": ")
+    return line if name != "recorded" else "%s: %s" % (name, json.dumps({**json.loads(value), "unit": "ns"}))
+
+
 def burdened_text(text, costs, remark=""):
     """A text of version 1 with these costs, in nanoseconds; its head tells where the text is from, and the remark."""
-    head = ["# %s\n" % line for line in comments(text) if line.startswith(("recorded: ", "region: ", "place "))]
-    head = [line.replace(", unit us", ", unit ns").replace(", unit ms", ", unit ns") for line in head]
+    head = ["# %s\n" % in_nanoseconds(line) for line in comments(text) if line.startswith(KEPT)]
     body = text_lines(with_costs(statements(text.split("\n")), costs), 1)
     return "".join([*head, *(["# remark: %s\n" % remark] if remark else []), *body])

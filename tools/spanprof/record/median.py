@@ -6,6 +6,7 @@ Each cost is the median of that cost in all of them, and so is each number of th
 one's. What the text covers is that of the recording that covers a median share. Status 1: the shapes differ, and the
 first line that does is told. Status 2: a file is no recorded text.
 """
+import json
 import re
 import statistics
 import sys
@@ -13,13 +14,14 @@ from collections import Counter
 from dataclasses import dataclass, field
 
 from spanprof.errors import Fault
+from spanprof.head import read_head
 from spanprof.remarks import in_json
 from spanprof.version import answer
 
 HEADER = "omptasks 1"
-NUMBER = re.compile(r"(?<=[ (])\d+(?=[ ,)}]|$)")  # of a line of the head, without those of places
 OF_NO_RUN = "work and span are of no single run"
 OF_ONE_RUN = ("recorded", "region", "remark", "covers", "not covered")  # lines whose numbers have no median by itself
+KINDS = (int, dict, list)   # of what a line tells that has numbers
 
 
 @dataclass
@@ -89,14 +91,35 @@ def name_of(line):
     return line.lstrip("# ").partition(":")[0]
 
 
+def told_by(line):
+    """What a line of the head tells, or the line itself where that is no JSON with numbers."""
+    try:
+        told = json.loads(line.partition(": ")[2])
+    except ValueError:
+        return line
+    return told if isinstance(told, KINDS) else line
+
+
+def of_each(change, many):
+    """One like all of the given, which differ in numbers alone: `change` answers what stands for a list of these."""
+    first = many[0]
+    if isinstance(first, dict):
+        return {name: of_each(change, [one[name] for one in many]) for name in first}
+    if isinstance(first, list):
+        return [of_each(change, list(parts)) for parts in zip(*many)]
+    return change(many) if isinstance(first, int) and not isinstance(first, bool) else first
+
+
 def without_numbers(line):
-    return NUMBER.sub("0", line)
+    return name_of(line), json.dumps(of_each(lambda numbers: 0, [told_by(line)]))
 
 
 def median_line(lines):
     """A line of the head that stands in several recordings but for its numbers, with the median of each."""
-    medians = iter([median(numbers) for numbers in zip(*[map(int, NUMBER.findall(line)) for line in lines])])
-    return NUMBER.sub(lambda _: str(next(medians)), lines[0])
+    told = [told_by(line) for line in lines]
+    if told[0] == lines[0]:
+        return lines[0]
+    return "# %s: %s" % (name_of(lines[0]), json.dumps(of_each(median, told)))
 
 
 def with_names(head):
@@ -109,9 +132,9 @@ def with_names(head):
 
 
 def share_covered(one):
-    """Of the program's thread-time, by `# covers: .. (N of M UNIT)`; 0 where that is not told."""
-    found = re.search(r"(?m)^# covers: .*\((\d+) of (\d+) ", "\n".join(one.head))
-    return int(found[1]) / max(int(found[2]), 1) if found else 0
+    """Of the program's thread-time; 0 where that is not told."""
+    head = read_head("\n".join(one.head))
+    return head.covered / max(head.thread_time, 1) if head.covered else 0
 
 
 def coverage(recordings):

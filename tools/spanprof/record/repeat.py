@@ -1,5 +1,6 @@
 """Several recordings of one program: the median of each segment's costs, where all runs have one shape, and how far
 work and span are apart in the runs."""
+import json
 import os
 import re
 import shutil
@@ -55,12 +56,15 @@ def parts_of_the_next(texts):
     return "all" if any(has_bare_part(text) for text in texts) else "none"
 
 
-def spread_lines(works, spans, what):
-    """The lines of the head that tell how far the runs are apart."""
-    def line(what, numbers):
-        return "# %s of the runs: %d least, %d median, %d most\n" % (
-            what, min(numbers), statistics.median_low(numbers), max(numbers))
-    return "# runs: %d, %s\n" % (len(works), what) + line("work", works) + line("span", spans)
+def spread_lines(works, spans, is_median):
+    """The lines of the head that tell how far the runs are apart, and whether each cost is their median."""
+    def line(what, told):
+        return "# %s: %s\n" % (what, json.dumps(told))
+
+    def spread(numbers):
+        return {"least": min(numbers), "median": statistics.median_low(numbers), "most": max(numbers)}
+    return line("runs", {"runs": len(works), "median": is_median}) + line("work of the runs", spread(works)) + \
+        line("span of the runs", spread(spans))
 
 
 def add_to_head(path, lines):
@@ -113,10 +117,10 @@ def combine(out, same_region):
     except (Fault, OSError) as differ:
         take(middle_run, out)
         for path in filter(os.path.exists, (out + ".tasks", out + ".replay")):
-            add_to_head(path, spread_lines(works, spans, "and this is the one with the median work"))
+            add_to_head(path, spread_lines(works, spans, False))
         why = str(differ).replace(os.path.dirname(out) + os.sep, "")
         return ["the runs have no median, and this is the one with the median work: " + why]
-    add_to_head(out + ".tasks", spread_lines(works, spans, "and each cost is the median of theirs"))
+    add_to_head(out + ".tasks", spread_lines(works, spans, True))
     if middle_run.replay:
         replay_of(out + ".tasks", middle_run.replay, out + ".replay")
     return []

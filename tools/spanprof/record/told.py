@@ -3,7 +3,7 @@ import json
 import os
 from dataclasses import dataclass
 
-from spanprof.remarks import remark_of
+from spanprof.remarks import remark_of, seen
 
 LIMITS = {"tasks": "tasks", "segments": "segments", "blocks": "tasks and groups inside each other",
           "items": "depend items of one task", "piece": "units of work in one piece", "work": "units of work",
@@ -78,7 +78,7 @@ WORDS = {
     "no exact fold": lambda told: "--fold exact: no exact fold fits",
     "more regions": lambda told: "%(regions)d more regions with tasks are not written, work %(work)d %(unit)s: of each "
                                  "place those next to its median are; SPANPROF_REGIONS says how many are" % told,
-    "outside": lambda told: "task outside of a parallel region, not recorded, %(seen)s" % told,
+    "outside": lambda told: "task outside of a parallel region, not recorded, " + seen(told),
     "no tasks": lambda told: "no parallel region with tasks" +
                              (", and the program ended inside a region" if told["inside"] else ""),
     "online": lambda told: "%(file)s has work and span by place, as they were measured" % told,

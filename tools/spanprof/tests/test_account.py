@@ -5,6 +5,7 @@ from unittest import mock
 
 from spanprof.account import Account, HeldUp, Row, account_beside, account_of, divide_busy, timed_beside
 from spanprof.account_program import HOW, NoAccount
+from spanprof.head import Lock
 from spanprof.record.tests.made_up import Answers, Head
 from spanprof.remarks import FOLDS, remark_of
 
@@ -63,7 +64,7 @@ class Asked(unittest.TestCase):
 
 
 class Divided(unittest.TestCase):
-    LOCKS = ["critical at a.c:3: 8 times, 75 inside, 7 waiting", "2 others together: 3 times, 4 inside, 2 waiting"]
+    LOCKS = [Lock("critical at a.c:3", 8, 75, 7), Lock("2 others together", 3, 4, 2)]
 
     def test_by_the_wall_clock(self):
         found, recorder = divided(clocks_differ={"by": 10}, slept={"by": 20}, locks=self.LOCKS)

@@ -2,6 +2,7 @@ import unittest
 
 from spanprof.account import Account
 from spanprof.cause import cause
+from spanprof.head import Lock
 from spanprof.record.tests.made_up import Answers, Head
 
 
@@ -69,7 +70,7 @@ class BeforeTheAccount(unittest.TestCase):
                                       "(measured)")
 
     def test_a_lock(self):
-        found = cause(answers(most_held=75, locks=["critical at a.c:3: 8 times, 75 us inside"]), account(90, 5, 5))
+        found = cause(answers(most_held=75, locks=[Lock("critical at a.c:3", 8, 75, 0)]), account(90, 5, 5))
         self.assertEqual(found.words, "a lock, inside which 75 % of the work is, one thread at a time (measured)")
         self.assertEqual(found.instead,
                          "shorter code inside the lock, critical at a.c:3; no text tells what that brings")

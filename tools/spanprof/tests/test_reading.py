@@ -5,18 +5,18 @@ from unittest import mock
 
 from spanprof import client
 from spanprof.errors import Fault
-from spanprof.head import read_head, said, with_function
+from spanprof.head import OLDER, Head, read_head, said, with_function
 from spanprof.text import has_loops
 
 TEXT = """\
-# recorded: from sort, 2026-11-24T00:31:07Z, threads 4, clock cpu, unit 250 ns
-# region: at sort.c:48, 2 of 5
+# recorded: {"program": "sort", "date": "2026-11-24T00:31:07Z", "threads": 4, "clock": "cpu", "unit": "250 ns"}
+# region: {"at": "sort.c:48", "number": 2, "of": 5}
 # elapsed: 900
 # outside regions: 20
 # in other regions: 30
 # in parts without tasks: 4
 # in tasks: 3000
-# lock critical at sort.c:9: 32 times, 77 inside, 5 waiting
+# lock: {"kind": "critical", "at": "sort.c:9", "times": 32, "inside": 77, "waiting": 5}
 # remark: {"remark": "all memory", "times": 12, "at": "sort.c:40", "span": "low"}
 omptasks 1
 # remark: not of the head
@@ -24,18 +24,18 @@ work 1
 """
 
 OF_THE_PROGRAM = """\
-# covers: 93.1 % of the program's thread-time (931 of 1000 x 250 ns)
-# not covered: 50 outside regions, 19 in other regions, 0 of this region
-# divided among 4 threads: loops, 120 times at spmd.c:6
-# divided among 4 threads: code of the region, 480 parts, 715 x 250 ns beside the longest
-# clock reading: 217 ns, taken off at each record
-# clocks differ: in 424000 of 424576 x 250 ns of the work, by 384500 x 250 ns, 85 times
-# slept: in 300 of 424576 x 250 ns of the work, for 200 x 250 ns, 2 times
-# untimed: 77 x 250 ns before segments were left
-# runs: 7, and each cost is the median of theirs
-# work of the runs: 34000 least, 34770 median, 36010 most
-# span of the runs: 2125 least, 2157 median, 8484 most
-# most held lock: 64482 x 250 ns inside, one thread at a time
+# covers: {"text": 931, "program": 1000}
+# not covered: {"outside regions": 50, "in other regions": 19, "of this region": 0}
+# divided: {"what": "loops", "threads": 4, "times": 120, "at": "spmd.c:6"}
+# divided: {"what": "code", "threads": 4, "parts": 480, "beside": 715}
+# clock reading: 217
+# clocks differ: {"affected": 424000, "work": 424576, "by": 384500, "times": 85}
+# slept: {"affected": 300, "work": 424576, "by": 200, "times": 2}
+# untimed: 77
+# runs: {"runs": 7, "median": true}
+# work of the runs: {"least": 34000, "median": 34770, "most": 36010}
+# span of the runs: {"least": 2125, "median": 2157, "most": 8484}
+# most held lock: 64482
 omptasks 1
 """
 
@@ -68,23 +68,20 @@ class Heads(unittest.TestCase):
         head = read_head(OF_THE_PROGRAM)
         self.assertEqual((head.covered, head.thread_time, head.covers_at_most), (931, 1000, False))
         self.assertEqual(head.not_covered, {"outside regions": 50, "in other regions": 19, "of this region": 0})
-        self.assertEqual(head.divided, ["loops, 120 times at spmd.c:6",
-                                        "code of the region, 480 parts, 715 x 250 ns beside the longest"])
+        self.assertEqual(head.divided, ["loops, 120 times at spmd.c:6"])
         self.assertEqual((head.beside, head.clock_reading, head.most_held, head.runs), (715, 217, 64482, 7))
         self.assertEqual(head.clocks_differ, {"affected": 424000, "work": 424576, "by": 384500, "times": 85})
         self.assertEqual((head.slept["by"], head.slept["times"], head.untimed), (200, 2, 77))
         self.assertEqual(head.spread, {"work": (34000, 34770, 36010), "span": (2125, 2157, 8484)})
         self.assertTrue(head.is_median)
-        self.assertFalse(head.one_thread)
 
     def test_other_forms(self):
-        head = read_head("# covers: at most 93.1 % of the program's thread-time (931 of 1000 us)\n"
-                         "# one thread: every task is undeferred, so that this text says nothing of more threads\n"
-                         "# clocks differ: in 4 of 5 us of the work, by 3 us, 1 time\n")
+        head = read_head('# covers: {"text": 931, "program": 1000, "at most": true}\n'
+                         '# lock: {"others": 7, "times": 1, "inside": 2, "waiting": 3}\n')
         self.assertEqual((head.covered, head.thread_time, head.covers_at_most), (931, 1000, True))
-        self.assertTrue(head.one_thread)
-        self.assertEqual(head.clocks_differ, {"affected": 4, "work": 5, "by": 3, "times": 1})
-        head = read_head("# runs: 7, and this is the one with the median work\n")
+        self.assertEqual(head.locks, ["7 others together: 1 time, 2 inside, 3 waiting"])
+        self.assertEqual((head.locks[0].name, head.locks[0].waiting), ("7 others together", 3))
+        head = read_head('# runs: {"runs": 7, "median": false}\n')
         self.assertEqual((head.runs, head.is_median), (7, False))
 
     def test_nothing_said_of_the_program(self):
@@ -93,25 +90,36 @@ class Heads(unittest.TestCase):
         self.assertEqual((head.not_covered, head.divided, head.clocks_differ, head.spread), ({}, [], {}, {}))
 
     def test_the_whole_program(self):
-        head = read_head("# whole program: 2 regions, 1 loop in 64 pieces; a chunk of k turns is k equal pieces\n"
-                         "# not covered: 19 of the program\nomptasks 1\n")
-        self.assertEqual((head.whole[:9], head.region), ("2 regions", ""))
+        head = read_head('# whole program: {"regions": 2, "loops": 1, "pieces": 64, "together below": 1000}\n'
+                         '# not covered: {"of the program": 19}\nomptasks 1\n')
+        self.assertEqual(head.whole, "2 regions, 1 loop in 64 pieces; a chunk of k turns is k equal pieces, together "
+                                     "where they are shorter than 1000 ns")
+        self.assertEqual((head.region, head.pieces), ("", 64))
         self.assertEqual(head.not_covered, {"of the program": 19})
 
     def test_functions_of_places(self):
-        head = read_head("# place sort.c:9: in merge, inlined into sort at sort.c:30\nomptasks 1\n")
+        head = read_head('# place: {"at": "sort.c:9", "in": "merge", "inlined": [{"in": "sort", "at": "sort.c:30"}]}\n')
         self.assertEqual(with_function(head, "task at sort.c:9"),
                          "task at sort.c:9 in merge, inlined into sort at sort.c:30")
         self.assertEqual(with_function(head, "task at sort.c:10"), "task at sort.c:10")
         self.assertEqual(with_function(head, "the beginning"), "the beginning")
 
     def test_a_region_without_place(self):
-        head = read_head("# region: 1 of 1\nomptasks 1\n")
+        head = read_head('# region: {"number": 1, "of": 1}\nomptasks 1\n')
         self.assertEqual((head.region, head.number), ("", "1 of 1"))
 
     def test_units(self):
-        head = read_head("# recorded: from sort, threads 4, clock cpu, unit us\n")
+        head = read_head('# recorded: {"clock": "cpu", "unit": "us"}\n')
         self.assertEqual((head.nanoseconds, head.unit_of_costs), (1000, "us of processor time"))
+
+    def test_an_older_version(self):
+        head = read_head("# recorded: from sort, threads 4, clock cpu, unit us\n# elapsed: 900\n")
+        self.assertEqual(head.remarks, [OLDER])
+        self.assertEqual((head.threads, head.is_measured, head.remarks[0].span), (None, False, "either"))
+
+    def test_comments_of_somebodys_own(self):
+        head = read_head("# region: the inner one\n# elapsed: 5 s\n# slept: 5\n# covers: []\n# whole program: {}\n")
+        self.assertEqual((head, head.remarks), (Head(), []))
 
     def test_none(self):
         head = read_head("omptasks 1 work 3 # remark: no\n")

@@ -7,8 +7,8 @@ from judge_changes import Row, changed, line, requests, table
 from spanprof.predict.recorded import recorded_as
 from spanprof.text import statements
 
-TEXT = """# recorded: from a, threads 4, unit ns
-# region: at a.c:9, 1 of 1
+TEXT = """# recorded: {"program": "a", "threads": 4, "unit": "ns"}
+# region: {"at": "a.c:9", "number": 1, "of": 1}
 omptasks 1
 work 5
 task {  # a.c:1

@@ -2,7 +2,7 @@ import unittest
 
 from prefix import WAIT, count, is_prefix, read
 
-TEXT = """# recorded: from x
+TEXT = """# recorded: {"program": "x"}
 omptasks 1
 work 3
 task {  # x.c:4

@@ -28,9 +28,9 @@ class Compared(unittest.TestCase):
     def test_what_is_written_otherwise(self):
         def otherwise(*lines):
             return is_otherwise(read_head("\n".join(lines)))
-        self.assertTrue(otherwise("# whole program: 1 region, 1 loop in 4 pieces; a chunk"))
+        self.assertTrue(otherwise('# whole program: {"regions": 1, "loops": 1, "pieces": 4}'))
         self.assertTrue(otherwise("# a", '# remark: {"remark": "told elsewhere", "times": 1}'))
-        self.assertFalse(otherwise("# whole program: 1 region", '# remark: {"remark": "cancellation", "times": 1}'))
+        self.assertFalse(otherwise('# whole program: {"regions": 1}', '# remark: {"remark": "cancellation"}'))
 
 
 if __name__ == "__main__":

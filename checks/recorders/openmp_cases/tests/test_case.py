@@ -67,15 +67,15 @@ class Wanted(unittest.TestCase):
         self.assertEqual(count_tasks("task {  # one of the region's threads\n  task if(0) {\n  }\n}\ntaskwait\n"), 1)
 
     def test_numbers_of_the_head(self):
-        text = ("# covers: at most 93.1 % of the program's thread-time (931 of 1000 us)\n"
-                "# clocks differ: in 424 of 425 us of the work, by 384 us, 85 times\n"
-                "# most held lock: 64 us inside, one thread at a time\nomptasks 1\n")
-        self.assertEqual(numbers_of_head(text), {"covers": 93.1, "most held lock": 64, "affected": 424,
+        text = ('# covers: {"text": 93, "program": 100, "at most": true}\n'
+                '# clocks differ: {"affected": 424, "work": 425, "by": 384, "times": 85}\n'
+                '# most held lock: 64\nomptasks 1\n')
+        self.assertEqual(numbers_of_head(text), {"covers": 93, "most held lock": 64, "affected": 424,
                                                  "off the processor": 384})
         self.assertEqual(numbers_of_head("omptasks 1\n"), {})
 
     def test_the_span_without_folds(self):
-        text = "# in tasks: 9\n# span without folds: 7, as the recorder adds it up\nomptasks 1\n"
+        text = "# in tasks: 9\n# span without folds: 7\nomptasks 1\n"
         self.assertEqual(unfolded_span(text), {"span without folds": 7})
         self.assertEqual(unfolded_span("omptasks 1\n"), {})
 

@@ -21,8 +21,8 @@ def lines(body, indent=0):
 
 def text(shape, threads_of_phases):
     """A text with these bodies: for each phase those of its threads; a single one is the text itself."""
-    head = ["# recorded: from region, threads %d, clock wall, unit ns" % shape.threads,
-            "# region: at region.c:%d, 1 of 1" % shape.line]
+    head = ['# recorded: {"program": "region", "threads": %d, "clock": "wall", "unit": "ns"}' % shape.threads,
+            '# region: {"at": "region.c:%d", "number": 1, "of": 1}' % shape.line]
     if sum(map(len, threads_of_phases)) == 1:
         return "\n".join(head + ["omptasks 1"] + lines(threads_of_phases[0][0])) + "\n"
     out = head + ["omptasks 1"]

@@ -4,8 +4,8 @@ from recorded import read
 from structure import costs, nodes, total
 
 TEXT = """\
-# recorded: from region, threads 2, clock wall, unit ns
-# region: at region.c:9, 1 of 1
+# recorded: {"program": "region", "threads": 2, "clock": "wall", "unit": "ns"}
+# region: {"at": "region.c:9", "number": 1, "of": 1}
 omptasks 1
 work 7
 taskgroup {  # region.c:10
@@ -18,7 +18,7 @@ taskwait  # region.c:9
 """
 
 PARTS = """\
-# region: at region.c:9, 1 of 2
+# region: {"at": "region.c:9", "number": 1, "of": 2}
 omptasks 1
 taskgroup {
   task {  # one of the region's threads

@@ -3,7 +3,7 @@ import unittest
 from toolchain import Run
 from verdict import judge_fault, program_fault
 
-TEXT = "# region: at region.c:3, 1 of 1\n# remark: %somptasks 1\n"
+TEXT = '# region: {"at": "region.c:3", "number": 1, "of": 1}\n# remark: %somptasks 1\n'
 SAYS_SO = TEXT % '{"remark": "unfinished task", "times": 1}\n'
 
 

@@ -20,8 +20,8 @@ taskwait
 outside
 """
 
-TEXT = """# recorded: from mine
-# region: at mine.c:3, 1 of 1
+TEXT = """# recorded: {"program": "mine"}
+# region: {"at": "mine.c:3", "number": 1, "of": 1}
 # remark: {"remark": "something", "times": 1, "at": "mine.c:3", "span": "low"}
 omptasks 1
 taskgroup {

@@ -3,22 +3,22 @@ import unittest
 
 from covering import judged
 
-WHOLE = "# whole program: 1 region\n# covers: %s of the program's thread-time (1 of 1 ns)\nomptasks 1\nwork 1\n"
+WHOLE = '# whole program: {"regions": 1}\n# covers: {"text": %d, "program": 1000%s}\nomptasks 1\nwork 1\n'
 
 
 class Covered(unittest.TestCase):
     def test_enough(self):
-        self.assertEqual(judged(WHOLE % "95.0 %"), "")
+        self.assertEqual(judged(WHOLE % (950, "")), "")
 
     def test_less(self):
-        self.assertEqual(judged(WHOLE % "94.9 %"), "it covers 94.9 %")
+        self.assertEqual(judged(WHOLE % (949, "")), "it covers 94.9 %")
 
     def test_less_that_is_told_otherwise(self):
-        self.assertEqual(judged(WHOLE % "at most 20.0 %"), "")
+        self.assertEqual(judged(WHOLE % (200, ', "at most": true')), "")
 
     def test_other_texts(self):
-        self.assertEqual(judged("# region: 1 of 1\nomptasks 1\n"), "it is not the whole program's")
-        self.assertEqual(judged("# whole program: 1 region\nomptasks 1\n"), "it does not say what it covers")
+        self.assertEqual(judged('# region: {"number": 1, "of": 1}\nomptasks 1\n'), "it is not the whole program's")
+        self.assertEqual(judged('# whole program: {"regions": 1}\nomptasks 1\n'), "it does not say what it covers")
 
 
 if __name__ == "__main__":

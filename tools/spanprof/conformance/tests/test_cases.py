@@ -96,6 +96,12 @@ class Cases(unittest.TestCase):
             self.assertEqual([plan.conditions(case_of(name))[at].setting for at in (0, 2)], [setting, setting])
         self.assertEqual({at.setting for at in Plan((1, 2), 1, 1, 1).conditions(case_of("memory_x"))}, {"free"})
 
+    def test_short_programs_run_very_often_where_logs_are_equal(self):
+        (often,) = Plan((4,), 3, 7, 1, ("free", "unlogged")).conditions(case_of("hurry-1"))
+        self.assertEqual((often.runs, often.seed, often.setting), (48, 0, "unlogged"))
+        (other,) = Plan((4,), 3, 7, 1, ("free",)).conditions(case_of("hurry-1"))
+        self.assertEqual((other.runs, other.seed, other.setting), (3, 7, "free"))
+
     def test_not_built(self):
         bench, tallies = self.tallies()
         self.assertEqual([tally.failures[0].signature for tally in tallies], [("tied", "not built", "not built")] * 2)

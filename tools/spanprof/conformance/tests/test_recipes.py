@@ -4,9 +4,9 @@ import unittest
 
 from spanprof.conformance.constructs import constructs
 from spanprof.conformance.generate import RECIPES
-from spanprof.conformance.program import Group, Loop, Task, nodes, segment_count
+from spanprof.conformance.program import Group, Loop, Task, Wait, Work, nodes, segment_count
 from spanprof.conformance.reader import read_program
-from spanprof.conformance.recipes import Recipes
+from spanprof.conformance.location_recipes import GATED, LocationRecipes
 from spanprof.conformance.segments import Table
 from spanprof.conformance.text import text_of
 
@@ -15,7 +15,7 @@ SEEDS = range(40)
 
 
 def made(name, without=()):
-    return [RECIPES[name](Recipes(random.Random(seed), KINDS, without)) for seed in SEEDS]
+    return [RECIPES[name](LocationRecipes(random.Random(seed), KINDS, without)) for seed in SEEDS]
 
 
 def most_turns(body):
@@ -42,6 +42,38 @@ class Made(unittest.TestCase):
             places = {place for task in Table(body).tasks for _, place in task.items}
             self.assertGreaterEqual(len(places), 12)
 
+    def test_many_locations_below_each_of_several_tasks(self):
+        below = [node for body in made("table") for node in nodes(body) if isinstance(node, Task) and
+                 [loop.turns for loop in node.body if isinstance(loop, Loop)] == [GATED, GATED]]
+        self.assertGreaterEqual(len(below), 2)
+        for one in below:
+            gate, writers, readers = [node for node in one.body if node != Wait()]
+            waited = {item.place for item in writers.body[0].items if item.kind == "in"}
+            self.assertEqual(waited, {item.place for item in gate.items})
+            self.assertIn(readers.body[0].items[0].place, {item.place for item in writers.body[0].items})
+
+    def test_tasks_that_end_while_others_are_created(self):
+        for body in made("stream"):
+            self.assertGreaterEqual(most_turns(body), 20)
+
+    def test_sets_of_tasks_one_after_another(self):
+        kinds = {*KINDS, "inoutset", "mutexinoutset"}
+        bodies = [LocationRecipes(random.Random(seed), kinds, ()).members() for seed in SEEDS]
+        found = set().union(*map(constructs, bodies))
+        self.assertLessEqual({"depend(in)", "depend(out)", "depend(inoutset)", "depend(mutexinoutset)"}, found)
+        self.assertNotIn("depend(inoutset)", set().union(*map(constructs, made("members"))))
+
+    def test_free_places_before_one_that_is_taken(self):
+        """The first of some deferred tasks waits for the slow one, and all others have been waited for."""
+        def first_waits(one):
+            *before, slow = [task for task in one if task.items[0].kind == "out"]
+            waited = [task.items[0].place for task in one if task.undeferred]
+            later = [task for task in one if task.items[0].kind == "in" and not task.undeferred]
+            return waited == [task.items[0].place for task in before] and later and \
+                later[0].items[0].place == slow.items[0].place
+
+        self.assertTrue([body for body in made("probes") if first_waits(body[0].body[0].body)])
+
     def test_few_locations_in_each_of_many_tasks(self):
         for body in made("probes"):
             self.assertEqual(most_turns(body), 33)
@@ -60,6 +92,12 @@ class Made(unittest.TestCase):
         self.assertLessEqual({"taskwait", "taskgroup", "if(0) with depend", "taskwait with depend"}, found)
         for body in made("rounds"):
             self.assertGreaterEqual(most_turns(body), 8)
+
+    def test_waits_with_as_little_between_them_as_there_can_be(self):
+        bodies = made("hurry")
+        self.assertFalse([node for body in bodies for node in nodes(body) if isinstance(node, Work)])
+        self.assertTrue(all(most_turns(body) >= 20 for body in bodies))
+        self.assertLessEqual({"taskwait", "taskgroup", "if(0) with depend"}, set().union(*map(constructs, bodies)))
 
     def test_cancelled_groups(self):
         for body in made("cancel"):

@@ -13,7 +13,8 @@ from spanprof.predict.machine import Machine, Measured, write_machine
 from spanprof.predict.recorded import outside_of, recorded
 from spanprof.remarks import in_words
 
-HEAD = "# recorded: from a, 2026-11-27T12:00:00Z, threads %d, clock wall, unit us\n# region: at a.c:9, 1 of 1\n"
+HEAD = '# recorded: {"program": "a", "threads": %d, "clock": "wall", "unit": "us"}\n' \
+    '# region: {"at": "a.c:9", "number": 1, "of": 1}\n'
 TEXT = HEAD + "# elapsed: 30\nomptasks 1\n" + "task {  # a.c:1\nwork 10\n}\n" * 4
 
 
@@ -49,7 +50,7 @@ class Recordings(InAFolder):
         for text, why in (("omptasks 1 task { }\n", "it is no recording"),
                           (TEXT.replace("omptasks 1", "omptasks 2") % 2, "it is no recording"),
                           ('# remark: {"remark": "folded", "times": 2}\n' + TEXT % 2, "tasks are folded"),
-                          ("# divided among 2 threads: a loop\n" + TEXT % 2, "divided among its threads")):
+                          ('# divided: {"what": "loops", "times": 1}\n' + TEXT % 2, "divided among")):
             with self.assertRaisesRegex(Fault, "a.tasks: no time is predicted: .*%s" % why):
                 recorded(self.write("a.tasks", text))
 
@@ -103,7 +104,7 @@ class Command(InAFolder):
         self.answer(self.write("a.tasks", TEXT % 2), "-o", out)
         with open(out, encoding="utf-8") as file:
             text = file.read()
-        self.assertIn("unit ns\n", text)
+        self.assertIn('"unit": "ns"}\n', text)
         self.assertIn("# remark: a burdened text, with 0.200 us a dispatch for 4 threads: ", in_words(text))
         self.assertEqual(text.count("work 10200\n"), 4)
 

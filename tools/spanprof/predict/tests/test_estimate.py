@@ -28,11 +28,11 @@ class Burdens(unittest.TestCase):
         self.assertEqual(burdened(program, program.costs, 10), [0, 15, 3, 0, 0, 10, 0])
 
     def test_the_text(self):
-        text = "# recorded: from a, unit us\n# elapsed: 9\nomptasks 1\nwork 1\ntask {  # a.c:1\nwork 3\n}\n" \
-            "taskgroup {  # a.c:2\n}\nwork 1\ntaskwait\n"
+        text = '# recorded: {"program": "a", "unit": "us"}\n# elapsed: 9\nomptasks 1\nwork 1\n' \
+            "task {  # a.c:1\nwork 3\n}\ntaskgroup {  # a.c:2\n}\nwork 1\ntaskwait\n"
         made = burdened_text(text, [7, 0, 5, 2, 0], "burdened")
-        self.assertEqual(made, "# recorded: from a, unit ns\n# remark: burdened\nomptasks 1\nwork 7\ntask {  # a.c:1\n"
-                               "}\nwork 5\ntaskgroup {  # a.c:2\n}\nwork 2\ntaskwait\n")
+        self.assertEqual(made, '# recorded: {"program": "a", "unit": "ns"}\n# remark: burdened\nomptasks 1\nwork 7\n'
+                               "task {  # a.c:1\n}\nwork 5\ntaskgroup {  # a.c:2\n}\nwork 2\ntaskwait\n")
         self.assertEqual([one.cost for one in segments_of(made)], [7, 0, 5, 2, 0])
 
 

@@ -55,7 +55,6 @@ class Head:
     not_covered: dict = field(default_factory=dict)
     divided: list = field(default_factory=list)
     beside: int = None
-    one_thread: bool = False
     most_held: int = None
     clocks_differ: dict = field(default_factory=dict)
     slept: dict = field(default_factory=dict)

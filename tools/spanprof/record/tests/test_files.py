@@ -95,8 +95,8 @@ class Recorder(OfARecording):
         self.assertEqual(built.why_not_built(""), "no word of it")
 
 
-SPREAD = "# runs: 3, %s\n# work of the runs: 10 least, 20 median, 30 most\n" \
-    "# span of the runs: 7 least, 8 median, 9 most\n"
+SPREAD = '# runs: {"runs": 3, "median": %s}\n# work of the runs: {"least": 10, "median": 20, "most": 30}\n' \
+    '# span of the runs: {"least": 7, "median": 8, "most": 9}\n'
 
 
 class Repeated(OfARecording):
@@ -126,20 +126,20 @@ class Repeated(OfARecording):
         self.assertIn("they differ", remarks[0])
         with open(self.out + ".tasks", encoding="utf-8") as file:
             self.assertEqual(file.read(),
-                             "# 3\n" + SPREAD % "and this is the one with the median work" + "omptasks 1\n")
+                             "# 3\n" + SPREAD % "false" + "omptasks 1\n")
 
     def test_whole_programs_have_no_median(self):
-        text = self.write("mine.tasks", "# whole program: 1 region, 1 loop in 4 pieces\nomptasks 1\n")
+        text = self.write("mine.tasks", '# whole program: {"regions": 1}\nomptasks 1\n')
         with self.assertRaisesRegex(Fault, "whose loops each run divides anew"):
             repeat.refuse_whole(text)
-        repeat.refuse_whole(self.write("mine.tasks", "# region: at sort.c:9, 1 of 1\nomptasks 1\n"))
+        repeat.refuse_whole(self.write("mine.tasks", '# region: {"number": 1, "of": 1}\nomptasks 1\n'))
 
     def test_the_spread_stands_before_the_remarks(self):
         text = self.write("mine.tasks", "# in tasks: 5\n# remark: folded\nomptasks 1\n# remark: no\n")
-        repeat.add_to_head(text, repeat.spread_lines((30, 10, 20), (7, 9, 8), "so"))
+        repeat.add_to_head(text, repeat.spread_lines((30, 10, 20), (7, 9, 8), True))
         with open(text, encoding="utf-8") as file:
             self.assertEqual(file.read(),
-                             "# in tasks: 5\n" + SPREAD % "so" + "# remark: folded\nomptasks 1\n# remark: no\n")
+                             "# in tasks: 5\n" + SPREAD % "true" + "# remark: folded\nomptasks 1\n# remark: no\n")
 
     def test_the_next_run_has_the_parts_of_the_first(self):
         part = "taskgroup {\n  task {  # one of the region's threads\n    %s\n  }\n}\n"
@@ -149,8 +149,8 @@ class Repeated(OfARecording):
         self.assertEqual(repeat.parts_of_the_next([self.write("mine.tasks", "omptasks 1\ntask {\n}\n")]), "none")
 
     def test_of_an_even_number_the_lower_median(self):
-        self.assertIn("# work of the runs: 1 least, 2 median, 4 most\n",
-                      repeat.spread_lines((4, 1, 3, 2), (1,) * 4, ""))
+        self.assertIn('# work of the runs: {"least": 1, "median": 2, "most": 4}\n',
+                      repeat.spread_lines((4, 1, 3, 2), (1,) * 4, True))
 
     def test_regions_that_all_runs_wrote(self):
         for name in ("run1.tasks", "run1.2.tasks", "run2.2.tasks"):
@@ -166,7 +166,7 @@ class Repeated(OfARecording):
             self.assertEqual(repeat.combine(self.out, self.three()), [])
         with open(self.out + ".tasks", encoding="utf-8") as file:
             text = file.read()
-        self.assertIn("# runs: 3, and each cost is the median of theirs\n", text)
+        self.assertIn('# runs: {"runs": 3, "median": true}\n', text)
         self.assertIn("# remark: each cost is the median of 3 recordings", in_words(text))
 
 

@@ -8,8 +8,8 @@ from spanprof.record.median import Differs, Unreadable, combine, main, read
 from spanprof.remarks import in_words
 
 TEXT = """\
-# recorded: from sort, 2026-11-24T00:10:02Z, threads 4, clock cpu, unit us
-# region: at sort.c:9, 1 of 1
+# recorded: {"program": "sort", "date": "2026-11-24T00:10:02Z", "threads": 4, "clock": "cpu", "unit": "us"}
+# region: {"at": "sort.c:9", "number": 1, "of": 1}
 # elapsed: %d
 # in tasks: %d
 %somptasks 1
@@ -59,16 +59,24 @@ class Medians(unittest.TestCase):
                          ['# remark: {"remark": "folded", "times": 3}'])
 
     def test_lines_of_several_numbers(self):
-        lock = "# lock critical at sort.c:9: %d times, %d inside, %d waiting\n"
-        other = "# lock critical at sort.c:20: 1 time, 60 inside, 0 waiting\n"
+        lock = '# lock: {"kind": "critical", "at": "sort.c:9", "times": %d, "inside": %d, "waiting": %d}\n'
+        other = '# lock: {"kind": "critical", "at": "sort.c:20", "times": 1, "inside": 60, "waiting": 0}\n'
         text = self.text(*[recording("a", 1, 5, 4, lock % numbers + other + lock % (2, 50, 0))
                            for numbers in ((3, 70, 5), (3, 90, 1), (3, 80, 3))])
         self.assertIn(lock % (3, 80, 3) + other + lock % (2, 50, 0), text)
 
+    def test_numbers_in_lists(self):
+        line = '# mine: {"some": [%d, {"name": "a", "is": true, "more": %d}]}\n'
+        text = self.text(*[recording("a", 1, 5, 4, line % one) for one in ((1, 9), (5, 8), (3, 7))])
+        self.assertIn(line % (3, 8), text)
+
+    def test_lines_without_numbers(self):
+        text = self.text(*[recording("a", 1, 5, 4, "# mine: said 3 times\n# hm\n") for _ in range(2)])
+        self.assertIn("# mine: said 3 times\n# hm\n", text)
+
     def test_what_is_covered_is_told_of_one_run(self):
-        lines = ("# covers: %s %% of the program's thread-time (%d of %d us)\n# not covered: %d outside regions, "
-                 "0 in other regions, 0 of this region\n")
-        told = [("50.0", 100, 200, 100), ("90.0", 90, 100, 10), ("75.0", 300, 400, 100)]
+        lines = '# covers: {"text": %d, "program": %d}\n# not covered: {"outside regions": %d}\n'
+        told = [(100, 200, 100), (90, 100, 10), (300, 400, 100)]
         text = self.text(*[recording("a", 1, 5, 4, lines % one) for one in told])
         self.assertIn(lines % told[2], text)
         self.assertNotIn(lines % told[0], text)

@@ -5,15 +5,17 @@ import unittest
 from spanprof.claims import is_divided
 from spanprof.record.large import LargeAnswers, large_summary
 from spanprof.record.summary import summary
+from spanprof.head import Lock
 from spanprof.record.tests.made_up import Answers, Head
 from spanprof.remarks import read_remark, remark_of
 
+LOCK = Lock("critical", 1, 1, 0)
 OF_WHAT = ("proved of the recorded text", "proved of this text")
 HEADS = {
-    "threads": [dict(), dict(threads=1, one_thread=True), dict(threads=None)],
+    "threads": [dict(), dict(threads=1), dict(threads=None)],
     "divided": [dict(), dict(divided=["loops, 3 times at a.c:3"])],
     "covered": [dict(), dict(covered=10), dict(covered=None, thread_time=None), dict(covers_at_most=True)],
-    "locks": [dict(), dict(locks=["critical: 1 time"], most_held=90), dict(locks=["critical: 1 time"], most_held=1)],
+    "locks": [dict(), dict(locks=[LOCK], most_held=90), dict(locks=[LOCK], most_held=1)],
     "remarks": [dict()] + [dict(remarks=[remark_of(dict(remark="a", work=work, span=span))]) for work, span in (
         ("", "high"), ("", "low"), ("low", "low"), ("either", "either"), ("low", "high"))] + [
             dict(remarks=[read_remark("in words of its own")])],

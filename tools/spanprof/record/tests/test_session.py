@@ -154,10 +154,11 @@ class Large(unittest.TestCase):
         self.addCleanup(kept.cleanup)
         self.folder, self.out = kept.name, os.path.join(kept.name, "mine")
         with open(self.out + ".large.tasks", "w", encoding="utf-8") as file:
-            file.write("# recorded: from mine, 2026-11-24T00:10:02Z, threads 4, clock wall, unit us\n"
-                       "# region: at mine.c:9, 1 of 1\n# elapsed: 40\n"
-                       "# covers: 95.1 % of the program's thread-time (951 of 1000 us)\n"
-                       "# not covered: 49 outside regions, 0 in other regions, 0 of this region\n"
+            file.write('# recorded: {"program": "mine", "date": "2026-11-24T00:10:02Z", "threads": 4, '
+                       '"clock": "wall", "unit": "us"}\n'
+                       '# region: {"at": "mine.c:9", "number": 1, "of": 1}\n# elapsed: 40\n'
+                       '# covers: {"text": 951, "program": 1000}\n'
+                       '# not covered: {"outside regions": 49, "in other regions": 0, "of this region": 0}\n'
                        "omptasks 1\n# remark: none\nwork 1\n")
         self.things = [
             {"told": "text", "file": self.out + ".large.tasks", "tasks": 9000, "segments": 20001, "work": 100,

@@ -4,6 +4,7 @@ from unittest import mock
 
 from spanprof import client
 from spanprof.errors import Fault
+from spanprof.head import Lock
 from spanprof.record.files import Recording
 from spanprof.record.summary import other_region, summary
 from spanprof.record.tests.made_up import Answers, Head
@@ -57,10 +58,10 @@ class Lines(unittest.TestCase):
 
     def test_remarks_locks_and_news(self):
         folded = remark_of({"remark": "folded", "span": "high"})
-        head = Head(remarks=[folded], locks=["critical at a.c:3: 2 times"], elapsed=None)
+        head = Head(remarks=[folded], locks=[Lock("critical at a.c:3", 2, 5, 0)], elapsed=None)
         lines = summary(Answers(head=head), news=["mine.2 is not written"])
         self.assertEqual(lines[-3:], ["remarks       folded task: span too high, which is an upper bound",
-                                      "              lock critical at a.c:3: 2 times",
+                                      "              lock critical at a.c:3: 2 times, 5 inside, 0 waiting",
                                       "              mine.2 is not written"])
         self.assertIn("elapsed       not told", lines)
 
@@ -109,7 +110,7 @@ class WhatTheTextIsNot(unittest.TestCase):
     """Where the head tells that the text is not the program, the line says that, and nothing proved."""
 
     def test_one_thread(self):
-        lines = lines_of(threads=1, one_thread=True)
+        lines = lines_of(threads=1)
         self.assertEqual(lines["work"], ["100 us: code on one thread (measured)"])
         self.assertEqual(lines["span"], ["70 us: " + NOT_OF_ONE])
         self.assertEqual(lines["threads"], ["it is of one thread, and says nothing of more"])
@@ -124,10 +125,9 @@ class WhatTheTextIsNot(unittest.TestCase):
 
     def test_the_code_of_threads_beside_each_other(self):
         """Below a twentieth of the text it changes little."""
-        parts = ["code of the region, 9 parts, 4 us beside the longest"]
-        self.assertIn("proved", lines_of(divided=parts, beside=4)["span"][0])
-        self.assertIn(DIVIDED, lines_of(divided=parts, beside=5)["span"][0])
-        self.assertIn(DIVIDED, lines_of(divided=parts + ["loops, 1 time at a.c:3"], beside=4)["span"][0])
+        self.assertIn("proved", lines_of(beside=4)["span"][0])
+        self.assertIn(DIVIDED, lines_of(beside=5)["span"][0])
+        self.assertIn(DIVIDED, lines_of(divided=["loops, 1 time at a.c:3"], beside=4)["span"][0])
 
     def test_a_part_of_the_program(self):
         lines = lines_of(covered=382, thread_time=1001, not_covered={"outside regions": 19, "in other regions": 600})
@@ -168,7 +168,7 @@ class WhatTheTextIsNot(unittest.TestCase):
         self.assertNotIn("both clocks", lines_of())
 
     def test_locks(self):
-        lines = lines_of(locks=["critical at a.c:3: 2 times, 80 inside, 0 waiting"], most_held=80)
+        lines = lines_of(locks=[Lock("critical at a.c:3", 2, 80, 0)], most_held=80)
         self.assertEqual(lines["locks"], ["80 us inside the most held one: no run of this code is more than 1.25 times "
                                           "as fast as its work in a row (measured)"])
         self.assertEqual(len(lines["threads"]), 1)
@@ -177,13 +177,13 @@ class WhatTheTextIsNot(unittest.TestCase):
 
     def test_a_lock_beside_a_remark(self):
         remark = remark_of({"remark": "preempted", "times": 9, "work": "high", "span": "high"})
-        lines = lines_of(locks=["critical at a.c:3: 2 times, 80 inside, 0 waiting"], most_held=80, remarks=[remark])
+        lines = lines_of(locks=[Lock("critical at a.c:3", 2, 80, 0)], most_held=80, remarks=[remark])
         self.assertEqual(lines["locks"], ["80 us inside the most held one; another run may hold it for less, beside "
                                           "its work (remarks) (measured)"])
         self.assertIn("(of the recorded text; the program's may be more (remarks))", lines["threads"][0])
 
     def test_a_lock_that_is_held_for_less_than_the_span(self):
-        lines = lines_of(locks=["critical at a.c:3: 2 times, 50 inside, 0 waiting"], most_held=50)
+        lines = lines_of(locks=[Lock("critical at a.c:3", 2, 50, 0)], most_held=50)
         self.assertNotIn("locks", lines)
         self.assertIn("4: up to 1.43", lines["threads"][0])
 

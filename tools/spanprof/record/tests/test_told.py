@@ -45,7 +45,7 @@ class Words(unittest.TestCase):
     def test_the_others(self):
         for one, words in (({"told": "no exact fold"}, "no exact fold fits"),
                            ({"told": "more regions", "regions": 3, "work": 5, "unit": "us"}, "3 more regions"),
-                           ({"told": "outside", "seen": "1 time at a.c:3"}, "1 time at a.c:3"),
+                           ({"told": "outside", "times": 1, "at": "a.c:3"}, "1 time at a.c:3"),
                            ({"told": "no tasks", "inside": True}, "and the program ended inside a region"),
                            ({"told": "unwritten", "file": "x.tasks"}, "x.tasks cannot be written"),
                            ({"told": "fault", "log": "x.log", "what": "no log"}, "x.log cannot be converted: no log")):

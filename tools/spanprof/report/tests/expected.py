@@ -103,14 +103,17 @@ class Program(Sums):
     def head(self, *name):
         return int(re.search(r"(?m)^# %s: (\d+)" % " ".join(name), self.text)[1])
 
+    def recorded(self):
+        found = re.search("(?m)^# recorded: (.*)", self.text)
+        return json.loads(found[1]) if found else {}
+
     def elapsed(self):
         return self.head("elapsed")
 
     def threads(self):
         """Those of the head, and those that the recorded run needed."""
-        recorded = re.search(r"(?:threads|on) (\d+)", self.text.partition("omptasks")[0])
         needed = 1 + max((int(worker) for _, _, worker in self.bars()), default=0)
-        return max(int(recorded[1]) if recorded else 1, needed)
+        return max(self.recorded().get("threads", 1), needed)
 
     def of_places(self, numbers, what):
         own, path = self.segments(numbers), self.segments(numbers, True)
@@ -314,8 +317,8 @@ class Program(Sums):
         return document, re.findall(r"(start|finish) (\d+) (\d+)", document.split("\n---\n")[1])
 
     def by_clock(self):
-        unit = re.search(r"unit (?:(\d+) )?(\w+)", self.text)
-        scale = int(unit[1] or 1) * {"ns": 1, "us": 1000, "ms": 1000000}[unit[2]]
+        number, _, unit = self.recorded()["unit"].rpartition(" ")
+        scale = int(number or 1) * {"ns": 1, "us": 1000, "ms": 1000000}[unit]
         with open(self.base + ".times", encoding="utf-8") as file:
             rows = table(file.read())
         return [(int(row["start_ns"]) / scale, int(row["end_ns"]) / scale, row["thread"]) for row in rows]
@@ -355,6 +358,10 @@ class WholeProgram(Sums):
         """Those of a place, or all: begin, end, threads, tasks, loops, code, whether inside another one."""
         names = list(dict.fromkeys(row[9] for row in self.rows[1:]))
         return [tuple(map(int, row[2:9])) for row in self.rows[1:] if number is None or row[9] == names[int(number)]]
+
+    def recorded(self):
+        found = re.search("(?m)^# recorded: (.*)", self.text)
+        return json.loads(found[1]) if found else {}
 
     def elapsed(self):
         return int(self.rows[0][3])

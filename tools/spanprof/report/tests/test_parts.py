@@ -106,7 +106,7 @@ class OfOneProgram(unittest.TestCase):
         self.assertIn("one of 7 runs, which have no median", self.told(runs=7))
 
     def test_one_thread(self):
-        words = self.told(threads=1, one_thread=True)
+        words = self.told(threads=1)
         self.assertIn("code on one thread", words)
         self.assertNotRegex(words, "any number of threads|pays most|threads: up to")
         self.assertIn("it is of one thread, and says nothing of more", curve_part([self.view]))

@@ -5,7 +5,7 @@ import unittest
 from spanprof.report.large_sums import Unusual, any_marks, sums_in, sums_of, usual_marks
 from spanprof.report.tests import worked
 
-TEXT = """# recorded: from a, threads 2, clock wall, unit us
+TEXT = """# recorded: {"program": "a", "threads": 2, "clock": "wall", "unit": "us"}
 omptasks 1
 work 7
 task depend(inout: x) {  # a.c:3

@@ -2,7 +2,7 @@
 from spanprof.text import statements, text_lines
 
 SORT = """\
-# recorded: from sort, threads 2, clock cpu, unit us
+# recorded: {"program": "sort", "threads": 2, "clock": "cpu", "unit": "us"}
 omptasks 1
 work 4
 taskgroup {  # sort.c:7

@@ -2,7 +2,7 @@ import json
 import unittest
 
 from spanprof.cause import Cause
-from spanprof.head import Head
+from spanprof.head import Head, Lock
 from spanprof.whatif import advice
 from spanprof.whatif.candidates import candidates
 from spanprof.whatif.numbers import Numbers, OnThreads
@@ -73,9 +73,9 @@ class First(unittest.TestCase):
         self.assertIn("such as: a cutoff, or larger blocks; what the runtime", advice.first_change(small, ALL, Head()))
 
     def test_what_the_head_has_against_it(self):
-        locked = Head(locks=["critical at a.c:9"])
+        locked = Head(locks=[Lock("critical at a.c:9", 1, 1, 0)])
         self.assertTrue(advice.first_change(SHAPE, ALL, locked).endswith("(the program's may be otherwise (remarks))"))
-        single = Head(one_thread=True)
+        single = Head(threads=1)
         self.assertTrue(advice.first_change(SHAPE, ALL, single).endswith("(it is of one thread, and says nothing of "
                                                                          "more)"))
 

@@ -67,7 +67,7 @@ proved of the text, and of the changed text: spanprof has read both
         with open(kept, encoding="utf-8") as file:
             text = file.read()
         self.assertTrue(in_words(text).startswith(
-            "# recorded: from sort, threads 2, clock cpu, unit us\n"
+            '# recorded: {"program": "sort", "threads": 2, "clock": "cpu", "unit": "us"}\n'
             "# remark: a changed text, 1 wait dropped, taskgroup at sort.c:7: work and span too low or too high\n"
             "omptasks 1\nwork 4\ntask {  # sort.c:8\n"))
         self.assertEqual(sorted(os.listdir(self.folder)), ["kept.tasks", "large", "mine.tasks", "spanprof"])
@@ -138,7 +138,7 @@ proved of the text, and of the changed text: spanprof has read both
             self.assertEqual(self.told(*words)[0], 2)
 
     def test_a_text_that_says_nothing_of_more_threads(self):
-        self.text = self.write("mine.tasks", "# one thread: of it\n" + SORT)
+        self.text = self.write("mine.tasks", SORT.replace('"threads": 2', '"threads": 1'))
         self.assertIn("on 8 threads: it is of one thread, and says nothing of more",
                       self.told("--cutoff", "1", "--threads", "8")[1])
 
