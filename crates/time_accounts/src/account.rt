@@ -9,7 +9,7 @@ ghost use Rattle.time_accounts.specs.TimedRun.{IsTimedRun, differences, duration
 ghost use Rattle.time_accounts.specs.Shares.{shares_of};
 ghost use Rattle.time_accounts.specs.Sweep.{AreChanges};
 ghost use Rattle.time_accounts.specs.Measured.{IsMeasured};
-ghost use Rattle.time_accounts.specs.Faults.{IsThreadCount, IsTimesFault};
+ghost use Rattle.time_accounts.specs.Faults.{IsRanged, IsThreadCount, IsTimesFault};
 
 use crate::changes::{Changes, sorted_changes};
 use crate::checks::check_times;
@@ -174,6 +174,8 @@ pub fn account_of(
     times: &Times,
 ) -> Result<Account, TimesFault>
     ensures legal { OnOk result (IsTimedRun (length graph.now.costs) (Precedes graph.now)
+        region.threads region.first region.last times.now) }
+    ensures within { OnOk result (IsRanged (length graph.now.costs)
         region.threads region.first region.last times.now) }
     ensures shares { IfOk result (λ account. account
         ≡ shares_of graph.now region.threads region.first region.last times.now) }
