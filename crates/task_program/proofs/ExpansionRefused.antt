@@ -7,11 +7,11 @@ use Rattle.std.specs.Option.{option_or}
 use Rattle.program_text.specs.declared.fault.ReadFault.{ReadFault}
 use Rattle.loop_text.specs.Loops.{Tree}
 use Rattle.task_program.specs.Expansion.{Piece, expansion}
-use Rattle.task_program.specs.SecondPass.{take_pieces, then_take, unless_at_fault}
+use Rattle.task_program.specs.SecondPass.{take_pieces, take_pieces_by, then_take, unless_at_fault}
 use Rattle.task_program.specs.PieceFaults.{fault_of}
 use Rattle.task_program.specs.Expanded.{ExpansionState, after_piece, empty_expansion}
 use Rattle.task_program.specs.ReadInVersion.{second_pass, expanded_program}
-use Rattle.task_program.specs.ExpansionFault.{first_fault, HasExpansionFault}
+use Rattle.task_program.specs.ExpansionFault.{first_fault_by, HasExpansionFault}
 
 abbrev fault_in : Result ExpansionState ReadFault → Option ReadFault
 fault_in (Ok state) = None
@@ -26,12 +26,12 @@ one_piece_fault (Some fault) next later first h = refl
 
 -- the pass stops where the first fault is
 stops_at_first : (state : ExpansionState) (pieces : List Piece)
-    → fault_in (take_pieces state pieces) ≡ first_fault state pieces
-unfolding take_pieces first_fault
+    → fault_in (take_pieces state pieces) ≡ first_fault_by fault_of state pieces
+unfolding take_pieces_by first_fault_by
 stops_at_first state [] = refl
 stops_at_first state (piece ∷ pieces) =
     one_piece_fault (fault_of state piece) (after_piece state piece)
-    (λ next. take_pieces next pieces) (first_fault (after_piece state piece) pieces)
+    (λ next. take_pieces next pieces) (first_fault_by fault_of (after_piece state piece) pieces)
     (stops_at_first (after_piece state piece) pieces)
 
 refused_with : (read : Result ExpansionState ReadFault) (fault : ReadFault)

@@ -35,9 +35,8 @@ use Rattle.task_program.specs.TreeSoFar.{Block}
 use Rattle.task_program.specs.Expansion.{Piece, is_negative, size_of, index_fits}
 use Rattle.task_program.specs.Expansion.{subscript_of}
 use Rattle.task_program.specs.SecondPass.{unless_at_fault}
-use Rattle.task_program.specs.PieceFaults.{fault_of}
-use Rattle.task_program.specs.Expanded.{ExpansionState, after_piece}
-use Rattle.task_program.specs.SecondPass.{then_take, take_pieces}
+use Rattle.task_program.specs.Expanded.{ExpansionState, after_piece, after_pieces}
+use Rattle.task_program.specs.SecondPass.{PieceTest, then_take, take_pieces_by}
 use Rattle.task_program.specs.PieceFaults.{fault_if, fault_at}
 use Rattle.task_program.proofs.Keeping.{with_one}
 use Rattle.task_program.proofs.Sound.{is_task, opens}
@@ -205,12 +204,15 @@ from_fault : (fault : Option ReadFault) (after : ExpansionState)
 from_fault (Some fault) after later next h = absurd cc
 from_fault None after later next h = (refl, h)
 
-pub take_pieces_first : (state next : ExpansionState) (piece : Piece) (pieces : List Piece)
-    → take_pieces state (piece ∷ pieces) ≡ Ok next
-    → (fault_of state piece ≡ None) × (take_pieces (after_piece state piece) pieces ≡ Ok next)
-unfolding take_pieces
-take_pieces_first state next piece pieces h =
-    from_fault (fault_of state piece) (after_piece state piece) (λ s. take_pieces s pieces) next h
+pub take_pieces_first : (test : PieceTest) (state next : ExpansionState) (piece : Piece)
+    (pieces : List Piece)
+    → take_pieces_by test state (piece ∷ pieces) ≡ Ok next
+    → (test state piece ≡ None)
+    × (take_pieces_by test (after_piece state piece) pieces ≡ Ok next)
+unfolding take_pieces_by
+take_pieces_first test state next piece pieces h =
+    from_fault (test state piece) (after_piece state piece)
+    (λ s. take_pieces_by test s pieces) next h
 
 split_ok : (read : Result ExpansionState ReadFault)
     (later : ExpansionState → Result ExpansionState ReadFault) (next : ExpansionState)
@@ -219,18 +221,28 @@ split_ok : (read : Result ExpansionState ReadFault)
 split_ok (Ok middle) later next h = (middle, refl, h)
 split_ok (Err fault) later next h = absurd cc
 
-pub take_pieces_halves : (state next : ExpansionState) (one other : List Piece)
-    → take_pieces state (one ++ other) ≡ Ok next
+pub take_pieces_halves : (test : PieceTest) (state next : ExpansionState) (one other : List Piece)
+    → take_pieces_by test state (one ++ other) ≡ Ok next
     → (middle : ExpansionState)
-    × (take_pieces state one ≡ Ok middle)
-    × (take_pieces middle other ≡ Ok next)
-take_pieces_halves state next one other h =
-    split_ok (take_pieces state one) (λ s. take_pieces s other) next
-    (sym (in_turn state one other) ∙ h)
+    × (take_pieces_by test state one ≡ Ok middle)
+    × (take_pieces_by test middle other ≡ Ok next)
+take_pieces_halves test state next one other h =
+    split_ok (take_pieces_by test state one) (λ s. take_pieces_by test s other) next
+    (sym (in_turn test state one other) ∙ h)
 
-pub at_end : (state next : ExpansionState) → take_pieces state [] ≡ Ok next → state ≡ next
-unfolding take_pieces
-at_end state next h = cc
+pub at_end : (test : PieceTest) (state next : ExpansionState)
+    → take_pieces_by test state [] ≡ Ok next
+    → state ≡ next
+unfolding take_pieces_by
+at_end test state next h = cc
+
+pub taken_is : (test : PieceTest) (pieces : List Piece) (state next : ExpansionState)
+    → take_pieces_by test state pieces ≡ Ok next
+    → next ≡ after_pieces state pieces
+taken_is test [] state next h = sym (at_end test state next h)
+taken_is test (piece ∷ pieces) state next h =
+    taken_is test pieces (after_piece state piece) next
+    (take_pieces_first test state next piece pieces h).1
 
 -- ---- a mark more
 
