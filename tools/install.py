@@ -28,7 +28,8 @@ LEFT_OUT = ("install.py", "/tests/")
 
 def shared_files():
     """What the commands need, as paths below tools/."""
-    found = sorted({path for pattern in SHARED for path in glob.glob(pattern, root_dir=TOOLS)})
+    found = sorted({os.path.relpath(path, TOOLS) for pattern in SHARED
+                    for path in glob.glob(os.path.join(glob.escape(TOOLS), pattern))})
     return [path for path in found if os.path.isfile(os.path.join(TOOLS, path))
             and not any(part in "/" + path for part in LEFT_OUT)]
 
