@@ -9,7 +9,7 @@ use Rattle.time_accounts.specs.TimedRun.{IsTimedRun, TimedRun}
 use Rattle.time_accounts.specs.declared.fault.TimesFault.{TimesFault}
 use Rattle.time_accounts.specs.declared.fault.TimesFault.TheVariants as times
 use Rattle.spanprof_c.specs.Programs.{OfText}
-use Rattle.spanprof_c.specs.Refusals.{Asked, TellsWhy, on_line}
+use Rattle.spanprof_c.specs.Refusals.{Asked, TellsWhy}
 use Rattle.spanprof_c.specs.declared.told.Accounted.{Accounted}
 use Rattle.spanprof_c.specs.declared.told.Place.{Place}
 
