@@ -2,6 +2,7 @@
 -- looking.
 use Rattle.std.proofs.Common.{ℕ, zero, suc, ◌+◌, ◌<◌, ◌≤◌, ◌≡◌, ◌⊎◌, Bool, true, false, List, []}
 use Rattle.std.proofs.Common.{◌∷◌, ◌++◌, Option, Some, None, refl, sym, ap, subst, arith, inl, inr}
+use Rattle.std.specs.Prelude.{Contains, length}
 use Rattle.std.proofs.lemmas.Bool.{cases_eq, cases_lt, both_ways}
 use Rattle.std.proofs.lemmas.Option.{same_Some, none-some}
 use Rattle.depend_table.specs.Lists.{Lists}
@@ -13,6 +14,15 @@ IsDecided P = P ⊎ (¬ P)
 pub decided_by_equivalent : (P Q : Type 0) → (P → Q) → (Q → P) → IsDecided P → IsDecided Q
 decided_by_equivalent P Q there back (inl p) = inl (there p)
 decided_by_equivalent P Q there back (inr fails) = inr (λ q. fails (back q))
+
+-- of what is the same in its parts
+pub by_parts : {P Q : Type 0} → IsDecided P → (P → Q) → (Q → P) → IsDecided Q
+by_parts {P} {Q} d there back = decided_by_equivalent P Q there back d
+
+-- what does not fail holds
+pub holds_unless : {P : Type 0} → IsDecided P → (¬ P → ⊥) → P
+holds_unless (inl p) fails_not = p
+holds_unless (inr fails) fails_not = absurd (fails_not fails)
 
 pub decide_both : (P Q : Type 0) → IsDecided P → IsDecided Q → IsDecided (P × Q)
 decide_both P Q (inl p) (inl q) = inl (p, q)
@@ -105,6 +115,47 @@ decide_each P (suc n) each = elim (each n) [
     ])
   ]
 ]
+
+first_or_later : {X : Type 0} (x : X) (xs : List X) (y : X) → Contains (x ∷ xs) y
+    → (x ≡ y) ⊎ Contains xs y
+first_or_later x xs y (zero, within, is) = inl is
+first_or_later x xs y (suc k, within, is) = inr (k, omega (arith, within), is)
+
+-- of some member of a list
+pub decide_member : {X : Type 0} (P : X → Type 0) → ((x : X) → IsDecided (P x)) → (xs : List X)
+    → IsDecided ((x : X) × Contains xs x × P x)
+decide_member P each [] = inr (λ h. absurd (omega (arith, h.1.1)))
+decide_member P each (x ∷ xs) = elim (each x) [
+  | inl here ↦ inl (x, (0, omega arith, refl), here)
+  | inr fails ↦ elim (decide_member P each xs) [
+    | inl found ↦ inl (
+      found.0,
+      (suc found.1.0, let within = found.1.1 in omega (arith, within), found.1.2),
+      found.2,
+    )
+    | inr none ↦ inr (λ h. elim (first_or_later x xs h.0 h.1) [
+      | inl same ↦ fails (subst P (sym same) h.2)
+      | inr later ↦ none (h.0, later, h.2)
+    ])
+  ]
+]
+
+-- what is made of these is decided by a search
+pub ruleset decisions = (
+  decide_both,
+  decide_either,
+  decide_implies,
+  decide_not,
+  decide_same,
+  decide_less,
+  decide_most,
+  decide_true,
+  decide_some,
+  decide_options,
+  decide_held,
+  decide_below,
+  decide_each,
+)
 
 -- the smallest number below a bound of which it holds
 pub record IsFirst (P : ℕ → Type 0) (n k : ℕ) : Type 0 where

@@ -1,10 +1,9 @@
 -- A list of events is legal, or some event is the first that is refused.
 use Rattle.std.proofs.Common.{ℕ, zero, suc, ◌+◌, ◌<◌, ◌≡◌, ◌⊎◌, ◌∙◌, ◌++◌, List, [], ◌∷◌, length}
-use Rattle.std.proofs.Common.{get_or, take, sym, ap, subst, arith, inl, inr}
+use Rattle.std.proofs.Common.{get_or, take, refl, sym, ap, subst, arith, inl, inr}
 use Rattle.std.specs.Prelude.{Contains}
 use Rattle.std.proofs.lemmas.Bool.{cases_lt}
-use Rattle.std.proofs.lemmas.List.{get_or_default, take_all, take_more}
-use Rattle.std.proofs.lemmas.List.Elements.{Contains-get_or}
+use Rattle.std.proofs.lemmas.List.{take_all, take_more}
 use Rattle.std.proofs.lemmas.Option.{none-some, slice_get-get_or}
 use Rattle.task_segments.specs.Precedence.{MustPrecede}
 use Rattle.task_segments.specs.Table.{Table, table_of}
@@ -23,8 +22,8 @@ use Rattle.dispatch_core.specs.declared.event.StartRefusal.TheVariants.{UnknownW
 use Rattle.dispatch_core.specs.declared.replay.ReplayRefusal.{ReplayRefusal}
 use Rattle.dispatch_core.specs.declared.replay.ReplayRefusal.TheVariants.{NotRunning, OfStart}
 use Rattle.dispatch_core.proofs.DecidedEdges.{decide_precedes}
-use Rattle.dispatch_core.proofs.Decisions.{IsDecided, decided_by_equivalent, decide_below}
-use Rattle.dispatch_core.proofs.Decisions.{decide_both, decide_not, decide_same, find_first}
+use Rattle.dispatch_core.proofs.Decisions.{IsDecided, by_parts, decide_member, decide_same}
+use Rattle.dispatch_core.proofs.Decisions.{decisions, find_first, holds_unless}
 use Rattle.dispatch_core.proofs.NeverStuck.{decide_finished}
 use Rattle.task_program.specs.ProgramMarks.{ProgramMarks}
 use Rattle.task_program.specs.Programs.{IsProgram}
@@ -36,20 +35,11 @@ decide_same_event : (a b : Event) → IsDecided (a ≡ b)
 decide_same_event (Start v s) (Finish w t) = inr (λ e. cc)
 decide_same_event (Finish v s) (Start w t) = inr (λ e. cc)
 decide_same_event (Start v s) (Start w t) =
-    decided_by_equivalent ((v ≡ w) × (s ≡ t)) (Start v s ≡ Start w t)
-    (λ h. ap (λ n. Start n s) h.0 ∙ ap (λ n. Start w n) h.1)
-    (λ e. (cc, cc))
-    (decide_both (v ≡ w) (s ≡ t) (decide_same v w) (decide_same s t))
+    by_parts {P = (v ≡ w) × (s ≡ t)} (search decisions)
+    (λ h. ap (λ n. Start n s) h.0 ∙ ap (λ n. Start w n) h.1) (λ e. (cc, cc))
 decide_same_event (Finish v s) (Finish w t) =
-    decided_by_equivalent ((v ≡ w) × (s ≡ t)) (Finish v s ≡ Finish w t)
-    (λ h. ap (λ n. Finish n s) h.0 ∙ ap (λ n. Finish w n) h.1)
-    (λ e. (cc, cc))
-    (decide_both (v ≡ w) (s ≡ t) (decide_same v w) (decide_same s t))
-
-decide_has : (history : List Event) (event : Event) → IsDecided (Contains history event)
-decide_has history event =
-    decide_below (λ k. get_or history k event ≡ event) (length history)
-    (λ k. decide_same_event (get_or history k event) event)
+    by_parts {P = (v ≡ w) × (s ≡ t)} (search decisions)
+    (λ h. ap (λ n. Finish n s) h.0 ∙ ap (λ n. Finish w n) h.1) (λ e. (cc, cc))
 
 is_start_of : (event : Event) (s : ℕ) → IsDecided ((worker : ℕ) × (event ≡ Start worker s))
 is_start_of (Finish w t) s = inr (λ h. let same_event = h.1 in cc)
@@ -58,38 +48,20 @@ is_start_of (Start w t) s = elim (decide_same t s) [
   | inr apart ↦ inr (λ h. let same_event = h.1 in apart (cc))
 ]
 
--- some event, to read a history by its places
-abbrev some_event : Event
-some_event = Start 0 0
-
-at_place : (history : List Event) (event : Event) (h : Contains history event)
-    → get_or history h.0 some_event ≡ event
-at_place history event h = get_or_default history h.0 some_event event h.1 ∙ h.2
-
-holds_at : (history : List Event) (k : ℕ) (event : Event)
-    → k < length history
-    → get_or history k some_event ≡ event
-    → Contains history event
-holds_at history k event within is =
-    subst (λ (e : Event). Contains history e) is (Contains-get_or history k some_event within)
-
 decide_started : (history : List Event) (s : ℕ) → IsDecided (HasStarted history s)
 decide_started history s =
-    let P : ℕ → Type 0 = λ k. (worker : ℕ) × (get_or history k some_event ≡ Start worker s) in
-    decided_by_equivalent ((k : ℕ) × (k < length history) × P k) (HasStarted history s)
-    (λ h. record { worker = h.2.0; started = holds_at history h.0 (Start h.2.0 s) h.1 h.2.1 })
-    (λ h. (h.started.0, h.started.1, (h.worker, at_place history (Start h.worker s) h.started)))
-    (decide_below P (length history) (λ k. is_start_of (get_or history k some_event) s))
+    by_parts (decide_member _ (λ event. is_start_of event s) history)
+    (λ h. record { worker = h.2.0; started = subst (Contains history) h.2.1 h.1 })
+    (λ h. (Start h.worker s, h.started, (h.worker, refl)))
 
 decide_runs : (history : List Event) (worker s : ℕ) → IsDecided (Runs history worker s)
 decide_runs history worker s =
-    let A : Type 0 = Contains history (Start worker s) in
-    let B : Type 0 = ¬ HasFinished history s in
-    decided_by_equivalent (A × B) (Runs history worker s)
-    (λ h. record { started = h.0; unfinished = h.1 })
-    (λ r. (r.started, r.unfinished))
-    (decide_both A B (decide_has history (Start worker s))
-    (decide_not (HasFinished history s) (decide_finished history s)))
+    let P : Event → Type 0 = λ event. (event ≡ Start worker s) × (¬ HasFinished history s) in
+    let each : (event : Event) → IsDecided (P event) = λ event.
+    search (decisions, decide_same_event, decide_finished) in
+    by_parts (decide_member P each history)
+    (λ h. record { started = subst (Contains history) h.2.0 h.1; unfinished = h.2.1 })
+    (λ r. (Start worker s, r.started, (refl, r.unfinished)))
 
 -- an event that starts a segment which the worker still runs
 keeps_busy : (history : List Event) (worker : ℕ) (event : Event)
@@ -106,19 +78,12 @@ keeps_busy history worker (Start w t) = elim (decide_same w worker) [
 
 decide_busy : (history : List Event) (worker : ℕ) → IsDecided ((s : ℕ) × Runs history worker s)
 decide_busy history worker =
-    let P : ℕ → Type 0 = λ k.
-    (s : ℕ) × (get_or history k some_event ≡ Start worker s) × ¬ HasFinished history s in
-    decided_by_equivalent ((k : ℕ) × (k < length history) × P k) ((s : ℕ) × Runs history worker s)
+    by_parts (decide_member _ (keeps_busy history worker) history)
     (λ h. (
       h.2.0,
-      record { started = holds_at history h.0 (Start worker h.2.0) h.1 h.2.1; unfinished = h.2.2 },
+      record { started = subst (Contains history) h.2.1 h.1; unfinished = h.2.2 },
     ))
-    (λ h. let runs = h.1 in (
-      runs.started.0,
-      runs.started.1,
-      (h.0, at_place history (Start worker h.0) runs.started, runs.unfinished),
-    ))
-    (decide_below P (length history) (λ k. keeps_busy history worker (get_or history k some_event)))
+    (λ h. (Start worker h.0, h.1.started, (h.0, refl, h.1.unfinished)))
 
 -- ---- the next event
 
@@ -128,17 +93,13 @@ ready_or_waits : (table : Table) (history : List Event) (s : ℕ) → IsSoundTab
     ((pred : ℕ) × IsFirstUnfinished table history s pred)
 ready_or_waits table history s sound =
     let P : ℕ → Type 0 = λ pred. MustPrecede table pred s × (¬ HasFinished history pred) in
+    let before : (pred : ℕ) → IsDecided (MustPrecede table pred s) = λ pred.
+    decide_precedes table pred s sound.in_place in
     let decided : (pred : ℕ) → IsDecided (P pred) = λ pred.
-    decide_both (MustPrecede table pred s) (¬ HasFinished history pred)
-    (decide_precedes table pred s sound.in_place)
-    (decide_not (HasFinished history pred) (decide_finished history pred)) in
+    search (decisions, before, decide_finished) in
     let done : (pred : ℕ) → ¬ P pred → MustPrecede table pred s
     → HasFinished history pred = λ pred fails edge.
-    elim (decide_finished history pred) [
-      | inl finished ↦ finished
-      | inr unfinished ↦ absurd
-          (fails (edge, unfinished))
-    ] in
+    holds_unless (decide_finished history pred) (λ unfinished. fails (edge, unfinished)) in
     elim (find_first P s decided) [
       | inl none ↦
           inl (λ pred edge. done pred (none pred (sound.goes_up.ascending pred s edge)) edge)
@@ -212,12 +173,12 @@ legal_from table events zero i sound all legal =
     inl (subst (λ (es : List Event). IsLegalRun table es) (take_all i events (omega (arith, all)))
     legal)
 legal_from table events (suc d) i sound all legal =
-    let event : Event = get_or events i some_event in
+    let event : Event = get_or events i (Start 0 0) in
     let within : i < length events = omega (arith, all) in
     elim (next_or_refusal table (take i events) event sound) [
       | inl may ↦
           let more : take (i + 1) events ≡ take i events ++ event ∷ [] =
-          take_more events i some_event within in
+          take_more events i (Start 0 0) within in
           legal_from table events d (i + 1) sound (omega (arith, all))
           (subst (λ (es : List Event). IsLegalRun table es) (sym more)
           (legal_push table (take i events) event legal may))
@@ -226,7 +187,7 @@ legal_from table events (suc d) i sound all legal =
         refused.0,
         record {
           event = event;
-          is_there = slice_get-get_or events i some_event within;
+          is_there = slice_get-get_or events i (Start 0 0) within;
           legal = legal;
           refused = refused.1;
         },
