@@ -1,5 +1,5 @@
 -- Why there is no account of a timed run.
-use Rattle.std.proofs.Common.{ℕ, ◌≡◌, ◌≢◌, ◌≤◌, List, [], Result, Ok, Err, length, subst}
+use Rattle.std.proofs.Common.{ℕ, ◌≡◌, ◌≢◌, ◌≤◌, [], Result, Ok, Err, subst}
 use Rattle.std.specs.Prelude.{IfErr, MatchResult}
 use Rattle.dispatch_core.specs.Graph.{IsGraphOf}
 use Rattle.dispatch_core.specs.RecordedGraph.{RecordedGraph}
@@ -8,7 +8,7 @@ use Rattle.time_accounts.specs.TimedRun.{TimedRun}
 use Rattle.time_accounts.specs.declared.fault.TimesFault.{TimesFault}
 use Rattle.spanprof_c.specs.Programs.{OfText}
 use Rattle.spanprof_c.specs.Refusals.{Asked}
-use Rattle.spanprof_c.specs.Runs.{OfGraph, RefusesRun, TellsTimes, times_number, times_place}
+use Rattle.spanprof_c.specs.Runs.{RefusesRun, TellsTimes, times_number, times_place}
 use Rattle.spanprof_c.specs.Steps.{IsPriced}
 use Rattle.spanprof_c.specs.declared.told.Place.{Place}
 

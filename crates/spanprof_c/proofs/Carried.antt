@@ -1,7 +1,7 @@
 -- What is told of a program's graph holds under all pairs of segments of which the first must
 -- precede the second, whatever the costs are.
 use Rattle.std.proofs.Common.{ℕ, ◌+◌, ◌<◌, ◌≡◌, ◌↔◌, ◌∙◌, Bool, List, [], Option, Result, Ok, Err}
-use Rattle.std.proofs.Common.{length, refl, sym, ap, subst}
+use Rattle.std.proofs.Common.{◌≤◌, length, refl, sum, sym, ap, subst}
 use Rattle.std.specs.Prelude.{IfOk, MatchResult}
 use Rattle.dispatch_core.specs.Graph.{IsGraphOf}
 use Rattle.dispatch_core.specs.RecordedGraph.{IsGraph, Precedes, RecordedGraph}
@@ -9,6 +9,7 @@ use Rattle.dispatch_core.proofs.Carried.{graph_within, graph_ways}
 use Rattle.greedy_sim.specs.Greedy.{IsGreedyRun}
 use Rattle.greedy_sim.proofs.SameGreedy.{same_run}
 use Rattle.open_segments.specs.Facts.{IsSoundTable}
+use Rattle.program_text.specs.declared.limits.TheConstants.{MOST_WORK}
 use Rattle.span_analysis.specs.Findings.{AreFindings, Findings}
 use Rattle.task_segments.specs.Precedence.{MustPrecede}
 use Rattle.task_segments.specs.Schedule.{IsLegal, at}
@@ -97,15 +98,19 @@ module _ (table : Table) (graph : RecordedGraph) (sound : IsSoundTable table)
     is_run = greedy_there costs count starts is.threads is.is_run;
     are_numbers = is.are_numbers;
     is_end = is.is_end;
+    in_range = is.in_range;
   }
 
   pub curve_there : (upto : ℕ) (ends costs : List ℕ) → Curves upto ends costs (Precedes graph)
       → Curves upto ends costs (MustPrecede table)
   curve_there upto ends costs is = record {
-    each = is.each;
-    at_each = λ k inside.
-        let end = is.at_each k inside in
-        (end.0, end.1, greedy_there costs (k + 1) end.0 end.1 end.2, end.3);
+    is_curve = record {
+      each = is.is_curve.each;
+      at_each = λ k inside.
+          let end = is.is_curve.at_each k inside in
+          (end.0, end.1, greedy_there costs (k + 1) end.0 end.1 end.2, end.3);
+    };
+    in_range = is.in_range;
   }
 
   pub judges_there : (starts : List ℕ) (told : Bool) (costs : List ℕ)
@@ -139,6 +144,7 @@ on_costs Says from given graph carry priced told =
       stands = priced.stands;
       says = record {
         each = sym (ap (λ (xs : List ℕ). length xs) is.costs) ∙ counted given graph table is;
+        small = subst (λ (xs : List ℕ). sum xs ≤ MOST_WORK) is.costs is.is_graph.small;
         says = subst P is.costs (carry table is.sound is.is_graph_of told);
       };
     }

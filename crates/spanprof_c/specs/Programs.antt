@@ -1,11 +1,12 @@
 -- What is said of a text's program, under its own costs or under others.
-use Rattle.std.specs.Prelude.{ℕ, ◌≡◌, ◌<◌, ◌⊎◌, Bool, true, false, List, [], ◌∷◌, length}
-use Rattle.large_text.specs.LargeTrees.{HasLargeTree, IsLargeFirstFault}
+use Rattle.std.specs.Prelude.{ℕ, ◌≡◌, ◌<◌, ◌⊎◌, Bool, true, false, List, [], ◌∷◌, ◌≤◌, length, sum}
+use Rattle.large_text.specs.LargeTrees.{HasLargeTree, IsLargeFirstFault, IsLargeRightWhole}
 use Rattle.large_text.specs.declared.limits.TheConstants.{LARGEST_LINE}
 use Rattle.program_text.specs.Marks.{Mark}
 use Rattle.program_text.specs.Tokens.{line_at_end, texts, tokens_of}
 use Rattle.program_text.specs.declared.fault.ReadFault.{ReadFault}
 use Rattle.program_text.specs.declared.fault.ReadKind.TheVariants.{TooLong}
+use Rattle.program_text.specs.declared.limits.TheConstants.{MOST_WORK}
 use Rattle.task_program.specs.ProgramMarks.{ProgramMarks}
 use Rattle.task_program.specs.Readings.{HasFirstFault}
 use Rattle.task_program.specs.Trees.{HasTree}
@@ -26,10 +27,16 @@ pub record HasProgram (text : List ℕ) (marks : List Mark) : Type 0 where
   pub tree : HasTree text program
   pub are : program.marks ≡ marks
 
+-- a text of any size stands for these marks, within the limits of such texts
+pub record HasLargeText (text : List ℕ) (marks : List Mark) : Type 0 where
+  pub short : length text ≤ LARGEST_LINE
+  pub tree : HasLargeTree (texts (tokens_of text)) marks
+  pub right : IsLargeRightWhole (tokens_of text)
+
 -- the text stands for these marks
 abbrev pub StandsFor : Bool → List ℕ → List Mark → Type 0
 StandsFor false text marks = HasProgram text marks
-StandsFor true text marks = HasLargeTree (texts (tokens_of text)) marks
+StandsFor true text marks = HasLargeText text marks
 
 -- more bytes than a text of any size may have here: its fault is on line 1
 pub record IsTooLong (text : List ℕ) (fault : ReadFault) : Type 0 where
@@ -54,11 +61,12 @@ abbrev pub costs_under : List ℕ → List ℕ → List ℕ
 costs_under own [] = own
 costs_under own (cost ∷ costs) = cost ∷ costs
 
--- there is a cost for each segment, and something is so under the costs and all pairs of segments
--- of which the first must precede the second
+-- there is a cost for each segment, their sum is within the limit of work, and something is so under
+-- the costs and all pairs of segments of which the first must precede the second
 pub record IsUnder (given : List ℕ) (Says : List ℕ → (ℕ → ℕ → Type 0) → Type 0) (table : Table)
     : Type 0 where
   pub each : length (costs_under (costs_of table) given) ≡ length table.segments
+  pub small : sum (costs_under (costs_of table) given) ≤ MOST_WORK
   pub says : Says (costs_under (costs_of table) given) (MustPrecede table)
 
 -- the text has a program, of which something is so under the costs

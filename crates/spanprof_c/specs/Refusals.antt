@@ -78,6 +78,10 @@ number_of refusal.WrongLength = 18
 abbrev pub on_line : ℕ → Place
 on_line line = record { line = line; segment = 0; other = 0 }
 
+-- nothing lies anywhere: what is written beside an answer
+abbrev pub nowhere : Place
+nowhere = on_line 0
+
 -- the line of a text's fault, and else nothing
 abbrev pub place_of : Refusal → Place
 place_of (refusal.Text what line) = on_line line

@@ -3,13 +3,13 @@ use Rattle.std.specs.Prelude.{ℕ, ◌≡◌, ◌⊎◌, List, length}
 use Rattle.dispatch_core.specs.Graph.{IsGraphOf}
 use Rattle.dispatch_core.specs.RecordedGraph.{Precedes, RecordedGraph}
 use Rattle.task_segments.specs.Table.{Table}
-use Rattle.time_accounts.specs.Faults.{IsTimesFault}
+use Rattle.time_accounts.specs.Faults.{IsRanged, IsTimesFault}
 use Rattle.time_accounts.specs.Shares.{Shares, ready_moments, shares_of}
 use Rattle.time_accounts.specs.TimedRun.{IsTimedRun, TimedRun}
 use Rattle.time_accounts.specs.declared.fault.TimesFault.{TimesFault}
 use Rattle.time_accounts.specs.declared.fault.TimesFault.TheVariants as times
 use Rattle.spanprof_c.specs.Programs.{OfText}
-use Rattle.spanprof_c.specs.Refusals.{Asked, TellsWhy, on_line}
+use Rattle.spanprof_c.specs.Refusals.{Asked, TellsWhy}
 use Rattle.spanprof_c.specs.declared.told.Accounted.{Accounted}
 use Rattle.spanprof_c.specs.declared.told.Place.{Place}
 
@@ -30,6 +30,8 @@ pub record Accounts (p first last : ℕ) (run : TimedRun) (readies : List ℕ) (
     (graph : RecordedGraph)
     : Type 0 where
   pub legal : IsTimedRun (length graph.costs) (Precedes graph) p first last run
+  -- the number of threads and the moments are within the limits
+  pub within : IsRanged (length graph.costs) p first last run
   pub shares : shares_told told ≡ shares_of graph p first last run
   pub ready : readies ≡ ready_moments graph run
 

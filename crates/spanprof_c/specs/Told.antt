@@ -1,11 +1,13 @@
 -- What each call tells, under some costs and a relation of precedence.
 use Rattle.std.specs.Prelude.{ℕ, ◌+◌, ◌-◌, ◌*◌, ◌≤◌, ◌≡◌, ◌↔◌, Bool, IsTrue, List, length, map}
-use Rattle.std.specs.Prelude.{Option, Some, None, sum, take}
+use Rattle.std.specs.Prelude.{Option, Some, None, drop, sum, take}
+use Rattle.program_text.specs.declared.limits.TheConstants.{MOST_WORK}
 use Rattle.greedy_sim.specs.Greedy.{IsCurve, IsGreedyRun}
 use Rattle.span_analysis.specs.Findings.{AreFindings}
 use Rattle.task_segments.specs.Schedule.{IsLeastEnd, IsLegal, IsSpan, end_of}
 use Rattle.task_segments.specs.Table.{Table, costs_of}
 use Rattle.task_segments.specs.declared.table.Segment.{Segment}
+use Rattle.spanprof_c.specs.Refusals.{IsOutOfRange}
 use Rattle.spanprof_c.specs.declared.told.Measured.{Measured}
 use Rattle.spanprof_c.specs.declared.told.Analysed.{Analysed}
 use Rattle.spanprof_c.specs.declared.told.Bounds.{Bounds}
@@ -39,6 +41,11 @@ Analyses told starts slacks path costs R = AreFindings costs R (record {
   chain = take told.path_length path;
 })
 
+-- so many numbers stand at the head of a list, and behind them it holds what it held
+pub record StandAtHead (n : ℕ) (before after : List ℕ) : Type 0 where
+  pub inside : n ≤ length after
+  pub behind : drop n after ≡ drop n before
+
 -- the number of a thread, and where there is none, the largest number of 32 bits
 abbrev pub thread_number : Option ℕ → ℕ
 thread_number None = 4294967295
@@ -52,10 +59,12 @@ pub record RunsGreedily (count : ℕ) (starts numbers : List ℕ) (last : ℕ) (
   pub is_run : IsGreedyRun costs R count starts threads
   pub are_numbers : numbers ≡ map thread_number threads
   pub is_end : last ≡ end_of costs starts
+  pub in_range : ¬ IsOutOfRange count
 
 -- the ends of the greedy runs on 1, 2, .. threads
-abbrev pub Curves : ℕ → List ℕ → List ℕ → (ℕ → ℕ → Type 0) → Type 0
-Curves upto ends costs R = IsCurve costs R upto ends
+pub record Curves (upto : ℕ) (ends costs : List ℕ) (R : ℕ → ℕ → Type 0) : Type 0 where
+  pub is_curve : IsCurve costs R upto ends
+  pub in_range : ¬ IsOutOfRange upto
 
 -- whether the starts are a legal schedule
 abbrev pub Judges : List ℕ → Bool → List ℕ → (ℕ → ℕ → Type 0) → Type 0
@@ -63,6 +72,9 @@ Judges starts legal costs R = IsTrue legal ↔ IsLegal costs R starts
 
 -- The ends that a work and a span leave on so many threads.
 pub record AreBounds (work span threads : ℕ) (told : Bounds) : Type 0 where
+  pub in_range : ¬ IsOutOfRange threads
+  pub little : work ≤ MOST_WORK
+  pub ordered : span ≤ work
   -- the least T with work <= threads * T and span <= T: no schedule ends sooner
   pub work_fits : work ≤ threads * told.least
   pub span_fits : span ≤ told.least

@@ -2,6 +2,7 @@
 ghost use Rattle.std.specs.Prelude.{◌≡◌, ◌≤◌, IfErr, IfOk, MatchResult, OnOk, length};
 ghost use Rattle.dispatch_core.specs.RecordedGraph.{Precedes};
 ghost use Rattle.time_accounts.specs.Faults.{IsTimesFault};
+ghost use Rattle.spanprof_c.specs.Refusals.{nowhere};
 ghost use Rattle.spanprof_c.specs.Runs.{Accounts, times_number, times_place, timed_run};
 
 use crate::told::{Accounted, Place, put_place};
@@ -56,10 +57,11 @@ pub(crate) fn tell_account(
 
 /// The number that a call answers: 0 where the account is there. The place is that of the fault.
 pub(crate) fn tell_times(outcome: Result<(), TimesFault>, place: &mut Place) -> u32
-    ensures { MatchResult outcome
+    ensures told { MatchResult outcome
         (λ _. result ≡ 0)
         (λ fault. (1 ≤ result) × (result ≡ times_number fault)
         × (place.new ≡ times_place fault)) }
+    ensures nowhere { result ≡ 0 → place.new ≡ nowhere }
 {
     match outcome {
         Ok(()) => {

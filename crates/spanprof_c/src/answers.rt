@@ -7,7 +7,7 @@ ghost use Rattle.spanprof_c.specs.Programs.{OfText, source};
 ghost use Rattle.spanprof_c.specs.Refusals.{IsRefused, asked};
 ghost use Rattle.spanprof_c.specs.Steps.{RefusesGraph};
 ghost use Rattle.spanprof_c.specs.Told.{Analyses, Curves, Judges, ListsSegments, Measures};
-ghost use Rattle.spanprof_c.specs.Told.{RunsGreedily};
+ghost use Rattle.spanprof_c.specs.Told.{RunsGreedily, StandAtHead};
 
 use crate::filling::{put_costs, put_path, put_run, put_slacks, put_tasks, some_other};
 use crate::graphs::table_of_text;
@@ -49,6 +49,7 @@ pub(crate) fn tell_analysis(
 ) -> Result<(), Refusal>
     ensures done { OnOk result (Analyses told.new starts.new slacks.new path.new graph.now.costs
         (Precedes graph.now)) }
+    ensures path { OnOk result (StandAtHead told.new.path_length path.old path.new) }
     ensures refused { IfErr result (RefusesGraph 1
         (length starts.old ∷ length slacks.old ∷ length path.old ∷ []) (length graph.now.costs)) }
 {
@@ -77,8 +78,9 @@ fn put_analysis(
     requires starts { length starts.old ≡ length graph.now.costs }
     requires slacks { length slacks.old ≡ length graph.now.costs }
     requires path { length path.old ≡ length graph.now.costs }
-    ensures { Analyses told.new starts.new slacks.new path.new graph.now.costs
+    ensures told { Analyses told.new starts.new slacks.new path.new graph.now.costs
         (Precedes graph.now) }
+    ensures path { StandAtHead told.new.path_length path.old path.new }
 {
     dispatch_core::laws::is_graph(graph);
     starts.copy_from_slice(found.starts());

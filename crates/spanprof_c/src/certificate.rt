@@ -3,6 +3,7 @@ ghost use Rattle.std.specs.Prelude.{◌≡◌, ◌≤◌, IfErr, IfOk, MatchResu
 ghost use Rattle.std.specs.Option.{option_copied};
 ghost use Rattle.spanprof_c.specs.Documents.{AcceptsRest, RefusesRest, checked_told};
 ghost use Rattle.spanprof_c.specs.Documents.{claim_number, claim_place};
+ghost use Rattle.spanprof_c.specs.Refusals.{nowhere};
 
 use crate::refusal::kind_number;
 use crate::told::{Certified, Place, put_place};
@@ -31,10 +32,11 @@ pub(crate) fn tell_verdict(
     told: &mut Certified,
     place: &mut Place,
 ) -> u32
-    ensures { MatchResult verdict
+    ensures told { MatchResult verdict
         (λ checked. (result ≡ 0) × (checked_told told.new ≡ checked))
         (λ fault. (1 ≤ result) × (result ≡ claim_number fault)
         × (place.new ≡ claim_place fault)) }
+    ensures nowhere { result ≡ 0 → place.new ≡ nowhere }
 {
     match verdict {
         Ok(checked) => {

@@ -2,7 +2,7 @@
 ghost use Rattle.std.specs.Prelude.{ℕ, ◌≡◌, ◌≢◌, ◌≤◌, All, Contains, length, map, true, false, take};
 ghost use Rattle.task_segments.specs.Table.{costs_of};
 ghost use Rattle.task_segments.specs.declared.table.Segment.{Segment};
-ghost use Rattle.spanprof_c.specs.Told.{thread_number};
+ghost use Rattle.spanprof_c.specs.Told.{StandAtHead, thread_number};
 
 use greedy_sim::greedy::GreedyRun;
 use span_analysis::analysis::Analysis;
@@ -58,10 +58,11 @@ pub(crate) fn put_slacks(found: &Analysis, slacks: &mut [u64])
     }
 }
 
-/// Puts a path at the head of a list.
+/// Puts a path at the head of a list, and leaves what stands behind it.
 pub(crate) fn put_path(chain: &[u32], path: &mut [u32])
     requires { length chain.now ≤ length path.old }
-    ensures { take (length chain.now) path.new ≡ chain.now }
+    ensures head { take (length chain.now) path.new ≡ chain.now }
+    ensures there { StandAtHead (length chain.now) path.old path.new }
 {
     path[..chain.len()].copy_from_slice(chain);
 }

@@ -18,6 +18,7 @@ use task_segments::table::LargeTable;
 const PIECE: usize = 65_536;
 
 /// The table of a text of any size.
+#[tactic(auto, using(crate::proofs::Taking::table_there))]
 pub(crate) fn large_table(alloc: Global, text: &[u8]) -> Result<LargeTable, LargeFault>
     ensures found { IfOk result (λ table.
         OfText (source true text.now) (λ other. other ≡ table)) }

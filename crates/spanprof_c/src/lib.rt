@@ -25,10 +25,10 @@ mod told;
 ghost use Rattle.std.specs.Prelude.{◌≡◌, ◌≢◌, [], ◌∷◌, length};
 ghost use Rattle.spanprof_c.specs.Documents.{Certifies, TellsNoCertificate};
 ghost use Rattle.spanprof_c.specs.Programs.{OfText, OnCosts, source};
-ghost use Rattle.spanprof_c.specs.Refusals.{asked, RefusesBounds, TellsWhy};
+ghost use Rattle.spanprof_c.specs.Refusals.{asked, nowhere, RefusesBounds, TellsWhy};
 ghost use Rattle.spanprof_c.specs.Runs.{Accounts, OfGraph, TellsNoAccount, timed_run};
 ghost use Rattle.spanprof_c.specs.Told.{Analyses, AreBounds, Curves, Judges, ListsSegments};
-ghost use Rattle.spanprof_c.specs.Told.{Measures, RunsGreedily};
+ghost use Rattle.spanprof_c.specs.Told.{Measures, RunsGreedily, StandAtHead};
 
 use account::{tell_account, tell_times, times_of};
 use answers::{judge, list_segments, measure, tell_analysis, tell_curve, tell_run};
@@ -56,6 +56,7 @@ pub extern "C" fn spanprof_measure(
     place: &mut Place,
 ) -> u32
     ensures done { result ≡ 0 → OnCosts (source any_size text.now) costs.now (Measures told.new) }
+    ensures nowhere { result ≡ 0 → place.new ≡ nowhere }
     ensures refused { result ≢ 0 → TellsWhy (asked (source any_size text.now) costs.now 1 []) result place.new }
 {
     match graph_under(alloc, text, any_size, costs) {
@@ -75,6 +76,7 @@ pub extern "C" fn spanprof_segments(
     place: &mut Place,
 ) -> u32
     ensures done { result ≡ 0 → OfText (source any_size text.now) (ListsSegments tasks.new costs.new) }
+    ensures nowhere { result ≡ 0 → place.new ≡ nowhere }
     ensures refused { result ≢ 0 → TellsWhy
         (asked (source any_size text.now) [] 1 (length tasks.old ∷ length costs.old ∷ [])) result place.new }
 {
@@ -97,6 +99,8 @@ pub extern "C" fn spanprof_analyse(
 ) -> u32
     ensures done { result ≡ 0
         → OnCosts (source any_size text.now) costs.now (Analyses told.new starts.new slacks.new path.new) }
+    ensures path { result ≡ 0 → StandAtHead told.new.path_length path.old path.new }
+    ensures nowhere { result ≡ 0 → place.new ≡ nowhere }
     ensures refused { result ≢ 0 → TellsWhy (asked (source any_size text.now) costs.now 1
         (length starts.old ∷ length slacks.old ∷ length path.old ∷ [])) result place.new }
 {
@@ -125,6 +129,7 @@ pub extern "C" fn spanprof_greedy(
 ) -> u32
     ensures done { result ≡ 0
         → OnCosts (source any_size text.now) costs.now (RunsGreedily count starts.new threads.new end.new) }
+    ensures nowhere { result ≡ 0 → place.new ≡ nowhere }
     ensures refused { result ≢ 0 → TellsWhy (asked (source any_size text.now) costs.now count
         (length starts.old ∷ length threads.old ∷ [])) result place.new }
 {
@@ -145,6 +150,7 @@ pub extern "C" fn spanprof_curve(
     place: &mut Place,
 ) -> u32
     ensures done { result ≡ 0 → OnCosts (source any_size text.now) costs.now (Curves (length ends.old) ends.new) }
+    ensures nowhere { result ≡ 0 → place.new ≡ nowhere }
     ensures refused { result ≢ 0
         → TellsWhy (asked (source any_size text.now) costs.now (length ends.old) []) result place.new }
 {
@@ -167,6 +173,7 @@ pub extern "C" fn spanprof_is_legal(
     place: &mut Place,
 ) -> u32
     ensures done { result ≡ 0 → OnCosts (source any_size text.now) costs.now (Judges starts.now legal.new) }
+    ensures nowhere { result ≡ 0 → place.new ≡ nowhere }
     ensures refused { result ≢ 0 → TellsWhy (asked (source any_size text.now) costs.now 1 []) result place.new }
 {
     match graph_under(alloc, text, any_size, costs) {
@@ -198,6 +205,7 @@ pub extern "C" fn spanprof_account(
 ) -> u32
     ensures done { result ≡ 0 → OfText (source any_size text.now) (OfGraph (Accounts count first
         last (timed_run threads.now begins.now ends.now) readies.new told.new)) }
+    ensures nowhere { result ≡ 0 → place.new ≡ nowhere }
     ensures refused { result ≢ 0 → TellsNoAccount
         (asked (source any_size text.now) [] count (length readies.old ∷ [])) first last
         (timed_run threads.now begins.now ends.now) result place.new }
@@ -234,6 +242,7 @@ pub extern "C" fn spanprof_check(
     place: &mut Place,
 ) -> u32
     ensures accepted { result ≡ 0 → Certifies any_size document.now told.new }
+    ensures nowhere { result ≡ 0 → place.new ≡ nowhere }
     ensures refused { result ≢ 0
         → TellsNoCertificate any_size document.now result place.new }
 {

@@ -1,6 +1,6 @@
 //! Why a call is not answered, and the number that says so.
 ghost use Rattle.std.specs.Prelude.{◌≡◌, ◌≤◌, MatchResult};
-ghost use Rattle.spanprof_c.specs.Refusals.{kind_number, number_of, place_of};
+ghost use Rattle.spanprof_c.specs.Refusals.{kind_number, nowhere, number_of, place_of};
 ghost use Rattle.spanprof_c.specs.Steps.{refusal_of_text};
 
 use crate::told::{Place, put_place};
@@ -48,9 +48,10 @@ pub(crate) fn text_refusal(fault: LargeFault) -> Refusal
 /// The number that a call answers: 0 where the answer is there. The place is the line of a text's
 /// fault, and else nothing.
 pub(crate) fn tell(outcome: Result<(), Refusal>, place: &mut Place) -> u32
-    ensures { MatchResult outcome
+    ensures told { MatchResult outcome
         (λ _. result ≡ 0)
         (λ why. (1 ≤ result) × (result ≡ number_of why) × (place.new ≡ place_of why)) }
+    ensures nowhere { result ≡ 0 → place.new ≡ nowhere }
 {
     match outcome {
         Ok(()) => {

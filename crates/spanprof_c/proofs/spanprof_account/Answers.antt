@@ -11,7 +11,7 @@ pub returns-in-Err-clause-refused : goal.returns-in-Err-clause-refused
 returns-in-Err-clause-refused c = λ some.
     let lengths : List ℕ = length c.args.readies.now ∷ [] in
     inl (why_so (asked (source c.args.any_size c.args.text.now) [] c.args.count lengths) c.in-Err.why
-    c.tell.result c.tell.new.place c.tell.ensures (c.in-Err.ensures.refused c.args.count lengths))
+    c.tell.result c.tell.new.place c.tell.ensures.told (c.in-Err.ensures.refused c.args.count lengths))
 
 pub returns-then-some_other-clause-refused : goal.returns-then-some_other-clause-refused
 returns-then-some_other-clause-refused c = λ some.
@@ -20,7 +20,7 @@ returns-then-some_other-clause-refused c = λ some.
     let wrong : IsWrongLength lengths (length graph.costs) = search rules in
     inl (why_so (asked (source c.args.any_size c.args.text.now) [] c.args.count lengths)
     refusal.WrongLength c.tell-then-some_other.result c.tell-then-some_other.new.place
-    c.tell-then-some_other.ensures
+    c.tell-then-some_other.ensures.told
     (graph_refused (source c.args.any_size c.args.text.now) [] lengths c.args.count graph
     refusal.WrongLength c.in-Ok.ensures.found wrong))
 
@@ -35,11 +35,11 @@ returns-in-Ok-times_of-clause-refused c = λ some.
     inr (times_refused (asked (source c.args.any_size c.args.text.now) [] c.args.count lengths)
     c.args.first c.args.last run c.in-Ok-times_of.times c.in-Ok.graph c.tell_account-outcome.result
     c.tell_times.result c.tell_times.new.place c.in-Ok.ensures.found c.in-Ok-times_of.ensures
-    c.tell_times.ensures c.tell_account-outcome.ensures.refused some)
+    c.tell_times.ensures.told c.tell_account-outcome.ensures.refused some)
 
 pub returns-clause-refused : goal.returns-clause-refused
 returns-clause-refused c = λ some.
     let lengths : List ℕ = length c.args.readies.now ∷ [] in
     inl (why_so (asked (source c.args.any_size c.args.text.now) [] c.args.count lengths)
     refusal.OutOfMemory c.tell-in-Err-times_of.result c.tell-in-Err-times_of.new.place
-    c.tell-in-Err-times_of.ensures tt)
+    c.tell-in-Err-times_of.ensures.told tt)

@@ -11,17 +11,17 @@ returns-in-Ok-clause-done c =
     let graph = c.in-Ok.graph in
     done_so (RunsGreedily c.args.count c.tell_run.new.starts c.tell_run.new.threads c.tell_run.new.end) (source c.args.any_size c.args.text.now) c.args.costs.now graph c.tell_run.result c.tell.result
     c.tell.new.place (λ table sound of. run_there table graph sound of c.args.count c.tell_run.new.starts c.tell_run.new.threads c.tell_run.new.end graph.costs)
-    c.in-Ok.ensures.found c.tell.ensures c.tell_run.ensures.done
+    c.in-Ok.ensures.found c.tell.ensures.told c.tell_run.ensures.done
 
 pub returns-in-Ok-clause-refused : goal.returns-in-Ok-clause-refused
 returns-in-Ok-clause-refused c =
     let lengths : List ℕ = length c.args.starts.now ∷ length c.args.threads.now ∷ [] in
     refused_so (source c.args.any_size c.args.text.now) c.args.costs.now lengths c.args.count c.in-Ok.graph c.tell_run.result
-    c.tell.result c.tell.new.place c.in-Ok.ensures.found c.tell.ensures c.tell_run.ensures.refused
+    c.tell.result c.tell.new.place c.in-Ok.ensures.found c.tell.ensures.told c.tell_run.ensures.refused
 
 pub returns-in-Err-clause-refused : goal.returns-in-Err-clause-refused
 returns-in-Err-clause-refused c = λ some.
     let lengths : List ℕ = length c.args.starts.now ∷ length c.args.threads.now ∷ [] in
     why_so (asked (source c.args.any_size c.args.text.now) c.args.costs.now c.args.count lengths) c.in-Err.why
-    c.tell-in-Err.result c.tell-in-Err.new.place c.tell-in-Err.ensures
+    c.tell-in-Err.result c.tell-in-Err.new.place c.tell-in-Err.ensures.told
     (c.in-Err.ensures.refused c.args.count lengths)

@@ -16,4 +16,4 @@ returns-in-Ok-clause-done c = λ none.
 pub returns-in-Err-clause-refused : goal.returns-in-Err-clause-refused
 returns-in-Err-clause-refused c = λ some.
     why_so (asked (source c.args.any_size c.args.text.now) c.args.costs.now 1 []) c.in-Err.why c.tell-in-Err.result
-    c.tell-in-Err.new.place c.tell-in-Err.ensures (c.in-Err.ensures.refused 1 [])
+    c.tell-in-Err.new.place c.tell-in-Err.ensures.told (c.in-Err.ensures.refused 1 [])

@@ -11,17 +11,17 @@ returns-in-Ok-clause-done c =
     let graph = c.in-Ok.graph in
     done_so (Measures c.measure.new.told) (source c.args.any_size c.args.text.now) c.args.costs.now graph c.measure.result c.tell.result
     c.tell.new.place (λ table sound of. measures_there table graph sound of c.measure.new.told graph.costs)
-    c.in-Ok.ensures.found c.tell.ensures c.measure.ensures.done
+    c.in-Ok.ensures.found c.tell.ensures.told c.measure.ensures.done
 
 pub returns-in-Ok-clause-refused : goal.returns-in-Ok-clause-refused
 returns-in-Ok-clause-refused c =
     let lengths : List ℕ = [] in
     refused_so (source c.args.any_size c.args.text.now) c.args.costs.now lengths 1 c.in-Ok.graph c.measure.result
-    c.tell.result c.tell.new.place c.in-Ok.ensures.found c.tell.ensures c.measure.ensures.refused
+    c.tell.result c.tell.new.place c.in-Ok.ensures.found c.tell.ensures.told c.measure.ensures.refused
 
 pub returns-in-Err-clause-refused : goal.returns-in-Err-clause-refused
 returns-in-Err-clause-refused c = λ some.
     let lengths : List ℕ = [] in
     why_so (asked (source c.args.any_size c.args.text.now) c.args.costs.now 1 lengths) c.in-Err.why
-    c.tell-in-Err.result c.tell-in-Err.new.place c.tell-in-Err.ensures
+    c.tell-in-Err.result c.tell-in-Err.new.place c.tell-in-Err.ensures.told
     (c.in-Err.ensures.refused 1 lengths)

@@ -9,11 +9,11 @@ pub returns-clause-done : goal.returns-clause-done
 returns-clause-done c =
     done (OfText (source c.args.any_size c.args.text.now)
     (ListsSegments c.list_segments.new.tasks c.list_segments.new.costs)) c.list_segments.result
-    c.tell.result c.tell.new.place c.tell.ensures c.list_segments.ensures.done
+    c.tell.result c.tell.new.place c.tell.ensures.told c.list_segments.ensures.done
 
 pub returns-clause-refused : goal.returns-clause-refused
 returns-clause-refused c =
     let lengths : List ℕ = length c.args.tasks.now ∷ length c.args.costs.now ∷ [] in
     refused_told (asked (source c.args.any_size c.args.text.now) [] 1 lengths)
-    c.list_segments.result c.tell.result c.tell.new.place c.tell.ensures
+    c.list_segments.result c.tell.result c.tell.new.place c.tell.ensures.told
     c.list_segments.ensures.refused
