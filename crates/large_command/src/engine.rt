@@ -6,14 +6,14 @@ ghost use Rattle.counted_io.specs.Input.{ConsumesAtMost};
 ghost use Rattle.command_words.specs.LargeWords.{large_request_of};
 ghost use Rattle.command_words.specs.declared.large.LargeRequest.TheVariants.{OfDocument};
 ghost use Rattle.spanprof_command.specs.Command.{EndsWith, HadFaults};
-ghost use Rattle.spanprof_command.specs.Report.{input_too_long, out_of_memory, read_fault};
+ghost use Rattle.spanprof_command.specs.Finished.{SpendsRetries};
+ghost use Rattle.spanprof_command.specs.Report.{input_too_long};
 ghost use Rattle.spanprof_command.specs.declared.engine.TheConstants.{MOST_RETRIES};
 ghost use Rattle.large_command.specs.LargeCommand.{AnswersText, IsReport, is_in_range};
 ghost use Rattle.large_command.specs.LargeReports.{Answers};
 ghost use Rattle.large_command.specs.TextInput.{IsOfText, KeepsFor};
 ghost use Rattle.large_text.specs.Streamed.{CanTakeBytes, HasTaken};
 ghost use Rattle.large_command.specs.LargeCommand.{is_table_in_range, is_thread_count, wants_text};
-ghost use Rattle.large_command.specs.declared.engine.NoReport.TheVariants.{OutOfMemory};
 ghost use Rattle.large_text.specs.declared.limits.TheConstants.{LARGEST_TEXT};
 
 use crate::document_input::read_document;
@@ -29,7 +29,7 @@ use command_words::request::WordsFault;
 use counted_io::{Counted, InputFault};
 use greedy_sim::greedy::MOST_THREADS;
 use large_text::TextMeter;
-use spanprof_command::{MOST_RETRIES, Report, Status, send};
+use spanprof_command::{MOST_RETRIES, NoReport, Report, Status, finish};
 use std::alloc::{AllocError, AllocGlobal, Global};
 use std::io::{Read, Write};
 use std::thread::Threads;
@@ -79,32 +79,8 @@ pub fn command<H: AllocGlobal + Threads + Sync, R: Read, W: Write>(
     ensures flushes { flushes_of writer.new ≤ flushes_of writer.old + 1 }
 {
     let mut retries = MOST_RETRIES;
-    match prepare(rt, key, words, reader, &mut retries) {
-        Ok(report) => send(writer, report.text(), report.status(), &mut retries),
-        Err(NoReport::OutOfMemory) => {
-            let line = b"error: out of memory\n";
-            send(writer, line, Status::Fault, &mut retries)
-        }
-        Err(NoReport::ReadFault) => {
-            let line = b"error: read fault\n";
-            send(writer, line, Status::Fault, &mut retries)
-        }
-    }
-}
-
-/// Why there is no report.
-#[derive(Clone, Copy, Debug, PartialEq, Eq)]
-enum NoReport {
-    OutOfMemory,
-    ReadFault,
-}
-
-impl From<AllocError> for NoReport {
-    ghost from_gives = { λ _ fault. fault ≡ OutOfMemory };
-
-    fn from(_error: AllocError) -> NoReport {
-        NoReport::OutOfMemory
-    }
+    let made = prepare(rt, key, words, reader, &mut retries);
+    finish(writer, made, retries)
 }
 
 /// Makes the report of the words and the text.
@@ -123,11 +99,8 @@ fn prepare<H: AllocGlobal + Threads + Sync, R: Read>(
 
     ensures reads_so_much { ConsumesAtMost (LARGEST_TEXT + 1) (R.remaining (inner_of reader.old))
         (R.remaining (inner_of reader.new)) }
-    ensures retried { retries.new ≤ retries.old }
-    ensures paid { result ≢ Err NoReport.ReadFault
-        → faults_of reader.new + retries.new ≡ faults_of reader.old + retries.old }
-    ensures failed { result ≡ Err NoReport.ReadFault
-        → faults_of reader.new + retries.new ≡ faults_of reader.old + retries.old + 1 }
+    ensures retries { SpendsRetries NoReport.ReadFault result (faults_of reader.old)
+        (faults_of reader.new) retries.old retries.new }
 {
     let alloc = rt.alloc();
     match read_large_words(alloc, words) {
@@ -188,11 +161,8 @@ fn answer_text<H: AllocGlobal + Threads + Sync, R: Read>(
 
     ensures reads_so_much { ConsumesAtMost (LARGEST_TEXT + 1) (R.remaining (inner_of reader.old))
         (R.remaining (inner_of reader.new)) }
-    ensures retried { retries.new ≤ retries.old }
-    ensures paid { result ≢ Err NoReport.ReadFault
-        → faults_of reader.new + retries.new ≡ faults_of reader.old + retries.old }
-    ensures failed { result ≡ Err NoReport.ReadFault
-        → faults_of reader.new + retries.new ≡ faults_of reader.old + retries.old + 1 }
+    ensures retries { SpendsRetries NoReport.ReadFault result (faults_of reader.old)
+        (faults_of reader.new) retries.old retries.new }
 {
     let alloc = rt.alloc();
     match asked {
@@ -257,11 +227,8 @@ fn answer_whole<R: Read>(
 
     ensures reads_so_much { ConsumesAtMost (LARGEST_TEXT + 1) (R.remaining (inner_of reader.old))
         (R.remaining (inner_of reader.new)) }
-    ensures retried { retries.new ≤ retries.old }
-    ensures paid { result ≢ Err NoReport.ReadFault
-        → faults_of reader.new + retries.new ≡ faults_of reader.old + retries.old }
-    ensures failed { result ≡ Err NoReport.ReadFault
-        → faults_of reader.new + retries.new ≡ faults_of reader.old + retries.old + 1 }
+    ensures retries { SpendsRetries NoReport.ReadFault result (faults_of reader.old)
+        (faults_of reader.new) retries.old retries.new }
 {
     match read_document(alloc, reader, retries) {
         Ok(document) => Ok(answer_document(alloc, key, asked, document.as_slice())?),

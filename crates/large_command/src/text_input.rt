@@ -4,6 +4,7 @@ ghost use Rattle.counted_io.specs.Counted.{inner_of, faults_of};
 ghost use Rattle.counted_io.specs.Input.{ConsumesAtMost};
 ghost use Rattle.large_text.specs.declared.limits.TheConstants.{LARGEST_TEXT};
 ghost use Rattle.large_text.specs.Streamed.{HasTaken, KeepsText};
+ghost use Rattle.spanprof_command.specs.Finished.{SpendsRetries};
 ghost use Rattle.large_command.specs.TextInput.{ReadsTooLong, TakesText};
 
 use crate::room::Room;
@@ -29,20 +30,14 @@ pub(crate) fn take_input<R: Read>(
         (R.remaining (inner_of reader.new)) text.new) }
     ensures text { OnOk result (KeepsText text.old → KeepsText text.new) }
 
-    // Unless the reader failed, each fault used up one of the retries.
-    ensures paid { result ≢ Err InputFault.ReadFailed
-        → faults_of reader.new + retries.new ≡ faults_of reader.old + retries.old }
-    // Where it failed, each fault but the last did.
-    ensures failed { result ≡ Err InputFault.ReadFailed
-        → faults_of reader.new + retries.new ≡ faults_of reader.old + retries.old + 1 }
-
     ensures too_long { result ≡ Err InputFault.TooLong
         → ReadsTooLong (R.remaining (inner_of reader.old)) (R.remaining (inner_of reader.new)) }
 
     // In every case.
     ensures limited { ConsumesAtMost (LARGEST_TEXT + 1) (R.remaining (inner_of reader.old))
         (R.remaining (inner_of reader.new)) }
-    ensures retried { retries.new ≤ retries.old }
+    ensures retries { SpendsRetries InputFault.ReadFailed result (faults_of reader.old)
+        (faults_of reader.new) retries.old retries.new }
 {
     let mut piece = [0u8; PIECE];
     let mut room = Room::new();
