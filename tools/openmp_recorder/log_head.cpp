@@ -37,7 +37,6 @@ log_form::Pair first{}, second{};
 double tick = 1;  // nanoseconds
 int64_t in_a_record = 0;
 uint64_t beginning_took = 0;  // and is not told yet
-__attribute__((tls_model("initial-exec"))) __thread uint32_t last_number = 0, numbers_end = 0;
 
 int64_t time_of_day() {
   timespec t;
@@ -109,6 +108,7 @@ const char *word_of(Stopped why) {
 alignas(cache_line) std::atomic<Stopped> log_stopped{Stopped::Not};
 std::atomic<bool> only_records{false};
 __thread ThreadLog *thread_log = nullptr;
+__thread uint32_t last_number = 0, numbers_end = 0;
 
 const Beginning &this_log() { return beginning; }
 double nanoseconds_of_tick() { return tick; }
@@ -143,8 +143,7 @@ ThreadLog *make_thread_log() {
   return thread_log;
 }
 
-uint32_t new_number() {
-  if (last_number != numbers_end) return ++last_number;
+uint32_t number_of_next_block() {
   uint64_t begin = next_number.fetch_add(numbers_at_once, std::memory_order_relaxed);
   if (begin + numbers_at_once > UINT32_MAX) {
     stop_log(Stopped::Numbers);

@@ -52,11 +52,15 @@ class ThreadLog {
              log_form::bytes_by_processor);
   }
   void put_by_wall(uint64_t at, Told told, uint32_t task, uint32_t other, uint64_t code, unsigned detail) {
-    if (__builtin_expect(next >= end, false) && !grow()) return;
+    if (__builtin_expect(!has_room(), false) && !grow()) return;
+    put_here(at, told, task, other, code, detail);
+  }
+  void put_here(uint64_t at, Told told, uint32_t task, uint32_t other, uint64_t code, unsigned detail) {
     if (told == Told::Schedule) return put_short(at, task, other, detail);
     put_long(at, task, other, log_form::make_word(code, static_cast<unsigned>(told), detail), log_form::bytes_by_wall);
   }
   bool is_far(uint64_t at) const { return at - looked >= far_ticks; }
+  bool has_room() const { return next < end; }
   void look_at_clocks(const Moment &now) {
     if (costs_by_processor || is_far(now.at)) compare_clocks(now);
   }
