@@ -98,7 +98,7 @@ class Cases(unittest.TestCase):
 
     def test_short_programs_run_very_often_where_logs_are_equal(self):
         (often,) = Plan((4,), 3, 7, 1, ("free", "unlogged")).conditions(case_of("hurry-1"))
-        self.assertEqual((often.runs, often.seed, often.setting), (48, 0, "unlogged"))
+        self.assertEqual((often.runs, often.seed, often.setting), (120, 0, "unlogged"))
         (other,) = Plan((4,), 3, 7, 1, ("free",)).conditions(case_of("hurry-1"))
         self.assertEqual((other.runs, other.seed, other.setting), (3, 7, "free"))
 
