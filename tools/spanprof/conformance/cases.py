@@ -20,10 +20,10 @@ from spanprof.conformance.toolchain import BuildFailed
 
 # Settings that programs take for the first of every two numbers of threads, by how their names begin.
 FAVOURED = {"priority": "priorities", "memory": "perturbed", "cancel": "cancellable", "many": "priorities",
-            "rounds": "interrupted", "pressure": "interrupted", "hurry": "unlogged"}
+            "rounds": "interrupted", "pressure": "interrupted", "hurry": "hurried"}
 # Programs so short that so many times as many runs take no longer than those of others: in the setting that they
 # favour, in which logs are equal, and without delays.
-HURRIED, TIMES_AS_MANY = "hurry", 40
+HURRIED, TIMES_AS_MANY = "hurry", 10
 
 
 @dataclass(frozen=True)
