@@ -20,10 +20,10 @@ from spanprof.conformance.toolchain import BuildFailed
 
 # Settings that programs take for the first of every two numbers of threads, by how their names begin.
 FAVOURED = {"priority": "priorities", "memory": "perturbed", "cancel": "cancellable", "many": "priorities",
-            "rounds": "interrupted", "pressure": "interrupted", "hurry": "unlogged"}
+            "rounds": "interrupted", "pressure": "interrupted", "hurry": "hurried"}
 # Programs so short that so many times as many runs take no longer than those of others: in the setting that they
 # favour, in which logs are equal, and without delays.
-HURRIED, TIMES_AS_MANY = "hurry", 16
+HURRIED, TIMES_AS_MANY = "hurry", 10
 
 
 @dataclass(frozen=True)
@@ -85,7 +85,7 @@ class Plan:
     def conditions_in(self, case, threads, setting):
         """Those of a case on a number of threads in a setting."""
         usual = Conditions(threads, self.runs, self.seed, case.unit, self.timeout, setting)
-        hurried = case.name.startswith(HURRIED) and setting == FAVOURED[HURRIED]
+        hurried = case.name.startswith(HURRIED) and setting == FAVOURED[HURRIED] and threads > 1
         return replace(usual, runs=TIMES_AS_MANY * self.runs, seed=0) if hurried else usual
 
 

@@ -41,15 +41,18 @@ class LocationRecipes(Recipes):
     def probes(self):
         """In each of several tasks a few locations that a small table keeps in one another's places: the last one is
         still written while the others have ended, for which it waits perhaps; later tasks look for each."""
-        var, undeferred = None if "loop" in self.without else "i", self.may("if(0)", .5)
+        var = None if "loop" in self.without else "i"
         places = [Index(var, place) for place in self.rng.sample(APART, self.rng.randint(2, 4))]
         fast = [task(items=[Item("out", "x", place)]) for place in places[:-1]]
-        slow = task(Work(LONG), items=[Item("out", "x", places[-1])])
-        ended = [task(items=[Item("in", "x", place)], undeferred=True) for place in places[:-1]]
-        order = places if self.rng.random() < .4 else places[::-1]
-        readers = [task(items=[Item("in", "x", place)], undeferred=undeferred) for place in order]
-        one = task(*fast, slow, *(ended if self.may("if(0)", .6) else ()), *readers)
-        return (Loop("i", 1, 33, (one,)) if var else one, Wait())
+        slow = task(Work(LONG // 2), items=[Item("out", "x", places[-1])])
+        ended = self.readers(places[:-1], True) if self.may("if(0)", .8) else []
+        order = places[::-1] if self.rng.random() < .8 else places
+        ways = (True, False) if "if(0)" not in self.without else (False,)
+        both = [task(*fast, slow, *ended, *self.readers(order, undeferred)) for undeferred in ways]
+        return (*([Loop("i", 1, 33, tuple(both))] if var else both), Wait())
+
+    def readers(self, places, undeferred):
+        return [task(items=[Item("in", "x", place)], undeferred=undeferred) for place in places]
 
     def stream(self):
         """A short task that ends while more and more tasks are created that wait for it, again and again."""

@@ -104,7 +104,7 @@ class Recipes:
         wait = task(items=[item("out")], undeferred=True)
         body = self.rng.choice(((*tasks, Wait()), (*tasks, Wait()), (Group(tasks),),
                                 (*tasks, wait if "if(0)" not in self.without else Wait())))
-        apart = self.rng.choice((1, 1, 2, 3))
+        apart = self.rng.choice((1, 2, 3, 3))
         many = self.loop(HURRIED // apart // segment_count(body), *body)
         return (many,) if apart == 1 or "loop" in self.without else (Loop("j", 1, apart, (task(many),)), Wait())
 

@@ -27,6 +27,8 @@ SETTINGS = {
     "perturbed": Setting("memory that is given back is overwritten", {"MALLOC_PERTURB_": "170"}),
     "stacks": Setting("threads have small stacks", {"OMP_STACKSIZE": "1M"}),
     "unlogged": Setting("threads share no counter of events; values and ends are judged", {"CONFORMANCE_LOG": "none"}),
+    "hurried": Setting("threads share no counter of events, and sleep at once wherever they wait",
+                       {"CONFORMANCE_LOG": "none", "GOMP_SPINCOUNT": "0", "KMP_BLOCKTIME": "0"}),
     "interrupted": Setting("threads are held up at random moments, also inside the runtime",
                            {"CONFORMANCE_INTERRUPTS": "1", "GOMP_SPINCOUNT": "0", "KMP_BLOCKTIME": "0"}),
     "orphaned": Setting("outside of any parallel region", {"CONFORMANCE_TEAM": "orphaned"}),

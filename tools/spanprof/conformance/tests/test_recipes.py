@@ -72,7 +72,8 @@ class Made(unittest.TestCase):
             return waited == [task.items[0].place for task in before] and later and \
                 later[0].items[0].place == slow.items[0].place
 
-        self.assertTrue([body for body in made("probes") if first_waits(body[0].body[0].body)])
+        found = [body for body in made("probes") if any(first_waits(one.body) for one in body[0].body)]
+        self.assertGreater(len(found), len(SEEDS) // 2)
 
     def test_few_locations_in_each_of_many_tasks(self):
         for body in made("probes"):
