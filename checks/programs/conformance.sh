@@ -5,8 +5,13 @@
 # threads, of which the broken one has to be refused. checks/programs/mutants.sh has the mutants in the sources. Build spanprof
 # first. It may be named, or told by SPANPROF, or stand on the PATH. LLVM's runtime is that of version 16, on which all
 # mutants were caught, or of another where that is missing; it gets tied tasks alone.
+#
+#     checks/programs/conformance.sh [PROGRAM]
+#     checks/programs/conformance.sh short    no mutants and no other settings: gcc's runtime alone, a minute
 set -euo pipefail
 cd "$(dirname "$0")/../.."
+short=
+[ "${1:-}" != short ] || { short=1; shift; }
 # shellcheck source=checks/llvm.sh
 . checks/llvm.sh
 program=${1:-${SPANPROF:-crates/spanprof/out/spanprof}}
@@ -72,9 +77,16 @@ grep -q '^run 0: refused: ' "$folder/judged.txt" || fail "the broken pool of thr
 test_parts || fail "the report of two parts is not that of the whole"
 test_slow_reader || fail "a program hangs while nobody reads"
 test_bisect || fail "a program that is fine fails for git bisect"
-../../checks/programs/conformance_resumed.py || fail "a campaign does not go on"
-test_runtime gcc tied,untied,mixed
-if [ -n "${llvm:-}" ]; then
+[ -n "$short" ] || ../../checks/programs/conformance_resumed.py || fail "a campaign does not go on"
+if [ -n "$short" ]; then
+    ../spanprof-conformance run --cc gcc --tasks tied --threads 2,4 --programs 3 --runs 1 --timeout 60 \
+        --keep "$folder/kept" --settings free > "$folder/run.txt" || fail "a run is not accepted"
+else
+    test_runtime gcc tied,untied,mixed
+fi
+if [ -n "$short" ]; then
+    echo "LLVM's runtime is not tried"
+elif [ -n "${llvm:-}" ]; then
     test_runtime "clang-$llvm" tied "${llvm_flags[*]}"
 else
     echo "skipped: $no_llvm"

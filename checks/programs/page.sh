@@ -7,10 +7,13 @@
 # checks/programs/predictions. Then the page of a million tasks, where spanprof_large is there. Build spanprof first.
 #
 #     checks/programs/page.sh [PROGRAM [FOLDER]]    instead of crates/spanprof/out/spanprof; where pages and pictures go
+#     checks/programs/page.sh kept                  only pages of texts that lie here: nothing is recorded or measured
 set -euo pipefail
 cd "$(dirname "$0")/../.."
 # shellcheck source=checks/llvm.sh
 . checks/llvm.sh
+only_kept=
+[ "${1:-}" != kept ] || { only_kept=1; shift; set -- "${SPANPROF:-crates/spanprof/out/spanprof}"; }
 program=$(realpath "${1:-crates/spanprof/out/spanprof}")
 [ -x "$program" ] || { echo "no program $program"; exit 1; }
 export SPANPROF=$program SPANPROF_MACHINE=$PWD/checks/programs/predictions/machine.json
@@ -115,8 +118,17 @@ unit_tests
 cp examples/*.tasks "$folder"
 for text in examples/openmp/recorded/*.tasks; do cp "$text" "$folder/kept_$(basename "$text")"; done
 checks/programs/page/large_text.py "$folder"
-large_page
-if find_llvm; then record_all; record_causes; record_scale; several_regions; else echo "skipped: no program is recorded: $no_llvm"; fi
+[ -n "$only_kept" ] || large_page
+if [ -n "$only_kept" ]; then
+    echo "no program is recorded"
+elif find_llvm; then
+    record_all
+    record_causes
+    record_scale
+    several_regions
+else
+    echo "skipped: no program is recorded: $no_llvm"
+fi
 
 names=()
 for text in "$folder"/*.tasks; do names+=("$(basename "$text" .tasks)"); done

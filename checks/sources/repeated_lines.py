@@ -16,7 +16,7 @@ from crate_picture import LEFT_OUT
 
 TOP = pathlib.Path(__file__).resolve().parents[2]
 WINDOW = 6
-BOUNDS = {".rt": 400, ".antt": 1400}  # of repeated lines; lower them when there are fewer
+BOUNDS = {".rt": 360, ".antt": 1360}  # of repeated lines; lower them when there are fewer
 SLACK = 100  # a bound further off than this has to be lowered
 IMPORT = re.compile(r"(pub |ghost )*use |(pub )?mod ")
 
