@@ -21,8 +21,11 @@ class Lock(str):
     """Words on a lock of OpenMP, or on several together. `waiting` is how long threads waited, in the text's unit."""
     def __new__(cls, name, times, inside, waiting):
         out = super().__new__(cls, "%s: %s, %d inside, %d waiting" % (name, counted(times, "time"), inside, waiting))
-        out.name, out.waiting = name, waiting
+        out.name, out.waiting, out.told = name, waiting, (name, times, inside, waiting)
         return out
+
+    def __getnewargs__(self):
+        return self.told    # of a copy
 
 
 @dataclass

@@ -1,6 +1,7 @@
 """Heads and segments of texts, and where spanprof is looked for."""
 import os
 import unittest
+from copy import deepcopy
 from unittest import mock
 
 from spanprof import client
@@ -81,6 +82,7 @@ class Heads(unittest.TestCase):
         self.assertEqual((head.covered, head.thread_time, head.covers_at_most), (931, 1000, True))
         self.assertEqual(head.locks, ["7 others together: 1 time, 2 inside, 3 waiting"])
         self.assertEqual((head.locks[0].name, head.locks[0].waiting), ("7 others together", 3))
+        self.assertEqual(deepcopy(head).locks[0].waiting, 3)
         head = read_head('# runs: {"runs": 7, "median": false}\n')
         self.assertEqual((head.runs, head.is_median), (7, False))
 
