@@ -14,5 +14,5 @@ pub mod Measuring
 pub mod Whole
 pub mod Moved
 pub mod Cutting
-pub mod Streaming
+pub mod PlainStreaming
 pub mod Tallying

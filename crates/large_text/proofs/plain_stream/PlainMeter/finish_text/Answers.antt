@@ -2,7 +2,7 @@ use Rattle.std.proofs.Common.{Bool, subst, sym}
 use Rattle.std.specs.Prelude.{IsTrue}
 use Rattle.program_text.specs.Tokens.{tokens_of}
 use Rattle.large_text.proofs.Tallying.{told_some, told_table, told_text}
-use Rattle.large_text.proofs.stream.TextMeter.finish_text.Goals as goal
+use Rattle.large_text.proofs.plain_stream.PlainMeter.finish_text.Goals as goal
 
 pub returns-clause-text : goal.returns-clause-text
 returns-clause-text c = λ text taken.

@@ -2,7 +2,7 @@ use Rattle.std.proofs.Common.{sym, subst, Bool}
 use Rattle.std.specs.Prelude.{IsTrue}
 use Rattle.program_text.specs.Tokens.{tokens_of}
 use Rattle.large_text.proofs.Tallying.{told_some}
-use Rattle.large_text.proofs.stream.TextMeter.finish_table.Goals as goal
+use Rattle.large_text.proofs.plain_stream.PlainMeter.finish_table.Goals as goal
 
 pub returns-clause-some : goal.returns-clause-some
 returns-clause-some c = λ kept text taken fits.
