@@ -123,21 +123,9 @@ pub record AcceptsText (asked : LargeRequest) (input : List ℕ) (output : Repor
   pub right : IsLargeRightWhole (tokens_of (text_of asked input))
   pub says : Tells asked input program output
 
--- a header that names another version than 1
-abbrev pub header_refusal : ℕ → Report
-header_refusal number = record {
-  text = line
-      (codes "error: line " ++ (decimal number ++ codes ": BadHeader, only version 1 is read"));
-  status = Refused;
-}
-
--- a text that is no program of version 1
-abbrev pub refusal_of : ReadKind → ReadFault → Report
-refusal_of BadHeader fault = header_refusal fault.line
-refusal_of _ fault = program_refusal fault
-
+-- a text that is no program
 abbrev pub text_refusal : ReadFault → Report
-text_refusal fault = refusal_of fault.kind fault
+text_refusal fault = program_refusal fault
 
 -- something is wrong with it, and the line of its first fault is written
 pub record RefusesText (text : List ℕ) (output : Report) : Type 0 where

@@ -9,6 +9,7 @@ pub mod Ended
 pub mod Taken
 pub mod Memory
 pub mod Fitting
+pub mod LoopMarking
 pub mod Printing
 pub mod Measuring
 pub mod Whole

@@ -1,17 +1,19 @@
 //! The marks of an expansion, entered one after another.
-ghost use Rattle.std.specs.Prelude.{◌≡◌, ◌≤◌, ◌+◌, ◌∷◌, [], nat_lt, reverse, map};
-ghost use Rattle.task_program.specs.Expansion.{item_comes, task_pieces};
-ghost use Rattle.task_program.specs.Expansion.Piece.{TurnBegins, TaskComes, TaskOpens, GroupComes};
-ghost use Rattle.task_program.specs.Expansion.Piece.{GroupOpens, BlockEnds, WorkIs, WaitIs};
-ghost use Rattle.task_program.specs.Walks.{IsSomewhere, IsInside, TakesSo};
+ghost use Rattle.std.specs.Prelude.{◌≡◌, ◌≤◌, ◌<◌, ◌+◌, ◌∷◌, [], reverse, map, OnOk, IfErr};
+ghost use Rattle.program_text.specs.declared.fault.ReadKind.TheVariants.{TooLong};
+ghost use Rattle.task_program.specs.Expanded.{empty_expansion};
+ghost use Rattle.task_program.specs.Expansion.{item_comes};
+ghost use Rattle.task_program.specs.Expansion.Piece.{TaskOpens};
+ghost use Rattle.task_program.specs.Walks.{IsSomewhere, TakesSo};
 ghost use Rattle.large_text.specs.LoopFaults.{large_fault_of};
 ghost use Rattle.large_text.specs.LoopMarked.{HasEntered};
-ghost use Rattle.large_text.specs.Tallied.{keeps_rows, keeps_text};
+ghost use Rattle.large_text.specs.Tallied.{IsBegun};
 ghost use Rattle.large_text.specs.declared.limits.TheConstants.{MOST_LARGE_LINES};
 
 use crate::fault::LargeFault;
 use crate::limits::{MOST_LARGE_ITEMS, MOST_LARGE_LINES, MOST_LARGE_TURNS};
 use crate::marks::TextMark;
+use crate::printer::Printer;
 use crate::reader::OpenBlock;
 use crate::tally::{Tally, take_mark};
 use loop_text::first_pass::read_loops;
@@ -19,11 +21,12 @@ use loop_text::loops::{LoopItem, LoopTask};
 use program_text::scanner::Scanner;
 use std::alloc::Global;
 use std::mem::replace;
+use task_program::AllocFault;
 use task_program::fault::{ReadFault, ReadKind};
 use task_program::limits::{MOST_ITEMS, MOST_WORK};
 use task_program::name_key::NameKey;
 use task_program::names::Names;
-use task_program::statement::{Item, Items};
+use task_program::statement::{DependKind, Item, Items};
 use task_program::subscripts::{index_fits, index_line, location};
 use task_program::walk::{TakesPieces, take_all};
 
@@ -50,7 +53,11 @@ fn fault(kind: ReadKind, line: u32) -> ReadFault
 }
 
 impl LoopMarks {
-    pub(crate) fn new(alloc: Global, key: NameKey, tally: Tally) -> LoopMarks {
+    /// The taker of an expansion of which nothing has come.
+    pub(crate) fn new(alloc: Global, key: NameKey, tally: Tally) -> LoopMarks
+        requires { IsBegun tally }
+        ensures { HasEntered result empty_expansion }
+    {
         LoopMarks {
             turns: 0,
             lines: 0,
@@ -62,13 +69,22 @@ impl LoopMarks {
         }
     }
 
-    pub(crate) fn into_tally(self) -> Tally {
+    pub(crate) fn into_tally(self) -> Tally
+        ensures { result ≡ self.tally }
+    {
         let LoopMarks { tally, .. } = self;
         tally
     }
 
     /// So many lines more.
-    fn add_lines(&mut self, more: u32, line: u32) -> Result<(), ReadFault> {
+    fn add_lines(&mut self, more: u32, line: u32) -> Result<(), ReadFault>
+        requires few { more ≤ 2 }
+        requires lines { self.old.lines ≤ MOST_LARGE_LINES }
+        ensures ok { OnOk result ((self.old.lines + more ≤ MOST_LARGE_LINES)
+            × (self.new ≡ record self.old { lines = self.old.lines + more })) }
+        ensures err { IfErr result (λ fault. (MOST_LARGE_LINES < self.old.lines + more)
+            × (fault ≡ record { kind = TooLong; line = line })) }
+    {
         if self.lines > MOST_LARGE_LINES - more {
             return Err(fault(ReadKind::TooLong, line));
         }
@@ -76,7 +92,11 @@ impl LoopMarks {
         Ok(())
     }
 
-    fn item(&mut self, alloc: Global, values: &[u32], item: &LoopItem) -> Result<(), ReadFault> {
+    fn item(&mut self, alloc: Global, values: &[u32], item: &LoopItem) -> Result<(), ReadFault>
+        requires { IsSomewhere (HasEntered self.old) }
+        ensures { TakesSo large_fault_of (item_comes (reverse values.now) item.now ∷ [])
+            (HasEntered self.old) (HasEntered self.new) result }
+    {
         if self.items.len() >= MOST_ITEMS || self.names.len() >= MOST_LARGE_ITEMS {
             return Err(fault(ReadKind::TooManyItems, item.line));
         }
@@ -84,9 +104,7 @@ impl LoopMarks {
             return Err(fault(ReadKind::BadNumber, index_line(item.index)));
         }
         let location = location(alloc, values, item)?;
-        if let Some(printer) = &mut self.tally.printer {
-            printer.put_item(item.kind, location.as_str())?;
-        }
+        print_item(&mut self.tally.printer, item.kind, location.as_str())?;
         let name = self.names.number_of(alloc, location.as_str())?;
         self.items.push(Item {
             kind: item.kind,
@@ -95,19 +113,38 @@ impl LoopMarks {
         Ok(())
     }
 
-    fn items(&mut self, alloc: Global, values: &[u32], items: &[LoopItem]) -> Result<(), ReadFault> {
+    fn items(&mut self, alloc: Global, values: &[u32], items: &[LoopItem]) -> Result<(), ReadFault>
+        requires { IsSomewhere (HasEntered self.old) }
+        ensures { TakesSo large_fault_of (map (item_comes (reverse values.now)) items.now)
+            (HasEntered self.old) (HasEntered self.new) result }
+    {
         'items: for item in items {
             self.item(alloc, values, item)?;
         }
         Ok(())
     }
 
-    fn task_brace(&mut self, alloc: Global, undeferred: bool, line: u32) -> Result<(), ReadFault> {
+    fn task_brace(&mut self, alloc: Global, undeferred: bool, line: u32) -> Result<(), ReadFault>
+        requires { IsSomewhere (HasEntered self.old) }
+        ensures { TakesSo large_fault_of (TaskOpens undeferred line ∷ []) (HasEntered self.old)
+            (HasEntered self.new) result }
+    {
         self.add_lines(2, line)?;
         let items = replace(&mut self.items, Items::new(alloc));
         self.blocks.push(OpenBlock::OpenTask(u64::from(line)))?;
         take_mark(&mut self.tally, TextMark::TaskBegins { undeferred, items })?;
         Ok(())
+    }
+}
+
+fn print_item(
+    printer: &mut Option<Printer>,
+    kind: DependKind,
+    name: &str,
+) -> Result<(), AllocFault> {
+    match printer {
+        Some(printer) => printer.put_item(kind, name),
+        None => Ok(()),
     }
 }
 

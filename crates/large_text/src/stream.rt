@@ -15,7 +15,7 @@ use task_program::AllocFault;
 use task_program::fault::ReadKind;
 use task_program::limits::MOST_TEXT_BYTES;
 use task_program::name_key::NameKey;
-use task_program::version::{Version, is_header_word};
+use task_program::read::takes_header_two;
 use task_segments::table::LargeTable;
 
 /// What is known of the version of a text.
@@ -149,15 +149,4 @@ impl TextMeter {
 // Whether the header of version 2 stands in these bytes.
 fn is_version_two(bytes: &[u8]) -> bool {
     takes_header_two(&mut Scanner::new(bytes))
-}
-
-// Goes past the header of version 2, or says that there is none.
-fn takes_header_two(scanner: &mut Scanner<'_>) -> bool {
-    let Some(word) = scanner.next_token() else {
-        return false;
-    };
-    let Some(number) = scanner.next_token() else {
-        return false;
-    };
-    is_header_word(word) && Version::Two.is_named_by(number)
 }

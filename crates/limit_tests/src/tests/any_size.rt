@@ -97,11 +97,8 @@ const ENDS: &[(&[&str], &str, (Status, &str))] = &[
     ),
     (
         &[],
-        "omptasks 2\n",
-        (
-            Status::Refused,
-            "error: line 1: BadHeader, only version 1 is read\n",
-        ),
+        "omptasks 3\n",
+        (Status::Refused, "error: line 1: BadHeader\n"),
     ),
     (
         &["--upto", "3"],
