@@ -2,29 +2,43 @@
 use Rattle.std.proofs.Common.{◌≡◌, ℕ, ◌+◌, ◌<◌, ◌≤◌, ◌^◌, Bool, false, true, List, [], ◌∷◌, ◌++◌, length}
 use Rattle.std.proofs.Common.{Option, Some, None, Result, Ok, Err, length-append, refl, sym, ap, subst}
 use Rattle.std.proofs.Common.{◌∙◌, arith}
+use Rattle.std.specs.Prelude.{nat_le, nat_lt}
+use Rattle.std.proofs.Common.{Vec, Global, map, reverse}
+use Rattle.std.proofs.lemmas.List.{map-append, reverse-append}
+use Rattle.program_text.specs.declared.statement.Item.{Item}
+use Rattle.program_text.specs.declared.limits.TheConstants.{MOST_ITEMS}
+use Rattle.program_text.specs.declared.fault.ReadKind.TheVariants.{WorkTooLarge}
+use Rattle.large_text.specs.declared.reader.OpenBlock.{OpenBlock}
+use Rattle.large_text.specs.declared.reader.OpenBlock.TheVariants.{OpenTask, OpenGroup}
+use Rattle.large_text.specs.LargeReading.{block_seen}
+use Rattle.std.proofs.lemmas.Bool.{le-leb, le-ltb, lt-leb, lt-ltb}
 use Rattle.std.proofs.lemmas.List.Sums.{sum_by-append}
+use Rattle.program_text.specs.declared.fault.ReadKind.TheVariants.{OutOfMemory, TooLong}
+use Rattle.program_text.specs.declared.fault.ReadKind.TheVariants.{TooManyTurns}
+use Rattle.task_program.specs.PieceFaults.{fault_if}
+use Rattle.task_program.specs.Walks.{LeadsOn, StopsAt}
 use Rattle.program_text.specs.declared.fault.ReadFault.{ReadFault}
 use Rattle.program_text.specs.declared.limits.TheConstants.{MOST_WORK}
 use Rattle.program_text.specs.Limits.{work_of, work_done}
 use Rattle.program_text.specs.Marks.{Mark}
 use Rattle.program_text.specs.Marks.Mark.{Begins, Works, Waits, GroupBegins}
 use Rattle.task_program.specs.Nested.IsNested.{Nothing, Work, Wait}
-use Rattle.task_program.specs.TreeSoFar.{Block, end_mark_of}
+use Rattle.task_program.specs.TreeSoFar.{Block, TreeSoFar, end_mark_of}
 use Rattle.task_program.specs.TreeSoFar.Block.{TaskBlock, GroupBlock}
 use Rattle.task_program.specs.Expansion.{Piece}
-use Rattle.task_program.specs.Expansion.Piece.{TurnBegins, GroupComes, GroupOpens, BlockEnds}
+use Rattle.task_program.specs.Expansion.Piece.{TurnBegins, TaskOpens, GroupComes, GroupOpens, BlockEnds}
 use Rattle.task_program.specs.Expansion.Piece.{WorkIs, WaitIs}
 use Rattle.task_program.specs.Expanded.{ExpansionState, after_piece}
 use Rattle.task_program.specs.SecondPass.{PieceTest, take_pieces_by}
-use Rattle.task_program.proofs.Expanding.{one_piece}
+use Rattle.task_program.proofs.Expanding.{one_piece, then_pieces}
 use Rattle.task_segments.specs.Moments.{last_moment}
 use Rattle.task_segments.proofs.LastMoment.{moment_after-append}
 use Rattle.large_text.specs.declared.limits.TheConstants.{MOST_LARGE_TURNS, MOST_LARGE_LINES}
 use Rattle.large_text.specs.declared.loop_marks.LoopMarks.{LoopMarks}
 use Rattle.large_text.specs.declared.tally.Tally.{Tally}
-use Rattle.large_text.specs.LoopMarked.{AreOpen, HasEntered}
+use Rattle.large_text.specs.LoopMarked.{AreOpen, HasEntered, blocks_seen}
 use Rattle.large_text.specs.LoopMarked.AreOpen.{InTask, InGroup}
-use Rattle.large_text.specs.LoopFaults.{large_fault_of}
+use Rattle.large_text.specs.LoopFaults.{large_fault_of, lines_of}
 use Rattle.large_text.specs.Tallied.{CanTally, Tallies}
 use Rattle.large_text.proofs.Fitting.{closed, closing, fits_next}
 use Rattle.large_text.proofs.Open.{open_ends, open_more}
@@ -40,6 +54,15 @@ pub piece_refused : (test : PieceTest) (state : ExpansionState) (piece : Piece) 
     → test state piece ≡ Some fault
     → take_pieces_by test state (piece ∷ []) ≡ Err fault
 piece_refused test state piece fault some = one_piece test state piece ∙ rw some refl
+
+-- ---- the blocks that are open
+
+-- one more is the innermost
+pub seen_push : (blocks : List OpenBlock) (block : OpenBlock)
+    → blocks_seen (blocks ++ block ∷ []) ≡ block_seen block ∷ blocks_seen blocks
+seen_push blocks block =
+    ap (λ (bs : List Block). reverse bs) (map-append block_seen blocks (block ∷ []))
+    ∙ reverse-append (map block_seen blocks) (block_seen block ∷ [])
 
 -- ---- a mark more
 
@@ -225,3 +248,245 @@ pub open_end : (taker : LoopMarks) (state : ExpansionState) (block : Block) (blo
 open_end taker state block blocks h is =
     open_ends (block ∷ blocks) state.tree.marks
     (subst (λ (bs : List Block). AreOpen bs state.tree.marks) is h.open_are)
+
+-- ---- the tests
+
+-- so many lines fit
+lines_fit : (lines more line : ℕ)
+    → lines + more ≤ MOST_LARGE_LINES
+    → fault_if (nat_lt MOST_LARGE_LINES (lines + more)) TooLong line ≡ None
+lines_fit lines more line room =
+    let fits : nat_lt MOST_LARGE_LINES (lines + more) ≡ false =
+    le-ltb MOST_LARGE_LINES (lines + more) room in
+    rw fits refl
+
+-- or they do not
+lines_pass : (lines more line : ℕ)
+    → MOST_LARGE_LINES < lines + more
+    → fault_if (nat_lt MOST_LARGE_LINES (lines + more)) TooLong line
+    ≡ Some (record { kind = TooLong; line = line })
+lines_pass lines more line past =
+    let passes : nat_lt MOST_LARGE_LINES (lines + more) ≡ true =
+    lt-ltb MOST_LARGE_LINES (lines + more) past in
+    rw passes refl
+
+-- ---- what each call does
+
+pub memory_stops : (test : PieceTest) (pieces : List Piece) (before : ExpansionState → Type 0)
+    → StopsAt test pieces before (record { kind = OutOfMemory; line = 0 })
+memory_stops test pieces before = λ state here. refl
+
+pub wait_leads : (taker : LoopMarks) (tally : Tally) (line : ℕ)
+    → taker.lines + 1 ≤ MOST_LARGE_LINES
+    → ((moment : List Mark) → Tallies taker.tally moment → Tallies tally (Waits ∷ moment))
+    → LeadsOn large_fault_of (WaitIs line ∷ []) (HasEntered taker)
+    (HasEntered (record taker { lines = taker.lines + 1; tally = tally }))
+wait_leads taker tally line room takes = λ state h.
+    let lines_are = h.lines in
+    let fits = lines_fit (lines_of state.tree) 1 line (omega (arith, lines_are, room)) in (
+      after_piece state (WaitIs line),
+      piece_taken large_fault_of state (WaitIs line) fits,
+      statement_entered taker state (after_piece state (WaitIs line)) Waits taker.work tally refl h
+          room (omega arith) h.little_work (open_wait taker state h) takes,
+    )
+
+pub wait_stops : (taker : LoopMarks) (line : ℕ)
+    → MOST_LARGE_LINES < taker.lines + 1
+    → StopsAt large_fault_of (WaitIs line ∷ []) (HasEntered taker)
+    (record { kind = TooLong; line = line })
+wait_stops taker line past = λ state h.
+    let lines_are = h.lines in
+    piece_refused large_fault_of state (WaitIs line) (record { kind = TooLong; line = line })
+    (lines_pass (lines_of state.tree) 1 line (omega (arith, lines_are, past)))
+
+pub turn_leads : (taker : LoopMarks) (line : ℕ)
+    → taker.turns < MOST_LARGE_TURNS
+    → LeadsOn large_fault_of (TurnBegins line ∷ []) (HasEntered taker)
+    (HasEntered (record taker { turns = taker.turns + 1 }))
+turn_leads taker line room = λ state h.
+    let turns_are = h.turns in
+    let few : nat_le MOST_LARGE_TURNS state.turns ≡ false =
+    lt-leb MOST_LARGE_TURNS state.turns (omega (arith, turns_are, room)) in (
+      after_piece state (TurnBegins line),
+      piece_taken large_fault_of state (TurnBegins line) (rw few refl),
+      turn_entered taker state line h (omega (arith, room)),
+    )
+
+pub turn_stops : (taker : LoopMarks) (line : ℕ)
+    → MOST_LARGE_TURNS ≤ taker.turns
+    → StopsAt large_fault_of (TurnBegins line ∷ []) (HasEntered taker)
+    (record { kind = TooManyTurns; line = line })
+turn_stops taker line past = λ state h.
+    let turns_are = h.turns in
+    let many : nat_le MOST_LARGE_TURNS state.turns ≡ true =
+    le-leb MOST_LARGE_TURNS state.turns (omega (arith, turns_are, past)) in
+    piece_refused large_fault_of state (TurnBegins line)
+    (record { kind = TooManyTurns; line = line }) (rw many refl)
+
+-- a `work`
+pub work_leads : (taker : LoopMarks) (tally : Tally) (cost line : ℕ)
+    → taker.lines + 1 ≤ MOST_LARGE_LINES
+    → taker.work + cost ≤ MOST_WORK
+    → ((moment : List Mark) → Tallies taker.tally moment → Tallies tally (Works cost ∷ moment))
+    → LeadsOn large_fault_of (WorkIs cost line ∷ []) (HasEntered taker)
+    (HasEntered (record taker {
+      lines = taker.lines + 1;
+      work = taker.work + cost;
+      tally = tally;
+    }))
+work_leads taker tally cost line room little takes = λ state h.
+    let lines_are = h.lines in
+    let work_is = h.work in
+    let light : nat_lt MOST_WORK (work_of state.tree.marks + cost) ≡ false =
+    le-ltb MOST_WORK (work_of state.tree.marks + cost) (omega (arith, work_is, little)) in
+    let fits = lines_fit (lines_of state.tree) 1 line (omega (arith, lines_are, room)) in (
+      after_piece state (WorkIs cost line),
+      piece_taken large_fault_of state (WorkIs cost line) (rw light fits),
+      statement_entered taker state (after_piece state (WorkIs cost line)) (Works cost)
+          (taker.work + cost) tally refl h room (omega arith) little (open_work taker state cost h)
+          takes,
+    )
+
+pub work_heavy : (taker : LoopMarks) (cost line : ℕ)
+    → MOST_WORK < taker.work + cost
+    → StopsAt large_fault_of (WorkIs cost line ∷ []) (HasEntered taker)
+    (record { kind = WorkTooLarge; line = line })
+work_heavy taker cost line past = λ state h.
+    let work_is = h.work in
+    let heavy : nat_lt MOST_WORK (work_of state.tree.marks + cost) ≡ true =
+    lt-ltb MOST_WORK (work_of state.tree.marks + cost) (omega (arith, work_is, past)) in
+    piece_refused large_fault_of state (WorkIs cost line)
+    (record { kind = WorkTooLarge; line = line }) (rw heavy refl)
+
+pub work_stops : (taker : LoopMarks) (cost line : ℕ)
+    → taker.work + cost ≤ MOST_WORK
+    → MOST_LARGE_LINES < taker.lines + 1
+    → StopsAt large_fault_of (WorkIs cost line ∷ []) (HasEntered taker)
+    (record { kind = TooLong; line = line })
+work_stops taker cost line little past = λ state h.
+    let lines_are = h.lines in
+    let work_is = h.work in
+    let light : nat_lt MOST_WORK (work_of state.tree.marks + cost) ≡ false =
+    le-ltb MOST_WORK (work_of state.tree.marks + cost) (omega (arith, work_is, little)) in
+    let passes = lines_pass (lines_of state.tree) 1 line (omega (arith, lines_are, past)) in
+    piece_refused large_fault_of state (WorkIs cost line)
+    (record { kind = TooLong; line = line }) (rw light passes)
+
+-- ---- a block that opens
+
+-- behind its `{`
+block_entered : (taker : LoopMarks) (blocks : Vec OpenBlock Global) (items : List Item)
+    (tally : Tally) (state next : ExpansionState) (block : OpenBlock) (mark : Mark)
+    → next.turns ≡ state.turns
+    → next.names ≡ state.names
+    → next.items ≡ items
+    → length items ≤ MOST_ITEMS
+    → next.tree ≡ record {
+      blocks = block_seen block ∷ state.tree.blocks;
+      marks = state.tree.marks ++ mark ∷ [];
+    }
+    → blocks.items ≡ taker.blocks.items ++ block ∷ []
+    → HasEntered taker state
+    → taker.lines + 2 ≤ MOST_LARGE_LINES
+    → work_of (mark ∷ []) ≡ 0
+    → AreOpen (block_seen block ∷ state.tree.blocks) (state.tree.marks ++ mark ∷ [])
+    → ((moment : List Mark) → Tallies taker.tally moment → Tallies tally (mark ∷ moment))
+    → HasEntered (record taker {
+      lines = taker.lines + 2;
+      blocks = blocks;
+      items = items;
+      tally = tally;
+    }) next
+block_entered taker blocks items tally state next block mark turns names is_items few tree pushed h
+    room no_work open_are takes =
+    let marks_are = ap (λ (t : TreeSoFar). t.marks) tree in
+    let blocks_are = ap (λ (t : TreeSoFar). t.blocks) tree in
+    let long = length-append state.tree.marks (mark ∷ []) in
+    let lines_are = h.lines in
+    let work_is = h.work in
+    let more = work_more state.tree.marks mark in
+    record {
+      turns = turns ∙ h.turns;
+      few_turns = h.few_turns;
+      lines = ap lines_of tree ∙ omega (arith, long, lines_are);
+      few_lines = room;
+      work = ap work_of marks_are ∙ omega (arith, more, work_is, no_work);
+      little_work = h.little_work;
+      names = names ∙ h.names;
+      few_names = h.few_names;
+      items = is_items;
+      few_items = few;
+      blocks = blocks_are
+          ∙ ap (λ (bs : List Block). block_seen block ∷ bs) h.blocks
+          ∙ sym (ap blocks_seen pushed ∙ seen_push taker.blocks.items block);
+      open_are = subst (λ (t : TreeSoFar). AreOpen t.blocks t.marks) (sym tree) open_are;
+      tallies = subst (λ (t : TreeSoFar). Tallies tally (last_moment t.marks)) (sym tree)
+          (tallied taker.tally tally state.tree.marks mark takes h.tallies);
+    }
+
+-- a group
+pub group_leads : (taker : LoopMarks) (blocks : Vec OpenBlock Global) (tally : Tally)
+    (line brace_line : ℕ)
+    → blocks.items ≡ taker.blocks.items ++ OpenGroup brace_line ∷ []
+    → taker.lines + 2 ≤ MOST_LARGE_LINES
+    → ((moment : List Mark) → Tallies taker.tally moment → Tallies tally (GroupBegins ∷ moment))
+    → LeadsOn large_fault_of (GroupComes line ∷ GroupOpens brace_line ∷ []) (HasEntered taker)
+    (HasEntered (record taker { lines = taker.lines + 2; blocks = blocks; tally = tally }))
+group_leads taker blocks tally line brace_line pushed room takes = λ state h.
+    let lines_are = h.lines in
+    let fits = lines_fit (lines_of state.tree) 2 brace_line (omega (arith, lines_are, room)) in (
+      after_piece state (GroupOpens brace_line),
+      then_pieces large_fault_of state state (GroupComes line) (GroupOpens brace_line ∷ []) refl
+          ∙ piece_taken large_fault_of state (GroupOpens brace_line) fits,
+      block_entered taker blocks taker.items tally state
+          (after_piece state (GroupOpens brace_line)) (OpenGroup brace_line) GroupBegins refl refl
+          h.items h.few_items refl pushed h room refl (open_group taker state brace_line h) takes,
+    )
+
+pub group_stops : (taker : LoopMarks) (line brace_line : ℕ)
+    → MOST_LARGE_LINES < taker.lines + 2
+    → StopsAt large_fault_of (GroupComes line ∷ GroupOpens brace_line ∷ []) (HasEntered taker)
+    (record { kind = TooLong; line = brace_line })
+group_stops taker line brace_line past = λ state h.
+    let lines_are = h.lines in
+    let passes = lines_pass (lines_of state.tree) 2 brace_line (omega (arith, lines_are, past)) in
+    then_pieces large_fault_of state state (GroupComes line) (GroupOpens brace_line ∷ []) refl
+    ∙ piece_refused large_fault_of state (GroupOpens brace_line)
+    (record { kind = TooLong; line = brace_line }) passes
+
+-- a task
+pub task_leads : (taker : LoopMarks) (blocks : Vec OpenBlock Global) (tally : Tally)
+    (undeferred : Bool) (line : ℕ)
+    → blocks.items ≡ taker.blocks.items ++ OpenTask line ∷ []
+    → taker.lines + 2 ≤ MOST_LARGE_LINES
+    → ((moment : List Mark) → Tallies taker.tally moment
+    → Tallies tally (Begins undeferred taker.items ∷ moment))
+    → LeadsOn large_fault_of (TaskOpens undeferred line ∷ []) (HasEntered taker)
+    (HasEntered (record taker {
+      lines = taker.lines + 2;
+      blocks = blocks;
+      items = [];
+      tally = tally;
+    }))
+task_leads taker blocks tally undeferred line pushed room takes = λ state h.
+    let lines_are = h.lines in
+    let fits = lines_fit (lines_of state.tree) 2 line (omega (arith, lines_are, room)) in (
+      after_piece state (TaskOpens undeferred line),
+      piece_taken large_fault_of state (TaskOpens undeferred line) fits,
+      block_entered taker blocks [] tally state (after_piece state (TaskOpens undeferred line))
+          (OpenTask line) (Begins undeferred state.items) refl refl refl (omega arith) refl pushed h
+          room refl (open_task taker state undeferred line h)
+          (λ moment g. subst
+          (λ (items : List Item). Tallies tally (Begins undeferred items ∷ moment)) (sym h.items)
+          (takes moment g)),
+    )
+
+pub task_stops : (taker : LoopMarks) (undeferred : Bool) (line : ℕ)
+    → MOST_LARGE_LINES < taker.lines + 2
+    → StopsAt large_fault_of (TaskOpens undeferred line ∷ []) (HasEntered taker)
+    (record { kind = TooLong; line = line })
+task_stops taker undeferred line past = λ state h.
+    let lines_are = h.lines in
+    piece_refused large_fault_of state (TaskOpens undeferred line)
+    (record { kind = TooLong; line = line })
+    (lines_pass (lines_of state.tree) 2 line (omega (arith, lines_are, past)))
