@@ -25,15 +25,15 @@ use Rattle.program_text.specs.Marks.Mark.{Begins, Works, Waits, GroupBegins}
 use Rattle.task_program.specs.Nested.IsNested.{Nothing, Work, Wait}
 use Rattle.task_program.specs.TreeSoFar.{Block, TreeSoFar, end_mark_of}
 use Rattle.task_program.specs.TreeSoFar.Block.{TaskBlock, GroupBlock}
-use Rattle.task_program.specs.Expansion.{Piece}
-use Rattle.task_program.specs.Expansion.Piece.{TurnBegins, TaskOpens, GroupComes, GroupOpens, BlockEnds}
+use Rattle.task_program.specs.Expansion.{Piece, Place}
+use Rattle.task_program.specs.Expansion.Piece.{TurnBegins, ItemComes, TaskOpens, GroupComes, GroupOpens, BlockEnds}
 use Rattle.task_program.specs.Expansion.Piece.{WorkIs, WaitIs}
 use Rattle.task_program.specs.Expanded.{ExpansionState, after_piece}
 use Rattle.task_program.specs.SecondPass.{PieceTest, take_pieces_by}
 use Rattle.task_program.proofs.Expanding.{one_piece, then_pieces}
 use Rattle.task_segments.specs.Moments.{last_moment}
 use Rattle.task_segments.proofs.LastMoment.{moment_after-append}
-use Rattle.large_text.specs.declared.limits.TheConstants.{MOST_LARGE_TURNS, MOST_LARGE_LINES}
+use Rattle.large_text.specs.declared.limits.TheConstants.{MOST_LARGE_TURNS, MOST_LARGE_LINES, MOST_LARGE_ITEMS}
 use Rattle.large_text.specs.declared.loop_marks.LoopMarks.{LoopMarks}
 use Rattle.large_text.specs.declared.tally.Tally.{Tally}
 use Rattle.large_text.specs.LoopMarked.{AreOpen, HasEntered, blocks_seen}
@@ -41,6 +41,10 @@ use Rattle.large_text.specs.LoopMarked.AreOpen.{InTask, InGroup}
 use Rattle.large_text.specs.LoopFaults.{large_fault_of, lines_of}
 use Rattle.large_text.specs.Tallied.{CanTally, Tallies}
 use Rattle.large_text.proofs.Fitting.{closed, closing, fits_next}
+use Rattle.large_text.specs.declared.printer.Printer.{Printer}
+use Rattle.task_program.specs.Names.{number_of_name, with_name}
+use Rattle.task_program.proofs.Keeping.{one_name_more}
+use Rattle.large_text.proofs.Printing.{still_tallies}
 use Rattle.large_text.proofs.Open.{open_ends, open_more}
 
 -- ---- one piece
@@ -490,3 +494,63 @@ task_stops taker undeferred line past = λ state h.
     piece_refused large_fault_of state (TaskOpens undeferred line)
     (record { kind = TooLong; line = line })
     (lines_pass (lines_of state.tree) 2 line (omega (arith, lines_are, past)))
+
+-- ---- a depend item
+
+pub item_leads : (taker : LoopMarks) (names : List (List ℕ)) (items : List Item)
+    (printer : Option Printer) (place : Place)
+    → names ≡ with_name taker.names place.location
+    → items ≡ taker.items
+    ++ record { kind = place.kind; name = number_of_name taker.names place.location } ∷ []
+    → length taker.items < MOST_ITEMS
+    → length taker.names < MOST_LARGE_ITEMS
+    → place.index_fits ≡ true
+    → LeadsOn large_fault_of (ItemComes place ∷ []) (HasEntered taker)
+    (HasEntered (record taker {
+      names = names;
+      items = items;
+      tally = record taker.tally { printer = printer };
+    }))
+item_leads taker names items printer place names_are items_are few few_names fits = λ state h.
+    let items_long = ap (λ (xs : List Item). length xs) h.items in
+    let names_long = ap (λ (xs : List (List ℕ)). length xs) h.names in
+    let room : nat_le MOST_ITEMS (length state.items) ≡ false =
+    lt-leb MOST_ITEMS (length state.items) (omega (arith, items_long, few)) in
+    let more : nat_le MOST_LARGE_ITEMS (length state.names) ≡ false =
+    lt-leb MOST_LARGE_ITEMS (length state.names) (omega (arith, names_long, few_names)) in
+    let item : Item = record {
+      kind = place.kind;
+      name = number_of_name taker.names place.location;
+    } in
+    let one = ap (λ (xs : List Item). length xs) items_are in
+    let long = length-append taker.items (item ∷ []) in
+    let name = ap (λ (xs : List (List ℕ)). length xs) names_are in (
+      after_piece state (ItemComes place),
+      piece_taken large_fault_of state (ItemComes place) (rw (room, more, fits) refl),
+      record {
+        turns = h.turns;
+        few_turns = h.few_turns;
+        lines = h.lines;
+        few_lines = h.few_lines;
+        work = h.work;
+        little_work = h.little_work;
+        names = ap (λ (xs : List (List ℕ)). with_name xs place.location) h.names ∙ sym names_are;
+        few_names = omega (arith, name, one_name_more taker.names place.location, few_names);
+        items = ap
+            (λ (xs : List Item). xs
+            ++ record { kind = place.kind; name = number_of_name state.names place.location } ∷ [])
+            h.items
+            ∙ ap
+            (λ (xs : List (List ℕ)). taker.items
+            ++ record { kind = place.kind; name = number_of_name xs place.location } ∷ [])
+            h.names
+            ∙ sym items_are;
+        few_items = omega (arith, one, long, few);
+        blocks = h.blocks;
+        open_are = h.open_are;
+        tallies = still_tallies taker.tally printer (last_moment state.tree.marks) h.tallies;
+      },
+    )
+
+pub length_of_none : {X : Type 0} (xs : List X) → xs ≡ [] → length xs ≡ 0
+length_of_none xs none = ap (λ ys. length ys) none

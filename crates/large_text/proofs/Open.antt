@@ -36,7 +36,7 @@ nested_more _ ys (Group body rest g r) h =
     (Group body (rest ++ ys) g (nested_more rest ys r h))
 
 -- the same blocks are open behind nested marks more
-open_more : (blocks : List Block) (marks more : List Mark)
+pub open_more : (blocks : List Block) (marks more : List Mark)
     → AreOpen blocks marks
     → IsNested more
     → AreOpen blocks (marks ++ more)
