@@ -23,7 +23,7 @@ use Rattle.program_text.specs.Limits.{work_of, work_done}
 use Rattle.program_text.specs.Marks.{Mark}
 use Rattle.program_text.specs.Marks.Mark.{Begins, Works, Waits, GroupBegins}
 use Rattle.task_program.specs.Nested.IsNested.{Nothing, Work, Wait}
-use Rattle.task_program.specs.TreeSoFar.{Block, TreeSoFar, end_mark_of}
+use Rattle.task_program.specs.TreeSoFar.{Block, TreeSoFar, after_end_of, end_mark_of}
 use Rattle.task_program.specs.TreeSoFar.Block.{TaskBlock, GroupBlock}
 use Rattle.task_program.specs.Expansion.{Piece, Place}
 use Rattle.task_program.specs.Expansion.Piece.{TurnBegins, ItemComes, TaskOpens, GroupComes, GroupOpens, BlockEnds}
@@ -554,3 +554,74 @@ item_leads taker names items printer place names_are items_are few few_names fit
 
 pub length_of_none : {X : Type 0} (xs : List X) → xs ≡ [] → length xs ≡ 0
 length_of_none xs none = ap (λ ys. length ys) none
+
+-- ---- the end of a block
+
+popped_blocks : (taker : LoopMarks) (blocks : List OpenBlock) (block : OpenBlock)
+    (state : ExpansionState)
+    → taker.blocks.items ≡ blocks ++ block ∷ []
+    → HasEntered taker state
+    → state.tree.blocks ≡ block_seen block ∷ blocks_seen blocks
+popped_blocks taker blocks block state popped h =
+    h.blocks ∙ ap blocks_seen popped ∙ seen_push blocks block
+
+no_end_work : (block : Block) → work_of (end_mark_of block ∷ []) ≡ 0
+no_end_work (TaskBlock line) = refl
+no_end_work (GroupBlock line) = refl
+
+pub can_end : (taker : LoopMarks) (blocks : List OpenBlock) (block : OpenBlock)
+    (state : ExpansionState)
+    → taker.blocks.items ≡ blocks ++ block ∷ []
+    → HasEntered taker state
+    → CanTally taker.tally (end_mark_of (block_seen block))
+can_end taker blocks block state popped h =
+    let mark : Mark = end_mark_of (block_seen block) in
+    let more = work_more state.tree.marks mark in
+    let none = no_end_work (block_seen block) in
+    let work_is = h.work in
+    let little = h.little_work in
+    can_tally taker.tally state.tree.marks (blocks_seen blocks) mark h.tallies
+    (open_end taker state (block_seen block) (blocks_seen blocks) h
+    (popped_blocks taker blocks block state popped h))
+    (omega (arith, more, none, work_is, little)) (few_marks taker state h)
+
+pub end_leads : (taker : LoopMarks) (blocks : Vec OpenBlock Global) (tally : Tally)
+    (block : OpenBlock)
+    → taker.blocks.items ≡ blocks.items ++ block ∷ []
+    → ((moment : List Mark) → Tallies taker.tally moment
+    → Tallies tally (end_mark_of (block_seen block) ∷ moment))
+    → LeadsOn large_fault_of (BlockEnds ∷ []) (HasEntered taker)
+    (HasEntered (record taker { blocks = blocks; tally = tally }))
+end_leads taker blocks tally block popped takes = λ state h.
+    let mark : Mark = end_mark_of (block_seen block) in
+    let inner : List Block = blocks_seen blocks.items in
+    let before = popped_blocks taker blocks.items block state popped h in
+    let tree : (after_piece state BlockEnds).tree
+    ≡ record { blocks = inner; marks = state.tree.marks ++ mark ∷ [] } =
+    ap (λ (bs : List Block). after_end_of bs state.tree.marks) before in
+    let long = length-append state.tree.marks (mark ∷ []) in
+    let fewer = ap (λ (bs : List Block). length bs) before in
+    let lines_are = h.lines in
+    let work_is = h.work in
+    let more = work_more state.tree.marks mark in
+    let none = no_end_work (block_seen block) in (
+      after_piece state BlockEnds,
+      piece_taken large_fault_of state BlockEnds refl,
+      record {
+        turns = h.turns;
+        few_turns = h.few_turns;
+        lines = ap lines_of tree ∙ omega (arith, long, fewer, lines_are);
+        few_lines = h.few_lines;
+        work = ap (λ (t : TreeSoFar). work_of t.marks) tree ∙ omega (arith, more, work_is, none);
+        little_work = h.little_work;
+        names = h.names;
+        few_names = h.few_names;
+        items = h.items;
+        few_items = h.few_items;
+        blocks = ap (λ (t : TreeSoFar). t.blocks) tree;
+        open_are = subst (λ (t : TreeSoFar). AreOpen t.blocks t.marks) (sym tree)
+            (open_end taker state (block_seen block) inner h before);
+        tallies = subst (λ (t : TreeSoFar). Tallies tally (last_moment t.marks)) (sym tree)
+            (tallied taker.tally tally state.tree.marks mark takes h.tallies);
+      },
+    )

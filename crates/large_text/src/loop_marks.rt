@@ -5,6 +5,8 @@ ghost use Rattle.task_program.specs.Expanded.{empty_expansion};
 ghost use Rattle.task_program.specs.Expansion.{item_comes};
 ghost use Rattle.task_program.specs.Expansion.Piece.{TaskOpens};
 ghost use Rattle.task_program.specs.Walks.{IsSomewhere, TakesSo};
+ghost use Rattle.task_program.specs.TreeSoFar.{end_mark_of};
+ghost use Rattle.large_text.specs.LargeReading.{block_seen, mark_seen};
 ghost use Rattle.large_text.specs.LoopFaults.{large_fault_of};
 ghost use Rattle.large_text.specs.LoopMarked.{HasEntered};
 ghost use Rattle.large_text.specs.Tallied.{IsBegun};
@@ -50,6 +52,16 @@ fn fault(kind: ReadKind, line: u32) -> ReadFault
     ensures { result ≡ record { kind = kind; line = line } }
 {
     ReadFault { kind, line }
+}
+
+/// The mark with which a block ends.
+fn end_of(block: OpenBlock) -> TextMark
+    ensures { mark_seen result ≡ end_mark_of (block_seen block) }
+{
+    match block {
+        OpenBlock::OpenTask(_) => TextMark::TaskEnds,
+        OpenBlock::OpenGroup(_) => TextMark::GroupCloses,
+    }
 }
 
 impl LoopMarks {
@@ -179,13 +191,13 @@ impl TakesPieces for LoopMarks {
     }
 
     fn close(&mut self, alloc: Global) -> Result<(), ReadFault> {
-        let mark = match self.blocks.pop() {
-            Some(OpenBlock::OpenTask(_)) => TextMark::TaskEnds,
-            Some(OpenBlock::OpenGroup(_)) => TextMark::GroupCloses,
-            None => return Ok(()),
-        };
-        take_mark(&mut self.tally, mark)?;
-        Ok(())
+        match self.blocks.pop() {
+            Some(block) => {
+                take_mark(&mut self.tally, end_of(block))?;
+                Ok(())
+            }
+            None => Ok(()),
+        }
     }
 
     fn work(&mut self, alloc: Global, cost: u64, line: u32) -> Result<(), ReadFault> {

@@ -1,4 +1,4 @@
-use Rattle.std.proofs.Common.{[], ◌∷◌, ◌++◌, ◌∙◌, ◌+◌, ◌≤◌, List, ap, arith, sym, subst}
+use Rattle.std.proofs.Common.{[], ◌∷◌, ◌++◌, ◌∙◌, ◌+◌, ◌≤◌, List, ℕ, ap, arith, sym, subst}
 use Rattle.program_text.specs.declared.statement.Item.{Item}
 use Rattle.program_text.specs.declared.limits.TheConstants.{MOST_WORK}
 use Rattle.large_text.specs.declared.reader.OpenBlock.TheVariants.{OpenTask, OpenGroup}
@@ -38,6 +38,7 @@ take_mark-requires c =
 pub returns : goal.returns
 returns c =
     let pushed = c.in_ok-push.ensures.items
+    ∙ ap (λ (n : ℕ). c.add_lines.new.self.blocks.items ++ OpenTask n ∷ []) c.from.ensures
     ∙ ap (λ (taker : LoopMarks). taker.blocks.items ++ OpenTask c.args.line ∷ []) c.in_ok-add_lines.ensures.ok.1 in
     let items_are = c.replace-items.ensures.value
     ∙ ap (λ (taker : LoopMarks). taker.items) c.in_ok-add_lines.ensures.ok.1 in

@@ -1,4 +1,4 @@
-use Rattle.std.proofs.Common.{[], ◌∷◌, ◌++◌, ◌∙◌, ◌+◌, ◌≤◌, List, ap, arith, sym, subst}
+use Rattle.std.proofs.Common.{[], ◌∷◌, ◌++◌, ◌∙◌, ◌+◌, ◌≤◌, List, ℕ, ap, arith, sym, subst}
 use Rattle.program_text.specs.declared.statement.Item.{Item}
 use Rattle.program_text.specs.declared.limits.TheConstants.{MOST_WORK}
 use Rattle.large_text.specs.declared.reader.OpenBlock.TheVariants.{OpenTask, OpenGroup}
@@ -31,6 +31,7 @@ take_mark-requires c =
 pub returns : goal.returns
 returns c =
     let pushed = c.in_ok-push.ensures.items
+    ∙ ap (λ (n : ℕ). c.add_lines.new.self.blocks.items ++ OpenGroup n ∷ []) c.from.ensures
     ∙ ap (λ (taker : LoopMarks). taker.blocks.items ++ OpenGroup c.args.brace_line ∷ []) c.in_ok-add_lines.ensures.ok.1 in
     subst
     (λ (taker : LoopMarks). LeadsOn large_fault_of
