@@ -3,11 +3,13 @@ use Rattle.std.proofs.Common.{◌≡◌, ℕ, ◌+◌, ◌<◌, ◌≤◌, ◌^�
 use Rattle.std.proofs.Common.{Option, Some, None, Result, Ok, Err, length-append, refl, sym, ap, subst}
 use Rattle.std.proofs.Common.{◌∙◌, arith}
 use Rattle.std.specs.Prelude.{nat_le, nat_lt}
-use Rattle.std.proofs.Common.{Vec, Global, map, reverse}
+use Rattle.std.proofs.Common.{Vec, Global, map, reverse, inl, inr}
+use Rattle.std.specs.Prelude.{◌⊎◌}
+use Rattle.program_text.proofs.Bools.{bool_cases}
 use Rattle.std.proofs.lemmas.List.{map-append, reverse-append}
 use Rattle.program_text.specs.declared.statement.Item.{Item}
 use Rattle.program_text.specs.declared.limits.TheConstants.{MOST_ITEMS}
-use Rattle.program_text.specs.declared.fault.ReadKind.TheVariants.{WorkTooLarge}
+use Rattle.program_text.specs.declared.fault.ReadKind.TheVariants.{WorkTooLarge, TooManyItems, BadNumber}
 use Rattle.large_text.specs.declared.reader.OpenBlock.{OpenBlock}
 use Rattle.large_text.specs.declared.reader.OpenBlock.TheVariants.{OpenTask, OpenGroup}
 use Rattle.large_text.specs.LargeReading.{block_seen}
@@ -625,3 +627,40 @@ end_leads taker blocks tally block popped takes = λ state h.
             (tallied taker.tally tally state.tree.marks mark takes h.tallies);
       },
     )
+
+-- one item too many
+pub item_many : (taker : LoopMarks) (place : Place)
+    → (MOST_ITEMS ≤ length taker.items) ⊎ (MOST_LARGE_ITEMS ≤ length taker.names)
+    → StopsAt large_fault_of (ItemComes place ∷ []) (HasEntered taker)
+    (record { kind = TooManyItems; line = place.line })
+item_many taker place (inl past) = λ state h.
+    let long = ap (λ (xs : List Item). length xs) h.items in
+    let many : nat_le MOST_ITEMS (length state.items) ≡ true =
+    le-leb MOST_ITEMS (length state.items) (omega (arith, long, past)) in
+    piece_refused large_fault_of state (ItemComes place)
+    (record { kind = TooManyItems; line = place.line }) (rw many refl)
+item_many taker place (inr past) = λ state h.
+    let long = ap (λ (xs : List (List ℕ)). length xs) h.names in
+    let many : nat_le MOST_LARGE_ITEMS (length state.names) ≡ true =
+    le-leb MOST_LARGE_ITEMS (length state.names) (omega (arith, long, past)) in
+    piece_refused large_fault_of state (ItemComes place)
+    (record { kind = TooManyItems; line = place.line })
+    (bool_cases (nat_le MOST_ITEMS (length state.items)) (λ some. rw some refl)
+    (λ none. rw (none, many) refl))
+
+-- an index out of range
+pub item_far : (taker : LoopMarks) (place : Place)
+    → length taker.items < MOST_ITEMS
+    → length taker.names < MOST_LARGE_ITEMS
+    → place.index_fits ≡ false
+    → StopsAt large_fault_of (ItemComes place ∷ []) (HasEntered taker)
+    (record { kind = BadNumber; line = place.index_line })
+item_far taker place few few_names far = λ state h.
+    let items_long = ap (λ (xs : List Item). length xs) h.items in
+    let names_long = ap (λ (xs : List (List ℕ)). length xs) h.names in
+    let room : nat_le MOST_ITEMS (length state.items) ≡ false =
+    lt-leb MOST_ITEMS (length state.items) (omega (arith, items_long, few)) in
+    let more : nat_le MOST_LARGE_ITEMS (length state.names) ≡ false =
+    lt-leb MOST_LARGE_ITEMS (length state.names) (omega (arith, names_long, few_names)) in
+    piece_refused large_fault_of state (ItemComes place)
+    (record { kind = BadNumber; line = place.index_line }) (rw (room, more, far) refl)

@@ -42,7 +42,7 @@ returns c =
     ∙ ap (λ (taker : LoopMarks). taker.blocks.items ++ OpenTask c.args.line ∷ []) c.in_ok-add_lines.ensures.ok.1 in
     let items_are = c.replace-items.ensures.value
     ∙ ap (λ (taker : LoopMarks). taker.items) c.in_ok-add_lines.ensures.ok.1 in
-    let none = c.replace-items.ensures.after ∙ c.new-items.ensures in
+    let none = c.replace-items.ensures.after ∙ c.new.ensures in
     subst
     (λ (items : List Item). LeadsOn large_fault_of (TaskOpens c.args.undeferred c.args.line ∷ [])
     (HasEntered c.args.self.now)
