@@ -28,7 +28,7 @@ use Rattle.task_program.specs.Nested.IsNested.{Nothing, Work, Wait}
 use Rattle.task_program.specs.TreeSoFar.{Block, TreeSoFar, after_end_of, end_mark_of}
 use Rattle.task_program.specs.TreeSoFar.Block.{TaskBlock, GroupBlock}
 use Rattle.task_program.specs.Expansion.{Piece, Place}
-use Rattle.task_program.specs.Expansion.Piece.{TurnBegins, ItemComes, TaskOpens, GroupComes, GroupOpens, BlockEnds}
+use Rattle.task_program.specs.Expansion.Piece.{TurnBegins, TaskComes, ItemComes, TaskOpens, GroupComes, GroupOpens, BlockEnds}
 use Rattle.task_program.specs.Expansion.Piece.{WorkIs, WaitIs}
 use Rattle.task_program.specs.Expanded.{ExpansionState, after_piece}
 use Rattle.task_program.specs.SecondPass.{PieceTest, take_pieces_by}
@@ -664,3 +664,9 @@ item_far taker place few few_names far = λ state h.
     lt-leb MOST_LARGE_ITEMS (length state.names) (omega (arith, names_long, few_names)) in
     piece_refused large_fault_of state (ItemComes place)
     (record { kind = BadNumber; line = place.index_line }) (rw (room, more, far) refl)
+
+-- the word `task`
+pub word_leads : (taker : LoopMarks) (line : ℕ)
+    → LeadsOn large_fault_of (TaskComes line ∷ []) (HasEntered taker) (HasEntered taker)
+word_leads taker line = λ state h.
+    (state, piece_taken large_fault_of state (TaskComes line) refl, h)
