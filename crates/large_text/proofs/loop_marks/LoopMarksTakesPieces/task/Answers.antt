@@ -36,8 +36,8 @@ returns c =
     let last : List Piece = TaskOpens (task.undeferred || c.args.in_final) task.brace_line ∷ [] in
     let same : c.if-task.task_brace ≡ (task.undeferred || c.args.in_final) =
     elim c.if-task.branch [
-      then-task w ↦ w.task_brace-is ∙ sym (ap (λ (u : Bool). u || c.args.in_final) w.if-task.true)
-      | else-task w ↦ w.task_brace-is ∙ sym (ap (λ (u : Bool). u || c.args.in_final) w.if-task.false)
+      then-task w ↦ w.task_brace-is ∙ ap (λ (u : Bool). u || c.args.in_final) w.if-task.true
+      | else-task w ↦ w.task_brace-is ∙ ap (λ (u : Bool). u || c.args.in_final) w.if-task.false
     ] in
     takes_then large_fault_of (TaskComes task.line ∷ []) (pieces ++ last) (HasEntered taker)
     (HasEntered taker) (HasEntered c.task_brace.new.self) c.task_brace.result
