@@ -1,8 +1,10 @@
 -- What stands before a field.
 use Rattle.std.proofs.Common.{◌≡◌, ◌∙◌, ◌==◌, ◌++◌, ℕ, zero, suc, false, List, [], ◌∷◌, ap, arith}
+use Rattle.std.proofs.Common.{Option}
 use Rattle.std.proofs.Common.{append_assoc, drop, flat_map, refl, sym, take}
 use Rattle.std.specs.List.{join_by}
 use Rattle.std.proofs.lemmas.Bool.Decides.{nat_tests}
+use Rattle.csv_table.specs.Row.{number_field, row_line}
 use Rattle.csv_table.specs.WriterState.{separator}
 
 pub none_before : (place : ℕ) → place ≡ 0 → separator place ≡ []
@@ -33,4 +35,14 @@ join_parted f (x ∷ xs) (suc n) =
       behind,
       ap (λ rest. f x ++ rest) (flat_parted (λ y. 44 ∷ f y) xs n)
           ∙ sym (append_assoc (f x) before behind),
+    )
+
+pub row_parted : (fields : List (Option ℕ)) (n : ℕ)
+    → (rest : List ℕ)
+    × (row_line fields ≡ join_by number_field (44 ∷ []) (take n fields) ++ rest)
+row_parted fields n =
+    let parts = join_parted number_field fields n in
+    let before : List ℕ = join_by number_field (44 ∷ []) (take n fields) in (
+      parts.0 ++ 10 ∷ [],
+      ap (λ line. line ++ 10 ∷ []) parts.1 ∙ append_assoc before parts.0 (10 ∷ []),
     )
