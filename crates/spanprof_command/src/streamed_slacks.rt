@@ -1,6 +1,8 @@
 //! The report of `slack`, written row by row.
-ghost use Rattle.std.specs.Prelude.{IfOk};
-ghost use Rattle.spanprof_command.specs.Slacks.{TellsSlacks};
+ghost use Rattle.std.specs.Prelude.{IfOk, ◌+◌, ◌-◌, ◌^◌, ◌<◌, ◌++◌};
+ghost use Rattle.counted_io.specs.Counted.{faults_of};
+ghost use Rattle.counted_io.specs.Parts.{PutsText};
+ghost use Rattle.spanprof_command.specs.Slacks.{AreRows, TellsSlacks, slacks_of};
 
 use crate::graphs::analysis_of;
 use crate::report::Status;
@@ -44,10 +46,10 @@ pub fn slack_rows<const SEGMENTS: u32, const TASKS: u32>(
 }
 
 impl<const SEGMENTS: u32, const TASKS: u32> SlackRows<SEGMENTS, TASKS> {
-    ghost use Rattle.std.specs.Prelude.{◌≡◌, ◌≢◌, ◌+◌, ◌-◌, ◌^◌, ◌<◌, ◌≤◌, ◌++◌, true};
+    ghost use Rattle.std.specs.Prelude.{◌≡◌, ◌≢◌, ◌+◌, ◌-◌, ◌^◌, ◌<◌, ◌≤◌, true};
     ghost use Rattle.counted_io.specs.Counted.{faults_of, flushes_of, inner_of, is_flushed};
     ghost use Rattle.spanprof_command.specs.Command.{HadFaults, SendsWithin};
-    ghost use Rattle.counted_io.specs.Parts.{PutsText, WritesText};
+    ghost use Rattle.counted_io.specs.Parts.{WritesText};
 
     /// Writes the whole report with so many retries, as [`finish`](crate::finish) does.
     pub fn finish<W: Write>(self, writer: &mut Counted<W>, retries: u32) -> Status
@@ -79,37 +81,39 @@ impl<const SEGMENTS: u32, const TASKS: u32> SlackRows<SEGMENTS, TASKS> {
             self.now.text result }
     {
         let mut text = Pending::new();
-        match self.put(&mut text, writer, retries) {
+        match put_slacks(&self.table, &self.found, &mut text, writer, retries) {
             Ok(()) => text.end(writer, retries),
             Err(fault) => Err(fault),
         }
     }
+}
 
-    /// Puts all rows behind a text.
-    fn put<W: Write>(
-        &self,
-        text: &mut Pending,
-        writer: &mut Counted<W>,
-        retries: &mut u32,
-    ) -> Result<(), WriteFailed>
-        requires { faults_of writer.old + retries.old < 2 ^ 64 - 1 }
-        ensures { PutsText W.contents writer.old writer.new retries.old retries.new
-            (text.old ++ self.now.text) text.new result }
-    {
-        match text.put(writer, b"segment,task,cost,start,slack,chain\n", retries) {
+/// Puts all rows behind a text.
+fn put_slacks<const SEGMENTS: u32, const TASKS: u32, W: Write>(
+    table: &BoundedTable<SEGMENTS, TASKS>,
+    found: &Analysis,
+    text: &mut Pending,
+    writer: &mut Counted<W>,
+    retries: &mut u32,
+) -> Result<(), WriteFailed>
+    requires rows { AreRows table.now found.now }
+    requires faults { faults_of writer.old + retries.old < 2 ^ 64 - 1 }
+    ensures { PutsText W.contents writer.old writer.new retries.old retries.new
+        (text.old ++ (slacks_of table.now found.now).text) text.new result }
+{
+    match text.put(writer, b"segment,task,cost,start,slack,chain\n", retries) {
+        Ok(()) => {}
+        Err(fault) => return Err(fault),
+    }
+    let mut place = 0;
+    for segment in 0..table.len() {
+        let chain = in_chain(found, segment, place);
+        let row = slack_row(table, found, segment, chain);
+        match put_row(text, writer, &row, retries) {
             Ok(()) => {}
             Err(fault) => return Err(fault),
         }
-        let mut place = 0;
-        for segment in 0..self.table.len() {
-            let chain = in_chain(&self.found, segment, place);
-            let row = slack_row(&self.table, &self.found, segment, chain);
-            match put_row(text, writer, &row, retries) {
-                Ok(()) => {}
-                Err(fault) => return Err(fault),
-            }
-            place += chain as usize;
-        }
-        Ok(())
+        place += chain as usize;
     }
+    Ok(())
 }
