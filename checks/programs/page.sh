@@ -7,7 +7,7 @@
 # checks/programs/predictions. Then the page of a million tasks, where spanprof_large is there. Build spanprof first.
 #
 #     checks/programs/page.sh [PROGRAM [FOLDER]]    instead of crates/spanprof/out/spanprof; where pages and pictures go
-#     checks/programs/page.sh kept                  only pages of texts that lie here: nothing is recorded or measured
+#     checks/programs/page.sh kept                  only pages of texts that lie here, of which three are opened
 set -euo pipefail
 cd "$(dirname "$0")/../.."
 # shellcheck source=checks/llvm.sh
@@ -148,6 +148,7 @@ for pair in kept_merge_sort:kept_merge_sort_split kept_wavefront:kept_wavefront_
     make_page "${first}_and_other" --with "$folder/$second.tasks"
     names+=("${first}_and_other")
 done
+if [ -n "$only_kept" ]; then names=(kept_merge_sort kept_merge_sort_and_other large); fi
 visit "$folder" "${names[@]}"
 echo "$wrong wrong"
 [ "$wrong" -eq 0 ]
