@@ -106,7 +106,7 @@ one 600 release.sh checks/programs/release.sh
 timed 1800 'true_words.sh cpu' checks/recorders/true_words.sh cpu
 timed 900 predictions.sh checks/programs/predictions.sh
 one 900 'page.sh kept' checks/programs/page.sh kept
-one 900 'conformance.sh short' checks/programs/conformance.sh short
+timed 900 'conformance.sh short' checks/programs/conformance.sh short
 one 600 'whatif.sh kept' checks/programs/whatif.sh kept
 timed 900 openmp.sh checks/recorders/openmp.sh
 one 2400 library.sh checks/agree/library.sh
