@@ -71,7 +71,7 @@ enum {
 #define SPANPROF_MOST_THREADS UINT32_C(1024)
 
 /* For `any_size`. Within the limits of spanprof(1) a text is read as that program reads it. One of any size, of at most
-   4,000,000,000 bytes and in version 1, is read as spanprof_large reads it, with the same answers where both read it. */
+   4,000,000,000 bytes, is read as spanprof_large reads it, with the same answers where both read it. */
 #define SPANPROF_WITHIN_LIMITS false
 #define SPANPROF_ANY_SIZE true
 

@@ -14,7 +14,7 @@ KINDS = ("TooLong", "BadHeader", "BadByte", "BadWord", "BadNumber", "Unclosed", 
          "BadForm", "WrongCount", "Broken", "EndWrong", "ChainStep", "ChainSum")  # from 1 on, as the header has them
 PAIRS = ("TooSoon", "Broken", "ChainStep")
 OF_SEGMENT = ("NoThread", "EndsEarly", "OutOfTime", "NotApart")
-OF_LIMITS = ("TooLong", "TooDeep", "TooManyTasks", "TooManySegments", "TooManyItems")
+OF_LIMITS = ("TooLong", "TooDeep", "TooManyTasks", "TooManySegments", "TooManyItems", "TooManyTurns")
 MOST_THREADS = 1024
 NO_THREAD = 2 ** 32 - 1  # the thread of a segment of cost 0, which needs none
 TYPES = {"Q": ctypes.c_uint64, "I": ctypes.c_uint32}

@@ -48,7 +48,7 @@ class Certificate(NamedTuple):
 
 class Program:
     """A text's program under its own costs, or under those of `what_if`. Nothing about it changes. Without `any_size`
-    the text keeps the limits of programs; with it the text is of version 1."""
+    the text keeps the limits of programs."""
 
     def __init__(self, text, costs=None, any_size=False):
         self.text, self.any_size = bytes_of(text), any_size
@@ -154,21 +154,13 @@ class Program:
 
 
 def parse(text):
-    """The program of a text: of any size, where it is beyond the limits and of version 1."""
+    """The program of a text: of any size, where it is beyond the limits."""
     try:
         return Program(text)
     except Refused as refused:
         if refused.kind not in OF_LIMITS:
             raise
-        return beyond(text, refused)
-
-
-def beyond(text, refused):
-    """The same where it was refused for its size. A text of version 2 stays refused so."""
-    try:
-        return Program(text, any_size=True)
-    except Refused as other:
-        raise (refused if other.kind == "BadHeader" else other) from None
+    return Program(text, any_size=True)
 
 
 def read(path):

@@ -9,9 +9,10 @@ from spanprof.refusal import of_event, without_text
 
 PLACES = places_of("spanprof_large")
 LIMITS = {
-    "BadHeader": "spanprof_large reads texts that begin with `omptasks 1`",
-    "TooLong": "a text has at most 9,223,372,036,854,775,806 bytes",
-    "TooDeep": "at most 1,048,576 blocks are open at a time",
+    "TooLong": "a text has at most 9,223,372,036,854,775,806 bytes, and one of version 2 has 4,194,304, and "
+               "4,000,000,000 lines where its loops are expanded",
+    "TooDeep": "at most 1,048,576 blocks are open at a time, and 64 in version 2",
+    "TooManyTurns": "all loops together have at most 4,000,000,000 turns",
     "TooManyItems": "a task has at most 32 depend items, and a text 4,294,967,294"}
 HOW = "spanprof_large, which measures it, is not found; tools/prove_program.sh spanprof_large proves and builds it"
 

@@ -27,8 +27,6 @@ class Written:
         place._obj.line = 0 if text.value.startswith(b"omptasks") else 7
         if place._obj.line:
             return 4
-        if any_size.value and b"omptasks 2" in text.value:
-            return 2
         if b"many" in text.value and not any_size.value:
             return 9
         return 16 if count.value not in (0, len(self.own)) else 0
@@ -164,9 +162,8 @@ class AnySize(WithoutNumpy):
         self.assertTrue(program.any_size)
         self.assertTrue(program.what_if({1: 5}).any_size)
 
-    def test_one_of_version_2_stays_refused_for_its_size(self):
-        with self.assertRaisesRegex(library.Refused, "TooManyTasks"):
-            library.parse(b"omptasks 2 many")
+    def test_one_of_version_2_is_too(self):
+        self.assertTrue(library.parse(b"omptasks 2 many").any_size)
 
 
 class OtherCosts(WithoutNumpy):
