@@ -9,10 +9,11 @@ pub mod Ended
 pub mod Taken
 pub mod Memory
 pub mod Fitting
+pub mod LoopMarking
 pub mod Printing
 pub mod Measuring
 pub mod Whole
 pub mod Moved
 pub mod Cutting
-pub mod Streaming
+pub mod PlainStreaming
 pub mod Tallying

@@ -17,20 +17,8 @@ use Rattle.task_program.proofs.Tallies.{NoItems, tally_of, tally_now}
 use Rattle.large_text.specs.declared.reader.MarkReader.{MarkReader}
 use Rattle.large_text.specs.LargeReading.{state_of, IsLargeWithin}
 use Rattle.large_text.specs.LargeTrees.{large_rules}
+use Rattle.large_text.specs.LoopMarked.{AreOpen}
 use Rattle.large_text.proofs.Items.{AreCounted}
-
--- marks behind which these blocks are open, the innermost first
-pub data AreOpen : List Block → List Mark → Type 0 where
-  NoneOpen : (marks : List Mark) → IsNested marks → AreOpen [] marks
-  InTask : (line : ℕ) (blocks : List Block) (before : List Mark) (undeferred : Bool)
-      (items : List Item) (inner : List Mark)
-      → AreOpen blocks before
-      → IsNested inner
-      → AreOpen (TaskBlock line ∷ blocks) (before ++ Begins undeferred items ∷ inner)
-  InGroup : (line : ℕ) (blocks : List Block) (before inner : List Mark)
-      → AreOpen blocks before
-      → IsNested inner
-      → AreOpen (GroupBlock line ∷ blocks) (before ++ GroupBegins ∷ inner)
 
 -- what is so of a state of the reading behind these tokens
 pub record IsBehind (tokens : List Token) (state : State) : Type 0 where

@@ -5,3 +5,6 @@ pub mod Measured
 pub mod Printed
 pub mod Streamed
 pub mod Tallied
+pub mod LoopFaults
+pub mod LoopMarked
+pub mod LargeTexts

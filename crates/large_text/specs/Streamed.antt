@@ -5,7 +5,7 @@ use Rattle.program_text.specs.declared.fault.ReadFault.{ReadFault}
 use Rattle.program_text.specs.Tokens.{is_line_feed, tokens_from, tokens_of, line_at_end}
 use Rattle.large_text.specs.declared.tally.Tally.{Tally}
 use Rattle.large_text.specs.declared.reader.MarkReader.{MarkReader}
-use Rattle.large_text.specs.declared.stream.TextMeter.{TextMeter}
+use Rattle.large_text.specs.declared.plain_stream.PlainMeter.{PlainMeter}
 use Rattle.large_text.specs.declared.limits.TheConstants.{LARGEST_TEXT, LARGEST_LINE}
 use Rattle.large_text.specs.LargeTrees.{IsLargeFirstFault}
 use Rattle.large_text.specs.Measured.{MeasuresSoFar}
@@ -51,28 +51,28 @@ pub record FitsText (bytes : List ℕ) : Type 0 where
       → HasNoLineFeed line → length line ≤ LARGEST_LINE
 
 -- the meter has taken these bytes, with which a text begins
-pub record HasTaken (bytes : List ℕ) (text_meter : TextMeter) : Type 0 where
+pub record HasTaken (bytes : List ℕ) (text_meter : PlainMeter) : Type 0 where
   pub fits : FitsText bytes
   pub last : HasNoLineFeed text_meter.tail.items
   pub taken : HasTakenBy text_meter.fault bytes text_meter.tail.items (text_meter.lines + 1)
       text_meter.reader text_meter.meter
 
 -- it keeps the rows of the table beside
-abbrev pub KeepsRows : TextMeter → Type 0
+abbrev pub KeepsRows : PlainMeter → Type 0
 KeepsRows text_meter = IsTrue (keeps_rows text_meter.meter)
 
 -- and the canonical text
-abbrev pub KeepsText : TextMeter → Type 0
+abbrev pub KeepsText : PlainMeter → Type 0
 KeepsText text_meter = IsTrue (keeps_text text_meter.meter)
 
 -- some bytes were taken, and these behind them are not too many
-pub record CanTakeBytes (more : List ℕ) (text_meter : TextMeter) : Type 0 where
+pub record CanTakeBytes (more : List ℕ) (text_meter : PlainMeter) : Type 0 where
   pub bytes : List ℕ
   pub taken : HasTaken bytes text_meter
   pub fits : FitsText (bytes ++ more)
 
 -- what was taken before and these bytes behind it have been taken
-abbrev pub TakesBytes : List ℕ → (before after : TextMeter) → Type 0
+abbrev pub TakesBytes : List ℕ → (before after : PlainMeter) → Type 0
 TakesBytes more before after =
     (taken : List ℕ) → FitsText (taken ++ more)
     → HasTaken taken before → HasTaken (taken ++ more) after

@@ -13,6 +13,7 @@ use crate::marks::TextMark;
 use std::alloc::Global;
 use task_program::AllocFault;
 use task_program::statement::DependKind;
+use task_program::version::Version;
 
 /// What is written of a text: the lines of the marks so far, and the clauses of the task whose
 /// clauses are being read.
@@ -27,11 +28,15 @@ pub struct Printer {
 
 impl Printer {
     /// What is written of a text of which no mark has come: its header.
-    pub(crate) fn new(alloc: Global) -> Result<Printer, AllocFault>
+    pub(crate) fn new(alloc: Global, version: Version) -> Result<Printer, AllocFault>
         ensures { IfOk result (λ printer. (names : List (List ℕ)) → Prints printer names [] []) }
     {
+        let header = match version {
+            Version::One => "omptasks 1\n",
+            Version::Two => "omptasks 2\n",
+        };
         Ok(Printer {
-            text: String::from_str(alloc, "omptasks 1\n")?,
+            text: String::from_str(alloc, header)?,
             clauses: String::new(alloc),
             last: None,
         })

@@ -1,251 +1,152 @@
-//! Work and span of a text that comes in pieces.
-ghost use Rattle.std.specs.Prelude.{◌≡◌, ◌≢◌, ◌+◌, ◌<◌, ◌≤◌, ◌^◌, [], ◌∷◌, false, ◌++◌, List, ℕ, IfOk, IfErr};
-ghost use Rattle.std.specs.Prelude.{IsTrue, OnOk, None, length, take, drop};
-ghost use Rattle.program_text.specs.declared.fault.ReadKind.TheVariants.{OutOfMemory};
-ghost use Rattle.program_text.specs.Tokens.{tokens_of, line_at_end};
-ghost use Rattle.large_text.specs.declared.limits.TheConstants.{LARGEST_PIECE};
-ghost use Rattle.large_text.specs.LargeTrees.{IsLargeFirstFault};
-ghost use Rattle.large_text.specs.Measured.{FitsTable, IsCanonicalOf, IsTableOfText, MeasuresText, TalliesText};
+//! Work and span of a text that comes in pieces, in either version.
+ghost use Rattle.std.specs.Prelude.{◌≡◌, ◌≢◌, ◌≤◌, ◌+◌, [], ◌++◌, List, ℕ, IfOk, IfErr, IsTrue, OnOk, length};
 ghost use Rattle.std.specs.Option.{IfSome, is_some};
-ghost use Rattle.large_text.specs.Tallied.{IsBegun, keeps_rows, keeps_text};
-ghost use Rattle.large_text.specs.Streamed.{CanTakeBytes, EndsLine, HasTaken};
-ghost use Rattle.large_text.specs.Streamed.{HasNoLineFeed, KeepsRows, KeepsText, TakesBytes};
+ghost use Rattle.program_text.specs.declared.fault.ReadKind.TheVariants.{OutOfMemory};
+ghost use Rattle.large_text.specs.declared.limits.TheConstants.{LARGEST_PIECE};
 
 use crate::fault::LargeFault;
-use crate::measure::take_tokens;
-use crate::reader::MarkReader;
+use crate::loop_marks::tally_loops;
+use crate::plain_stream::PlainMeter;
 use crate::tally::Tally;
 use online_span::Meter;
+use program_text::scanner::Scanner;
 use std::alloc::{AllocError, Global};
 use task_program::AllocFault;
 use task_program::fault::ReadKind;
+use task_program::limits::MOST_TEXT_BYTES;
 use task_program::name_key::NameKey;
+use task_program::read::takes_header_two;
 use task_segments::table::LargeTable;
 
-/// Takes the bytes of a text piece by piece, however it is cut, and measures what it says. Beside the
-/// names and what the nesting takes, only the last line is kept, as far as it has come.
+/// What is known of the version of a text.
+#[derive(Clone, Copy, Debug, PartialEq, Eq)]
+enum Stage {
+    /// It may be of either: all that has come is kept.
+    Kept,
+    /// It is of version 1, or too long for version 2.
+    Plain,
+    /// It is of version 2, and too long.
+    TooLong,
+}
+
+/// Takes the bytes of a text piece by piece, however it is cut, and measures what it says. A text of
+/// version 2 is kept. Of one of version 1 the first bytes are, and then only the last line, as far
+/// as it has come, beside the names and what the nesting takes.
 #[derive(Drop)]
 pub struct TextMeter {
-    reader: MarkReader,
-    meter: Tally,
-    /// What came behind the last LF.
-    tail: Vec<u8>,
-    /// How many lines came before it.
-    lines: u64,
-    /// The first fault of the text, once it is known.
-    fault: Option<LargeFault>,
+    alloc: Global,
+    key: NameKey,
+    stage: Stage,
+    /// All that has come, while it is kept.
+    head: Vec<u8>,
+    plain: PlainMeter,
 }
 
 impl TextMeter {
     /// The meter of a text of which nothing has come. Its names are hashed under this key: who knows
     /// it can make up a text that takes time quadratic in its names.
-    pub fn new(alloc: Global, key: NameKey) -> TextMeter
-        ensures { HasTaken [] result }
-    {
-        TextMeter::with_tally(alloc, key, Tally::new(alloc))
+    pub fn new(alloc: Global, key: NameKey) -> TextMeter {
+        TextMeter::of_plain(alloc, key, PlainMeter::new(alloc, key))
     }
 
     /// The same, where the rows of its table are kept.
-    pub fn with_rows(alloc: Global, key: NameKey) -> Result<TextMeter, AllocFault>
-        ensures taken { IfOk result (λ made. HasTaken [] made) }
-        ensures rows { IfOk result KeepsRows }
-    {
-        Ok(TextMeter::with_tally(alloc, key, Tally::with_rows(alloc)?))
+    pub fn with_rows(alloc: Global, key: NameKey) -> Result<TextMeter, AllocFault> {
+        Ok(TextMeter::of_plain(alloc, key, PlainMeter::with_rows(alloc, key)?))
     }
 
     /// The same, where its canonical text is kept.
-    pub fn with_text(alloc: Global, key: NameKey) -> Result<TextMeter, AllocFault>
-        ensures taken { IfOk result (λ made. HasTaken [] made) }
-        ensures text { IfOk result KeepsText }
-    {
-        Ok(TextMeter::with_tally(alloc, key, Tally::with_text(alloc)?))
+    pub fn with_text(alloc: Global, key: NameKey) -> Result<TextMeter, AllocFault> {
+        Ok(TextMeter::of_plain(alloc, key, PlainMeter::with_text(alloc, key)?))
     }
 
     /// The same, where both are kept.
-    pub fn with_rows_and_text(alloc: Global, key: NameKey) -> Result<TextMeter, AllocFault>
-        ensures taken { IfOk result (λ made. HasTaken [] made) }
-        ensures rows { IfOk result KeepsRows }
-        ensures text { IfOk result KeepsText }
-    {
-        Ok(TextMeter::with_tally(alloc, key, Tally::with_rows_and_text(alloc)?))
+    pub fn with_rows_and_text(alloc: Global, key: NameKey) -> Result<TextMeter, AllocFault> {
+        Ok(TextMeter::of_plain(alloc, key, PlainMeter::with_rows_and_text(alloc, key)?))
     }
 
-    fn with_tally(alloc: Global, key: NameKey, meter: Tally) -> TextMeter
-        requires { IsBegun meter }
-        ensures taken { HasTaken [] result }
-        ensures rows { keeps_rows result.meter ≡ keeps_rows meter }
-        ensures text { keeps_text result.meter ≡ keeps_text meter }
-    {
+    fn of_plain(alloc: Global, key: NameKey, plain: PlainMeter) -> TextMeter {
         TextMeter {
-            reader: MarkReader::new(alloc, key),
-            meter,
-            tail: Vec::new(alloc),
-            lines: 0,
-            fault: None,
+            alloc,
+            key,
+            stage: Stage::Kept,
+            head: Vec::new(alloc),
+            plain,
         }
     }
 
     /// Takes the next bytes of the text, at most `LARGEST_PIECE`. After an `Err` the meter can take no
     /// more.
-    pub fn take(&mut self, bytes: &[u8]) -> Result<(), AllocFault>
-        requires room { CanTakeBytes bytes.now self.old }
-        requires piece { length bytes.now ≤ LARGEST_PIECE }
-        ensures takes { OnOk result (TakesBytes bytes.now self.old self.new) }
-        ensures rows { KeepsRows self.old → KeepsRows self.new }
-        ensures text { KeepsText self.old → KeepsText self.new }
-    {
-        if self.fault.is_some() {
+    pub fn take(&mut self, bytes: &[u8]) -> Result<(), AllocFault> {
+        match self.stage {
+            Stage::Kept => self.take_first(bytes),
+            Stage::Plain => self.plain.take(bytes),
+            Stage::TooLong => Ok(()),
+        }
+    }
+
+    // The bytes are kept, as long as they are few.
+    fn take_first(&mut self, bytes: &[u8]) -> Result<(), AllocFault> {
+        let room = MOST_TEXT_BYTES - self.head.len();
+        if bytes.len() <= room {
+            return self.head.extend_from_slice(bytes);
+        }
+        let (first, rest) = bytes.split_at(room);
+        self.head.extend_from_slice(first)?;
+        if is_version_two(self.head.as_slice()) {
+            self.stage = Stage::TooLong;
             return Ok(());
         }
-        let end = whole_lines(bytes);
-        if end == 0 {
-            return self.keep(bytes);
-        }
-        let (lines, tail) = bytes.split_at(end);
-        self.take_lines(lines)?;
-        self.keep(tail)
-    }
-
-    // Keeps bytes of a line that may go on.
-    fn keep(&mut self, bytes: &[u8]) -> Result<(), AllocFault>
-        requires { HasNoLineFeed bytes.now }
-        ensures takes { OnOk result (TakesBytes bytes.now self.old self.new) }
-        ensures rows { self.new.meter ≡ self.old.meter }
-    {
-        self.tail.extend_from_slice(bytes)
-    }
-
-    // Takes the tokens of these lines, the first of which goes on from the tail.
-    fn take_lines(&mut self, lines: &[u8]) -> Result<(), AllocFault>
-        requires taken { CanTakeBytes lines.now self.old }
-        requires piece { length lines.now ≤ LARGEST_PIECE }
-        requires no_fault { self.old.fault ≡ None }
-        requires ends { EndsLine lines.now }
-        ensures takes { OnOk result (TakesBytes lines.now self.old self.new) }
-        ensures rows { keeps_rows self.new.meter ≡ keeps_rows self.old.meter }
-        ensures text { keeps_text self.new.meter ≡ keeps_text self.old.meter }
-    {
-        self.tail.extend_from_slice(lines)?;
-        let taken = take_tokens(
-            &mut self.reader,
-            &mut self.meter,
-            self.tail.as_slice(),
-            self.lines,
-        );
-        self.tail.clear();
-        match taken {
-            Ok(line) => {
-                self.lines = line - 1;
-                Ok(())
-            }
-            Err(fault) => {
-                if fault.kind == ReadKind::OutOfMemory {
-                    return Err(AllocError);
-                }
-                self.fault = Some(fault);
-                Ok(())
-            }
-        }
+        self.stage = Stage::Plain;
+        self.plain.take(self.head.as_slice())?;
+        self.head.clear();
+        self.plain.take(rest)
     }
 
     /// The text ends here. The meter has taken all of its marks; or the fault is its first, or out of
     /// memory, on line 0.
-    pub fn finish(self) -> Result<Meter, LargeFault>
-        requires { CanTakeBytes [] self }
-        ensures measured { IfOk result (λ meter. (text : List ℕ) → HasTaken text self
-            → MeasuresText (tokens_of text) meter) }
-        ensures refused { IfErr result (λ fault. fault.kind ≢ OutOfMemory
-            → (text : List ℕ) → HasTaken text self
-            → IsLargeFirstFault (tokens_of text) (line_at_end 1 text) fault) }
-        ensures memory { IfErr result (λ fault. fault.kind ≡ OutOfMemory → fault.line ≡ 0) }
-    {
+    pub fn finish(self) -> Result<Meter, LargeFault> {
         Ok(self.whole()?.into_meter())
     }
 
     /// The same, with the table of the text, where its rows were kept and its numbers fit a table.
-    pub fn finish_table(self) -> Result<Option<LargeTable>, LargeFault>
-        requires { CanTakeBytes [] self }
-        ensures table { IfOk result (λ table. (text : List ℕ) → HasTaken text self
-            → IfSome table (IsTableOfText (tokens_of text))) }
-        ensures some { IfOk result (λ table. KeepsRows self → (text : List ℕ)
-            → HasTaken text self → FitsTable (tokens_of text) → IsTrue (is_some table)) }
-        ensures refused { IfErr result (λ fault. fault.kind ≢ OutOfMemory
-            → (text : List ℕ) → HasTaken text self
-            → IsLargeFirstFault (tokens_of text) (line_at_end 1 text) fault) }
-        ensures memory { IfErr result (λ fault. fault.kind ≡ OutOfMemory → fault.line ≡ 0) }
-    {
+    pub fn finish_table(self) -> Result<Option<LargeTable>, LargeFault> {
         Ok(self.whole()?.into_table())
     }
 
     /// The same, with the canonical text, where it was kept, and the table as of `finish_table`.
-    pub fn finish_text(self) -> Result<(Option<Vec<u8>>, Option<LargeTable>), LargeFault>
-        requires { CanTakeBytes [] self }
-        ensures text { IfOk result (λ found. (text : List ℕ) → HasTaken text self
-            → IfSome found.0 (λ written. IsCanonicalOf (tokens_of text) written.items)) }
-        ensures some_text { IfOk result (λ found. KeepsText self → IsTrue (is_some found.0)) }
-        ensures table { IfOk result (λ found. (text : List ℕ) → HasTaken text self
-            → IfSome found.1 (IsTableOfText (tokens_of text))) }
-        ensures some_table { IfOk result (λ found. KeepsRows self → (text : List ℕ)
-            → HasTaken text self → FitsTable (tokens_of text) → IsTrue (is_some found.1)) }
-        ensures refused { IfErr result (λ fault. fault.kind ≢ OutOfMemory
-            → (text : List ℕ) → HasTaken text self
-            → IsLargeFirstFault (tokens_of text) (line_at_end 1 text) fault) }
-        ensures memory { IfErr result (λ fault. fault.kind ≡ OutOfMemory → fault.line ≡ 0) }
-    {
+    pub fn finish_text(self) -> Result<(Option<Vec<u8>>, Option<LargeTable>), LargeFault> {
         Ok(self.whole()?.into_text())
     }
 
     // The tally of the whole text.
-    fn whole(mut self) -> Result<Tally, LargeFault>
-        requires { CanTakeBytes [] self }
-        ensures measured { IfOk result (λ tally. (text : List ℕ) → HasTaken text self
-            → TalliesText (tokens_of text) tally) }
-        ensures rows { IfOk result (λ tally. keeps_rows tally ≡ keeps_rows self.meter) }
-        ensures text { IfOk result (λ tally. keeps_text tally ≡ keeps_text self.meter) }
-        ensures refused { IfErr result (λ fault. fault.kind ≢ OutOfMemory
-            → (text : List ℕ) → HasTaken text self
-            → IsLargeFirstFault (tokens_of text) (line_at_end 1 text) fault) }
-        ensures memory { IfErr result (λ fault. fault.kind ≡ OutOfMemory → fault.line ≡ 0) }
-    {
-        self.end()?;
-        let TextMeter { meter, .. } = self;
-        Ok(meter)
-    }
-
-    // What `finish` does before it hands on the meter.
-    fn end(&mut self) -> Result<(), LargeFault>
-        requires { CanTakeBytes [] self.old }
-        ensures measured { OnOk result ((text : List ℕ) → HasTaken text self.old
-            → TalliesText (tokens_of text) self.new.meter) }
-        ensures rows { keeps_rows self.new.meter ≡ keeps_rows self.old.meter }
-        ensures text { keeps_text self.new.meter ≡ keeps_text self.old.meter }
-        ensures refused { IfErr result (λ fault. fault.kind ≢ OutOfMemory
-            → (text : List ℕ) → HasTaken text self.old
-            → IsLargeFirstFault (tokens_of text) (line_at_end 1 text) fault) }
-        ensures memory { IfErr result (λ fault. fault.kind ≡ OutOfMemory → fault.line ≡ 0) }
-    {
-        if let Some(fault) = self.fault {
-            return Err(fault);
+    fn whole(self) -> Result<Tally, LargeFault> {
+        let TextMeter {
+            alloc,
+            key,
+            stage,
+            head,
+            mut plain,
+        } = self;
+        match stage {
+            Stage::TooLong => Err(LargeFault {
+                kind: ReadKind::TooLong,
+                line: 1,
+            }),
+            Stage::Plain => plain.whole(),
+            Stage::Kept => {
+                let mut scanner = Scanner::new(head.as_slice());
+                if takes_header_two(&mut scanner) {
+                    let tally = plain.into_tally().for_loops(alloc)?;
+                    return tally_loops(alloc, scanner, key, tally);
+                }
+                plain.take(head.as_slice())?;
+                plain.whole()
+            }
         }
-        let line = take_tokens(
-            &mut self.reader,
-            &mut self.meter,
-            self.tail.as_slice(),
-            self.lines,
-        )?;
-        self.reader.finish(line)
     }
 }
 
-// How many bytes the whole lines have with which these bytes begin.
-fn whole_lines(bytes: &[u8]) -> usize
-    ensures within { result ≤ length bytes.now }
-    ensures ends { 0 < result → EndsLine (take result bytes.now) }
-    ensures last { HasNoLineFeed (drop result bytes.now) }
-{
-    let mut end = bytes.len();
-    'back: while end > 0 && bytes[end - 1] != b'\n' {
-        end -= 1;
-    }
-    end
+// Whether the header of version 2 stands in these bytes.
+fn is_version_two(bytes: &[u8]) -> bool {
+    takes_header_two(&mut Scanner::new(bytes))
 }

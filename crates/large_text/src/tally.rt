@@ -26,6 +26,7 @@ use online_span::Meter;
 use std::alloc::{AllocError, Global};
 use task_program::AllocFault;
 use task_program::limits::MOST_WORK;
+use task_program::version::Version;
 use task_segments::mark_cutter::MarkCutter;
 use task_segments::table::LargeTable;
 
@@ -70,7 +71,7 @@ impl Tally {
         Ok(Tally {
             meter: Meter::new(alloc),
             rows: None,
-            printer: Some(Printer::new(alloc)?),
+            printer: Some(Printer::new(alloc, Version::One)?),
         })
     }
 
@@ -83,12 +84,30 @@ impl Tally {
         Ok(Tally {
             meter: Meter::new(alloc),
             rows: Some(MarkCutter::new(alloc)?),
-            printer: Some(Printer::new(alloc)?),
+            printer: Some(Printer::new(alloc, Version::One)?),
         })
     }
 }
 
 impl Tally {
+    /// The same at its beginning, for a text of version 2.
+    pub(crate) fn for_loops(self, alloc: Global) -> Result<Tally, AllocFault> {
+        let Tally {
+            meter,
+            rows,
+            printer,
+        } = self;
+        let printer = match printer {
+            Some(_) => Some(Printer::new(alloc, Version::Two)?),
+            None => None,
+        };
+        Ok(Tally {
+            meter,
+            rows,
+            printer,
+        })
+    }
+
     /// The table of the marks, where rows were kept and the numbers of the table fit.
     pub fn into_table(self) -> Option<LargeTable>
         requires { IsWholeTally self }

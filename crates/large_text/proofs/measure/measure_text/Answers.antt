@@ -3,7 +3,7 @@ use Rattle.large_text.specs.Measured.{MeasuresText}
 use Rattle.program_text.specs.declared.fault.ReadKind.TheVariants.{OutOfMemory}
 use Rattle.program_text.specs.Tokens.{tokens_of, line_at_end}
 use Rattle.large_text.specs.LargeTrees.{IsLargeFirstFault}
-use Rattle.large_text.proofs.Streaming.{taken_none, fault_last, ends_early, ends_whole}
+use Rattle.large_text.proofs.PlainStreaming.{taken_none, fault_last, ends_early, ends_whole}
 use Rattle.large_text.proofs.Memory.{line_of_first}
 use Rattle.large_text.proofs.Tallying.{of_tally}
 use Rattle.large_text.proofs.measure.measure_text.Goals as goal

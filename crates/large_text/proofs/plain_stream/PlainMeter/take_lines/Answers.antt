@@ -1,8 +1,8 @@
 use Rattle.std.proofs.Common.{◌∙◌, ◌+◌, ap, arith, rules}
 use Rattle.std.specs.Prelude.{count_by}
 use Rattle.program_text.specs.Tokens.{is_line_feed}
-use Rattle.large_text.proofs.Streaming.{lines_done, fault_done}
-use Rattle.large_text.proofs.stream.TextMeter.take_lines.Goals as goal
+use Rattle.large_text.proofs.PlainStreaming.{lines_done, fault_done}
+use Rattle.large_text.proofs.plain_stream.PlainMeter.take_lines.Goals as goal
 
 pub returns-in-Ok-clause-takes : goal.returns-in-Ok-clause-takes
 returns-in-Ok-clause-takes c = λ taken fits h.

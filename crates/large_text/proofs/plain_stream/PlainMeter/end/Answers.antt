@@ -4,9 +4,9 @@ use Rattle.program_text.specs.declared.fault.ReadKind.TheVariants.{OutOfMemory}
 use Rattle.program_text.specs.Tokens.{tokens_of, line_at_end}
 use Rattle.large_text.specs.LargeTrees.{IsLargeFirstFault}
 use Rattle.large_text.specs.Streamed.{HasTaken}
-use Rattle.large_text.proofs.Streaming.{told, fault_last, ends_early, ends_whole}
+use Rattle.large_text.proofs.PlainStreaming.{told, fault_last, ends_early, ends_whole}
 use Rattle.large_text.proofs.Memory.{line_of_first}
-use Rattle.large_text.proofs.stream.TextMeter.end.Goals as goal
+use Rattle.large_text.proofs.plain_stream.PlainMeter.end.Goals as goal
 
 pub returns-in-Some-clause-refused : goal.returns-in-Some-clause-refused
 returns-in-Some-clause-refused c = λ some text h.

@@ -1,6 +1,6 @@
 use Rattle.std.proofs.lemmas.Result.{on_ok_weaker}
-use Rattle.large_text.proofs.Streaming.{can_front, takes_two, split_whole}
-use Rattle.large_text.proofs.stream.TextMeter.take.Goals as goal
+use Rattle.large_text.proofs.PlainStreaming.{can_front, takes_two, split_whole}
+use Rattle.large_text.proofs.plain_stream.PlainMeter.take.Goals as goal
 
 pub take_lines-requires-clause-taken : goal.take_lines-requires-clause-taken
 take_lines-requires-clause-taken c =

@@ -21,7 +21,7 @@ use Rattle.large_text.specs.Measured.{MeasuresSoFar, TalliesText}
 use Rattle.large_text.specs.Streamed.{EndsLine, CutsTokens, HasTakenLines, HasFault}
 use Rattle.large_text.specs.Streamed.{HasTakenBy, HasTaken, TakesBytes, FitsText, HasNoLineFeed}
 use Rattle.large_text.specs.Streamed.{CanTakeBytes}
-use Rattle.large_text.specs.declared.stream.TextMeter.{TextMeter}
+use Rattle.large_text.specs.declared.plain_stream.PlainMeter.{PlainMeter}
 use Rattle.large_text.specs.declared.limits.TheConstants.{LARGEST_LINE}
 use Rattle.large_text.proofs.Cutting.{cut_behind}
 use Rattle.large_text.proofs.Measuring.{stops_early, is_measured}
@@ -182,7 +182,7 @@ no_feed_more first second a b =
     omega (arith, a, b, sum_by-append (λ byte. cond (is_line_feed byte) 1 0) first second)
 
 -- two pieces, one behind the other
-pub takes_two : (all first second : List ℕ) (old middle new : TextMeter)
+pub takes_two : (all first second : List ℕ) (old middle new : PlainMeter)
     → all ≡ first ++ second
     → TakesBytes first old middle
     → TakesBytes second middle new
@@ -196,7 +196,7 @@ takes_two all first second old middle new is takes_first takes_second = λ taken
     (takes_first taken (fits_front (taken ++ first) second both) h))
 
 -- where a whole piece can be taken, so can what it begins with
-pub can_front : (all first second : List ℕ) (text_meter : TextMeter)
+pub can_front : (all first second : List ℕ) (text_meter : PlainMeter)
     → all ≡ first ++ second
     → CanTakeBytes all text_meter
     → CanTakeBytes first text_meter

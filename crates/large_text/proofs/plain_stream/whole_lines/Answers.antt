@@ -1,5 +1,5 @@
-use Rattle.large_text.proofs.Streaming.{line_ends}
-use Rattle.large_text.proofs.stream.whole_lines.Goals as goal
+use Rattle.large_text.proofs.PlainStreaming.{line_ends}
+use Rattle.large_text.proofs.plain_stream.whole_lines.Goals as goal
 
 pub returns-else-bytes-end-ne10-clause-ends : goal.returns-else-bytes-end-ne10-clause-ends
 returns-else-bytes-end-ne10-clause-ends c = λ some.

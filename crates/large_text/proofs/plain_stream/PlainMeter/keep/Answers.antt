@@ -1,7 +1,7 @@
 use Rattle.std.proofs.Common.{◌+◌, subst, sym}
 use Rattle.large_text.specs.Streamed.{HasNoLineFeed}
-use Rattle.large_text.proofs.Streaming.{kept, where_ok, no_feed_more}
-use Rattle.large_text.proofs.stream.TextMeter.keep.Goals as goal
+use Rattle.large_text.proofs.PlainStreaming.{kept, where_ok, no_feed_more}
+use Rattle.large_text.proofs.plain_stream.PlainMeter.keep.Goals as goal
 
 pub returns-clause-takes : goal.returns-clause-takes
 returns-clause-takes c =

@@ -1,0 +1,83 @@
+use Rattle.std.proofs.Common.{ℕ, List, [], ◌∷◌, ◌++◌, ◌∙◌, ap, arith, inl, inr, reverse, subst, sym}
+use Rattle.program_text.specs.declared.fault.ReadFault.{ReadFault}
+use Rattle.program_text.specs.declared.fault.ReadKind.TheVariants.{BadNumber}
+use Rattle.task_program.specs.Expansion.Piece.{ItemComes}
+use Rattle.task_program.specs.Walks.{StopsAt}
+use Rattle.large_text.specs.LoopFaults.{large_fault_of}
+use Rattle.large_text.specs.LoopMarked.{HasEntered}
+use Rattle.large_text.proofs.loop_marks.LoopMarks.item.Goals.{then-len-ge-MOST_ITEMS-via-then-len-ge-MOST_ITEMS, then-len-ge-MOST_ITEMS-via-else-len-ge-MOST_ITEMS+then-len-ge-MOST_LARGE_ITEMS}
+use Rattle.task_program.specs.Expansion.{Place, index_fits, index_line, subscript_of}
+use Rattle.task_program.specs.Names.{number_of_name, with_name}
+use Rattle.large_text.proofs.LoopMarking.{item_far, item_leads, item_many}
+use Rattle.large_text.proofs.loop_marks.LoopMarks.item.Goals as goal
+
+abbrev fault_so : ℕ → ReadFault
+fault_so line = record { kind = BadNumber; line = line }
+
+pub returns-then-len-ge-MOST_ITEMS : goal.returns-then-len-ge-MOST_ITEMS
+returns-then-len-ge-MOST_ITEMS c =
+    let taker = c.args.self.now in
+    let item = c.args.item.now in
+    let values : List ℕ = reverse c.args.values.now in
+    let place : Place = record {
+      kind = item.kind;
+      location = item.name ++ subscript_of values item.index;
+      line = item.line;
+      index_fits = index_fits values item.index;
+      index_line = index_line item.index;
+    } in
+    subst (λ (fault : ReadFault). StopsAt large_fault_of (ItemComes place ∷ []) (HasEntered taker) fault)
+    (sym c.fault.ensures)
+    (item_many taker place (elim c.then-len-ge-MOST_ITEMS.branch [
+      then-len-ge-MOST_ITEMS-via-then-len-ge-MOST_ITEMS w ↦ inl (omega (arith, w.if-len-ge-MOST_ITEMS, c.len.ensures))
+      | then-len-ge-MOST_ITEMS-via-else-len-ge-MOST_ITEMS+then-len-ge-MOST_LARGE_ITEMS w ↦ inr (omega (arith, w.if-len-ge-MOST_LARGE_ITEMS, w.len-else-len-ge-MOST_ITEMS.ensures))
+    ]))
+
+pub returns-then-not-index_fits : goal.returns-then-not-index_fits
+returns-then-not-index_fits c =
+    let taker = c.args.self.now in
+    let item = c.args.item.now in
+    let values : List ℕ = reverse c.args.values.now in
+    let place : Place = record {
+      kind = item.kind;
+      location = item.name ++ subscript_of values item.index;
+      line = item.line;
+      index_fits = index_fits values item.index;
+      index_line = index_line item.index;
+    } in
+    subst (λ (fault : ReadFault). StopsAt large_fault_of (ItemComes place ∷ []) (HasEntered taker) fault)
+    (sym (c.fault-then-not-index_fits.ensures
+    ∙ ap (λ (n : ℕ). fault_so n) c.index_line.ensures))
+    (item_far taker place (omega (arith, c.if-len-ge-MOST_ITEMS.false, c.len.ensures))
+    (omega (
+      arith,
+      c.if-len-ge-MOST_LARGE_ITEMS.false,
+      c.len-else-len-ge-MOST_ITEMS.ensures,
+    ))
+    (sym c.index_fits.ensures ∙ c.if-not-index_fits.true))
+
+pub returns : goal.returns
+returns c =
+    let taker = c.args.self.now in
+    let item = c.args.item.now in
+    let values : List ℕ = reverse c.args.values.now in
+    let place : Place = record {
+      kind = item.kind;
+      location = item.name ++ subscript_of values item.index;
+      line = item.line;
+      index_fits = index_fits values item.index;
+      index_line = index_line item.index;
+    } in
+    let text = c.as_str-2.ensures.value ∙ c.in_ok-location.ensures in
+    let names_are = c.in_ok-name.ensures.ok ∙ ap (λ (t : List ℕ). with_name taker.names t) text in
+    let items_are = c.in_ok-push.ensures.ok
+    ∙ ap (λ (n : ℕ). taker.items ++ record { kind = item.kind; name = n } ∷ [])
+    (c.in_ok-name.ensures.number ∙ ap (λ (t : List ℕ). number_of_name taker.names t) text) in
+    item_leads taker c.number_of.new.self c.push.new.self c.print_item.new.printer place names_are
+    items_are (omega (arith, c.if-len-ge-MOST_ITEMS.false, c.len.ensures))
+    (omega (
+      arith,
+      c.if-len-ge-MOST_LARGE_ITEMS.false,
+      c.len-else-len-ge-MOST_ITEMS.ensures,
+    ))
+    (sym c.index_fits.ensures ∙ c.if-not-index_fits.false)
