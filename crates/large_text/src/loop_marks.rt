@@ -9,7 +9,15 @@ ghost use Rattle.task_program.specs.TreeSoFar.{end_mark_of};
 ghost use Rattle.large_text.specs.LargeReading.{block_seen, mark_seen};
 ghost use Rattle.large_text.specs.LoopFaults.{large_fault_of};
 ghost use Rattle.large_text.specs.LoopMarked.{HasEntered};
-ghost use Rattle.large_text.specs.Tallied.{IsBegun};
+ghost use Rattle.large_text.specs.Tallied.{IsBegun, keeps_rows, keeps_text};
+ghost use Rattle.large_text.specs.LoopTallied.{TalliesTree};
+ghost use Rattle.loop_text.specs.Loops.{Tree};
+ghost use Rattle.std.specs.Prelude.{◌≢◌, ◌⊎◌, IfOk};
+ghost use Rattle.program_text.specs.declared.fault.ReadKind.TheVariants.{OutOfMemory};
+ghost use Rattle.program_text.specs.ScannerSeen.{tokens_left, end_line};
+ghost use Rattle.task_program.specs.ExpansionFault.{HasExpansionFaultBy};
+ghost use Rattle.task_program.specs.FirstFault.{IsFirstFault};
+ghost use Rattle.task_program.specs.FirstLoopFault.{IsTreeOf, loop_rules};
 ghost use Rattle.large_text.specs.declared.limits.TheConstants.{MOST_LARGE_LINES};
 
 use crate::fault::LargeFault;
@@ -223,7 +231,18 @@ pub(crate) fn tally_loops(
     after_header: Scanner<'_>,
     key: NameKey,
     tally: Tally,
-) -> Result<Tally, LargeFault> {
+) -> Result<Tally, LargeFault>
+    requires begun { IsBegun tally }
+    ensures tallied { IfOk result (λ done. (tree : Tree)
+        × IsTreeOf (tokens_left after_header.entry) tree × TalliesTree tree done) }
+    ensures refused { IfErr result (λ fault. fault.kind ≢ OutOfMemory
+        → IsFirstFault loop_rules (tokens_left after_header.entry) (end_line after_header.entry) fault
+        ⊎ ((tree : Tree) × IsTreeOf (tokens_left after_header.entry) tree
+        × HasExpansionFaultBy large_fault_of tree fault)) }
+    ensures memory { IfErr result (λ fault. fault.kind ≡ OutOfMemory → fault.line ≡ 0) }
+    ensures rows { IfOk result (λ done. keeps_rows done ≡ keeps_rows tally) }
+    ensures text { IfOk result (λ done. keeps_text done ≡ keeps_text tally) }
+{
     let body = match read_loops(alloc, after_header) {
         Ok(body) => body,
         Err(fault) => return Err(large_fault(fault)),

@@ -91,7 +91,12 @@ impl Tally {
 
 impl Tally {
     /// The same at its beginning, for a text of version 2.
-    pub(crate) fn for_loops(self, alloc: Global) -> Result<Tally, AllocFault> {
+    pub(crate) fn for_loops(self, alloc: Global) -> Result<Tally, AllocFault>
+        requires begun { IsBegun self }
+        ensures begun { IfOk result IsBegun }
+        ensures rows { IfOk result (λ tally. keeps_rows tally ≡ keeps_rows self) }
+        ensures text { IfOk result (λ tally. keeps_text tally ≡ keeps_text self) }
+    {
         let Tally {
             meter,
             rows,

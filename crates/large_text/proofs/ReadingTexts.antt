@@ -1,0 +1,115 @@
+-- Texts of either version: which one the first bytes tell, and what is known in it.
+use Rattle.std.proofs.Common.{◌≡◌, ◌≤◌, ◌<◌, ◌++◌, ◌∙◌, ℕ, Bool, true, false, List, length, ap, subst, sym}
+use Rattle.std.specs.Prelude.{MatchBool, nat_lt}
+use Rattle.std.proofs.lemmas.Bool.{lt-ltb, le-ltb, MatchBool-at_true, MatchBool-at_false}
+use Rattle.std.proofs.lemmas.List.{take_all, take-append-le}
+use Rattle.program_text.specs.declared.fault.ReadFault.{ReadFault}
+use Rattle.program_text.specs.declared.fault.ReadKind.TheVariants.{TooLong}
+use Rattle.program_text.specs.declared.limits.TheConstants.{MOST_TEXT_BYTES}
+use Rattle.program_text.specs.Tokens.{line_at_end, texts, tokens_of}
+use Rattle.program_text.proofs.Bools.{bool_cases}
+use Rattle.loop_text.specs.Loops.{Tree}
+use Rattle.task_program.specs.declared.version.Version.TheVariants.{Two}
+use Rattle.task_program.specs.ExpandsTo.{program_of_state, state_after_tree}
+use Rattle.task_program.specs.FirstLoopFault.{IsTreeOf}
+use Rattle.task_program.specs.Nested.{IsNested}
+use Rattle.task_program.specs.ProgramMarks.{ProgramMarks}
+use Rattle.task_program.specs.Versions.{begins_version_two, body_of}
+use Rattle.task_program.proofs.FirstFaults.{fault_so}
+use Rattle.large_text.specs.declared.tally.Tally.{Tally}
+use Rattle.large_text.specs.LargeTexts.{HasLargeLoopFault, HasLoopProgram, IsLargeFault, IsLargeLoopFault}
+use Rattle.large_text.specs.LargeTexts.{IsLargeLoopText, IsLargeRight, StandsForLarge, is_large_two}
+use Rattle.large_text.specs.LargeTrees.{HasLargeProgram, IsLargeFirstFault, IsLargeRightWhole}
+use Rattle.large_text.specs.LoopTallied.{TalliesTree}
+use Rattle.large_text.specs.Measured.{TalliesPlain, TalliesText}
+
+-- ---- the first bytes
+
+-- a text that has not more is of the version that its tokens tell
+pub two_whole : (text : List ℕ) → length text ≤ MOST_TEXT_BYTES
+    → is_large_two text ≡ begins_version_two (tokens_of text)
+two_whole text few =
+    ap (λ (bytes : List ℕ). begins_version_two (tokens_of bytes))
+    (take_all MOST_TEXT_BYTES text few)
+
+-- what comes behind them changes nothing
+pub two_front : (front later : List ℕ) → MOST_TEXT_BYTES ≤ length front
+    → is_large_two (front ++ later) ≡ is_large_two front
+two_front front later many =
+    ap (λ (bytes : List ℕ). begins_version_two (tokens_of bytes))
+    (take-append-le MOST_TEXT_BYTES front later many)
+
+-- ---- what is said in each version
+
+pub at_true : {b : Bool} (P Q : Type 0) → b ≡ true → P → MatchBool b P Q
+at_true P Q is p = subst (λ (b : Bool). MatchBool b P Q) (sym is) p
+
+pub at_false : {b : Bool} (P Q : Type 0) → b ≡ false → Q → MatchBool b P Q
+at_false P Q is q = subst (λ (b : Bool). MatchBool b P Q) (sym is) q
+
+pub nested_of : (text : List ℕ) (program : ProgramMarks)
+    → StandsForLarge text program
+    → IsNested program.marks
+nested_of text program h =
+    bool_cases (is_large_two text) (λ two. (MatchBool-at_true _ _ two h).nested)
+    (λ one. (MatchBool-at_false _ _ one h).tree.nested)
+
+pub fault_plain : (text : List ℕ) (fault : ReadFault)
+    → is_large_two text ≡ false
+    → IsLargeFirstFault (tokens_of text) (line_at_end 1 text) fault
+    → IsLargeFault text fault
+fault_plain text fault one h = at_false (IsLargeLoopFault text fault) _ one h
+
+pub fault_long : (text : List ℕ) → is_large_two text ≡ true → MOST_TEXT_BYTES < length text
+    → IsLargeFault text (fault_so TooLong 1)
+fault_long text two many =
+    let fault = fault_so TooLong 1 in
+    at_true (IsLargeLoopFault text fault)
+    (IsLargeFirstFault (tokens_of text) (line_at_end 1 text) fault) two
+    (at_true (fault ≡ fault) (HasLargeLoopFault text fault)
+    (lt-ltb MOST_TEXT_BYTES (length text) many) refl)
+
+pub fault_two : (text : List ℕ) (fault : ReadFault)
+    → is_large_two text ≡ true
+    → length text ≤ MOST_TEXT_BYTES
+    → HasLargeLoopFault text fault
+    → IsLargeFault text fault
+fault_two text fault two few h =
+    at_true (IsLargeLoopFault text fault)
+    (IsLargeFirstFault (tokens_of text) (line_at_end 1 text) fault) two
+    (at_false (fault ≡ fault_so TooLong 1) (HasLargeLoopFault text fault)
+    (le-ltb MOST_TEXT_BYTES (length text) few) h)
+
+-- ---- a whole text
+
+pub tallies_plain : (text : List ℕ) (tally : Tally)
+    → is_large_two text ≡ false
+    → TalliesPlain (tokens_of text) tally
+    → TalliesText text tally
+tallies_plain text tally one h = record {
+  program = h.program;
+  stands = at_false (HasLoopProgram text h.program) _ one h.stands;
+  right = at_false ((tree : Tree) × IsLargeLoopText text tree) _ one h.right;
+  measures = h.measures;
+  prints = h.prints;
+}
+
+pub tallies_two : (text : List ℕ) (tally : Tally) (tree : Tree)
+    → is_large_two text ≡ true
+    → length text ≤ MOST_TEXT_BYTES
+    → IsTreeOf (body_of text) tree
+    → TalliesTree tree tally
+    → TalliesText text tally
+tallies_two text tally tree two few whole h = record {
+  program = program_of_state Two (state_after_tree tree);
+  stands = at_true _ (HasLargeProgram (texts (tokens_of text)) (program_of_state Two (state_after_tree tree))) two (record {
+    tree = tree;
+    whole = whole;
+    program_is = refl;
+    nested = h.nested;
+  });
+  right = at_true _ (IsLargeRightWhole (tokens_of text)) two
+      (tree, record { fits = few; whole = whole; expands = h.right });
+  measures = h.tallies;
+  prints = h.prints;
+}
