@@ -1,5 +1,6 @@
 -- Texts of either version: which one the first bytes tell, and what is known in it.
 use Rattle.std.proofs.Common.{◌≡◌, ◌≤◌, ◌<◌, ◌++◌, ◌∙◌, ℕ, Bool, true, false, List, length, ap, subst, sym}
+use Rattle.std.proofs.Common.{refl}
 use Rattle.std.specs.Prelude.{MatchBool, nat_lt}
 use Rattle.std.proofs.lemmas.Bool.{lt-ltb, le-ltb, MatchBool-at_true, MatchBool-at_false}
 use Rattle.std.proofs.lemmas.List.{take_all, take-append-le}
