@@ -8,3 +8,4 @@ pub mod Tallied
 pub mod LoopFaults
 pub mod LoopMarked
 pub mod LargeTexts
+pub mod LoopTallied
