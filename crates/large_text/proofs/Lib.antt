@@ -10,6 +10,7 @@ pub mod Taken
 pub mod Memory
 pub mod Fitting
 pub mod LoopMarking
+pub mod LoopTallying
 pub mod Printing
 pub mod Measuring
 pub mod Whole

@@ -41,7 +41,9 @@ use Rattle.large_text.specs.declared.tally.Tally.{Tally}
 use Rattle.large_text.specs.LoopMarked.{AreOpen, HasEntered, blocks_seen}
 use Rattle.large_text.specs.LoopMarked.AreOpen.{InTask, InGroup}
 use Rattle.large_text.specs.LoopFaults.{large_fault_of, lines_of}
+use Rattle.large_text.specs.Printed.{IsOwn, PrintsIn, PrintsMark, PrintsNamed, items_behind}
 use Rattle.large_text.specs.Tallied.{CanTally, Tallies}
+use Rattle.task_program.specs.declared.version.Version.TheVariants.{Two}
 use Rattle.large_text.proofs.Fitting.{closed, closing, fits_next}
 use Rattle.large_text.specs.declared.printer.Printer.{Printer}
 use Rattle.task_program.specs.Names.{number_of_name, with_name}
@@ -85,14 +87,31 @@ can_tally tally marks blocks mark tallies open_are work few = record {
       few;
 }
 
+-- the mark has been entered: measured, and printed where something is
+abbrev pub Enters : (before after : Tally) → Mark → Type 0
+Enters before after mark =
+    ((moment : List Mark) → Tallies before moment → Tallies after (mark ∷ moment))
+    × PrintsMark before.printer after.printer mark
+
 pub tallied : (tally more : Tally) (marks : List Mark) (mark : Mark)
-    → ((moment : List Mark) → Tallies tally moment → Tallies more (mark ∷ moment))
+    → Enters tally more mark
     → Tallies tally (last_moment marks)
     → Tallies more (last_moment (marks ++ mark ∷ []))
 tallied tally more marks mark takes h =
     subst (Tallies more)
     (sym (moment_after-append marks (mark ∷ []) (Begins false [] ∷ [])))
-    (takes (last_moment marks) h)
+    (takes.0 (last_moment marks) h)
+
+pub printed : (tally more : Tally) (names : List (List ℕ)) (items after : List Item)
+    (marks : List Mark) (mark : Mark)
+    → Enters tally more mark
+    → IsOwn items mark
+    → items_behind items mark ≡ after
+    → PrintsIn Two tally.printer names items marks
+    → PrintsIn Two more.printer names after (marks ++ mark ∷ [])
+printed tally more names items after marks mark takes own same h =
+    subst (λ (is : List Item). PrintsIn Two more.printer names is (marks ++ mark ∷ [])) same
+    (takes.1 Two names items marks own h)
 
 work_more : (marks : List Mark) (mark : Mark)
     → work_of (marks ++ mark ∷ []) ≡ work_of marks + work_of (mark ∷ [])
@@ -125,6 +144,7 @@ turn_entered taker state line h room = record {
   blocks = h.blocks;
   open_are = h.open_are;
   tallies = h.tallies;
+  prints = h.prints;
 }
 
 -- a mark of a statement that is no block
@@ -139,9 +159,11 @@ pub statement_entered : (taker : LoopMarks) (state next : ExpansionState) (mark 
     → work ≡ taker.work + work_of (mark ∷ [])
     → work ≤ MOST_WORK
     → AreOpen state.tree.blocks (state.tree.marks ++ mark ∷ [])
-    → ((moment : List Mark) → Tallies taker.tally moment → Tallies tally (mark ∷ moment))
+    → Enters taker.tally tally mark
+    → IsOwn state.items mark
+    → items_behind state.items mark ≡ state.items
     → HasEntered (record taker { lines = taker.lines + 1; work = work; tally = tally }) next
-statement_entered taker state next mark work tally is h room sum little open_are takes =
+statement_entered taker state next mark work tally is h room sum little open_are takes own same_items =
     let more : work_of (state.tree.marks ++ mark ∷ []) ≡ work_of state.tree.marks
     + work_of (mark ∷ []) = work_more state.tree.marks mark in
     let long = length-append state.tree.marks (mark ∷ []) in
@@ -165,6 +187,8 @@ statement_entered taker state next mark work tally is h room sum little open_are
       blocks = h.blocks;
       open_are = open_are;
       tallies = tallied taker.tally tally state.tree.marks mark takes h.tallies;
+      prints = printed taker.tally tally state.names state.items state.items state.tree.marks mark
+          takes own same_items h.prints;
     } in
     subst (HasEntered (record taker { lines = taker.lines + 1; work = work; tally = tally }))
     (sym is) same
@@ -284,7 +308,7 @@ memory_stops test pieces before = λ state here. refl
 
 pub wait_leads : (taker : LoopMarks) (tally : Tally) (line : ℕ)
     → taker.lines + 1 ≤ MOST_LARGE_LINES
-    → ((moment : List Mark) → Tallies taker.tally moment → Tallies tally (Waits ∷ moment))
+    → Enters taker.tally tally Waits
     → LeadsOn large_fault_of (WaitIs line ∷ []) (HasEntered taker)
     (HasEntered (record taker { lines = taker.lines + 1; tally = tally }))
 wait_leads taker tally line room takes = λ state h.
@@ -293,7 +317,7 @@ wait_leads taker tally line room takes = λ state h.
       after_piece state (WaitIs line),
       piece_taken large_fault_of state (WaitIs line) fits,
       statement_entered taker state (after_piece state (WaitIs line)) Waits taker.work tally refl h
-          room (omega arith) h.little_work (open_wait taker state h) takes,
+          room (omega arith) h.little_work (open_wait taker state h) takes tt refl,
     )
 
 pub wait_stops : (taker : LoopMarks) (line : ℕ)
@@ -333,7 +357,7 @@ turn_stops taker line past = λ state h.
 pub work_leads : (taker : LoopMarks) (tally : Tally) (cost line : ℕ)
     → taker.lines + 1 ≤ MOST_LARGE_LINES
     → taker.work + cost ≤ MOST_WORK
-    → ((moment : List Mark) → Tallies taker.tally moment → Tallies tally (Works cost ∷ moment))
+    → Enters taker.tally tally (Works cost)
     → LeadsOn large_fault_of (WorkIs cost line ∷ []) (HasEntered taker)
     (HasEntered (record taker {
       lines = taker.lines + 1;
@@ -350,7 +374,7 @@ work_leads taker tally cost line room little takes = λ state h.
       piece_taken large_fault_of state (WorkIs cost line) (rw light fits),
       statement_entered taker state (after_piece state (WorkIs cost line)) (Works cost)
           (taker.work + cost) tally refl h room (omega arith) little (open_work taker state cost h)
-          takes,
+          takes tt refl,
     )
 
 pub work_heavy : (taker : LoopMarks) (cost line : ℕ)
@@ -396,7 +420,9 @@ block_entered : (taker : LoopMarks) (blocks : Vec OpenBlock Global) (items : Lis
     → taker.lines + 2 ≤ MOST_LARGE_LINES
     → work_of (mark ∷ []) ≡ 0
     → AreOpen (block_seen block ∷ state.tree.blocks) (state.tree.marks ++ mark ∷ [])
-    → ((moment : List Mark) → Tallies taker.tally moment → Tallies tally (mark ∷ moment))
+    → Enters taker.tally tally mark
+    → IsOwn state.items mark
+    → items_behind state.items mark ≡ items
     → HasEntered (record taker {
       lines = taker.lines + 2;
       blocks = blocks;
@@ -404,7 +430,7 @@ block_entered : (taker : LoopMarks) (blocks : Vec OpenBlock Global) (items : Lis
       tally = tally;
     }) next
 block_entered taker blocks items tally state next block mark turns names is_items few tree pushed h
-    room no_work open_are takes =
+    room no_work open_are takes own behind =
     let marks_are = ap (λ (t : TreeSoFar). t.marks) tree in
     let blocks_are = ap (λ (t : TreeSoFar). t.blocks) tree in
     let long = length-append state.tree.marks (mark ∷ []) in
@@ -428,6 +454,14 @@ block_entered taker blocks items tally state next block mark turns names is_item
       open_are = subst (λ (t : TreeSoFar). AreOpen t.blocks t.marks) (sym tree) open_are;
       tallies = subst (λ (t : TreeSoFar). Tallies tally (last_moment t.marks)) (sym tree)
           (tallied taker.tally tally state.tree.marks mark takes h.tallies);
+      prints = subst (λ (t : TreeSoFar). PrintsIn Two tally.printer next.names next.items t.marks)
+          (sym tree)
+          (subst
+          (λ (ns : List (List ℕ)). PrintsIn Two tally.printer ns next.items
+          (state.tree.marks ++ mark ∷ []))
+          (sym names)
+          (printed taker.tally tally state.names state.items next.items state.tree.marks mark takes
+          own (behind ∙ sym is_items) h.prints));
     }
 
 -- a group
@@ -435,7 +469,7 @@ pub group_leads : (taker : LoopMarks) (blocks : Vec OpenBlock Global) (tally : T
     (line brace_line : ℕ)
     → blocks.items ≡ taker.blocks.items ++ OpenGroup brace_line ∷ []
     → taker.lines + 2 ≤ MOST_LARGE_LINES
-    → ((moment : List Mark) → Tallies taker.tally moment → Tallies tally (GroupBegins ∷ moment))
+    → Enters taker.tally tally GroupBegins
     → LeadsOn large_fault_of (GroupComes line ∷ GroupOpens brace_line ∷ []) (HasEntered taker)
     (HasEntered (record taker { lines = taker.lines + 2; blocks = blocks; tally = tally }))
 group_leads taker blocks tally line brace_line pushed room takes = λ state h.
@@ -446,7 +480,8 @@ group_leads taker blocks tally line brace_line pushed room takes = λ state h.
           ∙ piece_taken large_fault_of state (GroupOpens brace_line) fits,
       block_entered taker blocks taker.items tally state
           (after_piece state (GroupOpens brace_line)) (OpenGroup brace_line) GroupBegins refl refl
-          h.items h.few_items refl pushed h room refl (open_group taker state brace_line h) takes,
+          h.items h.few_items refl pushed h room refl (open_group taker state brace_line h) takes tt
+          h.items,
     )
 
 pub group_stops : (taker : LoopMarks) (line brace_line : ℕ)
@@ -465,8 +500,7 @@ pub task_leads : (taker : LoopMarks) (blocks : Vec OpenBlock Global) (tally : Ta
     (undeferred : Bool) (line : ℕ)
     → blocks.items ≡ taker.blocks.items ++ OpenTask line ∷ []
     → taker.lines + 2 ≤ MOST_LARGE_LINES
-    → ((moment : List Mark) → Tallies taker.tally moment
-    → Tallies tally (Begins undeferred taker.items ∷ moment))
+    → Enters taker.tally tally (Begins undeferred taker.items)
     → LeadsOn large_fault_of (TaskOpens undeferred line ∷ []) (HasEntered taker)
     (HasEntered (record taker {
       lines = taker.lines + 2;
@@ -482,9 +516,9 @@ task_leads taker blocks tally undeferred line pushed room takes = λ state h.
       block_entered taker blocks [] tally state (after_piece state (TaskOpens undeferred line))
           (OpenTask line) (Begins undeferred state.items) refl refl refl (omega arith) refl pushed h
           room refl (open_task taker state undeferred line h)
-          (λ moment g. subst
-          (λ (items : List Item). Tallies tally (Begins undeferred items ∷ moment)) (sym h.items)
-          (takes moment g)),
+          (subst (λ (items : List Item). Enters taker.tally tally (Begins undeferred items))
+          (sym h.items) takes)
+          refl refl,
     )
 
 pub task_stops : (taker : LoopMarks) (undeferred : Bool) (line : ℕ)
@@ -507,13 +541,15 @@ pub item_leads : (taker : LoopMarks) (names : List (List ℕ)) (items : List Ite
     → length taker.items < MOST_ITEMS
     → length taker.names < MOST_LARGE_ITEMS
     → place.index_fits ≡ true
+    → PrintsNamed place.kind place.location taker.tally.printer printer
     → LeadsOn large_fault_of (ItemComes place ∷ []) (HasEntered taker)
     (HasEntered (record taker {
       names = names;
       items = items;
       tally = record taker.tally { printer = printer };
     }))
-item_leads taker names items printer place names_are items_are few few_names fits = λ state h.
+item_leads taker names items printer place names_are items_are few few_names fits prints =
+    λ state h.
     let items_long = ap (λ (xs : List Item). length xs) h.items in
     let names_long = ap (λ (xs : List (List ℕ)). length xs) h.names in
     let room : nat_le MOST_ITEMS (length state.items) ≡ false =
@@ -551,6 +587,7 @@ item_leads taker names items printer place names_are items_are few few_names fit
         blocks = h.blocks;
         open_are = h.open_are;
         tallies = still_tallies taker.tally printer (last_moment state.tree.marks) h.tallies;
+        prints = prints Two state.names state.items state.tree.marks h.prints;
       },
     )
 
@@ -571,6 +608,12 @@ no_end_work : (block : Block) → work_of (end_mark_of block ∷ []) ≡ 0
 no_end_work (TaskBlock line) = refl
 no_end_work (GroupBlock line) = refl
 
+-- what ends a block takes no items
+no_end_items : (block : Block) (items : List Item)
+    → IsOwn items (end_mark_of block) × (items_behind items (end_mark_of block) ≡ items)
+no_end_items (TaskBlock line) items = (tt, refl)
+no_end_items (GroupBlock line) items = (tt, refl)
+
 pub can_end : (taker : LoopMarks) (blocks : List OpenBlock) (block : OpenBlock)
     (state : ExpansionState)
     → taker.blocks.items ≡ blocks ++ block ∷ []
@@ -590,8 +633,7 @@ can_end taker blocks block state popped h =
 pub end_leads : (taker : LoopMarks) (blocks : Vec OpenBlock Global) (tally : Tally)
     (block : OpenBlock)
     → taker.blocks.items ≡ blocks.items ++ block ∷ []
-    → ((moment : List Mark) → Tallies taker.tally moment
-    → Tallies tally (end_mark_of (block_seen block) ∷ moment))
+    → Enters taker.tally tally (end_mark_of (block_seen block))
     → LeadsOn large_fault_of (BlockEnds ∷ []) (HasEntered taker)
     (HasEntered (record taker { blocks = blocks; tally = tally }))
 end_leads taker blocks tally block popped takes = λ state h.
@@ -625,6 +667,12 @@ end_leads taker blocks tally block popped takes = λ state h.
             (open_end taker state (block_seen block) inner h before);
         tallies = subst (λ (t : TreeSoFar). Tallies tally (last_moment t.marks)) (sym tree)
             (tallied taker.tally tally state.tree.marks mark takes h.tallies);
+        prints = subst
+            (λ (t : TreeSoFar). PrintsIn Two tally.printer state.names state.items t.marks)
+            (sym tree)
+            (printed taker.tally tally state.names state.items state.items state.tree.marks mark
+            takes (no_end_items (block_seen block) state.items).0
+            (no_end_items (block_seen block) state.items).1 h.prints);
       },
     )
 

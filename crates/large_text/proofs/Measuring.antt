@@ -20,6 +20,7 @@ use Rattle.large_text.specs.LargeReading.{GoesTo, IsReadSoFar, mark_seen}
 use Rattle.large_text.specs.LargeTrees.{HasLargeProgram, IsLargeRightWhole, IsLargeFirstFault}
 use Rattle.large_text.specs.LargeTrees.{plain_program}
 use Rattle.large_text.specs.Measured.{TalliesPlain, MeasuresSoFar, CanMeasure}
+use Rattle.task_program.specs.declared.version.Version.TheVariants.{One}
 use Rattle.large_text.proofs.Moved.{further, tokens_further}
 use Rattle.large_text.proofs.Printing.{prints_mark, prints_token, whole_text}
 
@@ -205,5 +206,5 @@ is_measured before all reader meter m all_is whole =
       stands = is.0;
       right = is.1;
       measures = m.measures;
-      prints = whole_text meter.printer reader.names reader.items m.marks m.prints;
+      prints = whole_text One meter.printer reader.names reader.items m.marks m.prints;
     })

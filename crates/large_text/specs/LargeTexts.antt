@@ -8,17 +8,17 @@ use Rattle.program_text.specs.Tokens.{is_line_feed, line_at_end, texts, tokens_o
 use Rattle.loop_text.specs.Loops.{Tree}
 use Rattle.task_program.specs.declared.version.Version.TheVariants.{Two}
 use Rattle.task_program.specs.Expansion.{expansion}
-use Rattle.task_program.specs.ExpansionFault.{HasExpansionFaultBy, first_fault_by}
+use Rattle.task_program.specs.ExpansionFault.{first_fault_by}
 use Rattle.task_program.specs.Expanded.{empty_expansion}
 use Rattle.task_program.specs.ExpandsTo.{program_of_state, state_after_tree}
-use Rattle.task_program.specs.FirstFault.{IsFirstFault}
-use Rattle.task_program.specs.FirstLoopFault.{IsTreeOf, loop_rules}
+use Rattle.task_program.specs.FirstLoopFault.{IsTreeOf}
 use Rattle.task_program.specs.Nested.{IsNested}
 use Rattle.task_program.specs.ProgramMarks.{ProgramMarks}
 use Rattle.task_program.specs.Versions.{begins_version_two, body_of}
 use Rattle.large_text.specs.declared.limits.TheConstants.{LARGEST_TEXT, LARGEST_LINE}
 use Rattle.large_text.specs.LargeTrees.{HasLargeProgram, IsLargeFirstFault, IsLargeRightWhole}
 use Rattle.large_text.specs.LoopFaults.{large_fault_of}
+use Rattle.large_text.specs.LoopTallied.{HasLoopFaultOf}
 
 -- no byte of them is an LF
 abbrev pub HasNoLineFeed : List ℕ → Type 0
@@ -44,9 +44,7 @@ pub record IsLargeLoopText (text : List ℕ) (tree : Tree) : Type 0 where
 
 -- the first fault of the tokens behind the header, or else that of the expansion
 abbrev pub HasLargeLoopFault : List ℕ → ReadFault → Type 0
-HasLargeLoopFault text fault =
-    IsFirstFault loop_rules (body_of text) (line_at_end 1 text) fault
-    ⊎ ((tree : Tree) × IsTreeOf (body_of text) tree × HasExpansionFaultBy large_fault_of tree fault)
+HasLargeLoopFault text fault = HasLoopFaultOf (body_of text) (line_at_end 1 text) fault
 
 -- a text of version 2 that has too many bytes has that fault, before all others
 abbrev pub IsLargeLoopFault : List ℕ → ReadFault → Type 0

@@ -1,5 +1,5 @@
 -- Carried out: what is held of the pieces of an expansion that have been taken.
-use Rattle.std.specs.Prelude.{◌≡◌, ℕ, ◌+◌, ◌≤◌, Bool, List, [], ◌∷◌, ◌++◌, length, map, reverse}
+use Rattle.std.specs.Prelude.{◌≡◌, ℕ, ◌+◌, ◌≤◌, Bool, false, List, [], ◌∷◌, ◌++◌, length, map, reverse}
 use Rattle.program_text.specs.declared.statement.Item.{Item}
 use Rattle.program_text.specs.declared.limits.TheConstants.{MOST_ITEMS, MOST_WORK}
 use Rattle.program_text.specs.Limits.{work_of}
@@ -8,15 +8,22 @@ use Rattle.program_text.specs.Marks.Mark.{Begins, GroupBegins}
 use Rattle.task_program.specs.Nested.{IsNested}
 use Rattle.task_program.specs.TreeSoFar.{Block}
 use Rattle.task_program.specs.TreeSoFar.Block.{TaskBlock, GroupBlock}
-use Rattle.task_program.specs.Expanded.{ExpansionState}
+use Rattle.program_text.specs.Answers.{Fails}
+use Rattle.program_text.specs.declared.fault.ReadFault.{ReadFault}
+use Rattle.loop_text.specs.Loops.{Tree}
+use Rattle.task_program.specs.Expanded.{ExpansionState, empty_expansion}
+use Rattle.task_program.specs.Expansion.{expansion}
+use Rattle.task_program.specs.SecondPass.{take_pieces_by}
 use Rattle.task_segments.specs.Moments.{last_moment}
 use Rattle.large_text.specs.declared.limits.TheConstants.{MOST_LARGE_TURNS, MOST_LARGE_LINES}
 use Rattle.large_text.specs.declared.limits.TheConstants.{MOST_LARGE_ITEMS}
 use Rattle.large_text.specs.declared.loop_marks.LoopMarks.{LoopMarks}
 use Rattle.large_text.specs.declared.reader.OpenBlock.{OpenBlock}
 use Rattle.large_text.specs.LargeReading.{block_seen}
-use Rattle.large_text.specs.LoopFaults.{lines_of}
-use Rattle.large_text.specs.Tallied.{Tallies}
+use Rattle.large_text.specs.LoopFaults.{large_fault_of, lines_of}
+use Rattle.task_program.specs.declared.version.Version.TheVariants.{Two}
+use Rattle.large_text.specs.Printed.{PrintsIn}
+use Rattle.large_text.specs.Tallied.{Tallies, keeps_rows, keeps_text}
 
 -- marks behind which these blocks are open, the innermost first
 pub data AreOpen : List Block → List Mark → Type 0 where
@@ -49,3 +56,15 @@ pub record HasEntered (taker : LoopMarks) (state : ExpansionState) : Type 0 wher
   pub blocks : state.tree.blocks ≡ blocks_seen taker.blocks.items
   pub open_are : AreOpen state.tree.blocks state.tree.marks
   pub tallies : Tallies taker.tally (last_moment state.tree.marks)
+  pub prints : PrintsIn Two taker.tally.printer state.names state.items state.tree.marks
+
+-- and its tally keeps rows, and the text, where these are true
+pub record HasKept (with_rows with_text : Bool) (taker : LoopMarks) (state : ExpansionState) : Type 0 where
+  pub entered : HasEntered taker state
+  pub rows : keeps_rows taker.tally ≡ with_rows
+  pub text : keeps_text taker.tally ≡ with_text
+
+-- the expansion of this tree is refused so, unless memory ran out
+abbrev pub IsRefusedWith : Tree → ReadFault → Type 0
+IsRefusedWith tree fault =
+    Fails fault (take_pieces_by large_fault_of empty_expansion (expansion [] false tree))

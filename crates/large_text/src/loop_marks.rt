@@ -1,23 +1,24 @@
 //! The marks of an expansion, entered one after another.
-ghost use Rattle.std.specs.Prelude.{◌≡◌, ◌≤◌, ◌<◌, ◌+◌, ◌∷◌, [], reverse, map, OnOk, IfErr};
-ghost use Rattle.program_text.specs.declared.fault.ReadKind.TheVariants.{TooLong};
+ghost use Rattle.std.specs.Prelude.{◌≡◌, ◌≢◌, ◌≤◌, ◌<◌, ◌+◌, ◌∷◌, [], reverse, map, OnOk, IfErr, IfOk};
+ghost use Rattle.std.specs.Option.{is_some};
+ghost use Rattle.program_text.specs.ScannerSeen.{tokens_left, end_line};
+ghost use Rattle.program_text.specs.declared.fault.ReadKind.TheVariants.{OutOfMemory, TooLong};
+ghost use Rattle.loop_text.specs.Loops.{Tree};
+ghost use Rattle.loop_text.specs.LoopsSeen.{tree_of};
 ghost use Rattle.task_program.specs.Expanded.{empty_expansion};
-ghost use Rattle.task_program.specs.Expansion.{item_comes};
-ghost use Rattle.task_program.specs.Expansion.Piece.{TaskOpens};
-ghost use Rattle.task_program.specs.Walks.{IsSomewhere, TakesSo};
+ghost use Rattle.task_program.specs.Expansion.{item_comes, task_pieces};
+ghost use Rattle.task_program.specs.Expansion.Piece.{TurnBegins, TaskOpens, GroupComes, GroupOpens};
+ghost use Rattle.task_program.specs.Expansion.Piece.{BlockEnds, WorkIs, WaitIs};
+ghost use Rattle.task_program.specs.FirstLoopFault.{IsTreeOf};
+ghost use Rattle.task_program.specs.Walks.{IsSomewhere, IsInside, TakesSo};
+ghost use Rattle.task_program.specs.declared.version.Version.TheVariants.{Two};
 ghost use Rattle.task_program.specs.TreeSoFar.{end_mark_of};
 ghost use Rattle.large_text.specs.LargeReading.{block_seen, mark_seen};
 ghost use Rattle.large_text.specs.LoopFaults.{large_fault_of};
-ghost use Rattle.large_text.specs.LoopMarked.{HasEntered};
-ghost use Rattle.large_text.specs.Tallied.{IsBegun, keeps_rows, keeps_text};
-ghost use Rattle.large_text.specs.LoopTallied.{TalliesTree};
-ghost use Rattle.loop_text.specs.Loops.{Tree};
-ghost use Rattle.std.specs.Prelude.{◌≢◌, ◌⊎◌, IfOk};
-ghost use Rattle.program_text.specs.declared.fault.ReadKind.TheVariants.{OutOfMemory};
-ghost use Rattle.program_text.specs.ScannerSeen.{tokens_left, end_line};
-ghost use Rattle.task_program.specs.ExpansionFault.{HasExpansionFaultBy};
-ghost use Rattle.task_program.specs.FirstFault.{IsFirstFault};
-ghost use Rattle.task_program.specs.FirstLoopFault.{IsTreeOf, loop_rules};
+ghost use Rattle.large_text.specs.LoopMarked.{HasEntered, HasKept, IsRefusedWith};
+ghost use Rattle.large_text.specs.LoopTallied.{HasLoopFaultOf, TalliesTree};
+ghost use Rattle.large_text.specs.Printed.{PrintsNamed};
+ghost use Rattle.large_text.specs.Tallied.{IsBegunIn, keeps_rows, keeps_text};
 ghost use Rattle.large_text.specs.declared.limits.TheConstants.{MOST_LARGE_LINES};
 
 use crate::fault::LargeFault;
@@ -27,7 +28,7 @@ use crate::printer::Printer;
 use crate::reader::OpenBlock;
 use crate::tally::{Tally, take_mark};
 use loop_text::first_pass::read_loops;
-use loop_text::loops::{LoopItem, LoopTask};
+use loop_text::loops::{LoopItem, LoopStmt, LoopTask};
 use program_text::scanner::Scanner;
 use std::alloc::Global;
 use std::mem::replace;
@@ -75,8 +76,9 @@ fn end_of(block: OpenBlock) -> TextMark
 impl LoopMarks {
     /// The taker of an expansion of which nothing has come.
     pub(crate) fn new(alloc: Global, key: NameKey, tally: Tally) -> LoopMarks
-        requires { IsBegun tally }
-        ensures { HasEntered result empty_expansion }
+        requires { IsBegunIn Two tally }
+        ensures entered { HasEntered result empty_expansion }
+        ensures tally { result.tally ≡ tally }
     {
         LoopMarks {
             turns: 0,
@@ -114,8 +116,10 @@ impl LoopMarks {
 
     fn item(&mut self, alloc: Global, values: &[u32], item: &LoopItem) -> Result<(), ReadFault>
         requires { IsSomewhere (HasEntered self.old) }
-        ensures { TakesSo large_fault_of (item_comes (reverse values.now) item.now ∷ [])
+        ensures takes { TakesSo large_fault_of (item_comes (reverse values.now) item.now ∷ [])
             (HasEntered self.old) (HasEntered self.new) result }
+        ensures rows { OnOk result (keeps_rows self.new.tally ≡ keeps_rows self.old.tally) }
+        ensures text { OnOk result (keeps_text self.new.tally ≡ keeps_text self.old.tally) }
     {
         if self.items.len() >= MOST_ITEMS || self.names.len() >= MOST_LARGE_ITEMS {
             return Err(fault(ReadKind::TooManyItems, item.line));
@@ -135,8 +139,10 @@ impl LoopMarks {
 
     fn items(&mut self, alloc: Global, values: &[u32], items: &[LoopItem]) -> Result<(), ReadFault>
         requires { IsSomewhere (HasEntered self.old) }
-        ensures { TakesSo large_fault_of (map (item_comes (reverse values.now)) items.now)
+        ensures takes { TakesSo large_fault_of (map (item_comes (reverse values.now)) items.now)
             (HasEntered self.old) (HasEntered self.new) result }
+        ensures rows { OnOk result (keeps_rows self.new.tally ≡ keeps_rows self.old.tally) }
+        ensures text { OnOk result (keeps_text self.new.tally ≡ keeps_text self.old.tally) }
     {
         'items: for item in items {
             self.item(alloc, values, item)?;
@@ -146,8 +152,10 @@ impl LoopMarks {
 
     fn task_brace(&mut self, alloc: Global, undeferred: bool, line: u32) -> Result<(), ReadFault>
         requires { IsSomewhere (HasEntered self.old) }
-        ensures { TakesSo large_fault_of (TaskOpens undeferred line ∷ []) (HasEntered self.old)
+        ensures takes { TakesSo large_fault_of (TaskOpens undeferred line ∷ []) (HasEntered self.old)
             (HasEntered self.new) result }
+        ensures rows { OnOk result (keeps_rows self.new.tally ≡ keeps_rows self.old.tally) }
+        ensures text { OnOk result (keeps_text self.new.tally ≡ keeps_text self.old.tally) }
     {
         self.add_lines(2, line)?;
         let items = replace(&mut self.items, Items::new(alloc));
@@ -155,24 +163,15 @@ impl LoopMarks {
         take_mark(&mut self.tally, TextMark::TaskBegins { undeferred, items })?;
         Ok(())
     }
-}
 
-fn print_item(
-    printer: &mut Option<Printer>,
-    kind: DependKind,
-    name: &str,
-) -> Result<(), AllocFault> {
-    match printer {
-        Some(printer) => printer.put_item(kind, name),
-        None => Ok(()),
-    }
-}
-
-impl TakesPieces for LoopMarks {
-    ghost test = { large_fault_of };
-    ghost stands_at = { HasEntered };
-
-    fn turn(&mut self, line: u32) -> Result<(), ReadFault> {
+    /// A turn of a loop begins.
+    fn turn(&mut self, line: u32) -> Result<(), ReadFault>
+        requires { IsSomewhere (HasEntered self.old) }
+        ensures takes { TakesSo large_fault_of (TurnBegins line ∷ [])
+            (HasEntered self.old) (HasEntered self.new) result }
+        ensures rows { OnOk result (keeps_rows self.new.tally ≡ keeps_rows self.old.tally) }
+        ensures text { OnOk result (keeps_text self.new.tally ≡ keeps_text self.old.tally) }
+    {
         if self.turns >= MOST_LARGE_TURNS {
             return Err(fault(ReadKind::TooManyTurns, line));
         }
@@ -180,25 +179,46 @@ impl TakesPieces for LoopMarks {
         Ok(())
     }
 
+    /// A task up to its `{`.
     fn task(
         &mut self,
         alloc: Global,
         values: &[u32],
         in_final: bool,
         task: &LoopTask,
-    ) -> Result<(), ReadFault> {
+    ) -> Result<(), ReadFault>
+        requires { IsSomewhere (HasEntered self.old) }
+        ensures takes { TakesSo large_fault_of (task_pieces (reverse values.now) in_final task.now)
+            (HasEntered self.old) (HasEntered self.new) result }
+        ensures rows { OnOk result (keeps_rows self.new.tally ≡ keeps_rows self.old.tally) }
+        ensures text { OnOk result (keeps_text self.new.tally ≡ keeps_text self.old.tally) }
+    {
         self.items(alloc, values, task.items.as_slice())?;
         self.task_brace(alloc, task.undeferred || in_final, task.brace_line)
     }
 
-    fn group(&mut self, alloc: Global, line: u32, brace_line: u32) -> Result<(), ReadFault> {
+    /// A group up to its `{`.
+    fn group(&mut self, line: u32, brace_line: u32) -> Result<(), ReadFault>
+        requires { IsSomewhere (HasEntered self.old) }
+        ensures takes { TakesSo large_fault_of (GroupComes line ∷ GroupOpens brace_line ∷ [])
+            (HasEntered self.old) (HasEntered self.new) result }
+        ensures rows { OnOk result (keeps_rows self.new.tally ≡ keeps_rows self.old.tally) }
+        ensures text { OnOk result (keeps_text self.new.tally ≡ keeps_text self.old.tally) }
+    {
         self.add_lines(2, brace_line)?;
         self.blocks.push(OpenBlock::OpenGroup(u64::from(brace_line)))?;
         take_mark(&mut self.tally, TextMark::GroupOpens)?;
         Ok(())
     }
 
-    fn close(&mut self, alloc: Global) -> Result<(), ReadFault> {
+    /// The innermost block ends.
+    fn close(&mut self) -> Result<(), ReadFault>
+        requires { IsInside (HasEntered self.old) }
+        ensures takes { TakesSo large_fault_of (BlockEnds ∷ [])
+            (HasEntered self.old) (HasEntered self.new) result }
+        ensures rows { OnOk result (keeps_rows self.new.tally ≡ keeps_rows self.old.tally) }
+        ensures text { OnOk result (keeps_text self.new.tally ≡ keeps_text self.old.tally) }
+    {
         match self.blocks.pop() {
             Some(block) => {
                 take_mark(&mut self.tally, end_of(block))?;
@@ -208,7 +228,13 @@ impl TakesPieces for LoopMarks {
         }
     }
 
-    fn work(&mut self, alloc: Global, cost: u64, line: u32) -> Result<(), ReadFault> {
+    fn work(&mut self, cost: u64, line: u32) -> Result<(), ReadFault>
+        requires { IsSomewhere (HasEntered self.old) }
+        ensures takes { TakesSo large_fault_of (WorkIs cost line ∷ [])
+            (HasEntered self.old) (HasEntered self.new) result }
+        ensures rows { OnOk result (keeps_rows self.new.tally ≡ keeps_rows self.old.tally) }
+        ensures text { OnOk result (keeps_text self.new.tally ≡ keeps_text self.old.tally) }
+    {
         if cost > MOST_WORK - self.work {
             return Err(fault(ReadKind::WorkTooLarge, line));
         }
@@ -218,10 +244,115 @@ impl TakesPieces for LoopMarks {
         Ok(())
     }
 
-    fn wait(&mut self, alloc: Global, line: u32) -> Result<(), ReadFault> {
+    fn wait(&mut self, line: u32) -> Result<(), ReadFault>
+        requires { IsSomewhere (HasEntered self.old) }
+        ensures takes { TakesSo large_fault_of (WaitIs line ∷ [])
+            (HasEntered self.old) (HasEntered self.new) result }
+        ensures rows { OnOk result (keeps_rows self.new.tally ≡ keeps_rows self.old.tally) }
+        ensures text { OnOk result (keeps_text self.new.tally ≡ keeps_text self.old.tally) }
+    {
         self.add_lines(1, line)?;
         take_mark(&mut self.tally, TextMark::Wait)?;
         Ok(())
+    }
+}
+
+fn print_item(
+    printer: &mut Option<Printer>,
+    kind: DependKind,
+    name: &str,
+) -> Result<(), AllocFault>
+    ensures text { is_some printer.new ≡ is_some printer.old }
+    ensures prints { OnOk result (PrintsNamed kind name.now printer.old printer.new) }
+{
+    match printer {
+        Some(printer) => printer.put_item(kind, name),
+        None => Ok(()),
+    }
+}
+
+/// The same, where it is known whether the tally keeps rows, and whether it keeps the text.
+#[derive(Drop)]
+struct KeptMarks<const ROWS: bool, const TEXT: bool> {
+    marks: LoopMarks,
+}
+
+impl<const ROWS: bool, const TEXT: bool> TakesPieces for KeptMarks<ROWS, TEXT> {
+    ghost test = { large_fault_of };
+
+    ghost stands_at = { λ taker state. HasKept ROWS TEXT taker.marks state };
+
+    fn turn(&mut self, line: u32) -> Result<(), ReadFault> {
+        self.marks.turn(line)
+    }
+
+    fn task(
+        &mut self,
+        alloc: Global,
+        values: &[u32],
+        in_final: bool,
+        task: &LoopTask,
+    ) -> Result<(), ReadFault> {
+        self.marks.task(alloc, values, in_final, task)
+    }
+
+    fn group(&mut self, alloc: Global, line: u32, brace_line: u32) -> Result<(), ReadFault> {
+        self.marks.group(line, brace_line)
+    }
+
+    fn close(&mut self, alloc: Global) -> Result<(), ReadFault> {
+        self.marks.close()
+    }
+
+    fn work(&mut self, alloc: Global, cost: u64, line: u32) -> Result<(), ReadFault> {
+        self.marks.work(cost, line)
+    }
+
+    fn wait(&mut self, alloc: Global, line: u32) -> Result<(), ReadFault> {
+        self.marks.wait(line)
+    }
+}
+
+/// The tally of the expansion of these statements, where it is known what is kept.
+fn tally_kept<const ROWS: bool, const TEXT: bool>(
+    alloc: Global,
+    statements: &[LoopStmt],
+    key: NameKey,
+    tally: Tally,
+) -> Result<Tally, ReadFault>
+    requires begun { IsBegunIn Two tally }
+    requires rows { keeps_rows tally ≡ ROWS }
+    requires text { keeps_text tally ≡ TEXT }
+    ensures tallied { IfOk result (TalliesTree (tree_of statements.now)) }
+    ensures refused { IfErr result (IsRefusedWith (tree_of statements.now)) }
+    ensures rows { IfOk result (λ done. keeps_rows done ≡ ROWS) }
+    ensures text { IfOk result (λ done. keeps_text done ≡ TEXT) }
+{
+    let mut taker: KeptMarks<ROWS, TEXT> = KeptMarks {
+        marks: LoopMarks::new(alloc, key, tally),
+    };
+    take_all(&mut taker, alloc, statements)?;
+    Ok(taker.marks.into_tally())
+}
+
+/// The tally of the expansion of these statements.
+fn tally_statements(
+    alloc: Global,
+    statements: &[LoopStmt],
+    key: NameKey,
+    tally: Tally,
+) -> Result<Tally, ReadFault>
+    requires { IsBegunIn Two tally }
+    ensures tallied { IfOk result (TalliesTree (tree_of statements.now)) }
+    ensures refused { IfErr result (IsRefusedWith (tree_of statements.now)) }
+    ensures rows { IfOk result (λ done. keeps_rows done ≡ keeps_rows tally) }
+    ensures text { IfOk result (λ done. keeps_text done ≡ keeps_text tally) }
+{
+    match (tally.rows.is_some(), tally.printer.is_some()) {
+        (false, false) => tally_kept::<false, false>(alloc, statements, key, tally),
+        (false, true) => tally_kept::<false, true>(alloc, statements, key, tally),
+        (true, false) => tally_kept::<true, false>(alloc, statements, key, tally),
+        (true, true) => tally_kept::<true, true>(alloc, statements, key, tally),
     }
 }
 
@@ -232,13 +363,11 @@ pub(crate) fn tally_loops(
     key: NameKey,
     tally: Tally,
 ) -> Result<Tally, LargeFault>
-    requires begun { IsBegun tally }
+    requires { IsBegunIn Two tally }
     ensures tallied { IfOk result (λ done. (tree : Tree)
         × IsTreeOf (tokens_left after_header.entry) tree × TalliesTree tree done) }
     ensures refused { IfErr result (λ fault. fault.kind ≢ OutOfMemory
-        → IsFirstFault loop_rules (tokens_left after_header.entry) (end_line after_header.entry) fault
-        ⊎ ((tree : Tree) × IsTreeOf (tokens_left after_header.entry) tree
-        × HasExpansionFaultBy large_fault_of tree fault)) }
+        → HasLoopFaultOf (tokens_left after_header.entry) (end_line after_header.entry) fault) }
     ensures memory { IfErr result (λ fault. fault.kind ≡ OutOfMemory → fault.line ≡ 0) }
     ensures rows { IfOk result (λ done. keeps_rows done ≡ keeps_rows tally) }
     ensures text { IfOk result (λ done. keeps_text done ≡ keeps_text tally) }
@@ -247,14 +376,15 @@ pub(crate) fn tally_loops(
         Ok(body) => body,
         Err(fault) => return Err(large_fault(fault)),
     };
-    let mut taker = LoopMarks::new(alloc, key, tally);
-    match take_all(&mut taker, alloc, body.as_slice()) {
-        Ok(()) => Ok(taker.into_tally()),
+    match tally_statements(alloc, body.as_slice(), key, tally) {
+        Ok(tally) => Ok(tally),
         Err(fault) => Err(large_fault(fault)),
     }
 }
 
-fn large_fault(fault: ReadFault) -> LargeFault {
+fn large_fault(fault: ReadFault) -> LargeFault
+    ensures { result ≡ fault }
+{
     LargeFault {
         kind: fault.kind,
         line: u64::from(fault.line),

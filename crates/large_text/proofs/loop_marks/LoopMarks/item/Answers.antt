@@ -5,6 +5,7 @@ use Rattle.task_program.specs.Expansion.Piece.{ItemComes}
 use Rattle.task_program.specs.Walks.{StopsAt}
 use Rattle.large_text.specs.LoopFaults.{large_fault_of}
 use Rattle.large_text.specs.LoopMarked.{HasEntered}
+use Rattle.large_text.specs.Printed.{PrintsNamed}
 use Rattle.large_text.proofs.loop_marks.LoopMarks.item.Goals.{then-len-ge-MOST_ITEMS-via-then-len-ge-MOST_ITEMS, then-len-ge-MOST_ITEMS-via-else-len-ge-MOST_ITEMS+then-len-ge-MOST_LARGE_ITEMS}
 use Rattle.task_program.specs.Expansion.{Place, index_fits, index_line, subscript_of}
 use Rattle.task_program.specs.Names.{number_of_name, with_name}
@@ -14,8 +15,8 @@ use Rattle.large_text.proofs.loop_marks.LoopMarks.item.Goals as goal
 abbrev fault_so : ℕ → ReadFault
 fault_so line = record { kind = BadNumber; line = line }
 
-pub returns-then-len-ge-MOST_ITEMS : goal.returns-then-len-ge-MOST_ITEMS
-returns-then-len-ge-MOST_ITEMS c =
+pub returns-then-len-ge-MOST_ITEMS-clause-takes : goal.returns-then-len-ge-MOST_ITEMS-clause-takes
+returns-then-len-ge-MOST_ITEMS-clause-takes c =
     let taker = c.args.self.now in
     let item = c.args.item.now in
     let values : List ℕ = reverse c.args.values.now in
@@ -33,8 +34,8 @@ returns-then-len-ge-MOST_ITEMS c =
       | then-len-ge-MOST_ITEMS-via-else-len-ge-MOST_ITEMS+then-len-ge-MOST_LARGE_ITEMS w ↦ inr (omega (arith, w.if-len-ge-MOST_LARGE_ITEMS, w.len-else-len-ge-MOST_ITEMS.ensures))
     ]))
 
-pub returns-then-not-index_fits : goal.returns-then-not-index_fits
-returns-then-not-index_fits c =
+pub returns-then-not-index_fits-clause-takes : goal.returns-then-not-index_fits-clause-takes
+returns-then-not-index_fits-clause-takes c =
     let taker = c.args.self.now in
     let item = c.args.item.now in
     let values : List ℕ = reverse c.args.values.now in
@@ -56,8 +57,8 @@ returns-then-not-index_fits c =
     ))
     (sym c.index_fits.ensures ∙ c.if-not-index_fits.true))
 
-pub returns : goal.returns
-returns c =
+pub returns-clause-takes : goal.returns-clause-takes
+returns-clause-takes c =
     let taker = c.args.self.now in
     let item = c.args.item.now in
     let values : List ℕ = reverse c.args.values.now in
@@ -81,3 +82,7 @@ returns c =
       c.len-else-len-ge-MOST_ITEMS.ensures,
     ))
     (sym c.index_fits.ensures ∙ c.if-not-index_fits.false)
+    (subst
+    (λ (name : List ℕ). PrintsNamed item.kind name taker.tally.printer c.print_item.new.printer)
+    (c.as_str.ensures.value ∙ c.in_ok-location.ensures)
+    c.in_ok-print_item.ensures.prints)

@@ -5,8 +5,8 @@ use Rattle.large_text.specs.LoopMarked.AreOpen.{NoneOpen}
 use Rattle.large_text.proofs.LoopMarking.{length_of_none}
 use Rattle.large_text.proofs.loop_marks.LoopMarks.new.Goals as goal
 
-pub returns : goal.returns
-returns c =
+pub returns-clause-entered : goal.returns-clause-entered
+returns-clause-entered c =
     let no_names = length_of_none _ c.new.ensures in
     let no_items = length_of_none _ c.new-2.ensures in
     record {
@@ -23,4 +23,5 @@ returns c =
       blocks = sym (ap blocks_seen c.new-3.ensures.items);
       open_are = NoneOpen [] Nothing;
       tallies = c.requires.tallies;
+      prints = c.requires.prints [];
     }

@@ -11,11 +11,11 @@ use Rattle.large_text.specs.declared.loop_marks.LoopMarks.{LoopMarks}
 use Rattle.large_text.specs.LoopFaults.{large_fault_of}
 use Rattle.large_text.specs.LoopMarked.{HasEntered}
 use Rattle.large_text.specs.Tallied.{CanTally, Tallies}
-use Rattle.large_text.proofs.LoopMarking.{can_task, task_leads, task_stops}
+use Rattle.large_text.proofs.LoopMarking.{Enters, can_task, task_leads, task_stops}
 use Rattle.large_text.proofs.loop_marks.LoopMarks.task_brace.Goals as goal
 
-pub returns-in_err-add_lines : goal.returns-in_err-add_lines
-returns-in_err-add_lines c =
+pub returns-in_err-add_lines-clause-takes : goal.returns-in_err-add_lines-clause-takes
+returns-in_err-add_lines-clause-takes c =
     let past = c.in_err-add_lines.ensures.err in
     let fails_so = subst
     (λ (fault : ReadFault). StopsAt large_fault_of (TaskOpens c.args.undeferred c.args.line ∷ []) (HasEntered c.args.self.now) fault)
@@ -35,8 +35,8 @@ take_mark-requires c =
     CanTally taker.tally (Begins c.args.undeferred c.requires.0.items))
     (sym c.in_ok-add_lines.ensures.ok.1) (can_task c.args.self.now c.requires.0 c.args.undeferred c.requires.1))
 
-pub returns : goal.returns
-returns c =
+pub returns-clause-takes : goal.returns-clause-takes
+returns-clause-takes c =
     let pushed = c.in_ok-push.ensures.items
     ∙ ap (λ (n : ℕ). c.add_lines.new.self.blocks.items ++ OpenTask n ∷ []) c.from.ensures
     ∙ ap (λ (taker : LoopMarks). taker.blocks.items ++ OpenTask c.args.line ∷ []) c.in_ok-add_lines.ensures.ok.1 in
@@ -62,9 +62,12 @@ returns c =
     })))
     (sym c.in_ok-add_lines.ensures.ok.1)
     (task_leads c.args.self.now c.push.new.self c.take_mark.new.tally c.args.undeferred c.args.line pushed c.in_ok-add_lines.ensures.ok.0
-    (λ moment h. subst
-    (λ (items : List Item).
-    Tallies c.take_mark.new.tally (Begins c.args.undeferred items ∷ moment))
+    (subst
+    (λ (items : List Item). Enters c.args.self.now.tally c.take_mark.new.tally
+    (Begins c.args.undeferred items))
     items_are
-    (c.in_ok-take_mark.ensures.takes moment
-    (subst (λ (taker : LoopMarks). Tallies taker.tally moment) (sym c.in_ok-add_lines.ensures.ok.1) h)))))
+    (subst
+    (λ (taker : LoopMarks). Enters taker.tally c.take_mark.new.tally
+    (Begins c.args.undeferred c.replace-items.result))
+    c.in_ok-add_lines.ensures.ok.1
+    (c.in_ok-take_mark.ensures.takes, c.in_ok-take_mark.ensures.prints)))))

@@ -11,11 +11,11 @@ use Rattle.large_text.specs.declared.loop_marks.LoopMarks.{LoopMarks}
 use Rattle.large_text.specs.LoopFaults.{large_fault_of}
 use Rattle.large_text.specs.LoopMarked.{HasEntered}
 use Rattle.large_text.specs.Tallied.{CanTally, Tallies}
-use Rattle.large_text.proofs.LoopMarking.{can_work, work_heavy, work_leads, work_stops}
-use Rattle.large_text.proofs.loop_marks.LoopMarksTakesPieces.work.Goals as goal
+use Rattle.large_text.proofs.LoopMarking.{Enters, can_work, work_heavy, work_leads, work_stops}
+use Rattle.large_text.proofs.loop_marks.LoopMarks.work.Goals as goal
 
-pub returns-then-cost-self : goal.returns-then-cost-self
-returns-then-cost-self c =
+pub returns-then-cost-self-clause-takes : goal.returns-then-cost-self-clause-takes
+returns-then-cost-self-clause-takes c =
     subst
     (λ (fault : ReadFault). StopsAt large_fault_of (WorkIs c.args.cost c.args.line ∷ [])
     (HasEntered c.args.self.now) fault)
@@ -23,8 +23,8 @@ returns-then-cost-self c =
     (work_heavy c.args.self.now c.args.cost c.args.line
     (omega (arith, c.if-cost-self.true, c.requires.1.little_work)))
 
-pub returns-in_err-add_lines : goal.returns-in_err-add_lines
-returns-in_err-add_lines c =
+pub returns-in_err-add_lines-clause-takes : goal.returns-in_err-add_lines-clause-takes
+returns-in_err-add_lines-clause-takes c =
     let little : c.args.self.now.work + c.args.cost ≤ MOST_WORK = omega (arith, c.if-cost-self.false, c.requires.1.little_work) in
     let past = c.in_err-add_lines.ensures.err in
     let fails_so = subst
@@ -40,8 +40,8 @@ take_mark-requires c =
     subst (λ (taker : LoopMarks). CanTally taker.tally (Works c.args.cost)) (sym c.in_ok-add_lines.ensures.ok.1)
     (can_work c.args.self.now c.requires.0 c.args.cost c.requires.1 little)
 
-pub returns : goal.returns
-returns c =
+pub returns-clause-takes : goal.returns-clause-takes
+returns-clause-takes c =
     let little : c.args.self.now.work + c.args.cost ≤ MOST_WORK = omega (arith, c.if-cost-self.false, c.requires.1.little_work) in
     subst
     (λ (taker : LoopMarks). LeadsOn large_fault_of (WorkIs c.args.cost c.args.line ∷ [])
@@ -51,5 +51,7 @@ returns c =
       tally = c.take_mark.new.tally;
     })))
     (sym c.in_ok-add_lines.ensures.ok.1)
-    (work_leads c.args.self.now c.take_mark.new.tally c.args.cost c.args.line c.in_ok-add_lines.ensures.ok.0 little (λ moment h. c.in_ok-take_mark.ensures.takes moment
-    (subst (λ (taker : LoopMarks). Tallies taker.tally moment) (sym c.in_ok-add_lines.ensures.ok.1) h)))
+    (work_leads c.args.self.now c.take_mark.new.tally c.args.cost c.args.line c.in_ok-add_lines.ensures.ok.0 little (subst
+    (λ (taker : LoopMarks). Enters taker.tally c.take_mark.new.tally (Works c.args.cost))
+    c.in_ok-add_lines.ensures.ok.1
+    (c.in_ok-take_mark.ensures.takes, c.in_ok-take_mark.ensures.prints)))

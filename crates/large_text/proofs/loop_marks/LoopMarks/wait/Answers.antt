@@ -11,11 +11,11 @@ use Rattle.large_text.specs.declared.loop_marks.LoopMarks.{LoopMarks}
 use Rattle.large_text.specs.LoopFaults.{large_fault_of}
 use Rattle.large_text.specs.LoopMarked.{HasEntered}
 use Rattle.large_text.specs.Tallied.{CanTally, Tallies}
-use Rattle.large_text.proofs.LoopMarking.{can_wait, wait_leads, wait_stops}
-use Rattle.large_text.proofs.loop_marks.LoopMarksTakesPieces.wait.Goals as goal
+use Rattle.large_text.proofs.LoopMarking.{Enters, can_wait, wait_leads, wait_stops}
+use Rattle.large_text.proofs.loop_marks.LoopMarks.wait.Goals as goal
 
-pub returns-in_err-add_lines : goal.returns-in_err-add_lines
-returns-in_err-add_lines c =
+pub returns-in_err-add_lines-clause-takes : goal.returns-in_err-add_lines-clause-takes
+returns-in_err-add_lines-clause-takes c =
     let past = c.in_err-add_lines.ensures.err in
     let fails_so = subst
     (λ (fault : ReadFault). StopsAt large_fault_of (WaitIs c.args.line ∷ []) (HasEntered c.args.self.now) fault)
@@ -28,13 +28,13 @@ take_mark-requires c =
     subst (λ (taker : LoopMarks). CanTally taker.tally _) (sym c.in_ok-add_lines.ensures.ok.1)
     (can_wait c.args.self.now c.requires.0 c.requires.1)
 
-pub returns : goal.returns
-returns c =
+pub returns-clause-takes : goal.returns-clause-takes
+returns-clause-takes c =
     subst
     (λ (taker : LoopMarks). LeadsOn large_fault_of (WaitIs c.args.line ∷ []) (HasEntered c.args.self.now)
     (HasEntered (record taker { tally = c.take_mark.new.tally })))
     (sym c.in_ok-add_lines.ensures.ok.1)
     (wait_leads c.args.self.now c.take_mark.new.tally c.args.line c.in_ok-add_lines.ensures.ok.0
-    (λ moment h. c.in_ok-take_mark.ensures.takes moment
-    (subst (λ (taker : LoopMarks). Tallies taker.tally moment) (sym c.in_ok-add_lines.ensures.ok.1)
-    h)))
+    (subst (λ (taker : LoopMarks). Enters taker.tally c.take_mark.new.tally Waits)
+    c.in_ok-add_lines.ensures.ok.1
+    (c.in_ok-take_mark.ensures.takes, c.in_ok-take_mark.ensures.prints)))
