@@ -1,13 +1,15 @@
 -- Texts of either version: which one the first bytes tell, and what is known in it.
 use Rattle.std.proofs.Common.{◌≡◌, ◌≤◌, ◌<◌, ◌++◌, ◌∙◌, ℕ, Bool, true, false, List, length, ap, subst, sym}
 use Rattle.std.proofs.Common.{refl}
-use Rattle.std.specs.Prelude.{MatchBool, nat_lt}
+use Rattle.std.specs.Prelude.{IsTrue, MatchBool, drop, min, nat_lt, take}
 use Rattle.std.proofs.lemmas.Bool.{lt-ltb, le-ltb, MatchBool-at_true, MatchBool-at_false}
-use Rattle.std.proofs.lemmas.List.{take_all, take-append-le}
+use Rattle.std.proofs.lemmas.List.{take_all, take-append-le, take_min}
 use Rattle.program_text.specs.declared.fault.ReadFault.{ReadFault}
 use Rattle.program_text.specs.declared.fault.ReadKind.TheVariants.{TooLong}
 use Rattle.program_text.specs.declared.limits.TheConstants.{MOST_TEXT_BYTES}
-use Rattle.program_text.specs.Tokens.{line_at_end, texts, tokens_of}
+use Rattle.program_text.specs.ScannerSeen.{end_line, tokens_left}
+use Rattle.program_text.specs.Tokens.{Token, line_at_end, texts, tokens_from, tokens_of}
+use Rattle.program_text.specs.declared.scanner.Scanner.{Scanner}
 use Rattle.program_text.proofs.Bools.{bool_cases}
 use Rattle.loop_text.specs.Loops.{Tree}
 use Rattle.task_program.specs.declared.version.Version.TheVariants.{Two}
@@ -21,7 +23,7 @@ use Rattle.large_text.specs.declared.tally.Tally.{Tally}
 use Rattle.large_text.specs.LargeTexts.{HasLargeLoopFault, HasLoopProgram, IsLargeFault, IsLargeLoopFault}
 use Rattle.large_text.specs.LargeTexts.{IsLargeLoopText, IsLargeRight, StandsForLarge, is_large_two}
 use Rattle.large_text.specs.LargeTrees.{HasLargeProgram, IsLargeFirstFault, IsLargeRightWhole}
-use Rattle.large_text.specs.LoopTallied.{TalliesTree}
+use Rattle.large_text.specs.LoopTallied.{HasLoopFaultOf, TalliesTree}
 use Rattle.large_text.specs.Measured.{TalliesPlain, TalliesText}
 
 -- ---- the first bytes
@@ -39,6 +41,48 @@ pub two_front : (front later : List ℕ) → MOST_TEXT_BYTES ≤ length front
 two_front front later many =
     ap (λ (bytes : List ℕ). begins_version_two (tokens_of bytes))
     (take-append-le MOST_TEXT_BYTES front later many)
+
+-- and so it is where the first bytes were scanned
+pub two_scanned : (text : List ℕ) (scanner : Scanner) (most : ℕ) (two : Bool)
+    → scanner.rest.now ≡ take most text
+    → scanner.line ≡ 1
+    → most ≡ min MOST_TEXT_BYTES (length text)
+    → two ≡ begins_version_two (tokens_left scanner)
+    → two ≡ is_large_two text
+two_scanned text scanner most two rest_is line_is most_is told =
+    let head : scanner.rest.now ≡ take MOST_TEXT_BYTES text =
+    rest_is
+    ∙ ap (λ (n : ℕ). take n text) most_is
+    ∙ take_min MOST_TEXT_BYTES text in
+    told
+    ∙ ap (λ (n : ℕ). begins_version_two (tokens_from false n scanner.rest.now)) line_is
+    ∙ ap (λ (bytes : List ℕ). begins_version_two (tokens_of bytes)) head
+
+-- a text that is scanned whole
+pub whole_scanned : (text : List ℕ) (scanner after : Scanner) (two : Bool)
+    → length text ≤ MOST_TEXT_BYTES
+    → is_large_two text ≡ true
+    → scanner.rest.now ≡ text
+    → scanner.line ≡ 1
+    → two ≡ begins_version_two (tokens_left scanner)
+    → (IsTrue two → tokens_left after ≡ drop 2 (tokens_left scanner))
+    → end_line after ≡ end_line scanner
+    → (tokens_left after ≡ body_of text) × (end_line after ≡ line_at_end 1 text)
+whole_scanned text scanner after two few is_two rest_is line_is told rest line =
+    let tokens : tokens_left scanner ≡ tokens_of text =
+    ap (λ (n : ℕ). tokens_from false n scanner.rest.now) line_is
+    ∙ ap (λ (bytes : List ℕ). tokens_of bytes) rest_is in
+    let yes : two ≡ true =
+    told
+    ∙ ap begins_version_two tokens
+    ∙ sym (two_whole text few)
+    ∙ is_two in (
+      rest yes
+          ∙ ap (λ (tokens : List Token). drop 2 tokens) tokens,
+      line
+          ∙ ap (λ (n : ℕ). line_at_end n scanner.rest.now) line_is
+          ∙ ap (λ (bytes : List ℕ). line_at_end 1 bytes) rest_is,
+    )
 
 -- ---- what is said in each version
 
@@ -114,3 +158,25 @@ tallies_two text tally tree two few whole h = record {
   measures = h.tallies;
   prints = h.prints;
 }
+
+-- the same of what was scanned
+pub loops_tallied : (text : List ℕ) (tally : Tally) (after : Scanner)
+    → is_large_two text ≡ true
+    → length text ≤ MOST_TEXT_BYTES
+    → tokens_left after ≡ body_of text
+    → (tree : Tree) × IsTreeOf (tokens_left after) tree × TalliesTree tree tally
+    → TalliesText text tally
+loops_tallied text tally after two few left (tree, whole, tallies) =
+    tallies_two text tally tree two few
+    (subst (λ (tokens : List Token). IsTreeOf tokens tree) left whole) tallies
+
+pub loops_faulty : (text : List ℕ) (fault : ReadFault) (after : Scanner)
+    → is_large_two text ≡ true
+    → length text ≤ MOST_TEXT_BYTES
+    → (tokens_left after ≡ body_of text) × (end_line after ≡ line_at_end 1 text)
+    → HasLoopFaultOf (tokens_left after) (end_line after) fault
+    → IsLargeFault text fault
+loops_faulty text fault after two few (left, line) h =
+    fault_two text fault two few
+    (subst (λ (n : ℕ). HasLoopFaultOf (body_of text) n fault) line
+    (subst (λ (tokens : List Token). HasLoopFaultOf tokens (end_line after) fault) left h))

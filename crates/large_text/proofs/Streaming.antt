@@ -13,10 +13,23 @@ use Rattle.large_text.specs.LargeTexts.{FitsText, IsLargeFault, is_large_two}
 use Rattle.large_text.specs.PlainStreamed.{CanTakePlain, HasTakenPlain, TakesPlain}
 use Rattle.large_text.specs.Streamed.{CanTakeBytes, HasKept, HasTaken, HasTakenIn, IsPlain}
 use Rattle.large_text.specs.Streamed.{IsTooLongTwo, TakesBytes}
-use Rattle.large_text.proofs.PlainStreaming.{fits_front}
+use Rattle.large_text.specs.Tallied.{IsBegun}
+use Rattle.large_text.proofs.PlainStreaming.{fits_front, takes_two}
 use Rattle.large_text.proofs.ReadingTexts.{fault_long, two_front}
 
 -- ---- what is known at each stage
+
+pub kept_none : (head : List ℕ) (plain : PlainMeter)
+    → head ≡ []
+    → HasTakenPlain [] plain
+    → IsBegun plain.meter
+    → HasKept [] head plain
+kept_none head plain is taken begun = record {
+  all = is;
+  few = omega arith;
+  plain_begun = taken;
+  begun = begun;
+}
 
 pub kept_at : (stage : Stage) (bytes head : List ℕ) (plain : PlainMeter)
     → stage ≡ Kept
@@ -109,6 +122,29 @@ long_more stage bytes more head plain is h =
       two = two_front bytes more (omega (arith, known.many)) ∙ known.two;
     } in
     subst (λ (s : Stage). HasTakenIn s (bytes ++ more) head plain) (sym is) now
+
+pub keeps_head : (old new : TextMeter) (more : List ℕ)
+    → old.stage ≡ Kept
+    → new.stage ≡ old.stage
+    → new.plain ≡ old.plain
+    → new.head.items ≡ old.head.items ++ more
+    → length more ≤ MOST_TEXT_BYTES - length old.head.items
+    → TakesBytes more old new
+keeps_head old new more is stage plain after few = λ taken fits h. record {
+  fits = fits;
+  taken = subst (λ (p : PlainMeter). HasTakenIn new.stage (taken ++ more) new.head.items p) (sym plain)
+      (subst (λ (s : Stage). HasTakenIn s (taken ++ more) new.head.items old.plain) (sym stage)
+      (kept_more old.stage taken more old.head.items new.head.items old.plain is after few h.taken));
+}
+
+pub then_takes : (all first rest : List ℕ) (old middle new : TextMeter)
+    → all ≡ first ++ rest
+    → TakesBytes first old middle
+    → TakesBytes rest middle new
+    → TakesBytes all old new
+then_takes all first rest old middle new is one other =
+    takes_two (λ taken. HasTaken taken old) (λ taken. HasTaken taken middle)
+    (λ taken. HasTaken taken new) all first rest is one other
 
 -- ---- behind the bytes that are kept
 

@@ -19,7 +19,7 @@ use task_program::read::takes_header_two;
 pub(crate) fn is_large_two(text: &[u8]) -> bool
     ensures { result ≡ is_large_two text.now }
 {
-    let (head, _) = text.split_at(text.len().min(MOST_TEXT_BYTES));
+    let (head, _) = text.split_at(MOST_TEXT_BYTES.min(text.len()));
     takes_header_two(&mut Scanner::new(head))
 }
 
