@@ -6,8 +6,8 @@ use Rattle.large_text.proofs.large_texts.tally_two.Goals as goal
 pub returns-clause-measured : goal.returns-clause-measured
 returns-clause-measured c =
     let text = c.args.text.now in
-    let scanned = whole_scanned text c.new.result c.takes_header_two.new.scanner
-    c.takes_header_two.result (omega arith) c.requires.two c.new.ensures.rest c.new.ensures.line
+    let scanned = whole_scanned text c.new-after_header.result c.takes_header_two.new.scanner
+    c.takes_header_two.result (omega arith) c.requires.two c.new-after_header.ensures.rest c.new-after_header.ensures.line
     c.takes_header_two.ensures.is_two c.takes_header_two.ensures.rest
     c.takes_header_two.ensures.line in
     IfOk-weaker c.tally_loops.result _ _
@@ -17,8 +17,8 @@ returns-clause-measured c =
 pub returns-clause-refused : goal.returns-clause-refused
 returns-clause-refused c =
     let text = c.args.text.now in
-    let scanned = whole_scanned text c.new.result c.takes_header_two.new.scanner
-    c.takes_header_two.result (omega arith) c.requires.two c.new.ensures.rest c.new.ensures.line
+    let scanned = whole_scanned text c.new-after_header.result c.takes_header_two.new.scanner
+    c.takes_header_two.result (omega arith) c.requires.two c.new-after_header.ensures.rest c.new-after_header.ensures.line
     c.takes_header_two.ensures.is_two c.takes_header_two.ensures.rest
     c.takes_header_two.ensures.line in
     IfErr-weaker c.tally_loops.result _ _
