@@ -172,6 +172,7 @@ impl LoopMarks {
     }
 
     /// A turn of a loop begins.
+    #[tactic(auto, using(crate::proofs::LoopMarking::turn_leads, crate::proofs::LoopMarking::turn_stops))]
     fn turn(&mut self, line: u32) -> Result<(), ReadFault>
         requires { IsSomewhere (HasEntered self.old) }
         ensures takes { TakesSo large_fault_of (TurnBegins line ∷ [])
