@@ -3,9 +3,7 @@ use Rattle.std.proofs.Common.{◌≡◌, ℕ, ◌+◌, ◌<◌, ◌≤◌, ◌^�
 use Rattle.std.proofs.Common.{Option, Some, None, Result, Ok, Err, length-append, refl, sym, ap, subst}
 use Rattle.std.proofs.Common.{◌∙◌, arith}
 use Rattle.std.specs.Prelude.{nat_le, nat_lt}
-use Rattle.std.proofs.Common.{Vec, Global, map, reverse, inl, inr}
-use Rattle.std.specs.Prelude.{◌⊎◌}
-use Rattle.program_text.proofs.Bools.{bool_cases}
+use Rattle.std.proofs.Common.{Vec, Global, map, reverse}
 use Rattle.std.proofs.lemmas.List.{map-append, reverse-append}
 use Rattle.program_text.specs.declared.statement.Item.{Item}
 use Rattle.program_text.specs.declared.limits.TheConstants.{MOST_ITEMS}
@@ -13,7 +11,7 @@ use Rattle.program_text.specs.declared.fault.ReadKind.TheVariants.{WorkTooLarge,
 use Rattle.large_text.specs.declared.reader.OpenBlock.{OpenBlock}
 use Rattle.large_text.specs.declared.reader.OpenBlock.TheVariants.{OpenTask, OpenGroup}
 use Rattle.large_text.specs.LargeReading.{block_seen}
-use Rattle.std.proofs.lemmas.Bool.{le-leb, le-ltb, lt-leb, lt-ltb}
+use Rattle.std.proofs.lemmas.Bool.{le-leb, le-ltb, leb-false, lt-leb, lt-ltb, or_parts}
 use Rattle.std.proofs.lemmas.List.Sums.{sum_by-append}
 use Rattle.program_text.specs.declared.fault.ReadKind.TheVariants.{OutOfMemory, TooLong}
 use Rattle.program_text.specs.declared.fault.ReadKind.TheVariants.{TooManyTurns}
@@ -40,7 +38,7 @@ use Rattle.large_text.specs.declared.loop_marks.LoopMarks.{LoopMarks}
 use Rattle.large_text.specs.declared.tally.Tally.{Tally}
 use Rattle.large_text.specs.LoopMarked.{AreOpen, HasEntered, blocks_seen}
 use Rattle.large_text.specs.LoopMarked.AreOpen.{InTask, InGroup}
-use Rattle.large_text.specs.LoopFaults.{large_fault_of, lines_of}
+use Rattle.large_text.specs.LoopFaults.{is_full, large_fault_of, lines_of}
 use Rattle.large_text.specs.Printed.{IsOwn, PrintsIn, PrintsMark, PrintsNamed, items_behind}
 use Rattle.large_text.specs.Tallied.{CanTally, Tallies}
 use Rattle.task_program.specs.declared.version.Version.TheVariants.{Two}
@@ -533,13 +531,32 @@ task_stops taker undeferred line past = λ state h.
 
 -- ---- a depend item
 
+-- whether an item can follow, where it stands
+full_of : (taker : LoopMarks) (state : ExpansionState)
+    → HasEntered taker state
+    → is_full (length state.items) (length state.names)
+    ≡ is_full (length taker.items) (length taker.names)
+full_of taker state h =
+    ap (λ (items : List Item). is_full (length items) (length state.names)) h.items
+    ∙ ap (λ (names : List (List ℕ)). is_full (length taker.items) (length names)) h.names
+
+room_left : (taker : LoopMarks)
+    → is_full (length taker.items) (length taker.names) ≡ false
+    → (length taker.items < MOST_ITEMS) × (length taker.names < MOST_LARGE_ITEMS)
+room_left taker room =
+    let items = nat_le MOST_ITEMS (length taker.items) in
+    let names = nat_le MOST_LARGE_ITEMS (length taker.names) in
+    let parts = or_parts items names room in (
+      leb-false MOST_ITEMS (length taker.items) parts.0,
+      leb-false MOST_LARGE_ITEMS (length taker.names) parts.1,
+    )
+
 pub item_leads : (taker : LoopMarks) (names : List (List ℕ)) (items : List Item)
     (printer : Option Printer) (place : Place)
     → names ≡ with_name taker.names place.location
     → items ≡ taker.items
     ++ record { kind = place.kind; name = number_of_name taker.names place.location } ∷ []
-    → length taker.items < MOST_ITEMS
-    → length taker.names < MOST_LARGE_ITEMS
+    → is_full (length taker.items) (length taker.names) ≡ false
     → place.index_fits ≡ true
     → PrintsNamed place.kind place.location taker.tally.printer printer
     → LeadsOn large_fault_of (ItemComes place ∷ []) (HasEntered taker)
@@ -548,14 +565,9 @@ pub item_leads : (taker : LoopMarks) (names : List (List ℕ)) (items : List Ite
       items = items;
       tally = record taker.tally { printer = printer };
     }))
-item_leads taker names items printer place names_are items_are few few_names fits prints =
+item_leads taker names items printer place names_are items_are room fits prints =
     λ state h.
-    let items_long = ap (λ (xs : List Item). length xs) h.items in
-    let names_long = ap (λ (xs : List (List ℕ)). length xs) h.names in
-    let room : nat_le MOST_ITEMS (length state.items) ≡ false =
-    lt-leb MOST_ITEMS (length state.items) (omega (arith, items_long, few)) in
-    let more : nat_le MOST_LARGE_ITEMS (length state.names) ≡ false =
-    lt-leb MOST_LARGE_ITEMS (length state.names) (omega (arith, names_long, few_names)) in
+    let few = room_left taker room in
     let item : Item = record {
       kind = place.kind;
       name = number_of_name taker.names place.location;
@@ -564,7 +576,7 @@ item_leads taker names items printer place names_are items_are few few_names fit
     let long = length-append taker.items (item ∷ []) in
     let name = ap (λ (xs : List (List ℕ)). length xs) names_are in (
       after_piece state (ItemComes place),
-      piece_taken large_fault_of state (ItemComes place) (rw (room, more, fits) refl),
+      piece_taken large_fault_of state (ItemComes place) (rw (full_of taker state h ∙ room, fits) refl),
       record {
         turns = h.turns;
         few_turns = h.few_turns;
@@ -573,7 +585,7 @@ item_leads taker names items printer place names_are items_are few few_names fit
         work = h.work;
         little_work = h.little_work;
         names = ap (λ (xs : List (List ℕ)). with_name xs place.location) h.names ∙ sym names_are;
-        few_names = omega (arith, name, one_name_more taker.names place.location, few_names);
+        few_names = omega (arith, name, one_name_more taker.names place.location, few.1);
         items = ap
             (λ (xs : List Item). xs
             ++ record { kind = place.kind; name = number_of_name state.names place.location } ∷ [])
@@ -583,7 +595,7 @@ item_leads taker names items printer place names_are items_are few few_names fit
             ++ record { kind = place.kind; name = number_of_name xs place.location } ∷ [])
             h.names
             ∙ sym items_are;
-        few_items = omega (arith, one, long, few);
+        few_items = omega (arith, one, long, few.0);
         blocks = h.blocks;
         open_are = h.open_are;
         tallies = still_tallies taker.tally printer (last_moment state.tree.marks) h.tallies;
@@ -678,40 +690,24 @@ end_leads taker blocks tally block popped takes = λ state h.
 
 -- one item too many
 pub item_many : (taker : LoopMarks) (place : Place)
-    → (MOST_ITEMS ≤ length taker.items) ⊎ (MOST_LARGE_ITEMS ≤ length taker.names)
+    → is_full (length taker.items) (length taker.names) ≡ true
     → StopsAt large_fault_of (ItemComes place ∷ []) (HasEntered taker)
     (record { kind = TooManyItems; line = place.line })
-item_many taker place (inl past) = λ state h.
-    let long = ap (λ (xs : List Item). length xs) h.items in
-    let many : nat_le MOST_ITEMS (length state.items) ≡ true =
-    le-leb MOST_ITEMS (length state.items) (omega (arith, long, past)) in
-    piece_refused large_fault_of state (ItemComes place)
-    (record { kind = TooManyItems; line = place.line }) (rw many refl)
-item_many taker place (inr past) = λ state h.
-    let long = ap (λ (xs : List (List ℕ)). length xs) h.names in
-    let many : nat_le MOST_LARGE_ITEMS (length state.names) ≡ true =
-    le-leb MOST_LARGE_ITEMS (length state.names) (omega (arith, long, past)) in
+item_many taker place past = λ state h.
     piece_refused large_fault_of state (ItemComes place)
     (record { kind = TooManyItems; line = place.line })
-    (bool_cases (nat_le MOST_ITEMS (length state.items)) (λ some. rw some refl)
-    (λ none. rw (none, many) refl))
+    (rw (full_of taker state h ∙ past) refl)
 
 -- an index out of range
 pub item_far : (taker : LoopMarks) (place : Place)
-    → length taker.items < MOST_ITEMS
-    → length taker.names < MOST_LARGE_ITEMS
+    → is_full (length taker.items) (length taker.names) ≡ false
     → place.index_fits ≡ false
     → StopsAt large_fault_of (ItemComes place ∷ []) (HasEntered taker)
     (record { kind = BadNumber; line = place.index_line })
-item_far taker place few few_names far = λ state h.
-    let items_long = ap (λ (xs : List Item). length xs) h.items in
-    let names_long = ap (λ (xs : List (List ℕ)). length xs) h.names in
-    let room : nat_le MOST_ITEMS (length state.items) ≡ false =
-    lt-leb MOST_ITEMS (length state.items) (omega (arith, items_long, few)) in
-    let more : nat_le MOST_LARGE_ITEMS (length state.names) ≡ false =
-    lt-leb MOST_LARGE_ITEMS (length state.names) (omega (arith, names_long, few_names)) in
+item_far taker place room far = λ state h.
     piece_refused large_fault_of state (ItemComes place)
-    (record { kind = BadNumber; line = place.index_line }) (rw (room, more, far) refl)
+    (record { kind = BadNumber; line = place.index_line })
+    (rw (full_of taker state h ∙ room, far) refl)
 
 -- the word `task`
 pub word_leads : (taker : LoopMarks) (line : ℕ)

@@ -19,13 +19,17 @@ lines_of tree = length tree.marks + length tree.blocks
 abbrev pub are_lines_too_many : (more : ℕ) → TreeSoFar → Bool
 are_lines_too_many more tree = nat_lt MOST_LARGE_LINES (lines_of tree + more)
 
+-- the task that comes has so many items, and the expansion so many names, that no item can follow
+abbrev pub is_full : (items names : ℕ) → Bool
+is_full items names = nat_le MOST_ITEMS items || nat_le MOST_LARGE_ITEMS names
+
 -- the first test that holds
 abbrev pub large_fault_of : PieceTest
 large_fault_of before (TurnBegins line) =
     fault_if (nat_le MOST_LARGE_TURNS before.turns) TooManyTurns line
 large_fault_of before (TaskComes line) = None
 large_fault_of before (ItemComes place) =
-    if nat_le MOST_ITEMS (length before.items) || nat_le MOST_LARGE_ITEMS (length before.names)
+    if is_full (length before.items) (length before.names)
     then fault_at TooManyItems place.line
     else fault_if (not place.index_fits) BadNumber place.index_line
 large_fault_of before (TaskOpens undeferred line) =

@@ -1,5 +1,5 @@
 //! The marks of an expansion, entered one after another.
-ghost use Rattle.std.specs.Prelude.{◌≡◌, ◌≢◌, ◌≤◌, ◌<◌, ◌+◌, ◌∷◌, [], reverse, map, OnOk, IfErr, IfOk};
+ghost use Rattle.std.specs.Prelude.{◌≡◌, ◌≢◌, ◌≤◌, ◌<◌, ◌+◌, ◌∷◌, [], reverse, map, OnOk, IfErr, IfOk, length};
 ghost use Rattle.std.specs.Option.{is_some};
 ghost use Rattle.program_text.specs.ScannerSeen.{tokens_left, end_line};
 ghost use Rattle.program_text.specs.declared.fault.ReadKind.TheVariants.{OutOfMemory, TooLong};
@@ -14,7 +14,7 @@ ghost use Rattle.task_program.specs.Walks.{IsSomewhere, IsInside, TakesSo};
 ghost use Rattle.task_program.specs.declared.version.Version.TheVariants.{Two};
 ghost use Rattle.task_program.specs.TreeSoFar.{end_mark_of};
 ghost use Rattle.large_text.specs.LargeReading.{block_seen, mark_seen};
-ghost use Rattle.large_text.specs.LoopFaults.{large_fault_of};
+ghost use Rattle.large_text.specs.LoopFaults.{is_full, large_fault_of};
 ghost use Rattle.large_text.specs.LoopMarked.{HasEntered, HasKept, IsRefusedWith};
 ghost use Rattle.large_text.specs.LoopTallied.{HasLoopFaultOf, TalliesTree};
 ghost use Rattle.large_text.specs.Printed.{PrintsNamed};
@@ -114,6 +114,13 @@ impl LoopMarks {
         Ok(())
     }
 
+    /// Whether no item can follow.
+    fn is_full(&self) -> bool
+        ensures { result ≡ is_full (length self.now.items) (length self.now.names) }
+    {
+        self.items.len() >= MOST_ITEMS || self.names.len() >= MOST_LARGE_ITEMS
+    }
+
     fn item(&mut self, alloc: Global, values: &[u32], item: &LoopItem) -> Result<(), ReadFault>
         requires { IsSomewhere (HasEntered self.old) }
         ensures takes { TakesSo large_fault_of (item_comes (reverse values.now) item.now ∷ [])
@@ -121,7 +128,7 @@ impl LoopMarks {
         ensures rows { OnOk result (keeps_rows self.new.tally ≡ keeps_rows self.old.tally) }
         ensures text { OnOk result (keeps_text self.new.tally ≡ keeps_text self.old.tally) }
     {
-        if self.items.len() >= MOST_ITEMS || self.names.len() >= MOST_LARGE_ITEMS {
+        if self.is_full() {
             return Err(fault(ReadKind::TooManyItems, item.line));
         }
         if !index_fits(values, item.index) {
@@ -165,6 +172,7 @@ impl LoopMarks {
     }
 
     /// A turn of a loop begins.
+    #[tactic(auto, using(crate::proofs::LoopMarking::turn_leads, crate::proofs::LoopMarking::turn_stops))]
     fn turn(&mut self, line: u32) -> Result<(), ReadFault>
         requires { IsSomewhere (HasEntered self.old) }
         ensures takes { TakesSo large_fault_of (TurnBegins line ∷ [])
@@ -206,7 +214,8 @@ impl LoopMarks {
         ensures text { OnOk result (keeps_text self.new.tally ≡ keeps_text self.old.tally) }
     {
         self.add_lines(2, brace_line)?;
-        self.blocks.push(OpenBlock::OpenGroup(u64::from(brace_line)))?;
+        self.blocks
+            .push(OpenBlock::OpenGroup(u64::from(brace_line)))?;
         take_mark(&mut self.tally, TextMark::GroupOpens)?;
         Ok(())
     }
@@ -257,11 +266,7 @@ impl LoopMarks {
     }
 }
 
-fn print_item(
-    printer: &mut Option<Printer>,
-    kind: DependKind,
-    name: &str,
-) -> Result<(), AllocFault>
+fn print_item(printer: &mut Option<Printer>, kind: DependKind, name: &str) -> Result<(), AllocFault>
     ensures text { is_some printer.new ≡ is_some printer.old }
     ensures prints { OnOk result (PrintsNamed kind name.now printer.old printer.new) }
 {

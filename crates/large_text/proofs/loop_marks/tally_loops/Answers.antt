@@ -21,8 +21,7 @@ pub returns-in-Ok-tally_statements-clause-tallied :
     goal.returns-in-Ok-tally_statements-clause-tallied
 returns-in-Ok-tally_statements-clause-tallied c =
     let tokens = tokens_left c.args.after_header in
-    let line = end_line c.args.after_header in
-    (
+    let line = end_line c.args.after_header in (
       c.in-Ok.body,
       whole_tree tokens line c.in-Ok.body c.in-Ok.ensures,
       subst (λ (tree : Tree). TalliesTree tree c.in-Ok-tally_statements.tally)

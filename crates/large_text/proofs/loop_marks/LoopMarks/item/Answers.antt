@@ -1,4 +1,4 @@
-use Rattle.std.proofs.Common.{ℕ, List, [], ◌∷◌, ◌++◌, ◌∙◌, ap, arith, inl, inr, reverse, subst, sym}
+use Rattle.std.proofs.Common.{ℕ, List, [], ◌∷◌, ◌++◌, ◌∙◌, ap, reverse, subst, sym}
 use Rattle.program_text.specs.declared.fault.ReadFault.{ReadFault}
 use Rattle.program_text.specs.declared.fault.ReadKind.TheVariants.{BadNumber}
 use Rattle.task_program.specs.Expansion.Piece.{ItemComes}
@@ -6,7 +6,6 @@ use Rattle.task_program.specs.Walks.{StopsAt}
 use Rattle.large_text.specs.LoopFaults.{large_fault_of}
 use Rattle.large_text.specs.LoopMarked.{HasEntered}
 use Rattle.large_text.specs.Printed.{PrintsNamed}
-use Rattle.large_text.proofs.loop_marks.LoopMarks.item.Goals.{then-len-ge-MOST_ITEMS-via-then-len-ge-MOST_ITEMS, then-len-ge-MOST_ITEMS-via-else-len-ge-MOST_ITEMS+then-len-ge-MOST_LARGE_ITEMS}
 use Rattle.task_program.specs.Expansion.{Place, index_fits, index_line, subscript_of}
 use Rattle.task_program.specs.Names.{number_of_name, with_name}
 use Rattle.large_text.proofs.LoopMarking.{item_far, item_leads, item_many}
@@ -15,8 +14,8 @@ use Rattle.large_text.proofs.loop_marks.LoopMarks.item.Goals as goal
 abbrev fault_so : ℕ → ReadFault
 fault_so line = record { kind = BadNumber; line = line }
 
-pub returns-then-len-ge-MOST_ITEMS-clause-takes : goal.returns-then-len-ge-MOST_ITEMS-clause-takes
-returns-then-len-ge-MOST_ITEMS-clause-takes c =
+pub returns-then-is_full-clause-takes : goal.returns-then-is_full-clause-takes
+returns-then-is_full-clause-takes c =
     let taker = c.args.self.now in
     let item = c.args.item.now in
     let values : List ℕ = reverse c.args.values.now in
@@ -29,10 +28,7 @@ returns-then-len-ge-MOST_ITEMS-clause-takes c =
     } in
     subst (λ (fault : ReadFault). StopsAt large_fault_of (ItemComes place ∷ []) (HasEntered taker) fault)
     (sym c.fault.ensures)
-    (item_many taker place (elim c.then-len-ge-MOST_ITEMS.branch [
-      then-len-ge-MOST_ITEMS-via-then-len-ge-MOST_ITEMS w ↦ inl (omega (arith, w.if-len-ge-MOST_ITEMS, c.len.ensures))
-      | then-len-ge-MOST_ITEMS-via-else-len-ge-MOST_ITEMS+then-len-ge-MOST_LARGE_ITEMS w ↦ inr (omega (arith, w.if-len-ge-MOST_LARGE_ITEMS, w.len-else-len-ge-MOST_ITEMS.ensures))
-    ]))
+    (item_many taker place (sym c.is_full.ensures ∙ c.if-is_full.true))
 
 pub returns-then-not-index_fits-clause-takes : goal.returns-then-not-index_fits-clause-takes
 returns-then-not-index_fits-clause-takes c =
@@ -49,12 +45,7 @@ returns-then-not-index_fits-clause-takes c =
     subst (λ (fault : ReadFault). StopsAt large_fault_of (ItemComes place ∷ []) (HasEntered taker) fault)
     (sym (c.fault-then-not-index_fits.ensures
     ∙ ap (λ (n : ℕ). fault_so n) c.index_line.ensures))
-    (item_far taker place (omega (arith, c.if-len-ge-MOST_ITEMS.false, c.len.ensures))
-    (omega (
-      arith,
-      c.if-len-ge-MOST_LARGE_ITEMS.false,
-      c.len-else-len-ge-MOST_ITEMS.ensures,
-    ))
+    (item_far taker place (sym c.is_full.ensures ∙ c.if-is_full.false)
     (sym c.index_fits.ensures ∙ c.if-not-index_fits.true))
 
 pub returns-clause-takes : goal.returns-clause-takes
@@ -75,12 +66,7 @@ returns-clause-takes c =
     ∙ ap (λ (n : ℕ). taker.items ++ record { kind = item.kind; name = n } ∷ [])
     (c.in_ok-name.ensures.number ∙ ap (λ (t : List ℕ). number_of_name taker.names t) text) in
     item_leads taker c.number_of.new.self c.push.new.self c.print_item.new.printer place names_are
-    items_are (omega (arith, c.if-len-ge-MOST_ITEMS.false, c.len.ensures))
-    (omega (
-      arith,
-      c.if-len-ge-MOST_LARGE_ITEMS.false,
-      c.len-else-len-ge-MOST_ITEMS.ensures,
-    ))
+    items_are (sym c.is_full.ensures ∙ c.if-is_full.false)
     (sym c.index_fits.ensures ∙ c.if-not-index_fits.false)
     (subst
     (λ (name : List ℕ). PrintsNamed item.kind name taker.tally.printer c.print_item.new.printer)

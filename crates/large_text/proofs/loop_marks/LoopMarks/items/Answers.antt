@@ -22,15 +22,14 @@ pub items-preserved : goal.items-preserved
 items-preserved c =
     let f = item_comes (reverse c.args.values.now) in
     let i = c.items.item-index in
-    let items : List LoopItem = c.args.items.now in
-    (
+    let items : List LoopItem = c.args.items.now in (
       leads_these large_fault_of _ _ (HasEntered c.args.self.now) (HasEntered c.item.new.self)
-    (ap (λ (xs : List LoopItem). map f xs) (take_more items i _ c.items-test.true)
-    ∙ ap (λ (x : LoopItem). map f (take i items ++ x ∷ [])) (sym c.item-item.is)
-    ∙ map-append f (take i items) (c.item-item.result ∷ []))
-    (leads_then large_fault_of (map f (take i items)) (f c.item-item.result ∷ [])
-    (HasEntered c.args.self.now) (HasEntered c.items.self) (HasEntered c.item.new.self)
-    c.items.invariant.0 c.in_ok-item.ensures.takes),
+          (ap (λ (xs : List LoopItem). map f xs) (take_more items i _ c.items-test.true)
+          ∙ ap (λ (x : LoopItem). map f (take i items ++ x ∷ [])) (sym c.item-item.is)
+          ∙ map-append f (take i items) (c.item-item.result ∷ []))
+          (leads_then large_fault_of (map f (take i items)) (f c.item-item.result ∷ [])
+          (HasEntered c.args.self.now) (HasEntered c.items.self) (HasEntered c.item.new.self)
+          c.items.invariant.0 c.in_ok-item.ensures.takes),
       c.in_ok-item.ensures.rows ∙ c.items.invariant.1,
       c.in_ok-item.ensures.text ∙ c.items.invariant.2,
     )

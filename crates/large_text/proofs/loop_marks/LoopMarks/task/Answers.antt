@@ -36,7 +36,7 @@ returns-clause-takes c =
     let last : List Piece = TaskOpens (task.undeferred || c.args.in_final) task.brace_line ∷ [] in
     let same : c.if-task.task_brace ≡ (task.undeferred || c.args.in_final) =
     elim c.if-task.branch [
-      then-task w ↦ w.task_brace-is ∙ w.if-task.true
+      | then-task w ↦ w.task_brace-is ∙ w.if-task.true
           ∙ sym (ap (λ (u : Bool). u || c.args.in_final) w.if-task.true)
       | else-task w ↦ w.task_brace-is
           ∙ sym (ap (λ (u : Bool). u || c.args.in_final) w.if-task.false)
