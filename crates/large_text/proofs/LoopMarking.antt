@@ -1,6 +1,6 @@
 -- The pieces of an expansion are taken one by one, and their marks entered.
 use Rattle.std.proofs.Common.{◌≡◌, ℕ, ◌+◌, ◌<◌, ◌≤◌, ◌^◌, Bool, false, true, List, [], ◌∷◌, ◌++◌, length}
-use Rattle.std.proofs.Common.{Option, Some, None, Result, Ok, Err, length-append, refl, sym, ap, subst}
+use Rattle.std.proofs.Common.{Option, Some, None, Ok, Err, length-append, refl, sym, ap, subst}
 use Rattle.std.proofs.Common.{◌∙◌, arith}
 use Rattle.std.specs.Prelude.{nat_le, nat_lt}
 use Rattle.std.proofs.Common.{Vec, Global, map, reverse}

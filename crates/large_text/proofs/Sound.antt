@@ -1,16 +1,11 @@
 -- What a reader of marks holds of the tokens that it has taken and the marks that it has handed on.
-use Rattle.std.proofs.Common.{◌≡◌, ℕ, ◌≤◌, Bool, List, [], ◌∷◌, ◌++◌, length}
+use Rattle.std.proofs.Common.{◌≡◌, ◌≤◌, List, length}
 use Rattle.std.specs.Prelude.{drop}
-use Rattle.program_text.specs.declared.statement.Item.{Item}
 use Rattle.program_text.specs.Limits.{work_of}
 use Rattle.program_text.specs.Marks.{Mark}
-use Rattle.program_text.specs.Marks.Mark.{Begins, GroupBegins}
 use Rattle.program_text.specs.Tokens.{Token, texts}
 use Rattle.task_program.specs.FirstFault.{AreRight}
 use Rattle.task_program.specs.Faults.{State}
-use Rattle.task_program.specs.Nested.{IsNested}
-use Rattle.task_program.specs.TreeSoFar.{Block}
-use Rattle.task_program.specs.TreeSoFar.Block.{TaskBlock, GroupBlock}
 use Rattle.task_program.proofs.FoundPlaces.{Explained}
 use Rattle.task_program.proofs.Begun.{Began}
 use Rattle.task_program.proofs.Tallies.{NoItems, tally_of, tally_now}

@@ -1,8 +1,8 @@
-use Rattle.std.proofs.Common.{◌++◌, ◌∷◌, ◌∙◌, Option, ap, subst, sym}
+use Rattle.std.proofs.Common.{◌++◌, ◌∙◌, Option, ap, subst, sym}
 use Rattle.std.specs.Option.{option_to_list}
 use Rattle.program_text.specs.Marks.{Mark}
 use Rattle.large_text.specs.declared.reader.OpenBlock.{OpenBlock}
-use Rattle.large_text.specs.Tallied.{CanTally, Tallies}
+use Rattle.large_text.specs.Tallied.{CanTally}
 use Rattle.large_text.proofs.LoopMarking.{Enters, can_end, end_leads}
 use Rattle.large_text.proofs.loop_marks.LoopMarks.close.Goals as goal
 

@@ -1,4 +1,4 @@
-use Rattle.std.proofs.Common.{[], length, refl, sym, ap, subst, arith, ◌≤◌}
+use Rattle.std.proofs.Common.{[], refl, sym, ap, arith}
 use Rattle.task_program.specs.Nested.IsNested.{Nothing}
 use Rattle.large_text.specs.LoopMarked.{blocks_seen}
 use Rattle.large_text.specs.LoopMarked.AreOpen.{NoneOpen}

@@ -1,16 +1,15 @@
-use Rattle.std.proofs.Common.{[], ◌∷◌, ◌++◌, ◌∙◌, ◌+◌, ◌≤◌, List, ℕ, ap, arith, sym, subst}
+use Rattle.std.proofs.Common.{[], ◌∷◌, ◌++◌, ◌∙◌, List, ℕ, ap, sym, subst}
 use Rattle.program_text.specs.declared.statement.Item.{Item}
-use Rattle.program_text.specs.declared.limits.TheConstants.{MOST_WORK}
-use Rattle.large_text.specs.declared.reader.OpenBlock.TheVariants.{OpenTask, OpenGroup}
+use Rattle.large_text.specs.declared.reader.OpenBlock.TheVariants.{OpenTask}
 use Rattle.std.proofs.lemmas.Result.{err_from_is_err_and}
 use Rattle.program_text.specs.declared.fault.ReadFault.{ReadFault}
-use Rattle.program_text.specs.Marks.Mark.{Waits, Works, GroupBegins, Begins}
-use Rattle.task_program.specs.Expansion.Piece.{TurnBegins, GroupComes, GroupOpens, WorkIs, WaitIs, TaskOpens}
+use Rattle.program_text.specs.Marks.Mark.{Begins}
+use Rattle.task_program.specs.Expansion.Piece.{TaskOpens}
 use Rattle.task_program.specs.Walks.{LeadsOn, StopsAt}
 use Rattle.large_text.specs.declared.loop_marks.LoopMarks.{LoopMarks}
 use Rattle.large_text.specs.LoopFaults.{large_fault_of}
 use Rattle.large_text.specs.LoopMarked.{HasEntered}
-use Rattle.large_text.specs.Tallied.{CanTally, Tallies}
+use Rattle.large_text.specs.Tallied.{CanTally}
 use Rattle.large_text.proofs.LoopMarking.{Enters, can_task, task_leads, task_stops}
 use Rattle.large_text.proofs.loop_marks.LoopMarks.task_brace.Goals as goal
 
