@@ -5,7 +5,8 @@ use Rattle.std.proofs.lemmas.List.{length-append, length-take}
 use Rattle.std.proofs.KnownBytes.{Consumes-trans}
 use Rattle.std.specs.Io.KnownBytes.{Consumes}
 use Rattle.counted_io.specs.Input.{ConsumesAtMost}
-use Rattle.large_text.specs.Streamed.{FitsText, HasTaken}
+use Rattle.large_text.specs.LargeTexts.{FitsText}
+use Rattle.large_text.specs.Streamed.{HasTaken}
 use Rattle.large_text.specs.declared.limits.TheConstants.{LARGEST_LINE, LARGEST_TEXT}
 use Rattle.large_text.specs.declared.stream.TextMeter.{TextMeter}
 use Rattle.large_command.specs.Lengths.{IsTooLong}

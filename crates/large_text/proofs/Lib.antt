@@ -17,4 +17,7 @@ pub mod Whole
 pub mod Moved
 pub mod Cutting
 pub mod PlainStreaming
+pub mod ReadingTexts
+pub mod LoopReading
+pub mod Streaming
 pub mod Tallying

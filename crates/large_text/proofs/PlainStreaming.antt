@@ -17,10 +17,10 @@ use Rattle.large_text.specs.declared.reader.MarkReader.{MarkReader}
 use Rattle.large_text.specs.LargeReading.{HasNoItems, IsReadSoFar}
 use Rattle.large_text.specs.LargeTrees.{HasLargeProgram, IsLargeRightWhole, IsLargeFirstFault}
 use Rattle.large_text.specs.LargeTrees.{plain_program}
-use Rattle.large_text.specs.Measured.{MeasuresSoFar, TalliesText}
-use Rattle.large_text.specs.Streamed.{EndsLine, CutsTokens, HasTakenLines, HasFault}
-use Rattle.large_text.specs.Streamed.{HasTakenBy, HasTaken, TakesBytes, FitsText, HasNoLineFeed}
-use Rattle.large_text.specs.Streamed.{CanTakeBytes}
+use Rattle.large_text.specs.LargeTexts.{FitsText, HasNoLineFeed}
+use Rattle.large_text.specs.Measured.{MeasuresSoFar, TalliesPlain}
+use Rattle.large_text.specs.PlainStreamed.{EndsLine, CutsTokens, HasTakenLines, HasFault}
+use Rattle.large_text.specs.PlainStreamed.{HasTakenBy, HasTakenPlain, TakesPlain, CanTakePlain}
 use Rattle.large_text.specs.declared.plain_stream.PlainMeter.{PlainMeter}
 use Rattle.large_text.specs.declared.limits.TheConstants.{LARGEST_LINE}
 use Rattle.large_text.proofs.Cutting.{cut_behind}
@@ -167,7 +167,7 @@ fits_short bytes few = record {
   );
 }
 
-fits_front : (front back : List ℕ) → FitsText (front ++ back) → FitsText front
+pub fits_front : (front back : List ℕ) → FitsText (front ++ back) → FitsText front
 fits_front front back fits = record {
   short = omega (arith, fits.short, length-append front back);
   lines = λ before line later is none. fits.lines before line (later ++ back)
@@ -182,24 +182,27 @@ no_feed_more first second a b =
     omega (arith, a, b, sum_by-append (λ byte. cond (is_line_feed byte) 1 0) first second)
 
 -- two pieces, one behind the other
-pub takes_two : (all first second : List ℕ) (old middle new : PlainMeter)
+pub takes_two : (Old Middle New : List ℕ → Type 0) (all first second : List ℕ)
     → all ≡ first ++ second
-    → TakesBytes first old middle
-    → TakesBytes second middle new
-    → TakesBytes all old new
-takes_two all first second old middle new is takes_first takes_second = λ taken fits h.
+    → ((taken : List ℕ) → FitsText (taken ++ first) → Old taken → Middle (taken ++ first))
+    → ((taken : List ℕ) → FitsText (taken ++ second) → Middle taken → New (taken ++ second))
+    → (taken : List ℕ)
+    → FitsText (taken ++ all)
+    → Old taken
+    → New (taken ++ all)
+takes_two Old Middle New all first second is takes_first takes_second = λ taken fits h.
     let whole : taken ++ all ≡ (taken ++ first) ++ second =
     ap (λ (bytes : List ℕ). taken ++ bytes) is ∙ sym (append_assoc taken first second) in
     let both : FitsText ((taken ++ first) ++ second) = subst FitsText whole fits in
-    subst (λ (bytes : List ℕ). HasTaken bytes new) (sym whole)
+    subst New (sym whole)
     (takes_second (taken ++ first) both
     (takes_first taken (fits_front (taken ++ first) second both) h))
 
 -- where a whole piece can be taken, so can what it begins with
 pub can_front : (all first second : List ℕ) (text_meter : PlainMeter)
     → all ≡ first ++ second
-    → CanTakeBytes all text_meter
-    → CanTakeBytes first text_meter
+    → CanTakePlain all text_meter
+    → CanTakePlain first text_meter
 can_front all first second text_meter is can = record {
   bytes = can.bytes;
   taken = can.taken;
@@ -416,7 +419,7 @@ pub ends_whole : (found : Option ReadFault) (bytes tail text : List ℕ) (line :
     → ((before : List Token) (marks : List Mark) → IsReadSoFar before marks next
     → HasLargeProgram (texts before) (plain_program next.names marks)
     × IsLargeRightWhole before)
-    → TalliesText (tokens_of bytes) more
+    → TalliesPlain (tokens_of bytes) more
 ends_whole found bytes tail text line reader next meter more none is h reads whole =
     is_measured (tokens_of bytes) (tokens_of bytes) next more
     (all_taken bytes text line reader next meter more

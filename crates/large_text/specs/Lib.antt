@@ -3,6 +3,7 @@ pub mod LargeFaults
 pub mod LargeReading
 pub mod Measured
 pub mod Printed
+pub mod PlainStreamed
 pub mod Streamed
 pub mod Tallied
 pub mod LoopFaults

@@ -1,9 +1,10 @@
-//! Texts of version 1 of any size: their marks, one after another, and their work and span. What is
+//! Texts of any size, in either version: their marks, one after another, and their work and span. What is
 //! kept grows with the nesting of tasks and groups and with the names, and not with the text.
 #![tactic(auto)]
 
 pub mod fault;
 mod forms;
+mod large_texts;
 pub mod laws;
 pub mod limits;
 mod loop_marks;

@@ -1,26 +1,23 @@
-//! Work and span of a text that comes in pieces.
+//! Work and span of a text of version 1 that comes in pieces.
 ghost use Rattle.std.specs.Prelude.{◌≡◌, ◌≢◌, ◌+◌, ◌<◌, ◌≤◌, ◌^◌, [], ◌∷◌, false, ◌++◌, List, ℕ, IfOk, IfErr};
 ghost use Rattle.std.specs.Prelude.{IsTrue, OnOk, None, length, take, drop};
 ghost use Rattle.program_text.specs.declared.fault.ReadKind.TheVariants.{OutOfMemory};
 ghost use Rattle.program_text.specs.Tokens.{tokens_of, line_at_end};
 ghost use Rattle.large_text.specs.declared.limits.TheConstants.{LARGEST_PIECE};
 ghost use Rattle.large_text.specs.LargeTrees.{IsLargeFirstFault};
-ghost use Rattle.large_text.specs.Measured.{FitsTable, IsCanonicalOf, IsTableOfText, MeasuresText, TalliesText};
-ghost use Rattle.std.specs.Option.{IfSome, is_some};
+ghost use Rattle.large_text.specs.LargeTexts.{HasNoLineFeed};
+ghost use Rattle.large_text.specs.Measured.{TalliesPlain};
+ghost use Rattle.large_text.specs.PlainStreamed.{CanTakePlain, EndsLine, HasTakenPlain, TakesPlain};
 ghost use Rattle.large_text.specs.Tallied.{IsBegun, keeps_rows, keeps_text};
-ghost use Rattle.large_text.specs.Streamed.{CanTakeBytes, EndsLine, HasTaken};
-ghost use Rattle.large_text.specs.Streamed.{HasNoLineFeed, KeepsRows, KeepsText, TakesBytes};
 
 use crate::fault::LargeFault;
 use crate::measure::take_tokens;
 use crate::reader::MarkReader;
 use crate::tally::Tally;
-use online_span::Meter;
 use std::alloc::{AllocError, Global};
 use task_program::AllocFault;
 use task_program::fault::ReadKind;
 use task_program::name_key::NameKey;
-use task_segments::table::LargeTable;
 
 /// Takes the bytes of a text piece by piece, however it is cut, and measures what it says. Beside the
 /// names and what the nesting takes, only the last line is kept, as far as it has come.
@@ -37,44 +34,46 @@ pub struct PlainMeter {
 }
 
 impl PlainMeter {
-    /// The meter of a text of which nothing has come. Its names are hashed under this key: who knows
-    /// it can make up a text that takes time quadratic in its names.
-    pub fn new(alloc: Global, key: NameKey) -> PlainMeter
-        ensures { HasTaken [] result }
+    /// The meter of a text of which nothing has come, whose names are hashed under this key.
+    pub(crate) fn new(alloc: Global, key: NameKey) -> PlainMeter
+        ensures taken { HasTakenPlain [] result }
+        ensures begun { IsBegun result.meter }
     {
         PlainMeter::with_tally(alloc, key, Tally::new(alloc))
     }
 
     /// The same, where the rows of its table are kept.
-    pub fn with_rows(alloc: Global, key: NameKey) -> Result<PlainMeter, AllocFault>
-        ensures taken { IfOk result (λ made. HasTaken [] made) }
-        ensures rows { IfOk result KeepsRows }
+    pub(crate) fn with_rows(alloc: Global, key: NameKey) -> Result<PlainMeter, AllocFault>
+        ensures taken { IfOk result (λ made. HasTakenPlain [] made) }
+        ensures begun { IfOk result (λ made. IsBegun made.meter) }
+        ensures rows { IfOk result (λ made. IsTrue (keeps_rows made.meter)) }
     {
         Ok(PlainMeter::with_tally(alloc, key, Tally::with_rows(alloc)?))
     }
 
     /// The same, where its canonical text is kept.
-    pub fn with_text(alloc: Global, key: NameKey) -> Result<PlainMeter, AllocFault>
-        ensures taken { IfOk result (λ made. HasTaken [] made) }
-        ensures text { IfOk result KeepsText }
+    pub(crate) fn with_text(alloc: Global, key: NameKey) -> Result<PlainMeter, AllocFault>
+        ensures taken { IfOk result (λ made. HasTakenPlain [] made) }
+        ensures begun { IfOk result (λ made. IsBegun made.meter) }
+        ensures text { IfOk result (λ made. IsTrue (keeps_text made.meter)) }
     {
         Ok(PlainMeter::with_tally(alloc, key, Tally::with_text(alloc)?))
     }
 
     /// The same, where both are kept.
-    pub fn with_rows_and_text(alloc: Global, key: NameKey) -> Result<PlainMeter, AllocFault>
-        ensures taken { IfOk result (λ made. HasTaken [] made) }
-        ensures rows { IfOk result KeepsRows }
-        ensures text { IfOk result KeepsText }
+    pub(crate) fn with_rows_and_text(alloc: Global, key: NameKey) -> Result<PlainMeter, AllocFault>
+        ensures taken { IfOk result (λ made. HasTakenPlain [] made) }
+        ensures begun { IfOk result (λ made. IsBegun made.meter) }
+        ensures rows { IfOk result (λ made. IsTrue (keeps_rows made.meter)) }
+        ensures text { IfOk result (λ made. IsTrue (keeps_text made.meter)) }
     {
         Ok(PlainMeter::with_tally(alloc, key, Tally::with_rows_and_text(alloc)?))
     }
 
     fn with_tally(alloc: Global, key: NameKey, meter: Tally) -> PlainMeter
         requires { IsBegun meter }
-        ensures taken { HasTaken [] result }
-        ensures rows { keeps_rows result.meter ≡ keeps_rows meter }
-        ensures text { keeps_text result.meter ≡ keeps_text meter }
+        ensures taken { HasTakenPlain [] result }
+        ensures meter { result.meter ≡ meter }
     {
         PlainMeter {
             reader: MarkReader::new(alloc, key),
@@ -87,12 +86,12 @@ impl PlainMeter {
 
     /// Takes the next bytes of the text, at most `LARGEST_PIECE`. After an `Err` the meter can take no
     /// more.
-    pub fn take(&mut self, bytes: &[u8]) -> Result<(), AllocFault>
-        requires room { CanTakeBytes bytes.now self.old }
+    pub(crate) fn take(&mut self, bytes: &[u8]) -> Result<(), AllocFault>
+        requires room { CanTakePlain bytes.now self.old }
         requires piece { length bytes.now ≤ LARGEST_PIECE }
-        ensures takes { OnOk result (TakesBytes bytes.now self.old self.new) }
-        ensures rows { KeepsRows self.old → KeepsRows self.new }
-        ensures text { KeepsText self.old → KeepsText self.new }
+        ensures takes { OnOk result (TakesPlain bytes.now self.old self.new) }
+        ensures rows { keeps_rows self.new.meter ≡ keeps_rows self.old.meter }
+        ensures text { keeps_text self.new.meter ≡ keeps_text self.old.meter }
     {
         if self.fault.is_some() {
             return Ok(());
@@ -109,7 +108,7 @@ impl PlainMeter {
     // Keeps bytes of a line that may go on.
     fn keep(&mut self, bytes: &[u8]) -> Result<(), AllocFault>
         requires { HasNoLineFeed bytes.now }
-        ensures takes { OnOk result (TakesBytes bytes.now self.old self.new) }
+        ensures takes { OnOk result (TakesPlain bytes.now self.old self.new) }
         ensures rows { self.new.meter ≡ self.old.meter }
     {
         self.tail.extend_from_slice(bytes)
@@ -117,11 +116,11 @@ impl PlainMeter {
 
     // Takes the tokens of these lines, the first of which goes on from the tail.
     fn take_lines(&mut self, lines: &[u8]) -> Result<(), AllocFault>
-        requires taken { CanTakeBytes lines.now self.old }
+        requires taken { CanTakePlain lines.now self.old }
         requires piece { length lines.now ≤ LARGEST_PIECE }
         requires no_fault { self.old.fault ≡ None }
         requires ends { EndsLine lines.now }
-        ensures takes { OnOk result (TakesBytes lines.now self.old self.new) }
+        ensures takes { OnOk result (TakesPlain lines.now self.old self.new) }
         ensures rows { keeps_rows self.new.meter ≡ keeps_rows self.old.meter }
         ensures text { keeps_text self.new.meter ≡ keeps_text self.old.meter }
     {
@@ -158,13 +157,13 @@ impl PlainMeter {
 
     // The tally of the whole text.
     pub(crate) fn whole(mut self) -> Result<Tally, LargeFault>
-        requires { CanTakeBytes [] self }
-        ensures measured { IfOk result (λ tally. (text : List ℕ) → HasTaken text self
-            → TalliesText (tokens_of text) tally) }
+        requires { CanTakePlain [] self }
+        ensures measured { IfOk result (λ tally. (text : List ℕ) → HasTakenPlain text self
+            → TalliesPlain (tokens_of text) tally) }
         ensures rows { IfOk result (λ tally. keeps_rows tally ≡ keeps_rows self.meter) }
         ensures text { IfOk result (λ tally. keeps_text tally ≡ keeps_text self.meter) }
         ensures refused { IfErr result (λ fault. fault.kind ≢ OutOfMemory
-            → (text : List ℕ) → HasTaken text self
+            → (text : List ℕ) → HasTakenPlain text self
             → IsLargeFirstFault (tokens_of text) (line_at_end 1 text) fault) }
         ensures memory { IfErr result (λ fault. fault.kind ≡ OutOfMemory → fault.line ≡ 0) }
     {
@@ -175,13 +174,13 @@ impl PlainMeter {
 
     // What `finish` does before it hands on the meter.
     fn end(&mut self) -> Result<(), LargeFault>
-        requires { CanTakeBytes [] self.old }
-        ensures measured { OnOk result ((text : List ℕ) → HasTaken text self.old
-            → TalliesText (tokens_of text) self.new.meter) }
+        requires { CanTakePlain [] self.old }
+        ensures measured { OnOk result ((text : List ℕ) → HasTakenPlain text self.old
+            → TalliesPlain (tokens_of text) self.new.meter) }
         ensures rows { keeps_rows self.new.meter ≡ keeps_rows self.old.meter }
         ensures text { keeps_text self.new.meter ≡ keeps_text self.old.meter }
         ensures refused { IfErr result (λ fault. fault.kind ≢ OutOfMemory
-            → (text : List ℕ) → HasTaken text self.old
+            → (text : List ℕ) → HasTakenPlain text self.old
             → IsLargeFirstFault (tokens_of text) (line_at_end 1 text) fault) }
         ensures memory { IfErr result (λ fault. fault.kind ≡ OutOfMemory → fault.line ≡ 0) }
     {

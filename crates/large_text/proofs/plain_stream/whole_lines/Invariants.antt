@@ -1,5 +1,5 @@
 use Rattle.std.proofs.Common.{◌≤◌, length, drop}
-use Rattle.large_text.specs.Streamed.{HasNoLineFeed}
+use Rattle.large_text.specs.LargeTexts.{HasNoLineFeed}
 use Rattle.large_text.proofs.plain_stream.whole_lines.Given as goal
 
 abbrev pub invariant-back : goal.invariant-back

@@ -3,7 +3,7 @@ use Rattle.std.proofs.lemmas.Result.{IfErr-weaker, on_ok_weaker}
 use Rattle.program_text.specs.declared.fault.ReadKind.TheVariants.{OutOfMemory}
 use Rattle.program_text.specs.Tokens.{tokens_of, line_at_end}
 use Rattle.large_text.specs.LargeTrees.{IsLargeFirstFault}
-use Rattle.large_text.specs.Streamed.{HasTaken}
+use Rattle.large_text.specs.PlainStreamed.{HasTakenPlain}
 use Rattle.large_text.proofs.PlainStreaming.{told, fault_last, ends_early, ends_whole}
 use Rattle.large_text.proofs.Memory.{line_of_first}
 use Rattle.large_text.proofs.plain_stream.PlainMeter.end.Goals as goal
@@ -18,7 +18,7 @@ pub returns-in_err-line-clause-refused : goal.returns-in_err-line-clause-refused
 returns-in_err-line-clause-refused c =
     let self = c.args.self.now in
     let fault = c.in_err-line.field-0.0 in
-    let stops : fault.kind ≢ OutOfMemory → (text : List ℕ) → HasTaken text self
+    let stops : fault.kind ≢ OutOfMemory → (text : List ℕ) → HasTakenPlain text self
     → IsLargeFirstFault (tokens_of text) (line_at_end 1 text) fault =
     λ some text h. fault_last self.fault text self.tail.items c.as_slice.result.now
     (self.lines + 1) self.reader self.meter fault c.in_default.is c.as_slice.ensures.value h.taken

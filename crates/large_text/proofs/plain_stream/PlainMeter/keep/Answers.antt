@@ -1,5 +1,5 @@
 use Rattle.std.proofs.Common.{◌+◌, subst, sym}
-use Rattle.large_text.specs.Streamed.{HasNoLineFeed}
+use Rattle.large_text.specs.LargeTexts.{HasNoLineFeed}
 use Rattle.large_text.proofs.PlainStreaming.{kept, where_ok, no_feed_more}
 use Rattle.large_text.proofs.plain_stream.PlainMeter.keep.Goals as goal
 

@@ -1,4 +1,5 @@
 use Rattle.std.proofs.lemmas.Result.{on_ok_weaker}
+use Rattle.large_text.specs.PlainStreamed.{HasTakenPlain}
 use Rattle.large_text.proofs.PlainStreaming.{can_front, takes_two, split_whole}
 use Rattle.large_text.proofs.plain_stream.PlainMeter.take.Goals as goal
 
@@ -17,6 +18,8 @@ returns-clause-takes c =
     let lines = c.split_at.result.0.now in
     let tail = c.split_at.result.1.now in
     on_ok_weaker c.keep-2.result
-    (takes_two bytes lines tail c.args.self.now c.take_lines.new.self c.keep-2.new.self
+    (takes_two (λ taken. HasTakenPlain taken c.args.self.now)
+    (λ taken. HasTakenPlain taken c.take_lines.new.self)
+    (λ taken. HasTakenPlain taken c.keep-2.new.self) bytes lines tail
     (split_whole bytes lines tail c.whole_lines-end.result c.split_at.ensures.front
     c.split_at.ensures.back) c.in_ok-take_lines.ensures.takes) c.keep-2.ensures.takes

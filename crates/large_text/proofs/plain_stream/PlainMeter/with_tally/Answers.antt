@@ -1,7 +1,7 @@
 use Rattle.std.proofs.Common.{[], ap, subst, sym}
 use Rattle.std.specs.Prelude.{count_by}
 use Rattle.program_text.specs.Tokens.{is_line_feed}
-use Rattle.large_text.specs.Streamed.{HasTakenLines}
+use Rattle.large_text.specs.PlainStreamed.{HasTakenLines}
 use Rattle.large_text.proofs.PlainStreaming.{taken_first, fits_none}
 use Rattle.large_text.proofs.plain_stream.PlainMeter.with_tally.Goals as goal
 

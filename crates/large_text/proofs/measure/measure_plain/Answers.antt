@@ -2,11 +2,12 @@ use Rattle.std.proofs.Common.{◌≡◌, ◌≢◌, None, refl, rules, subst, sy
 use Rattle.large_text.specs.Measured.{MeasuresText}
 use Rattle.program_text.specs.declared.fault.ReadKind.TheVariants.{OutOfMemory}
 use Rattle.program_text.specs.Tokens.{tokens_of, line_at_end}
-use Rattle.large_text.specs.LargeTrees.{IsLargeFirstFault}
+use Rattle.large_text.specs.LargeTexts.{IsLargeFault}
+use Rattle.large_text.proofs.ReadingTexts.{fault_plain, tallies_plain}
 use Rattle.large_text.proofs.PlainStreaming.{taken_none, fault_last, ends_early, ends_whole}
 use Rattle.large_text.proofs.Memory.{line_of_first}
 use Rattle.large_text.proofs.Tallying.{of_tally}
-use Rattle.large_text.proofs.measure.measure_text.Goals as goal
+use Rattle.large_text.proofs.measure.measure_plain.Goals as goal
 
 pub returns-in_err-line-clause-refused : goal.returns-in_err-line-clause-refused
 returns-in_err-line-clause-refused c =
@@ -17,9 +18,10 @@ returns-in_err-line-clause-refused c =
     let h = taken_none text reader meter c.new-reader.ensures.read c.new-reader.ensures.items
     c.new-meter.ensures in
     let stops : fault.kind ≢ OutOfMemory
-    → IsLargeFirstFault (tokens_of text) (line_at_end 1 text) fault =
-    λ some. fault_last None text text text 1 reader meter fault refl refl h
-    (c.in_err-line.ensures.refused some) (line_at_end 1 text) in
+    → IsLargeFault text fault =
+    λ some. fault_plain text fault c.requires.not_two
+    (fault_last None text text text 1 reader meter fault refl refl h
+    (c.in_err-line.ensures.refused some) (line_at_end 1 text)) in
     search (stops, rules)
 
 pub returns-in_err-finish-clause-refused : goal.returns-in_err-finish-clause-refused
@@ -30,10 +32,11 @@ returns-in_err-finish-clause-refused c =
     let fault = c.in_err-finish.field-0.0 in
     let h = taken_none text reader meter c.new-reader.ensures.read c.new-reader.ensures.items
     c.new-meter.ensures in
-    let stops : IsLargeFirstFault (tokens_of text) (line_at_end 1 text) fault =
-    ends_early None text text text 1 c.in_ok-line.line reader c.take_tokens.new.reader meter
+    let stops : IsLargeFault text fault =
+    fault_plain text fault c.requires.not_two
+    (ends_early None text text text 1 c.in_ok-line.line reader c.take_tokens.new.reader meter
     c.take_tokens.new.meter fault refl refl h c.in_ok-line.ensures.line c.in_ok-line.ensures.reads
-    c.in_err-finish.ensures.early in
+    c.in_err-finish.ensures.early) in
     search (stops, rules)
 
 pub returns-clause-measured : goal.returns-clause-measured
@@ -43,10 +46,11 @@ returns-clause-measured c =
     let meter = c.new-meter.result in
     let h = taken_none text reader meter c.new-reader.ensures.read c.new-reader.ensures.items
     c.new-meter.ensures in
-    subst (MeasuresText (tokens_of text)) (sym c.into_meter.ensures)
-    (of_tally (tokens_of text) c.take_tokens.new.meter
+    subst (MeasuresText text) (sym c.into_meter.ensures)
+    (of_tally text c.take_tokens.new.meter
+    (tallies_plain text c.take_tokens.new.meter c.requires.not_two
     (ends_whole None text text text 1 reader c.take_tokens.new.reader meter
-    c.take_tokens.new.meter refl refl h c.in_ok-line.ensures.reads c.in_ok-finish.ensures.whole))
+    c.take_tokens.new.meter refl refl h c.in_ok-line.ensures.reads c.in_ok-finish.ensures.whole)))
 
 pub returns-in_err-finish-clause-memory : goal.returns-in_err-finish-clause-memory
 returns-in_err-finish-clause-memory c =
