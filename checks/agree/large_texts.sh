@@ -33,7 +33,7 @@ try() { # TEXT STATUS WORDS: the program's words and its status of what this fun
     [ "$told" = "$3" ] && [ "$status" = "$2" ] || { echo "  wanted: $3, status $2"; wrong=1; }
 }
 
-header='error: line 1: BadHeader, only version 1 is read' long='error: input too long'
+header='error: line 1: BadHeader' long='error: input too long'
 [ "$divisor" = 1 ] || long=$header
 try behind_many_lines 1 "error: line $((lines + 2)): Unopened"
 try among_comments 0 $'tasks 1\nsegments 4\nwork 6\nspan 4'

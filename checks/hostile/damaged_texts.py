@@ -80,7 +80,7 @@ def compare_checks(certificate):
     wrong = 0
     for one in damaged(certificate):
         wanted, told = ask("check", one), ask("check", one, LARGE)
-        if told != wanted and not told[1].endswith(b": BadHeader, only version 1 is read\n"):
+        if told != wanted:
             wrong += 1
             print(f"WRONG: check on {one!r}: {wanted}, and for any size {told}", flush=True)
     print(f"check for texts of any size: {wrong} answers that differ", flush=True)

@@ -1,13 +1,12 @@
 -- Each text of any size has no fault or a first one, and stands for one program.
 use Rattle.std.proofs.Common.{◌≡◌, ◌≤◌, ◌∙◌, ℕ, true, false, List, [], length, inl, inr, None, Some}
-use Rattle.std.proofs.Common.{Option, Result, Ok, Err, refl, sym, ap, subst, arith}
+use Rattle.std.proofs.Common.{Option, Result, Ok, Err, refl, sym, ap, subst}
 use Rattle.std.specs.Prelude.{◌⊎◌, nat_lt}
 use Rattle.std.proofs.lemmas.Bool.{ltb-false, ltb-true, le-ltb, MatchBool-at_true, MatchBool-at_false}
 use Rattle.std.proofs.lemmas.List.Elements.{All-nil, All-push}
 use Rattle.program_text.specs.declared.fault.ReadFault.{ReadFault}
 use Rattle.program_text.specs.declared.fault.ReadKind.TheVariants.{TooLong}
 use Rattle.program_text.specs.declared.limits.TheConstants.{MOST_TEXT_BYTES}
-use Rattle.program_text.specs.Marks.{Mark}
 use Rattle.program_text.specs.Tokens.{Token, line_at_end, texts, tokens_of}
 use Rattle.program_text.proofs.Bools.{bool_cases}
 use Rattle.loop_text.specs.FirstPass.{first_pass, after_header}
@@ -118,6 +117,7 @@ right_or_fault_two text few = by (tree_or_fault (body_of text) (line_at_end 1 te
     expands tree whole None is =
         inl (tree, record { fits = few; whole = whole; expands = is })
     expands tree whole (Some fault) is = inr (fault, inr (tree, whole, is))
+
     by : ((tree : Tree) × IsTreeOf (body_of text) tree)
         ⊎ ((fault : ReadFault) × IsFirstFault loop_rules (body_of text) (line_at_end 1 text) fault)
         → ((tree : Tree) × IsLargeLoopText text tree)

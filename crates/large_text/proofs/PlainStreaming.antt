@@ -20,7 +20,7 @@ use Rattle.large_text.specs.LargeTrees.{plain_program}
 use Rattle.large_text.specs.LargeTexts.{FitsText, HasNoLineFeed}
 use Rattle.large_text.specs.Measured.{MeasuresSoFar, TalliesPlain}
 use Rattle.large_text.specs.PlainStreamed.{EndsLine, CutsTokens, HasTakenLines, HasFault}
-use Rattle.large_text.specs.PlainStreamed.{HasTakenBy, HasTakenPlain, TakesPlain, CanTakePlain}
+use Rattle.large_text.specs.PlainStreamed.{HasTakenBy, CanTakePlain}
 use Rattle.large_text.specs.declared.plain_stream.PlainMeter.{PlainMeter}
 use Rattle.large_text.specs.declared.limits.TheConstants.{LARGEST_LINE}
 use Rattle.large_text.proofs.Cutting.{cut_behind}

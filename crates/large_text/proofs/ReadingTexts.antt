@@ -1,7 +1,7 @@
 -- Texts of either version: which one the first bytes tell, and what is known in it.
 use Rattle.std.proofs.Common.{◌≡◌, ◌≤◌, ◌<◌, ◌++◌, ◌∙◌, ℕ, Bool, true, false, List, length, ap, subst, sym}
 use Rattle.std.proofs.Common.{refl}
-use Rattle.std.specs.Prelude.{IsTrue, MatchBool, drop, min, nat_lt, take}
+use Rattle.std.specs.Prelude.{IsTrue, MatchBool, drop, min, take}
 use Rattle.std.proofs.lemmas.Bool.{lt-ltb, le-ltb, MatchBool-at_true, MatchBool-at_false}
 use Rattle.std.proofs.lemmas.List.{take_all, take-append-le, take_min}
 use Rattle.program_text.specs.declared.fault.ReadFault.{ReadFault}
@@ -21,7 +21,7 @@ use Rattle.task_program.specs.Versions.{begins_version_two, body_of}
 use Rattle.task_program.proofs.FirstFaults.{fault_so}
 use Rattle.large_text.specs.declared.tally.Tally.{Tally}
 use Rattle.large_text.specs.LargeTexts.{HasLargeLoopFault, HasLoopProgram, IsLargeFault, IsLargeLoopFault}
-use Rattle.large_text.specs.LargeTexts.{IsLargeLoopText, IsLargeRight, StandsForLarge, is_large_two}
+use Rattle.large_text.specs.LargeTexts.{IsLargeLoopText, StandsForLarge, is_large_two}
 use Rattle.large_text.specs.LargeTrees.{HasLargeProgram, IsLargeFirstFault, IsLargeRightWhole}
 use Rattle.large_text.specs.LoopTallied.{HasLoopFaultOf, TalliesTree}
 use Rattle.large_text.specs.Measured.{TalliesPlain, TalliesText}

@@ -1,7 +1,6 @@
 -- A text of either version that is taken in pieces: how each stage goes on.
-use Rattle.std.proofs.Common.{◌≡◌, ◌+◌, ◌-◌, ◌<◌, ◌≤◌, ◌∙◌, ℕ, true, false, List, [], ◌++◌, length, ap, subst}
+use Rattle.std.proofs.Common.{◌≡◌, ◌-◌, ◌<◌, ◌≤◌, ◌∙◌, ℕ, true, false, List, [], ◌++◌, length, ap, subst}
 use Rattle.std.proofs.Common.{append_assoc, length-append, sym, arith}
-use Rattle.program_text.specs.declared.fault.ReadFault.{ReadFault}
 use Rattle.program_text.specs.declared.fault.ReadKind.TheVariants.{TooLong as TooLongText}
 use Rattle.program_text.specs.declared.limits.TheConstants.{MOST_TEXT_BYTES}
 use Rattle.task_program.proofs.FirstFaults.{fault_so}

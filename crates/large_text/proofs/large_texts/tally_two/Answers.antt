@@ -1,6 +1,6 @@
 use Rattle.std.proofs.Common.{arith}
 use Rattle.std.proofs.lemmas.Result.{IfErr-weaker, IfOk-weaker}
-use Rattle.large_text.proofs.ReadingTexts.{fault_two, loops_faulty, loops_tallied, whole_scanned}
+use Rattle.large_text.proofs.ReadingTexts.{loops_faulty, loops_tallied, whole_scanned}
 use Rattle.large_text.proofs.large_texts.tally_two.Goals as goal
 
 pub returns-clause-measured : goal.returns-clause-measured

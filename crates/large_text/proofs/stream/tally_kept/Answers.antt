@@ -1,4 +1,4 @@
-use Rattle.std.proofs.Common.{◌∙◌, ◌≡◌, List, [], append-nil, arith, false, subst, sym, ℕ}
+use Rattle.std.proofs.Common.{◌∙◌, ◌≡◌, [], append-nil, arith, false, subst, sym}
 use Rattle.std.proofs.lemmas.Result.{IfErr-weaker, IfOk-weaker}
 use Rattle.large_text.specs.LargeTexts.{FitsText, is_large_two}
 use Rattle.large_text.proofs.PlainStreaming.{fits_short}

@@ -1,4 +1,3 @@
-use Rattle.std.proofs.Common.{sym}
 use Rattle.std.proofs.lemmas.Result.{on_ok_weaker}
 use Rattle.large_text.proofs.Streaming.{long_more, plain_can, plain_more}
 use Rattle.large_text.proofs.stream.TextMeter.take.Goals as goal
