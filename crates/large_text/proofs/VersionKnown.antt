@@ -1,7 +1,8 @@
 -- The version of a text is known from its first lines, where these have a header.
 use Rattle.std.proofs.Common.{◌≡◌, ◌+◌, ◌-◌, ◌<◌, ◌≤◌, ◌∙◌, ℕ, List, [], ◌∷◌, ◌++◌, length, take, refl, sym}
-use Rattle.std.proofs.Common.{Bool, true, false, not, ap, arith, append_assoc, length-append}
+use Rattle.std.proofs.Common.{Bool, false, not, ap, arith, append_assoc, length-append}
 use Rattle.std.specs.Prelude.{IsTrue}
+use Rattle.std.proofs.lemmas.Bool.{not-true}
 use Rattle.std.proofs.lemmas.List.{take_all}
 use Rattle.std.proofs.Math.Seq.{take-append-add}
 use Rattle.program_text.specs.declared.limits.TheConstants.{MOST_TEXT_BYTES}
@@ -42,10 +43,6 @@ known_from_lines lines later ends two few =
     ∙ ap (λ (bytes : List ℕ). begins_version_two (tokens_of bytes))
     (sym (take_all MOST_TEXT_BYTES lines few))
 
-not_two : (two : Bool) → IsTrue (not two) → two ≡ false
-not_two true h = absurd h
-not_two false h = refl
-
 -- where these whole lines begin the bytes, and have a header that is not of version 2
 pub never_two : (bytes lines rest : List ℕ) (two : Bool)
     → bytes ≡ lines ++ rest
@@ -63,4 +60,4 @@ never_two bytes lines rest two all ends some few told never = λ later.
     ∙ ap (λ (a : List ℕ). is_large_two a) (append_assoc lines rest later)
     ∙ known_from_lines lines (rest ++ later) (ends (some_bytes lines some)) some short
     ∙ sym told
-    ∙ not_two two never
+    ∙ not-true two never

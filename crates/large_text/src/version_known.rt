@@ -1,8 +1,8 @@
 //! What the first lines of a text tell of its version.
-ghost use Rattle.std.specs.Prelude.{◌≡◌, ◌≤◌, ◌+◌, ◌<◌, ◌^◌, ◌++◌, List, ℕ, IsTrue, false, length};
+ghost use Rattle.std.specs.Prelude.{◌≤◌, ◌+◌, ◌<◌, ◌^◌, IsTrue, length};
 ghost use Rattle.program_text.specs.Tokens.{tokens_of};
 ghost use Rattle.program_text.specs.declared.limits.TheConstants.{MOST_TEXT_BYTES};
-ghost use Rattle.large_text.specs.LargeTexts.{is_large_two};
+ghost use Rattle.large_text.specs.Streamed.{IsNeverTwo};
 
 use crate::large_texts::is_large_two;
 use crate::plain_stream::whole_lines;
@@ -12,7 +12,7 @@ use program_text::scanner::Scanner;
 /// and it is another.
 pub(crate) fn is_never_two(bytes: &[u8]) -> bool
     requires { length bytes.now ≤ MOST_TEXT_BYTES }
-    ensures { IsTrue result → (later : List ℕ) → is_large_two (bytes.now ++ later) ≡ false }
+    ensures { IsTrue result → IsNeverTwo bytes.now }
 {
     let (lines, _) = bytes.split_at(whole_lines(bytes));
     has_two_tokens(lines) && !is_large_two(lines)

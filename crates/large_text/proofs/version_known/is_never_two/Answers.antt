@@ -1,4 +1,4 @@
-use Rattle.std.proofs.Common.{◌∙◌, List, ℕ, ap, arith, length, subst, sym}
+use Rattle.std.proofs.Common.{arith, subst, sym}
 use Rattle.large_text.specs.PlainStreamed.{EndsLine}
 use Rattle.large_text.proofs.PlainStreaming.{split_whole}
 use Rattle.large_text.proofs.VersionKnown.{never_two}
