@@ -1,5 +1,6 @@
-//! Texts of any size, in either version: their marks, one after another, and their work and span. What is
-//! kept grows with the nesting of tasks and groups and with the names, and not with the text.
+//! Texts of any size, in either version: their marks, one after another, and their work and span. In
+//! version 1 what is kept grows with the nesting of tasks and groups and with the names, and not with
+//! the text. A text of version 2 is kept whole, and its expansion is not.
 #![tactic(auto)]
 
 pub mod fault;
