@@ -20,4 +20,5 @@ pub mod PlainStreaming
 pub mod ReadingTexts
 pub mod LoopReading
 pub mod Streaming
+pub mod VersionKnown
 pub mod Tallying

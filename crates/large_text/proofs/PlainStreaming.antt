@@ -37,7 +37,7 @@ no_cut : CutsTokens []
 unfolding tokens_from
 no_cut = λ later. refl
 
-cut_once : (line : ℕ) (text later : List ℕ) → EndsLine text
+pub cut_once : (line : ℕ) (text later : List ℕ) → EndsLine text
     → tokens_from false line (text ++ later)
     ≡ tokens_from false line text ++ tokens_from false (line_at_end line text) later
 cut_once line text later (front, is) =

@@ -1,6 +1,6 @@
 -- A text of either version that is taken in pieces: how each stage goes on.
 use Rattle.std.proofs.Common.{◌≡◌, ◌-◌, ◌<◌, ◌≤◌, ◌∙◌, ℕ, true, false, List, [], ◌++◌, length, ap, subst}
-use Rattle.std.proofs.Common.{append_assoc, length-append, sym, arith}
+use Rattle.std.proofs.Common.{append_assoc, append-nil, length-append, sym, arith}
 use Rattle.program_text.specs.declared.fault.ReadKind.TheVariants.{TooLong as TooLongText}
 use Rattle.program_text.specs.declared.limits.TheConstants.{MOST_TEXT_BYTES}
 use Rattle.task_program.proofs.FirstFaults.{fault_so}
@@ -11,7 +11,7 @@ use Rattle.large_text.specs.declared.stream.TextMeter.{TextMeter}
 use Rattle.large_text.specs.LargeTexts.{FitsText, IsLargeFault, is_large_two}
 use Rattle.large_text.specs.PlainStreamed.{CanTakePlain, HasTakenPlain, TakesPlain}
 use Rattle.large_text.specs.Streamed.{CanTakeBytes, HasKept, HasTaken, HasTakenIn, IsPlain}
-use Rattle.large_text.specs.Streamed.{IsTooLongTwo, TakesBytes}
+use Rattle.large_text.specs.Streamed.{IsNeverTwo, IsTooLongTwo, TakesBytes}
 use Rattle.large_text.specs.Tallied.{IsBegun}
 use Rattle.large_text.proofs.PlainStreaming.{fits_front, takes_two}
 use Rattle.large_text.proofs.ReadingTexts.{fault_long, two_front}
@@ -104,11 +104,18 @@ pub plain_more : (stage : Stage) (bytes more head : List ℕ) (plain after : Pla
 plain_more stage bytes more head plain after is takes fits h =
     let known = plain_at stage bytes head plain is h in
     let now : IsPlain (bytes ++ more) after = record {
-      many = omega (arith, known.many, length-append bytes more);
-      not_two = two_front bytes more (omega (arith, known.many)) ∙ known.not_two;
+      never_two = λ later.
+          ap (λ (a : List ℕ). is_large_two a) (append_assoc bytes more later)
+          ∙ known.never_two (more ++ later);
       taken = takes bytes fits known.taken;
     } in
     subst (λ (s : Stage). HasTakenIn s (bytes ++ more) head after) (sym is) now
+
+pub not_two : (bytes : List ℕ) (plain : PlainMeter)
+    → IsPlain bytes plain
+    → is_large_two bytes ≡ false
+not_two bytes plain known =
+    ap (λ (a : List ℕ). is_large_two a) (sym (append-nil bytes)) ∙ known.never_two []
 
 pub long_more : (stage : Stage) (bytes more head : List ℕ) (plain : PlainMeter)
     → stage ≡ TooLong
@@ -177,8 +184,8 @@ module _ (bytes head rest : List ℕ) (full : length head ≡ MOST_TEXT_BYTES) (
       let both : FitsText (head ++ rest) =
       subst (λ (a : List ℕ). FitsText (a ++ rest)) (sym all) fits in
       record {
-        many = longer;
-        not_two = same_version ∙ one;
+        never_two = λ later.
+            two_front (bytes ++ rest) later (omega (arith, longer)) ∙ same_version ∙ one;
         taken = subst (λ (a : List ℕ). HasTakenPlain (a ++ rest) after) all
             (second head both (first [] (fits_front head rest both) begun));
       }
@@ -240,3 +247,24 @@ pub long_fault : (text head : List ℕ) (stage : Stage) (plain : PlainMeter)
 long_fault text head stage plain is h =
     let known = long_at stage text head plain is h in
     fault_long text known.two known.many
+
+-- ---- the version is known, and it is not 2
+
+pub handed_on : (old new : TextMeter)
+    → old.stage ≡ Kept
+    → new.stage ≡ Plain
+    → IsNeverTwo old.head.items
+    → TakesPlain old.head.items old.plain new.plain
+    → TakesBytes [] old new
+handed_on old new is now never takes = λ taken fits h.
+    let kept = kept_at old.stage taken old.head.items old.plain is h.taken in
+    let all : old.head.items ≡ taken ++ [] = kept.all ∙ sym (append-nil taken) in
+    let plain : IsPlain old.head.items new.plain = record {
+      never_two = never;
+      taken = takes [] (subst FitsText (sym all) fits) kept.plain_begun;
+    } in
+    record {
+      fits = fits;
+      taken = subst (λ (s : Stage). HasTakenIn s (taken ++ []) new.head.items new.plain) (sym now)
+          (subst (λ (bytes : List ℕ). IsPlain bytes new.plain) all plain);
+    }

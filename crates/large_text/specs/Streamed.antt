@@ -16,10 +16,12 @@ pub record HasKept (bytes head : List ℕ) (plain : PlainMeter) : Type 0 where
   pub plain_begun : HasTakenPlain [] plain
   pub begun : IsBegun plain.meter
 
--- they are too many for a text of version 2, and have not its header
+-- no text that begins with them is of version 2
+abbrev pub IsNeverTwo : List ℕ → Type 0
+IsNeverTwo bytes = (later : List ℕ) → is_large_two (bytes ++ later) ≡ false
+
 pub record IsPlain (bytes : List ℕ) (plain : PlainMeter) : Type 0 where
-  pub many : MOST_TEXT_BYTES < length bytes
-  pub not_two : is_large_two bytes ≡ false
+  pub never_two : IsNeverTwo bytes
   pub taken : HasTakenPlain bytes plain
 
 -- they are too many for the text of version 2 that they begin

@@ -17,6 +17,7 @@ pub mod printer;
 pub mod reader;
 mod stream;
 pub mod tally;
+mod version_known;
 mod words;
 
 pub use measure::measure_text;

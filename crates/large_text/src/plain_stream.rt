@@ -163,7 +163,7 @@ impl PlainMeter {
 }
 
 // How many bytes the whole lines have with which these bytes begin.
-fn whole_lines(bytes: &[u8]) -> usize
+pub(crate) fn whole_lines(bytes: &[u8]) -> usize
     ensures within { result ≤ length bytes.now }
     ensures ends { 0 < result → EndsLine (take result bytes.now) }
     ensures last { HasNoLineFeed (drop result bytes.now) }

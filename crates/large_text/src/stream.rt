@@ -1,5 +1,5 @@
 //! Work and span of a text that comes in pieces, in either version.
-ghost use Rattle.std.specs.Prelude.{◌≡◌, ◌≢◌, ◌≤◌, ◌<◌, ◌+◌, [], ◌++◌, List, ℕ, IfOk, IfErr, IsTrue, OnOk};
+ghost use Rattle.std.specs.Prelude.{◌≡◌, ◌≢◌, ◌≤◌, ◌<◌, ◌+◌, ◌-◌, [], ◌++◌, List, ℕ, IfOk, IfErr, IsTrue, OnOk};
 ghost use Rattle.std.specs.Prelude.{length};
 ghost use Rattle.std.specs.Option.{IfSome, is_some};
 ghost use Rattle.program_text.specs.declared.fault.ReadKind.TheVariants.{OutOfMemory};
@@ -8,7 +8,7 @@ ghost use Rattle.large_text.specs.declared.limits.TheConstants.{LARGEST_PIECE};
 ghost use Rattle.large_text.specs.LargeTexts.{IsLargeFault};
 ghost use Rattle.large_text.specs.Measured.{FitsTable, IsCanonicalOf, IsTableOfText, MeasuresText, TalliesText};
 ghost use Rattle.large_text.specs.PlainStreamed.{HasTakenPlain};
-ghost use Rattle.large_text.specs.Streamed.{CanTakeBytes, HasTaken, KeepsRows, KeepsText, TakesBytes};
+ghost use Rattle.large_text.specs.Streamed.{CanTakeBytes, HasTaken, IsNeverTwo, KeepsRows, KeepsText, TakesBytes};
 ghost use Rattle.large_text.specs.Tallied.{IsBegun, keeps_rows, keeps_text};
 ghost use Rattle.large_text.specs.declared.stream.Stage.TheVariants.{Kept};
 
@@ -16,6 +16,7 @@ use crate::fault::LargeFault;
 use crate::large_texts::{is_large_two, tally_two};
 use crate::plain_stream::PlainMeter;
 use crate::tally::Tally;
+use crate::version_known::is_never_two;
 use online_span::Meter;
 use std::alloc::Global;
 use std::mem::replace;
@@ -37,8 +38,8 @@ enum Stage {
 }
 
 /// Takes the bytes of a text piece by piece, however it is cut, and measures what it says. A text of
-/// version 2 is kept whole. Of any other the first `MOST_TEXT_BYTES` are, and then only the last
-/// line, as far as it has come, beside the names and what the nesting takes.
+/// version 2 is kept whole. Of any other the first lines are, until they tell the version, and then
+/// only the last line, as far as it has come, beside the names and what the nesting takes.
 #[derive(Drop)]
 pub struct TextMeter {
     alloc: Global,
@@ -124,11 +125,44 @@ impl TextMeter {
     {
         let room = MOST_TEXT_BYTES - self.head.len();
         if bytes.len() <= room {
-            return self.head.extend_from_slice(bytes);
+            return self.keep(bytes);
         }
         let (first, rest) = bytes.split_at(room);
         self.head.extend_from_slice(first)?;
         self.leave_head(rest)
+    }
+
+    // These are kept behind those before them, unless that tells a version that is not 2. It is looked
+    // for where the bytes have one binary digit more: so all looks take no longer than two of them.
+    fn keep(&mut self, bytes: &[u8]) -> Result<(), AllocFault>
+        requires room { CanTakeBytes bytes.now self.old }
+        requires few { length bytes.now ≤ MOST_TEXT_BYTES - length self.old.head.items }
+        requires kept { self.old.stage ≡ Kept }
+        ensures takes { OnOk result (TakesBytes bytes.now self.old self.new) }
+        ensures rows { KeepsRows self.old → KeepsRows self.new }
+        ensures text { KeepsText self.old → KeepsText self.new }
+    {
+        let before = self.head.len();
+        self.head.extend_from_slice(bytes)?;
+        let looks = self.head.len().leading_zeros() < before.leading_zeros();
+        if looks && is_never_two(self.head.as_slice()) {
+            return self.hand_on();
+        }
+        Ok(())
+    }
+
+    // No text that begins with the bytes that are kept is of version 2.
+    fn hand_on(&mut self) -> Result<(), AllocFault>
+        requires room { CanTakeBytes [] self.old }
+        requires kept { self.old.stage ≡ Kept }
+        requires never_two { IsNeverTwo self.old.head.items }
+        ensures takes { OnOk result (TakesBytes [] self.old self.new) }
+        ensures rows { KeepsRows self.old → KeepsRows self.new }
+        ensures text { KeepsText self.old → KeepsText self.new }
+    {
+        let head = replace(&mut self.head, Vec::new(self.alloc));
+        self.stage = Stage::Plain;
+        self.plain.take(head.as_slice())
     }
 
     // As many bytes are kept as a text of version 2 may have, and these come behind them.

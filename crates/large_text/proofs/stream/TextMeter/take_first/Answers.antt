@@ -1,6 +1,6 @@
 use Rattle.std.proofs.Common.{arith, refl}
 use Rattle.std.proofs.lemmas.Result.{on_ok_weaker}
-use Rattle.large_text.proofs.PlainStreaming.{split_whole, where_ok}
+use Rattle.large_text.proofs.PlainStreaming.{split_whole}
 use Rattle.large_text.proofs.Streaming.{keeps_head, kept_few, kept_then, then_takes}
 use Rattle.large_text.proofs.stream.TextMeter.take_first.Goals as goal
 
@@ -11,14 +11,6 @@ overflow_sub-room c =
       c.len-room.ensures,
       kept_few c.args.bytes.now c.args.self.now c.requires.kept c.requires.room,
     )
-
-pub returns-then-bytes-room-clause-takes : goal.returns-then-bytes-room-clause-takes
-returns-then-bytes-room-clause-takes c =
-    let self = c.args.self.now in
-    where_ok c.extend_from_slice.result _ c.extend_from_slice.new.self.items self.head.items
-    c.args.bytes.now c.extend_from_slice.ensures.items
-    (λ is. keeps_head self _ c.args.bytes.now c.requires.kept refl refl is
-    (omega (arith, c.len-room.ensures)))
 
 pub leave_head-requires-clause-room : goal.leave_head-requires-clause-room
 leave_head-requires-clause-room c =

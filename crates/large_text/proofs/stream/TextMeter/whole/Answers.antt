@@ -3,7 +3,7 @@ use Rattle.std.proofs.lemmas.Result.{IfErr-weaker, IfOk-weaker}
 use Rattle.large_text.specs.LargeTexts.{IsLargeFault}
 use Rattle.large_text.specs.Measured.{TalliesText}
 use Rattle.large_text.proofs.ReadingTexts.{fault_plain, tallies_plain}
-use Rattle.large_text.proofs.Streaming.{kept_at, kept_few, long_fault, plain_at, plain_can}
+use Rattle.large_text.proofs.Streaming.{kept_at, kept_few, long_fault, not_two, plain_at, plain_can}
 use Rattle.large_text.proofs.stream.TextMeter.whole.Goals as goal
 
 pub tally_kept-requires-clause-few : goal.tally_kept-requires-clause-few
@@ -54,7 +54,7 @@ returns-in-Plain-clause-measured c =
     IfOk-weaker c.whole.result _ _
     (λ tally h text taken.
     let plain = plain_at self.stage text self.head.items self.plain c.in-Plain.is taken.taken in
-    tallies_plain text tally plain.not_two (h text plain.taken))
+    tallies_plain text tally (not_two text self.plain plain) (h text plain.taken))
     c.whole.ensures.measured
 
 pub returns-in-Plain-clause-refused : goal.returns-in-Plain-clause-refused
@@ -63,7 +63,7 @@ returns-in-Plain-clause-refused c =
     IfErr-weaker c.whole.result _ _
     (λ fault refused some text taken.
     let plain = plain_at self.stage text self.head.items self.plain c.in-Plain.is taken.taken in
-    fault_plain text fault plain.not_two (refused some text plain.taken))
+    fault_plain text fault (not_two text self.plain plain) (refused some text plain.taken))
     c.whole.ensures.refused
 
 pub returns-clause-refused : goal.returns-clause-refused
