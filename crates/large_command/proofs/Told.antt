@@ -1,5 +1,5 @@
 -- What a meter's calls answer is told in the report.
-use Rattle.std.proofs.Common.{◌≡◌, ◌+◌, ◌∙◌, ℕ, List, [], Option, Some, None, inl, inr, ap, refl}
+use Rattle.std.proofs.Common.{◌≡◌, ◌+◌, ◌∙◌, ℕ, List, [], Option, Some, None, inl, inr, ap}
 use Rattle.std.specs.Option.{IfSome}
 use Rattle.std.proofs.Common.{append-nil, arith, subst, sym}
 use Rattle.program_text.specs.Document.{program_part, rest_part}

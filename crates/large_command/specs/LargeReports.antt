@@ -1,7 +1,6 @@
 -- The report of a text or a document of any size: one text and one status.
 use Rattle.std.specs.Prelude.{◌≡◌, ◌⊎◌, ◌+◌, ℕ, List, [], ◌∷◌, ◌++◌, codes}
 use Rattle.std.specs.Prelude.{Option, Some}
-use Rattle.std.specs.Fmt.{decimal}
 use Rattle.command_words.specs.declared.large.LargeRequest.{LargeRequest}
 use Rattle.command_words.specs.declared.large.LargeRequest.TheVariants.{OfDocument, OfMeter, OfTable}
 use Rattle.command_words.specs.declared.large.LargeRequest.TheVariants.{OfText}
@@ -21,9 +20,9 @@ use Rattle.online_span.specs.Spans.{IsSpanOf}
 use Rattle.large_text.specs.LargeTexts.{FitsText, IsLargeFault, IsLargeRight, StandsForLarge}
 use Rattle.spanprof_command.specs.GreedyRuns.{bound_of, least_of}
 use Rattle.spanprof_command.specs.Tables.{numbered_table}
-use Rattle.spanprof_command.specs.Report.{Report, input_too_long, line, number_line}
+use Rattle.spanprof_command.specs.Report.{Report, input_too_long, number_line}
 use Rattle.spanprof_command.specs.Report.{program_refusal}
-use Rattle.spanprof_command.specs.declared.report.Status.TheVariants.{Done, Refused}
+use Rattle.spanprof_command.specs.declared.report.Status.TheVariants.{Done}
 use Rattle.large_command.specs.DocumentReports.{TellsDocument}
 use Rattle.large_command.specs.Lengths.{IsTooLong}
 use Rattle.large_command.specs.TableReports.{TellsTable}
