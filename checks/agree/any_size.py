@@ -5,7 +5,7 @@ beforehand on programs of a million tasks, of which it also tells time and memor
 number too, and a list of changes is answered as its changes are among the words. The rows of `bounds` are compared with
 a plain computation, and on the smaller programs with the bounds of `spanprof curve`.
 
-    checks/agree/any_size.py [COUNT [LARGE [SPANPROF]]]   COUNT random programs of each version (300); without more the built ones
+    checks/agree/any_size.py [COUNT [LARGE [SPANPROF]]]   COUNT random texts of each version (300); else the built ones
 
 Build both first: the gate does, or tools/prove_program.sh for spanprof and once more for spanprof_large.
 """

@@ -20,7 +20,8 @@ def draw_item(rng, variables):
 
 
 def draw_clauses(rng, variables):
-    clauses = [clause for clause, share in (("if(0)", 0.1), ("final(1)", 0.15), ("final(0)", 0.05)) if rng.random() < share]
+    shares = (("if(0)", 0.1), ("final(1)", 0.15), ("final(0)", 0.05))
+    clauses = [clause for clause, share in shares if rng.random() < share]
     for _ in range(rng.choice((0, 1, 1, 2))):
         items = ", ".join(draw_item(rng, variables) for _ in range(rng.randint(1, 3)))
         clauses.append(f"depend({rng.choice(KINDS)}: {items})")

@@ -65,8 +65,14 @@ pub(crate) fn table_or_refusal(
 pub(crate) fn text_refusal(alloc: Global, fault: LargeFault) -> Result<Report, AllocError>
     ensures { IfOk result (λ report. report ≡ program_refusal fault) }
 {
-    let name = kind_name(fault.kind);
-    let line = fault.line;
+    refusal(alloc, fault.kind, fault.line)
+}
+
+fn refusal(alloc: Global, kind: ReadKind, line: u64) -> Result<Report, AllocError>
+    ensures { IfOk result (λ report.
+        report ≡ program_refusal (record { kind = kind; line = line })) }
+{
+    let name = kind_name(kind);
     let text = format!(in alloc; "error: line {line}: {name}\n")?;
     Ok(Report::new(text.into_bytes(), Status::Refused))
 }

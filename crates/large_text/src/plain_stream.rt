@@ -1,6 +1,6 @@
 //! Work and span of a text of version 1 that comes in pieces.
 ghost use Rattle.std.specs.Prelude.{◌≡◌, ◌≢◌, ◌+◌, ◌<◌, ◌≤◌, ◌^◌, [], ◌∷◌, false, ◌++◌, List, ℕ, IfOk, IfErr};
-ghost use Rattle.std.specs.Prelude.{IsTrue, OnOk, None, length, take, drop};
+ghost use Rattle.std.specs.Prelude.{OnOk, None, length, take, drop};
 ghost use Rattle.program_text.specs.declared.fault.ReadKind.TheVariants.{OutOfMemory};
 ghost use Rattle.program_text.specs.Tokens.{tokens_of, line_at_end};
 ghost use Rattle.large_text.specs.declared.limits.TheConstants.{LARGEST_PIECE};
@@ -35,42 +35,7 @@ pub struct PlainMeter {
 
 impl PlainMeter {
     /// The meter of a text of which nothing has come, whose names are hashed under this key.
-    pub(crate) fn new(alloc: Global, key: NameKey) -> PlainMeter
-        ensures taken { HasTakenPlain [] result }
-        ensures begun { IsBegun result.meter }
-    {
-        PlainMeter::with_tally(alloc, key, Tally::new(alloc))
-    }
-
-    /// The same, where the rows of its table are kept.
-    pub(crate) fn with_rows(alloc: Global, key: NameKey) -> Result<PlainMeter, AllocFault>
-        ensures taken { IfOk result (λ made. HasTakenPlain [] made) }
-        ensures begun { IfOk result (λ made. IsBegun made.meter) }
-        ensures rows { IfOk result (λ made. IsTrue (keeps_rows made.meter)) }
-    {
-        Ok(PlainMeter::with_tally(alloc, key, Tally::with_rows(alloc)?))
-    }
-
-    /// The same, where its canonical text is kept.
-    pub(crate) fn with_text(alloc: Global, key: NameKey) -> Result<PlainMeter, AllocFault>
-        ensures taken { IfOk result (λ made. HasTakenPlain [] made) }
-        ensures begun { IfOk result (λ made. IsBegun made.meter) }
-        ensures text { IfOk result (λ made. IsTrue (keeps_text made.meter)) }
-    {
-        Ok(PlainMeter::with_tally(alloc, key, Tally::with_text(alloc)?))
-    }
-
-    /// The same, where both are kept.
-    pub(crate) fn with_rows_and_text(alloc: Global, key: NameKey) -> Result<PlainMeter, AllocFault>
-        ensures taken { IfOk result (λ made. HasTakenPlain [] made) }
-        ensures begun { IfOk result (λ made. IsBegun made.meter) }
-        ensures rows { IfOk result (λ made. IsTrue (keeps_rows made.meter)) }
-        ensures text { IfOk result (λ made. IsTrue (keeps_text made.meter)) }
-    {
-        Ok(PlainMeter::with_tally(alloc, key, Tally::with_rows_and_text(alloc)?))
-    }
-
-    fn with_tally(alloc: Global, key: NameKey, meter: Tally) -> PlainMeter
+    pub(crate) fn new(alloc: Global, key: NameKey, meter: Tally) -> PlainMeter
         requires { IsBegun meter }
         ensures taken { HasTakenPlain [] result }
         ensures meter { result.meter ≡ meter }

@@ -56,7 +56,7 @@ impl TextMeter {
     pub fn new(alloc: Global, key: NameKey) -> TextMeter
         ensures { HasTaken [] result }
     {
-        TextMeter::of_plain(alloc, key, PlainMeter::new(alloc, key))
+        TextMeter::of_tally(alloc, key, Tally::new(alloc))
     }
 
     /// The same, where the rows of its table are kept.
@@ -64,8 +64,7 @@ impl TextMeter {
         ensures taken { IfOk result (λ made. HasTaken [] made) }
         ensures rows { IfOk result KeepsRows }
     {
-        let plain = PlainMeter::with_rows(alloc, key)?;
-        Ok(TextMeter::of_plain(alloc, key, plain))
+        Ok(TextMeter::of_tally(alloc, key, Tally::with_rows(alloc)?))
     }
 
     /// The same, where its canonical text is kept.
@@ -73,8 +72,7 @@ impl TextMeter {
         ensures taken { IfOk result (λ made. HasTaken [] made) }
         ensures text { IfOk result KeepsText }
     {
-        let plain = PlainMeter::with_text(alloc, key)?;
-        Ok(TextMeter::of_plain(alloc, key, plain))
+        Ok(TextMeter::of_tally(alloc, key, Tally::with_text(alloc)?))
     }
 
     /// The same, where both are kept.
@@ -83,23 +81,20 @@ impl TextMeter {
         ensures rows { IfOk result KeepsRows }
         ensures text { IfOk result KeepsText }
     {
-        let plain = PlainMeter::with_rows_and_text(alloc, key)?;
-        Ok(TextMeter::of_plain(alloc, key, plain))
+        Ok(TextMeter::of_tally(alloc, key, Tally::with_rows_and_text(alloc)?))
     }
 
-    fn of_plain(alloc: Global, key: NameKey, plain: PlainMeter) -> TextMeter
-        requires taken { HasTakenPlain [] plain }
-        requires begun { IsBegun plain.meter }
+    fn of_tally(alloc: Global, key: NameKey, tally: Tally) -> TextMeter
+        requires { IsBegun tally }
         ensures taken { HasTaken [] result }
-        ensures rows { keeps_rows result.plain.meter ≡ keeps_rows plain.meter }
-        ensures text { keeps_text result.plain.meter ≡ keeps_text plain.meter }
+        ensures tally { result.plain.meter ≡ tally }
     {
         TextMeter {
             alloc,
             key,
             stage: Stage::Kept,
             head: Vec::new(alloc),
-            plain,
+            plain: PlainMeter::new(alloc, key, tally),
         }
     }
 

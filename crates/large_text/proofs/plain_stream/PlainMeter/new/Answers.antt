@@ -3,7 +3,7 @@ use Rattle.std.specs.Prelude.{count_by}
 use Rattle.program_text.specs.Tokens.{is_line_feed}
 use Rattle.large_text.specs.PlainStreamed.{HasTakenLines}
 use Rattle.large_text.proofs.PlainStreaming.{taken_first, fits_none}
-use Rattle.large_text.proofs.plain_stream.PlainMeter.with_tally.Goals as goal
+use Rattle.large_text.proofs.plain_stream.PlainMeter.new.Goals as goal
 
 pub returns-clause-taken : goal.returns-clause-taken
 returns-clause-taken c = record {
