@@ -32,9 +32,10 @@ use Rattle.task_segments.specs.Moments.{last_moment}
 use Rattle.large_text.specs.LoopFaults.{large_fault_of}
 use Rattle.large_text.specs.LoopMarked.{AreOpen, HasEntered, HasKept, IsRefusedWith}
 use Rattle.large_text.specs.LoopTallied.{HasLoopFaultOf, TalliesTree}
-use Rattle.large_text.specs.Tallied.{Tallies}
+use Rattle.large_text.specs.Tallied.{Tallies, keeps_rows, keeps_text}
 use Rattle.large_text.specs.declared.loop_marks.LoopMarks.{LoopMarks}
 use Rattle.large_text.specs.declared.printer.Printer.{Printer}
+use Rattle.large_text.specs.declared.tally.Tally.{Tally}
 use Rattle.large_text.proofs.Open.{none_open}
 use Rattle.large_text.proofs.Printing.{whole_text}
 
@@ -96,6 +97,19 @@ of_state taker state tree h none right is =
           is
           (whole_text Two taker.tally.printer state.names state.items state.tree.marks h.prints);
     }
+
+-- before the first piece
+pub kept_begun : (rows text : Bool) (taker : LoopMarks) (tally : Tally)
+    → HasEntered taker empty_expansion
+    → taker.tally ≡ tally
+    → keeps_rows tally ≡ rows
+    → keeps_text tally ≡ text
+    → HasKept rows text taker empty_expansion
+kept_begun rows text taker tally entered is kept printed = record {
+  entered = entered;
+  rows = ap keeps_rows is ∙ kept;
+  text = ap keeps_text is ∙ printed;
+}
 
 pub tallies_tree : (rows text : Bool) (first taker : LoopMarks) (tree : Tree)
     → LeadsOn large_fault_of (expansion [] false tree) (HasKept rows text first)
