@@ -5,7 +5,7 @@ beforehand on programs of a million tasks, of which it also tells time and memor
 number too, and a list of changes is answered as its changes are among the words. The rows of `bounds` are compared with
 a plain computation, and on the smaller programs with the bounds of `spanprof curve`.
 
-    checks/agree/any_size.py [COUNT [LARGE [SPANPROF]]]   COUNT random programs (300); without more the built ones
+    checks/agree/any_size.py [COUNT [LARGE [SPANPROF]]]   COUNT random texts of each version (300); else the built ones
 
 Build both first: the gate does, or tools/prove_program.sh for spanprof and once more for spanprof_large.
 """
@@ -18,6 +18,7 @@ import time
 from pathlib import Path
 
 from random_logs import draw_document, in_order, written
+from random_loops import draw_loops
 
 TOP = Path(__file__).resolve().parents[2]
 LARGE = TOP / "crates/spanprof_large/out/spanprof_large"
@@ -197,15 +198,24 @@ def compare_checks(what, text, large, spanprof):
             raise Wrong(f"{what}: check of {document[-80:]!r}: spanprof {one}, and spanprof_large {other}")
 
 
+def compare_all(what, text, large, spanprof):
+    compare(what, text, large, spanprof)
+    compare_checks(what, text, large, spanprof)
+
+
 def compare_examples(large, spanprof):
     count = 0
     for path in sorted((TOP / "examples").rglob("*.tasks")):
-        text = path.read_text()
-        if re.match(r"(\s|#[^\n]*\n)*omptasks\s+0*1\b", text):
-            compare(str(path.relative_to(TOP)), text, large, spanprof)
-            compare_checks(str(path.relative_to(TOP)), text, large, spanprof)
-            count += 1
+        compare_all(str(path.relative_to(TOP)), path.read_text(), large, spanprof)
+        count += 1
     return count
+
+
+def compare_random(count, large, spanprof):
+    """So many programs of version 1, and as many of version 2."""
+    for seed in range(count):
+        compare_all(f"random program {seed}", draw(seed), large, spanprof)
+        compare_all(f"random program with loops {seed}", draw_loops(seed), large, spanprof)
 
 
 def columns(table, *names):
@@ -343,11 +353,9 @@ def main():
             sys.exit(f"any_size: no program {program}; build it first")
     try:
         examples = compare_examples(large, spanprof)
-        for seed in range(count):
-            compare(f"random program {seed}", draw(seed), large, spanprof)
-            compare_checks(f"random program {seed}", draw(seed), large, spanprof)
+        compare_random(count, large, spanprof)
         told = "span, show, certify, slack, greedy, curve, whatif, replay and check"
-        print(f"{examples} examples and {count} random programs: as {told} tell")
+        print(f"{examples} examples and twice {count} random programs, without loops and with them: as {told} tell")
         for name, made in (("nested", nested(MILLION)), ("tree", tree(20)), ("chain", chain(MILLION)),
                            ("independent", independent(MILLION))):
             measure(name, made, large)

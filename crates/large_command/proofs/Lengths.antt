@@ -9,7 +9,7 @@ use Rattle.large_text.specs.declared.limits.TheConstants.{LARGEST_LINE, LARGEST_
 use Rattle.large_command.specs.declared.room.Room.{Room}
 use Rattle.large_command.specs.declared.text_input.TheConstants.{PIECE}
 use Rattle.large_command.specs.Lengths.{IsReadInTime, IsTooLong}
-use Rattle.large_text.specs.Streamed.{FitsText, HasNoLineFeed}
+use Rattle.large_text.specs.LargeTexts.{FitsText, HasNoLineFeed}
 use Rattle.large_command.specs.TextInput.{EndsInLine, HasRoom}
 use Rattle.large_command.proofs.Lines.{Further, before_feed, cut_lengths, feeds-append, feeds_of}
 use Rattle.large_command.proofs.Lines.{first_longest, further, is_inside, length_of, part_within}

@@ -11,7 +11,7 @@ use Rattle.std.proofs.lemmas.List.Sums.{sum_by-append, sum_by-cons}
 use Rattle.std.proofs.lemmas.List.Sorted.{IsPermutation-reverse, sum_by-IsPermutation}
 use Rattle.std.specs.List.{prefix_len}
 use Rattle.program_text.specs.Tokens.{is_line_feed}
-use Rattle.large_text.specs.Streamed.{HasNoLineFeed}
+use Rattle.large_text.specs.LargeTexts.{HasNoLineFeed}
 use Rattle.large_command.specs.TextInput.{EndsInLine}
 
 -- ---- cuts of a list

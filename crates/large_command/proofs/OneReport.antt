@@ -12,8 +12,6 @@ use Rattle.command_words.specs.declared.large.TextRequest.TheVariants.{Certify, 
 use Rattle.program_text.specs.Document.{program_part, rest_part}
 use Rattle.program_text.specs.Limits.{work_of}
 use Rattle.program_text.specs.Marks.{Mark}
-use Rattle.program_text.specs.Tokens.{line_at_end, texts, tokens_of}
-use Rattle.task_program.proofs.FirstFaults.{no_fault}
 use Rattle.task_program.specs.Nested.{IsNested}
 use Rattle.task_program.specs.ProgramMarks.{ProgramMarks}
 use Rattle.task_segments.proofs.Schedules.{span-unique}
@@ -21,16 +19,15 @@ use Rattle.task_segments.specs.Moments.{last_moment, segments_so_far}
 use Rattle.task_segments.specs.Precedence.{MustPrecede}
 use Rattle.task_segments.specs.Table.{costs_of, table_of}
 use Rattle.online_span.specs.Spans.{IsSpanOf}
-use Rattle.large_text.proofs.OneTree.{one_program}
-use Rattle.large_text.proofs.Whole.{one_fault}
-use Rattle.large_text.specs.LargeTrees.{large_rules}
-use Rattle.large_text.specs.Streamed.{FitsText}
+use Rattle.large_text.proofs.LoopReading.{one_reading}
+use Rattle.large_text.proofs.ReadingTexts.{nested_of}
+use Rattle.large_text.specs.LargeTexts.{FitsText}
 use Rattle.spanprof_command.proofs.OneOfGraphs.{one_certificate}
-use Rattle.spanprof_command.specs.Report.{Report}
+use Rattle.spanprof_command.specs.Report.{Report, program_refusal}
 use Rattle.large_command.specs.LargeCommand.{AnswersWords, IsReport, ReadsText, is_in_range}
 use Rattle.large_command.specs.LargeReports.{AcceptsText, Answers, AnswersWithin, RefusesText}
 use Rattle.large_command.specs.LargeReports.{Tells, TellsMarks, bounds_report}
-use Rattle.large_command.specs.LargeReports.{numbers_report, text_of, text_refusal}
+use Rattle.large_command.specs.LargeReports.{numbers_report, text_of}
 use Rattle.large_command.specs.TextReports.{TellsText}
 use Rattle.large_command.specs.Lengths.{IsTooLong}
 use Rattle.large_command.specs.OneReport.{HasOneReport}
@@ -98,9 +95,10 @@ one_accepted : (asked : LargeRequest) (input : List ℕ) (one other : Report)
     → AcceptsText asked input other
     → one ≡ other
 one_accepted asked input one other a b =
+    let text : List ℕ = text_of asked input in
     let same : b.program ≡ a.program =
-    one_program (texts (tokens_of (text_of asked input))) b.program a.program b.stands a.stands in
-    one_told asked input a.program one other a.stands.tree.nested a.says
+    (one_reading text).one_program b.program a.program b.stands a.stands in
+    one_told asked input a.program one other (nested_of text a.program a.stands) a.says
     (subst (λ (program : ProgramMarks). Tells asked input program other) same b.says)
 
 one_refused : (text : List ℕ) (one other : Report)
@@ -108,9 +106,8 @@ one_refused : (text : List ℕ) (one other : Report)
     → RefusesText text other
     → one ≡ other
 one_refused text one other a b =
-    same_told (text_refusal a.fault) (text_refusal b.fault) one other
-    (ap text_refusal (one_fault (tokens_of text) (line_at_end 1 text) a.fault b.fault a.is_fault
-    b.is_fault))
+    same_told (program_refusal a.fault) (program_refusal b.fault) one other
+    (ap program_refusal ((one_reading text).one a.fault b.fault a.is_fault b.is_fault))
     a.says b.says
 
 accepted_or_refused : (asked : LargeRequest) (input : List ℕ) (one other : Report)
@@ -118,8 +115,7 @@ accepted_or_refused : (asked : LargeRequest) (input : List ℕ) (one other : Rep
     → RefusesText (text_of asked input) other
     → ⊥
 accepted_or_refused asked input one other a b =
-    let text : List ℕ = text_of asked input in
-    no_fault large_rules (tokens_of text) (line_at_end 1 text) b.fault b.is_fault a.right
+    (one_reading (text_of asked input)).never_both a.right b.fault b.is_fault
 
 one_answer : (asked : LargeRequest) (input : List ℕ) (one other : Report)
     → Answers asked input one

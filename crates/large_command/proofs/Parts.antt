@@ -8,7 +8,8 @@ use Rattle.std.proofs.lemmas.List.Splits.{join_with_byte-slice_split}
 use Rattle.std.specs.List.{join_with_byte}
 use Rattle.program_text.specs.Document.{has_divider, lines_before, lines_of, program_part}
 use Rattle.program_text.specs.Document.{rest_part, text_of_lines}
-use Rattle.large_text.specs.Streamed.{CanTakeBytes, FitsText, HasTaken, TakesBytes}
+use Rattle.large_text.specs.LargeTexts.{FitsText}
+use Rattle.large_text.specs.Streamed.{CanTakeBytes, HasTaken, TakesBytes}
 use Rattle.large_text.specs.declared.stream.TextMeter.{TextMeter}
 use Rattle.large_command.proofs.Lengths.{fits_front}
 

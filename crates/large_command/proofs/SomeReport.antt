@@ -15,9 +15,7 @@ use Rattle.program_text.specs.Document.{program_part, rest_part}
 use Rattle.program_text.specs.Limits.{work_of}
 use Rattle.program_text.specs.Marks.{Mark}
 use Rattle.program_text.specs.Marks.Mark.{Begins}
-use Rattle.program_text.specs.Tokens.{line_at_end, tokens_of}
 use Rattle.task_program.specs.Canonical.{canonical_text}
-use Rattle.task_program.specs.ExpandsTo.{state_after_tree}
 use Rattle.task_program.specs.Nested.{IsNested}
 use Rattle.task_program.specs.ProgramMarks.{ProgramMarks}
 use Rattle.task_segments.proofs.Steps.{count-cons, tasks_begins}
@@ -25,16 +23,16 @@ use Rattle.task_segments.specs.Moments.{begins_task, last_moment, moment_after, 
 use Rattle.task_segments.specs.Moments.{tasks_so_far}
 use Rattle.task_segments.specs.Table.{table_of}
 use Rattle.online_span.proofs.Program.{span_exists}
-use Rattle.large_text.proofs.Whole.{has_tree, right_or_fault}
-use Rattle.large_text.specs.LargeTrees.{plain_program}
-use Rattle.large_text.specs.Streamed.{FitsText}
+use Rattle.large_text.proofs.LoopReading.{one_reading}
+use Rattle.large_text.proofs.ReadingTexts.{nested_of}
+use Rattle.large_text.specs.LargeTexts.{FitsText}
 use Rattle.large_text.specs.declared.limits.TheConstants.{LARGEST_TEXT}
 use Rattle.spanprof_command.proofs.SomeReport.{some_certificate}
 use Rattle.spanprof_command.specs.GreedyRuns.{thread_count}
-use Rattle.spanprof_command.specs.Report.{Report, input_too_long, out_of_memory, wrong_words}
+use Rattle.spanprof_command.specs.Report.{Report, input_too_long, out_of_memory, program_refusal, wrong_words}
 use Rattle.large_command.specs.LargeCommand.{AnswersText, is_in_range}
 use Rattle.large_command.specs.LargeReports.{Answers, Tells, TellsMarks, bounds_report}
-use Rattle.large_command.specs.LargeReports.{numbers_report, text_of, text_refusal}
+use Rattle.large_command.specs.LargeReports.{numbers_report, text_of}
 use Rattle.large_command.specs.TextReports.{TellsText}
 use Rattle.spanprof_command.specs.declared.report.Status.TheVariants.{Done}
 use Rattle.large_command.specs.Lengths.{IsReadInTime, IsTooLong}
@@ -105,21 +103,21 @@ some_answer : (asked : LargeRequest) (input : List ℕ)
     → (output : Report) × Answers asked input output
 some_answer asked input =
     let text : List ℕ = text_of asked input in
-    elim (right_or_fault (tokens_of text) (line_at_end 1 text)) [
+    let reading = one_reading text in
+    elim reading.some [
       | inl right ↦
-          let tree = has_tree (tokens_of text) right in
-          let program = plain_program (state_after_tree tree.1.tree).names tree.0 in
-          let tells = some_tells asked input program tree.1.nested in (
+          let found = reading.program right in
+          let tells = some_tells asked input found.0 (nested_of text found.0 found.1) in (
             tells.0,
             inl (record {
-              program = program;
-              stands = record { tree = tree.1; program_is = refl };
+              program = found.0;
+              stands = found.1;
               right = right;
               says = tells.1;
             }),
           )
       | inr wrong ↦
-          (text_refusal wrong.0, inr (record { fault = wrong.0; is_fault = wrong.1; says = refl }))
+          (program_refusal wrong.0, inr (record { fault = wrong.0; is_fault = wrong.1; says = refl }))
     ]
 
 -- ---- of what is read of an input

@@ -1,11 +1,12 @@
 -- An input that is taken piece by piece.
-use Rattle.std.proofs.Common.{◌≡◌, ◌+◌, ◌≤◌, ◌++◌, ℕ, List, [], length, take, Option, arith}
+use Rattle.std.proofs.Common.{◌≡◌, ◌+◌, ◌<◌, ◌≤◌, ◌++◌, ℕ, List, [], length, take, Option, arith}
 use Rattle.std.proofs.Common.{ap, append-nil, subst, sym, ◌∙◌}
-use Rattle.std.proofs.lemmas.List.{length-append, length-take}
+use Rattle.std.proofs.lemmas.List.{length-append, length-take, length-take-le}
 use Rattle.std.proofs.KnownBytes.{Consumes-trans}
 use Rattle.std.specs.Io.KnownBytes.{Consumes}
 use Rattle.counted_io.specs.Input.{ConsumesAtMost}
-use Rattle.large_text.specs.Streamed.{FitsText, HasTaken}
+use Rattle.large_text.specs.LargeTexts.{FitsText}
+use Rattle.large_text.specs.Streamed.{HasTaken}
 use Rattle.large_text.specs.declared.limits.TheConstants.{LARGEST_LINE, LARGEST_TEXT}
 use Rattle.large_text.specs.declared.stream.TextMeter.{TextMeter}
 use Rattle.large_command.specs.Lengths.{IsTooLong}
@@ -80,6 +81,26 @@ as_many_more before middle after room taken buffer Holds h second few =
         length-append h.text piece,
         length-take taken buffer,
       ),
+    )
+
+-- behind a piece there is less room than before it
+pub has_less_room : (before after : Option (List ℕ)) (room rest : Room) (taken : ℕ)
+    (buffer piece : List ℕ) (Holds : List ℕ → Type 0)
+    → IsTaken before after room Holds
+    → piece ≡ take taken buffer
+    → taken ≤ length buffer
+    → 0 < taken
+    → ((text : List ℕ) → HasRoom text room → HasRoom (text ++ piece) rest)
+    → rest.left < room.left
+has_less_room before after room rest taken buffer piece Holds h is within some left =
+    omega (
+      arith,
+      h.has_room.bytes_left,
+      (left h.text h.has_room).bytes_left,
+      length-append h.text piece,
+      ap (λ (bytes : List ℕ). length bytes) is,
+      length-take-le taken buffer within,
+      some,
     )
 
 pub reads_too_long : (before middle after : Option (List ℕ)) (room : Room) (taken : ℕ)

@@ -1,24 +1,22 @@
 -- What a meter's calls answer is told in the report.
-use Rattle.std.proofs.Common.{◌≡◌, ◌+◌, ◌∙◌, ℕ, List, [], Option, Some, None, inl, inr, ap, refl}
+use Rattle.std.proofs.Common.{◌≡◌, ◌+◌, ◌∙◌, ℕ, List, [], Option, Some, None, inl, inr, ap}
 use Rattle.std.specs.Option.{IfSome}
 use Rattle.std.proofs.Common.{append-nil, arith, subst, sym}
 use Rattle.program_text.specs.Document.{program_part, rest_part}
 use Rattle.program_text.specs.declared.fault.ReadFault.{ReadFault}
 use Rattle.program_text.specs.Marks.{Mark}
 use Rattle.program_text.specs.Limits.{work_of}
-use Rattle.program_text.specs.Tokens.{Token, line_at_end, texts, tokens_of}
 use Rattle.task_program.specs.Nested.{IsNested}
 use Rattle.task_segments.specs.Moments.{last_moment, segments_so_far, tasks_so_far}
 use Rattle.task_segments.specs.Table.{Table, table_of}
 use Rattle.online_span.specs.declared.meter.Meter.{Meter}
 use Rattle.online_span.specs.Measuring.{Measures}
 use Rattle.online_span.specs.Spans.{IsSpanOf}
-use Rattle.large_text.specs.LargeTrees.{HasLargeProgram, HasLargeTree, IsLargeFirstFault}
-use Rattle.large_text.specs.LargeTrees.{plain_program}
 use Rattle.large_text.specs.Measured.{IsCanonicalOf, IsTableOfText, MeasuresText}
-use Rattle.large_text.specs.Streamed.{CanTakeBytes, FitsText, HasTaken, KeepsText}
+use Rattle.large_text.specs.LargeTexts.{FitsText, IsLargeFault, StandsForLarge}
+use Rattle.large_text.specs.Streamed.{CanTakeBytes, HasTaken, KeepsText}
 use Rattle.large_text.specs.declared.stream.TextMeter.{TextMeter}
-use Rattle.spanprof_command.specs.Report.{Report, input_too_long}
+use Rattle.spanprof_command.specs.Report.{Report, input_too_long, program_refusal}
 use Rattle.command_words.specs.declared.large.DocumentRequest.{DocumentRequest}
 use Rattle.command_words.specs.declared.large.LargeRequest.{LargeRequest}
 use Rattle.command_words.specs.declared.large.LargeRequest.TheVariants.{OfDocument, OfMeter, OfTable}
@@ -28,14 +26,14 @@ use Rattle.command_words.specs.declared.large.MeterRequest.TheVariants.{Bounds, 
 use Rattle.command_words.specs.declared.large.TableRequest.{TableRequest}
 use Rattle.command_words.specs.declared.large.TextRequest.{TextRequest}
 use Rattle.task_program.specs.Canonical.{canonical_text}
-use Rattle.task_program.specs.ExpandsTo.{state_after_tree}
 use Rattle.task_program.specs.ProgramMarks.{ProgramMarks}
-use Rattle.large_text.proofs.OneTree.{one_tree}
+use Rattle.large_text.proofs.LoopReading.{one_reading}
+use Rattle.large_text.proofs.ReadingTexts.{nested_of}
 use Rattle.large_command.proofs.Lengths.{is_in_time, not_both}
 use Rattle.large_command.specs.DocumentReports.{TellsBehind, TellsDocument}
 use Rattle.large_command.specs.LargeCommand.{AnswersText}
 use Rattle.large_command.specs.LargeReports.{Answers, IsOfProgram, RefusesText, TellsMeter}
-use Rattle.large_command.specs.LargeReports.{bounds_report, numbers_report, text_refusal}
+use Rattle.large_command.specs.LargeReports.{bounds_report, numbers_report}
 use Rattle.large_command.specs.TableReports.{TellsTable}
 use Rattle.large_command.specs.TextReports.{TellsText}
 use Rattle.large_command.specs.TextInput.{KeepsFor, ReadsTooLong, ReadsWhole, TakesText}
@@ -75,83 +73,75 @@ tells_bounds meter upto work span report all_work whole says =
 
 -- ---- a text that a meter has taken
 
-pub is_of_program : (text : List ℕ) (meter : Meter) → MeasuresText (tokens_of text) meter
-    → IsOfProgram meter
+pub is_of_program : (text : List ℕ) (meter : Meter) → MeasuresText text meter → IsOfProgram meter
 is_of_program text meter h = record {
-  marks = h.marks;
-  nested = h.tree.nested;
+  marks = h.program.marks;
+  nested = nested_of text h.program h.stands;
   measures = h.measures;
 }
 
--- the program that such a tree has
-abbrev program_of : {all : List (List ℕ)} {marks : List Mark} → HasLargeTree all marks
-    → ProgramMarks
-program_of {all} {marks} tree = plain_program (state_after_tree tree.tree).names marks
-
-stands_for : {all : List (List ℕ)} {marks : List Mark} (tree : HasLargeTree all marks)
-    → HasLargeProgram all (program_of tree)
-stands_for tree = record { tree = tree; program_is = refl }
-
 pub accepts : (asked : MeterRequest) (text : List ℕ) (meter : Meter) (report : Report)
-    → MeasuresText (tokens_of text) meter
+    → MeasuresText text meter
     → TellsMeter asked meter report
     → Answers (OfMeter asked) text report
 accepts asked text meter report h tells = inl (record {
-  program = program_of h.tree;
-  stands = stands_for h.tree;
+  program = h.program;
+  stands = h.stands;
   right = h.right;
-  says = tells h.marks h.tree.nested h.measures;
+  says = tells h.program.marks (nested_of text h.program h.stands) h.measures;
 })
 
 pub accepts_table : (asked : TableRequest) (text : List ℕ) (table : Table) (report : Report)
-    → IsTableOfText (tokens_of text) table
+    → IsTableOfText text table
     → TellsTable asked table report
     → Answers (OfTable asked) text report
 accepts_table asked text table report h tells = inl (record {
-  program = program_of h.tree;
-  stands = stands_for h.tree;
+  program = h.program;
+  stands = h.stands;
   right = h.right;
   says = subst (λ (t : Table). TellsTable asked t report) h.is tells;
 })
 
-same_table : (tokens : List Token) (program : ProgramMarks) (found : Option Table)
-    → HasLargeTree (texts tokens) program.marks
-    → IfSome found (IsTableOfText tokens)
+same_table : (text : List ℕ) (program : ProgramMarks) (found : Option Table)
+    → StandsForLarge text program
+    → IfSome found (IsTableOfText text)
     → IfSome found (λ (t : Table). t ≡ table_of program.marks)
-same_table tokens program None tree of = tt
-same_table tokens program (Some table) tree of =
-    of.is ∙ ap table_of (one_tree (texts tokens) of.marks program.marks of.tree tree)
+same_table text program None stands of = tt
+same_table text program (Some table) stands of =
+    of.is
+    ∙ ap (λ (p : ProgramMarks). table_of p.marks)
+    ((one_reading text).one_program of.program program of.stands stands)
 
 pub accepts_text : {V : Type 0} (asked : TextRequest) (text : List ℕ) (found : Option V)
     (written : V) (bytes : V → List ℕ) (table : Option Table) (report : Report)
     → found ≡ Some written
-    → IfSome found (λ (v : V). IsCanonicalOf (tokens_of text) (bytes v))
-    → IfSome table (IsTableOfText (tokens_of text))
+    → IfSome found (λ (v : V). IsCanonicalOf text (bytes v))
+    → IfSome table (IsTableOfText text)
     → ((program : ProgramMarks) → bytes written ≡ canonical_text program
     → IfSome table (λ (t : Table). t ≡ table_of program.marks)
     → TellsText asked program report)
     → Answers (OfText asked) text report
 accepts_text asked text found written bytes table report is has of tells =
-    let h : IsCanonicalOf (tokens_of text) (bytes written) =
-    subst (λ v. IfSome v (λ w. IsCanonicalOf (tokens_of text) (bytes w))) is has in
+    let h : IsCanonicalOf text (bytes written) =
+    subst (λ v. IfSome v (λ w. IsCanonicalOf text (bytes w))) is has in
     inl (record {
       program = h.program;
       stands = h.stands;
       right = h.right;
-      says = tells h.program h.is (same_table (tokens_of text) h.program table h.stands.tree of);
+      says = tells h.program h.is (same_table text h.program table h.stands of);
     })
 
 -- a table that was found
 pub found_table : (text : List ℕ) (found : Option Table) (table : Table)
     → found ≡ Some table
-    → IfSome found (IsTableOfText (tokens_of text))
-    → IsTableOfText (tokens_of text) table
+    → IfSome found (IsTableOfText text)
+    → IsTableOfText text table
 found_table text found table is h =
-    subst (λ (t : Option Table). IfSome t (IsTableOfText (tokens_of text))) is h
+    subst (λ (t : Option Table). IfSome t (IsTableOfText text)) is h
 
 pub refuses : (text : List ℕ) (fault : ReadFault) (report : Report)
-    → IsLargeFirstFault (tokens_of text) (line_at_end 1 text) fault
-    → report ≡ text_refusal fault
+    → IsLargeFault text fault
+    → report ≡ program_refusal fault
     → RefusesText text report
 refuses text fault report is_fault says = record {
   fault = fault;
@@ -164,20 +154,20 @@ pub accepts_document : (asked : DocumentRequest) (document program : List ℕ)
     (rest : Option (List ℕ)) (table : Table) (report : Report)
     → program ≡ program_part document
     → rest ≡ rest_part document
-    → IsTableOfText (tokens_of program) table
+    → IsTableOfText program table
     → TellsBehind asked program rest table report
     → Answers (OfDocument asked) document report
 accepts_document asked document program rest table report is behind h tells =
-    let of : IsTableOfText (tokens_of (program_part document)) table =
-    subst (λ (text : List ℕ). IsTableOfText (tokens_of text) table) is h in
+    let of : IsTableOfText (program_part document) table =
+    subst (λ (text : List ℕ). IsTableOfText text table) is h in
     let told : TellsBehind asked (program_part document) rest table report =
     subst (λ (text : List ℕ). TellsBehind asked text rest table report) is tells in
     let of_document : TellsDocument asked document table report =
     subst (λ (part : Option (List ℕ)). TellsBehind asked (program_part document) part table report)
     behind told in
     inl (record {
-      program = program_of of.tree;
-      stands = stands_for of.tree;
+      program = of.program;
+      stands = of.stands;
       right = of.right;
       says = subst (λ (t : Table). TellsDocument asked document t report) of.is of_document;
     })

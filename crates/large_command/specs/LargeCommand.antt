@@ -13,7 +13,7 @@ use Rattle.command_words.specs.declared.large.TableRequest.TheVariants.{Curve, G
 use Rattle.command_words.specs.declared.large.TableRequest.TheVariants.{WhatIf}
 use Rattle.greedy_sim.specs.declared.greedy.TheConstants.{MOST_THREADS}
 use Rattle.large_text.specs.declared.limits.TheConstants.{LARGEST_TEXT}
-use Rattle.large_text.specs.Streamed.{FitsText}
+use Rattle.large_text.specs.LargeTexts.{FitsText}
 use Rattle.spanprof_command.specs.GreedyRuns.{thread_count}
 use Rattle.spanprof_command.specs.Report.{Report, wrong_words}
 use Rattle.large_command.specs.LargeReports.{AnswersWithin}

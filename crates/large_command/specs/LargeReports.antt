@@ -1,18 +1,14 @@
 -- The report of a text or a document of any size: one text and one status.
 use Rattle.std.specs.Prelude.{◌≡◌, ◌⊎◌, ◌+◌, ℕ, List, [], ◌∷◌, ◌++◌, codes}
 use Rattle.std.specs.Prelude.{Option, Some}
-use Rattle.std.specs.Fmt.{decimal}
 use Rattle.command_words.specs.declared.large.LargeRequest.{LargeRequest}
 use Rattle.command_words.specs.declared.large.LargeRequest.TheVariants.{OfDocument, OfMeter, OfTable}
 use Rattle.command_words.specs.declared.large.LargeRequest.TheVariants.{OfText}
 use Rattle.command_words.specs.declared.large.MeterRequest.{MeterRequest}
 use Rattle.command_words.specs.declared.large.MeterRequest.TheVariants.{Bounds, Numbers}
 use Rattle.program_text.specs.declared.fault.ReadFault.{ReadFault}
-use Rattle.program_text.specs.declared.fault.ReadKind.{ReadKind}
-use Rattle.program_text.specs.declared.fault.ReadKind.TheVariants.{BadHeader}
 use Rattle.program_text.specs.Document.{program_part}
 use Rattle.program_text.specs.Marks.{Mark}
-use Rattle.program_text.specs.Tokens.{texts, tokens_of, line_at_end}
 use Rattle.task_program.specs.Nested.{IsNested}
 use Rattle.task_program.specs.ProgramMarks.{ProgramMarks}
 use Rattle.task_program.specs.Limits.{work_of}
@@ -21,13 +17,12 @@ use Rattle.task_segments.specs.Table.{table_of}
 use Rattle.online_span.specs.declared.meter.Meter.{Meter}
 use Rattle.online_span.specs.Measuring.{Measures}
 use Rattle.online_span.specs.Spans.{IsSpanOf}
-use Rattle.large_text.specs.LargeTrees.{HasLargeProgram, IsLargeFirstFault, IsLargeRightWhole}
-use Rattle.large_text.specs.Streamed.{FitsText}
+use Rattle.large_text.specs.LargeTexts.{FitsText, IsLargeFault, IsLargeRight, StandsForLarge}
 use Rattle.spanprof_command.specs.GreedyRuns.{bound_of, least_of}
 use Rattle.spanprof_command.specs.Tables.{numbered_table}
-use Rattle.spanprof_command.specs.Report.{Report, input_too_long, line, number_line}
+use Rattle.spanprof_command.specs.Report.{Report, input_too_long, number_line}
 use Rattle.spanprof_command.specs.Report.{program_refusal}
-use Rattle.spanprof_command.specs.declared.report.Status.TheVariants.{Done, Refused}
+use Rattle.spanprof_command.specs.declared.report.Status.TheVariants.{Done}
 use Rattle.large_command.specs.DocumentReports.{TellsDocument}
 use Rattle.large_command.specs.Lengths.{IsTooLong}
 use Rattle.large_command.specs.TableReports.{TellsTable}
@@ -119,31 +114,15 @@ TellsMeter asked meter output =
 -- the text stands for a program, and no token of it is wrong: what is asked is told
 pub record AcceptsText (asked : LargeRequest) (input : List ℕ) (output : Report) : Type 0 where
   pub program : ProgramMarks
-  pub stands : HasLargeProgram (texts (tokens_of (text_of asked input))) program
-  pub right : IsLargeRightWhole (tokens_of (text_of asked input))
+  pub stands : StandsForLarge (text_of asked input) program
+  pub right : IsLargeRight (text_of asked input)
   pub says : Tells asked input program output
-
--- a header that names another version than 1
-abbrev pub header_refusal : ℕ → Report
-header_refusal number = record {
-  text = line
-      (codes "error: line " ++ (decimal number ++ codes ": BadHeader, only version 1 is read"));
-  status = Refused;
-}
-
--- a text that is no program of version 1
-abbrev pub refusal_of : ReadKind → ReadFault → Report
-refusal_of BadHeader fault = header_refusal fault.line
-refusal_of _ fault = program_refusal fault
-
-abbrev pub text_refusal : ReadFault → Report
-text_refusal fault = refusal_of fault.kind fault
 
 -- something is wrong with it, and the line of its first fault is written
 pub record RefusesText (text : List ℕ) (output : Report) : Type 0 where
   pub fault : ReadFault
-  pub is_fault : IsLargeFirstFault (tokens_of text) (line_at_end 1 text) fault
-  pub says : output ≡ text_refusal fault
+  pub is_fault : IsLargeFault text fault
+  pub says : output ≡ program_refusal fault
 
 abbrev pub Answers : LargeRequest → List ℕ → Report → Type 0
 Answers asked input output = AcceptsText asked input output

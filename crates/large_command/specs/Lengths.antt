@@ -1,7 +1,7 @@
 -- Which texts are too long.
 use Rattle.std.specs.Prelude.{◌≡◌, ◌⊎◌, ℕ, ◌<◌, ◌≤◌, List, ◌++◌, length}
 use Rattle.large_text.specs.declared.limits.TheConstants.{LARGEST_TEXT, LARGEST_LINE}
-use Rattle.large_text.specs.Streamed.{FitsText, HasNoLineFeed}
+use Rattle.large_text.specs.LargeTexts.{FitsText, HasNoLineFeed}
 use Rattle.large_command.specs.declared.text_input.TheConstants.{PIECE}
 
 -- some line has too many bytes

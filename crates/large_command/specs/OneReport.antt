@@ -1,8 +1,6 @@
 -- All words and every input have a report, and no two, wherever the reading of a text that is too
 -- long stops.
 use Rattle.std.specs.Prelude.{◌≡◌, ℕ, List, Some}
-use Rattle.task_program.specs.ProgramMarks.{ProgramMarks}
-use Rattle.large_text.specs.LargeTrees.{HasLargeProgram}
 use Rattle.spanprof_command.specs.Report.{Report}
 use Rattle.large_command.specs.LargeCommand.{IsReport}
 
@@ -17,9 +15,3 @@ HasOneReport words input =
 
 abbrev pub HasReport : List (List ℕ) → List ℕ → Type 0
 HasReport words input = (output : Report) × Reports words input output
-
--- no tokens stand for two programs
-abbrev pub HasOneProgram : List (List ℕ) → Type 0
-HasOneProgram all =
-    (one other : ProgramMarks)
-    → HasLargeProgram all one → HasLargeProgram all other → one ≡ other

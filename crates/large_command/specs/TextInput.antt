@@ -4,7 +4,8 @@ use Rattle.std.specs.Io.KnownBytes.{Consumes, IsAtEnd}
 use Rattle.command_words.specs.declared.large.LargeRequest.{LargeRequest}
 use Rattle.command_words.specs.declared.large.LargeRequest.TheVariants.{OfDocument, OfText}
 use Rattle.large_text.specs.declared.limits.TheConstants.{LARGEST_TEXT}
-use Rattle.large_text.specs.Streamed.{FitsText, HasNoLineFeed, HasTaken, KeepsText}
+use Rattle.large_text.specs.LargeTexts.{FitsText, HasNoLineFeed}
+use Rattle.large_text.specs.Streamed.{HasTaken, KeepsText}
 use Rattle.large_text.specs.declared.stream.TextMeter.{TextMeter}
 use Rattle.large_command.specs.Lengths.{IsReadInTime, IsTooLong}
 use Rattle.large_command.specs.declared.room.Room.{Room}

@@ -2,9 +2,9 @@
 ghost use Rattle.std.specs.Prelude.{◌≡◌, ◌-◌, ◌<◌, ◌^◌, [], IfOk, IfSome, MatchResult, OnOk, length};
 ghost use Rattle.std.specs.Option.{option_copied};
 ghost use Rattle.command_words.specs.declared.large.LargeRequest.TheVariants.{OfDocument};
-ghost use Rattle.program_text.specs.Tokens.{tokens_of};
 ghost use Rattle.large_text.specs.Measured.{IsTableOfText};
-ghost use Rattle.large_text.specs.Streamed.{FitsText, HasTaken};
+ghost use Rattle.large_text.specs.LargeTexts.{FitsText};
+ghost use Rattle.large_text.specs.Streamed.{HasTaken};
 ghost use Rattle.spanprof_command.specs.Replaying.{bad_form};
 ghost use Rattle.large_command.specs.DocumentReports.{TellsBehind, TellsRest};
 ghost use Rattle.large_command.specs.LargeReports.{Answers, RefusesText};
@@ -46,7 +46,7 @@ fn read_table(
 ) -> Result<Result<LargeTable, Report>, AllocError>
     requires { FitsText text.now }
     ensures { IfOk result (λ read.
-        MatchResult read (IsTableOfText (tokens_of text.now)) (RefusesText text.now)) }
+        MatchResult read (IsTableOfText text.now) (RefusesText text.now)) }
 {
     let mut meter = TextMeter::with_rows(alloc, key)?;
     take_text(&mut meter, text)?;

@@ -35,7 +35,7 @@ use std::io::{Read, Write};
 use std::thread::Threads;
 use task_program::name_key::NameKey;
 
-/// Reads a text of version 1 of any size to its end. Without a further word it writes how many tasks
+/// Reads a text of any size to its end, in either version. Without a further word it writes how many tasks
 /// and segments the text has, its work and its span, each on a line of its own. `bounds --upto P`
 /// writes a table of bounds, as CSV: a row for one thread, two, and so on up to P. `slack`, `greedy`,
 /// `curve`, `whatif`, `show` and `certify` write what the commands of `spanprof` of these names write,

@@ -2,8 +2,8 @@
 ghost use Rattle.std.specs.Prelude.{ℕ, ◌⊎◌, ◌<◌, ◌≤◌, ◌++◌, List};
 ghost use Rattle.greedy_sim.specs.Greedy.{IsGreedy, IsLegalOn};
 ghost use Rattle.large_command.specs.Lengths.{IsTooLong};
-ghost use Rattle.large_command.specs.OneReport.{HasOneProgram, HasOneReport, HasReport};
-ghost use Rattle.large_text.specs.Streamed.{FitsText};
+ghost use Rattle.large_command.specs.OneReport.{HasOneReport, HasReport};
+ghost use Rattle.large_text.specs.LargeTexts.{FitsText};
 ghost use Rattle.online_span.specs.Spans.{IsSpanOf};
 ghost use Rattle.spanprof_command.specs.GreedyRuns.{bound_of, least_of};
 ghost use Rattle.task_program.specs.Limits.{work_of};
@@ -41,11 +41,6 @@ pub fn fits_or_too_long()
     ensures one { (text : List ℕ) → FitsText text ⊎ IsTooLong text }
     ensures not_both { (text : List ℕ) → FitsText text → IsTooLong text → ⊥ }
     ensures stays { (text later : List ℕ) → IsTooLong text → IsTooLong (text ++ later) }
-{}
-
-/// No text stands for two programs.
-pub fn one_program()
-    ensures { (texts : List (List ℕ)) → HasOneProgram texts }
 {}
 
 /// For given words and a given input there is only one text that the program writes, and one

@@ -2,12 +2,11 @@
 ghost use Rattle.std.specs.Prelude.{◌≡◌, [], List, ℕ, IfOk, MatchResult};
 ghost use Rattle.command_words.specs.declared.large.LargeRequest.TheVariants.{OfMeter};
 ghost use Rattle.command_words.specs.declared.large.MeterRequest.TheVariants.{Numbers};
-ghost use Rattle.program_text.specs.Tokens.{tokens_of};
 ghost use Rattle.large_text.specs.Measured.{IsTableOfText};
 ghost use Rattle.large_text.specs.Streamed.{CanTakeBytes, HasTaken};
 ghost use Rattle.spanprof_command.specs.Report.{program_refusal};
 ghost use Rattle.large_command.specs.LargeReports.{Answers, IsOfProgram, RefusesText, TellsMeter};
-ghost use Rattle.large_command.specs.LargeReports.{numbers_report, header_refusal, text_refusal};
+ghost use Rattle.large_command.specs.LargeReports.{numbers_report};
 
 use crate::bound_rows::bounds;
 use command_words::large::MeterRequest;
@@ -47,7 +46,7 @@ pub(crate) fn table_or_refusal(
 ) -> Result<Result<LargeTable, Report>, AllocError>
     requires { CanTakeBytes [] text }
     ensures { IfOk result (λ read. (bytes : List ℕ) → HasTaken bytes text
-        → MatchResult read (IsTableOfText (tokens_of bytes)) (RefusesText bytes)) }
+        → MatchResult read (IsTableOfText bytes) (RefusesText bytes)) }
 {
     match text.finish_table() {
         Ok(Some(table)) => Ok(Ok(table)),
@@ -62,31 +61,19 @@ pub(crate) fn table_or_refusal(
     }
 }
 
-/// The line of a text that is no program of version 1.
+/// The line of a text that is no program.
 pub(crate) fn text_refusal(alloc: Global, fault: LargeFault) -> Result<Report, AllocError>
-    ensures { IfOk result (λ report. report ≡ text_refusal fault) }
+    ensures { IfOk result (λ report. report ≡ program_refusal fault) }
 {
-    match fault.kind {
-        ReadKind::BadHeader => header_refusal(alloc, fault.line),
-        _ => refusal(alloc, fault.kind, fault.line),
-    }
+    refusal(alloc, fault.kind, fault.line)
 }
 
-/// The line of any other fault.
 fn refusal(alloc: Global, kind: ReadKind, line: u64) -> Result<Report, AllocError>
     ensures { IfOk result (λ report.
         report ≡ program_refusal (record { kind = kind; line = line })) }
 {
     let name = kind_name(kind);
     let text = format!(in alloc; "error: line {line}: {name}\n")?;
-    Ok(Report::new(text.into_bytes(), Status::Refused))
-}
-
-/// The line of a text with another header. It may be a program of version 2.
-fn header_refusal(alloc: Global, line: u64) -> Result<Report, AllocError>
-    ensures { IfOk result (λ report. report ≡ header_refusal line) }
-{
-    let text = format!(in alloc; "error: line {line}: BadHeader, only version 1 is read\n")?;
     Ok(Report::new(text.into_bytes(), Status::Refused))
 }
 

@@ -29,7 +29,8 @@ use Rattle.large_text.specs.LargeReading.{state_of}
 use Rattle.task_program.proofs.Shapes.{FollowsAt, nothing_follows}
 use Rattle.large_text.specs.LargeTrees.{HasLargeProgram, large_rules, plain_program, too_many_large}
 use Rattle.large_text.specs.LargeTrees.{IsLargeRightWhole, IsLargeFirstFault}
-use Rattle.large_text.proofs.Sound.{IsBehind, IsSound, AreOpen}
+use Rattle.large_text.specs.LoopMarked.{AreOpen}
+use Rattle.large_text.proofs.Sound.{IsBehind, IsSound}
 use Rattle.large_text.proofs.OneTree.{names_by_pieces, pieces_of}
 use Rattle.large_text.proofs.Open.{none_open}
 

@@ -21,19 +21,19 @@ use Rattle.task_segments.specs.MarkCutting.{groups_ended}
 use Rattle.large_text.specs.Tallied.{Tallies, FitsWork, CanTally}
 use Rattle.large_text.specs.declared.reader.MarkReader.{MarkReader}
 use Rattle.large_text.specs.LargeReading.{IsReadSoFar, state_of}
-use Rattle.large_text.proofs.Sound.{AreOpen}
+use Rattle.large_text.specs.LoopMarked.{AreOpen}
 use Rattle.large_text.proofs.Open.{open_ends, none_open}
 use Rattle.large_text.proofs.Taken.{sound}
 
 -- ---- the marks so far begin nested marks
 
 -- what ends these blocks, the innermost first
-closing : List Block → List Mark
+pub closing : List Block → List Mark
 closing [] = []
 closing (TaskBlock line ∷ blocks) = Ends ∷ closing blocks
 closing (GroupBlock line ∷ blocks) = GroupEnds ∷ closing blocks
 
-closed : (blocks : List Block) (marks : List Mark)
+pub closed : (blocks : List Block) (marks : List Mark)
     → AreOpen blocks marks
     → IsNested (marks ++ closing blocks)
 unfolding closing
@@ -59,7 +59,7 @@ group_open : (m : Mark) (e : List Mark) → Closes m e → groups_ended m ≤ le
 group_open GroupEnds e h = omega (arith, h.0)
 group_open _ e h = omega arith
 
-fits_next : (marks later : List Mark) (m : Mark)
+pub fits_next : (marks later : List Mark) (m : Mark)
     → IsNested ((marks ++ m ∷ []) ++ later)
     → work_of (marks ++ m ∷ []) ≤ MOST_WORK
     → length marks < 2 ^ 63

@@ -9,10 +9,16 @@ pub mod Ended
 pub mod Taken
 pub mod Memory
 pub mod Fitting
+pub mod LoopMarking
+pub mod LoopTallying
 pub mod Printing
 pub mod Measuring
 pub mod Whole
 pub mod Moved
 pub mod Cutting
+pub mod PlainStreaming
+pub mod ReadingTexts
+pub mod LoopReading
 pub mod Streaming
+pub mod VersionKnown
 pub mod Tallying

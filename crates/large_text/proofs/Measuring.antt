@@ -19,7 +19,8 @@ use Rattle.large_text.specs.declared.reader.MarkReader.{MarkReader}
 use Rattle.large_text.specs.LargeReading.{GoesTo, IsReadSoFar, mark_seen}
 use Rattle.large_text.specs.LargeTrees.{HasLargeProgram, IsLargeRightWhole, IsLargeFirstFault}
 use Rattle.large_text.specs.LargeTrees.{plain_program}
-use Rattle.large_text.specs.Measured.{TalliesText, MeasuresSoFar, CanMeasure}
+use Rattle.large_text.specs.Measured.{TalliesPlain, MeasuresSoFar, CanMeasure}
+use Rattle.task_program.specs.declared.version.Version.TheVariants.{One}
 use Rattle.large_text.proofs.Moved.{further, tokens_further}
 use Rattle.large_text.proofs.Printing.{prints_mark, prints_token, whole_text}
 
@@ -197,13 +198,13 @@ pub is_measured : (before all : List Token) (reader : MarkReader) (meter : Tally
     → ((before : List Token) (marks : List Mark) → IsReadSoFar before marks reader
     → HasLargeProgram (texts before) (plain_program reader.names marks)
     × IsLargeRightWhole before)
-    → TalliesText all meter
+    → TalliesPlain all meter
 is_measured before all reader meter m all_is whole =
     let is = whole before m.marks m.so_far in
-    subst (λ (ts : List Token). TalliesText ts meter) all_is (record {
+    subst (λ (ts : List Token). TalliesPlain ts meter) all_is (record {
       program = plain_program reader.names m.marks;
       stands = is.0;
       right = is.1;
       measures = m.measures;
-      prints = whole_text meter.printer reader.names reader.items m.marks m.prints;
+      prints = whole_text One meter.printer reader.names reader.items m.marks m.prints;
     })

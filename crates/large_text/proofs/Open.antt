@@ -15,8 +15,8 @@ use Rattle.task_program.specs.Nested.{IsNested}
 use Rattle.task_program.specs.Nested.IsNested.{Nothing, Work, Wait, Task, Group}
 use Rattle.task_program.specs.TreeSoFar.{Block, TreeSoFar, after_end_of}
 use Rattle.task_program.specs.TreeSoFar.Block.{TaskBlock, GroupBlock}
-use Rattle.large_text.proofs.Sound.{AreOpen}
-use Rattle.large_text.proofs.Sound.AreOpen.{NoneOpen, InTask, InGroup}
+use Rattle.large_text.specs.LoopMarked.{AreOpen}
+use Rattle.large_text.specs.LoopMarked.AreOpen.{NoneOpen, InTask, InGroup}
 
 pub none_open : (marks : List Mark) → AreOpen [] marks → IsNested marks
 none_open _ (NoneOpen marks h) = h
@@ -36,7 +36,7 @@ nested_more _ ys (Group body rest g r) h =
     (Group body (rest ++ ys) g (nested_more rest ys r h))
 
 -- the same blocks are open behind nested marks more
-open_more : (blocks : List Block) (marks more : List Mark)
+pub open_more : (blocks : List Block) (marks more : List Mark)
     → AreOpen blocks marks
     → IsNested more
     → AreOpen blocks (marks ++ more)

@@ -23,13 +23,13 @@ use Rattle.task_program.specs.Faults.{State, after_at, is_allowed}
 use Rattle.task_program.specs.Names.{number_of_name, with_name}
 use Rattle.task_program.specs.TreeSoFar.{Block, after_end_of}
 use Rattle.task_program.specs.TreeSoFar.Block.{TaskBlock, GroupBlock}
+use Rattle.task_program.specs.declared.version.Version.{Version}
 use Rattle.task_program.specs.declared.version.Version.TheVariants.{One}
 use Rattle.task_program.proofs.FoundPlaces.{own_number}
 use Rattle.task_program.proofs.NamesOnce.{names_stay}
 use Rattle.large_text.specs.LargeReading.{GoesTo, mark_seen, marks_after, state_of, with_bytes}
-use Rattle.large_text.specs.LargeTrees.{plain_program}
 use Rattle.large_text.specs.Printed.{IsNameAt, IsOwn, Prints, PrintsBy, PrintsItem, PrintsMark, clauses_open}
-use Rattle.large_text.specs.Printed.{items_behind, items_open, items_read, joint, last_after, last_of}
+use Rattle.large_text.specs.Printed.{PrintsIn, program_in, items_behind, items_open, items_read, joint, last_after, last_of}
 use Rattle.large_text.specs.Printed.{names_read, task_ends, task_line}
 use Rattle.large_text.specs.Tallied.{Tallies}
 use Rattle.large_text.specs.declared.marks.TextMark.{TextMark}
@@ -96,10 +96,10 @@ pub prints_item : (old new : Printer) (kind : DependKind) (name : List ℕ)
     → string_bytes new.text ≡ string_bytes old.text
     → string_bytes new.clauses ≡ (string_bytes old.clauses ++ joint old.last kind) ++ name
     → new.last ≡ Some kind
-    → (names : List (List ℕ)) (items : List Item) (marks : List Mark)
-    → Prints old names items marks
-    → Prints new (with_name names name) (items ++ item_of names kind name ∷ []) marks
-prints_item old new kind name text clauses last names items marks h =
+    → (version : Version) (names : List (List ℕ)) (items : List Item) (marks : List Mark)
+    → Prints version old names items marks
+    → Prints version new (with_name names name) (items ++ item_of names kind name ∷ []) marks
+prints_item old new kind name text clauses last version names items marks h =
     let item = item_of names kind name in
     record {
       text = λ more. text ∙ h.text (name ∷ more);
@@ -127,17 +127,18 @@ all_ok (Err fault) A B C D then a b c = tt
 
 -- ---- a line more
 
-lines_more : (names : List (List ℕ)) (marks : List Mark) (mark : Mark) (text line : List ℕ)
-    → text ≡ canonical_text (plain_program names marks)
+lines_more : (version : Version) (names : List (List ℕ)) (marks : List Mark) (mark : Mark)
+    (text line : List ℕ)
+    → text ≡ canonical_text (program_in version names marks)
     → line ≡ line_of_mark names mark
-    → text ++ line ≡ canonical_text (plain_program names (marks ++ mark ∷ []))
-lines_more names marks mark text line text_is line_is =
+    → text ++ line ≡ canonical_text (program_in version names (marks ++ mark ∷ []))
+lines_more version names marks mark text line text_is line_is =
     let lines = flat_map (line_of_mark names) marks in
     ap (λ (ts : List ℕ). ts ++ line) text_is
-    ∙ append_assoc (header_line One) lines line
-    ∙ ap (λ (ts : List ℕ). header_line One ++ (lines ++ ts))
+    ∙ append_assoc (header_line version) lines line
+    ∙ ap (λ (ts : List ℕ). header_line version ++ (lines ++ ts))
     (line_is ∙ sym (append-nil (line_of_mark names mark)))
-    ∙ ap (λ (ts : List ℕ). header_line One ++ ts)
+    ∙ ap (λ (ts : List ℕ). header_line version ++ ts)
     (sym (flat_map-append (line_of_mark names) marks (mark ∷ [])))
 
 -- that of a mark that begins no task
@@ -147,16 +148,17 @@ pub prints_line : (old new : Printer) (mark : Mark)
     → string_bytes new.clauses ≡ string_bytes old.clauses
     → new.last ≡ old.last
     → ((items : List Item) → items_behind items mark ≡ items)
-    → (names : List (List ℕ)) (items : List Item) (marks : List Mark)
+    → (version : Version) (names : List (List ℕ)) (items : List Item) (marks : List Mark)
     → IsOwn items mark
-    → Prints old names items marks
-    → Prints new names (items_behind items mark) (marks ++ mark ∷ [])
-prints_line old new mark line clauses last behind names items marks own h =
-    subst (λ (is : List Item). Prints new names is (marks ++ mark ∷ [])) (sym (behind items))
+    → Prints version old names items marks
+    → Prints version new names (items_behind items mark) (marks ++ mark ∷ [])
+prints_line old new mark line clauses last behind version names items marks own h =
+    subst (λ (is : List Item). Prints version new names is (marks ++ mark ∷ []))
+    (sym (behind items))
     (record {
       text = λ more.
           let whole = fold with_name names more in
-          line whole ∙ lines_more whole marks mark _ _ (h.text more) refl;
+          line whole ∙ lines_more version whole marks mark _ _ (h.text more) refl;
       clauses = λ more. clauses ∙ h.clauses more;
       last = last ∙ h.last;
     })
@@ -208,14 +210,14 @@ pub prints_task : (old new : Printer) (undeferred : Bool) (own : List Item)
     ≡ string_bytes old.text ++ task_line undeferred (string_bytes old.clauses) old.last
     → string_bytes new.clauses ≡ []
     → new.last ≡ None
-    → (names : List (List ℕ)) (items : List Item) (marks : List Mark)
+    → (version : Version) (names : List (List ℕ)) (items : List Item) (marks : List Mark)
     → own ≡ items
-    → Prints old names items marks
-    → Prints new names [] (marks ++ Begins undeferred own ∷ [])
-prints_task old new undeferred own line clauses last names items marks is h = record {
+    → Prints version old names items marks
+    → Prints version new names [] (marks ++ Begins undeferred own ∷ [])
+prints_task old new undeferred own line clauses last version names items marks is h = record {
   text = λ more.
       let whole = fold with_name names more in
-      line ∙ lines_more whole marks (Begins undeferred own) _ _ (h.text more)
+      line ∙ lines_more version whole marks (Begins undeferred own) _ _ (h.text more)
       (ap (λ (ts : List ℕ). task_line undeferred ts old.last) (h.clauses more)
       ∙ ap (λ (k : Option DependKind). task_line undeferred (clauses_open whole items) k) h.last
       ∙ task_line_is whole undeferred items
@@ -324,7 +326,8 @@ pub prints_token : (old new : MarkReader) (token : Token) (marks : List Mark)
 prints_token old new token marks before after goes item h =
     elim (led old new token None goes) [
       | NoMark names items none ↦
-          moves after new.names _ new.items _ marks names items (item old.names old.items marks h)
+          moves after new.names _ new.items _ marks names items
+          (item One old.names old.items marks h)
       | OneMark mark names items own one ↦ absurd cc
     ]
 
@@ -344,7 +347,8 @@ prints_mark old new token mark marks before between after goes item line h =
           let all = items_read old.place old.names old.items token.text in
           moves after new.names _ new.items _ (marks ++ mark_seen mark ∷ []) names
           (items ∙ ap (λ (m : Mark). items_behind all m) (sym same))
-          (line _ all marks (subst (IsOwn all) (sym same) own) (item old.names old.items marks h))
+          (line One _ all marks (subst (IsOwn all) (sym same) own)
+          (item One old.names old.items marks h))
     ]
 
 -- where the grammar has a token, a name is a word
@@ -359,7 +363,7 @@ pub no_item : (place : Place) (text : List ℕ) (printer : Option Printer)
     → ((kind : DependKind) → place ≡ DependName kind → ⊥)
     → PrintsItem place text printer printer
 no_item (DependName kind) text printer other = absurd (other kind refl)
-no_item _ text printer other = λ names items marks h. h
+no_item _ text printer other = λ version names items marks h. h
 
 -- what a tally measures does not depend on what is printed
 pub still_tallies : (tally : Tally) (printer : Option Printer) (e : List Mark)
@@ -368,10 +372,10 @@ pub still_tallies : (tally : Tally) (printer : Option Printer) (e : List Mark)
 still_tallies tally printer e h = record { measures = h.measures; rows = h.rows }
 
 -- the canonical text of all marks
-pub whole_text : (printer : Option Printer) (names : List (List ℕ)) (items : List Item)
-    (marks : List Mark)
-    → PrintsBy printer names items marks
+pub whole_text : (version : Version) (printer : Option Printer) (names : List (List ℕ))
+    (items : List Item) (marks : List Mark)
+    → PrintsIn version printer names items marks
     → IfSome printer (λ (printer : Printer). string_bytes printer.text
-    ≡ canonical_text (plain_program names marks))
-whole_text None names items marks h = tt
-whole_text (Some printer) names items marks h = h.text []
+    ≡ canonical_text (program_in version names marks))
+whole_text version None names items marks h = tt
+whole_text version (Some printer) names items marks h = h.text []

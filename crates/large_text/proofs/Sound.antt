@@ -1,36 +1,19 @@
 -- What a reader of marks holds of the tokens that it has taken and the marks that it has handed on.
-use Rattle.std.proofs.Common.{◌≡◌, ℕ, ◌≤◌, Bool, List, [], ◌∷◌, ◌++◌, length}
+use Rattle.std.proofs.Common.{◌≡◌, ◌≤◌, List, length}
 use Rattle.std.specs.Prelude.{drop}
-use Rattle.program_text.specs.declared.statement.Item.{Item}
 use Rattle.program_text.specs.Limits.{work_of}
 use Rattle.program_text.specs.Marks.{Mark}
-use Rattle.program_text.specs.Marks.Mark.{Begins, GroupBegins}
 use Rattle.program_text.specs.Tokens.{Token, texts}
 use Rattle.task_program.specs.FirstFault.{AreRight}
 use Rattle.task_program.specs.Faults.{State}
-use Rattle.task_program.specs.Nested.{IsNested}
-use Rattle.task_program.specs.TreeSoFar.{Block}
-use Rattle.task_program.specs.TreeSoFar.Block.{TaskBlock, GroupBlock}
 use Rattle.task_program.proofs.FoundPlaces.{Explained}
 use Rattle.task_program.proofs.Begun.{Began}
 use Rattle.task_program.proofs.Tallies.{NoItems, tally_of, tally_now}
 use Rattle.large_text.specs.declared.reader.MarkReader.{MarkReader}
 use Rattle.large_text.specs.LargeReading.{state_of, IsLargeWithin}
 use Rattle.large_text.specs.LargeTrees.{large_rules}
+use Rattle.large_text.specs.LoopMarked.{AreOpen}
 use Rattle.large_text.proofs.Items.{AreCounted}
-
--- marks behind which these blocks are open, the innermost first
-pub data AreOpen : List Block → List Mark → Type 0 where
-  NoneOpen : (marks : List Mark) → IsNested marks → AreOpen [] marks
-  InTask : (line : ℕ) (blocks : List Block) (before : List Mark) (undeferred : Bool)
-      (items : List Item) (inner : List Mark)
-      → AreOpen blocks before
-      → IsNested inner
-      → AreOpen (TaskBlock line ∷ blocks) (before ++ Begins undeferred items ∷ inner)
-  InGroup : (line : ℕ) (blocks : List Block) (before inner : List Mark)
-      → AreOpen blocks before
-      → IsNested inner
-      → AreOpen (GroupBlock line ∷ blocks) (before ++ GroupBegins ∷ inner)
 
 -- what is so of a state of the reading behind these tokens
 pub record IsBehind (tokens : List Token) (state : State) : Type 0 where

@@ -1,423 +1,270 @@
--- A text that is taken in pieces: how each piece goes on from those before it.
-use Rattle.std.proofs.Common.{◌≡◌, ◌+◌, ◌<◌, ◌≤◌, ◌∙◌, ℕ, cond, false, List, [], ◌∷◌, ◌++◌}
-use Rattle.std.proofs.Common.{◌-◌, Result, Ok, Err, Option, Some, None, length, take, drop, get_or}
-use Rattle.std.proofs.Common.{append_assoc, length-append, refl, sym, ap, subst, arith}
-use Rattle.std.specs.Prelude.{OnOk, is_ok}
-use Rattle.std.proofs.lemmas.List.{append-nil, take_more, take-append-drop}
-use Rattle.std.proofs.lemmas.List.Sums.{sum_by-append}
-use Rattle.program_text.specs.declared.fault.ReadFault.{ReadFault}
-use Rattle.program_text.specs.Marks.{Mark}
-use Rattle.program_text.specs.declared.statement.Item.{Item}
-use Rattle.program_text.specs.Tokens.{Token, texts, is_line_feed, tokens_from, tokens_of}
-use Rattle.program_text.specs.Tokens.{line_at_end}
-use Rattle.large_text.specs.declared.tally.Tally.{Tally}
-use Rattle.large_text.specs.Printed.{PrintsBy}
-use Rattle.large_text.specs.Tallied.{IsBegun}
-use Rattle.large_text.specs.declared.reader.MarkReader.{MarkReader}
-use Rattle.large_text.specs.LargeReading.{HasNoItems, IsReadSoFar}
-use Rattle.large_text.specs.LargeTrees.{HasLargeProgram, IsLargeRightWhole, IsLargeFirstFault}
-use Rattle.large_text.specs.LargeTrees.{plain_program}
-use Rattle.large_text.specs.Measured.{MeasuresSoFar, TalliesText}
-use Rattle.large_text.specs.Streamed.{EndsLine, CutsTokens, HasTakenLines, HasFault}
-use Rattle.large_text.specs.Streamed.{HasTakenBy, HasTaken, TakesBytes, FitsText, HasNoLineFeed}
-use Rattle.large_text.specs.Streamed.{CanTakeBytes}
+-- A text of either version that is taken in pieces: how each stage goes on.
+use Rattle.std.proofs.Common.{◌≡◌, ◌-◌, ◌<◌, ◌≤◌, ◌∙◌, ℕ, true, false, List, [], ◌++◌, length, ap, subst}
+use Rattle.std.proofs.Common.{append_assoc, append-nil, length-append, sym, arith}
+use Rattle.program_text.specs.declared.fault.ReadKind.TheVariants.{TooLong as TooLongText}
+use Rattle.program_text.specs.declared.limits.TheConstants.{MOST_TEXT_BYTES}
+use Rattle.task_program.proofs.FirstFaults.{fault_so}
+use Rattle.large_text.specs.declared.plain_stream.PlainMeter.{PlainMeter}
+use Rattle.large_text.specs.declared.stream.Stage.{Stage}
+use Rattle.large_text.specs.declared.stream.Stage.TheVariants.{Kept, Plain, TooLong}
 use Rattle.large_text.specs.declared.stream.TextMeter.{TextMeter}
-use Rattle.large_text.specs.declared.limits.TheConstants.{LARGEST_LINE}
-use Rattle.large_text.proofs.Cutting.{cut_behind}
-use Rattle.large_text.proofs.Measuring.{stops_early, is_measured}
+use Rattle.large_text.specs.LargeTexts.{FitsText, IsLargeFault, is_large_two}
+use Rattle.large_text.specs.PlainStreamed.{CanTakePlain, HasTakenPlain, TakesPlain}
+use Rattle.large_text.specs.Streamed.{CanTakeBytes, HasKept, HasTaken, HasTakenIn, IsPlain}
+use Rattle.large_text.specs.Streamed.{IsNeverTwo, IsTooLongTwo, TakesBytes}
+use Rattle.large_text.specs.Tallied.{IsBegun}
+use Rattle.large_text.proofs.PlainStreaming.{fits_front, takes_two}
+use Rattle.large_text.proofs.ReadingTexts.{fault_long, two_front}
 
--- ---- lines and cuts
+-- ---- what is known at each stage
 
-line_adds : (line : ℕ) (a b : List ℕ)
-    → line_at_end (line_at_end line a) b ≡ line_at_end line (a ++ b)
-line_adds line a b =
-    omega (arith, sum_by-append (λ byte. cond (is_line_feed byte) 1 0) a b)
-
-no_cut : CutsTokens []
-unfolding tokens_from
-no_cut = λ later. refl
-
-cut_once : (line : ℕ) (text later : List ℕ) → EndsLine text
-    → tokens_from false line (text ++ later)
-    ≡ tokens_from false line text ++ tokens_from false (line_at_end line text) later
-cut_once line text later (front, is) =
-    subst (λ (bytes : List ℕ). tokens_from false line (bytes ++ later)
-    ≡ tokens_from false line bytes ++ tokens_from false (line_at_end line bytes) later) (sym is)
-    (ap (λ (bytes : List ℕ). tokens_from false line bytes) (append_assoc front (10 ∷ []) later)
-    ∙ cut_behind false line front later)
-
-cut_more : (lines text : List ℕ) → CutsTokens lines → EndsLine text → CutsTokens (lines ++ text)
-cut_more lines text cuts ends = λ later.
-    let line = line_at_end 1 lines in
-    let first = tokens_of lines in
-    let more = tokens_from false line text in
-    let rest = tokens_from false (line_at_end line text) later in
-    let whole : tokens_of ((lines ++ text) ++ later) ≡ first ++ (more ++ rest) =
-    ap (λ (bytes : List ℕ). tokens_of bytes) (append_assoc lines text later)
-    ∙ cuts (text ++ later)
-    ∙ ap (λ (ts : List Token). first ++ ts) (cut_once line text later ends) in
-    let two : first ++ more ≡ tokens_of (lines ++ text) = sym (cuts text) in
-    let regrouped : first ++ (more ++ rest) ≡ tokens_of (lines ++ text) ++ rest =
-    sym (append_assoc first more rest) ∙ ap (λ (ts : List Token). ts ++ rest) two in
-    let same : rest ≡ tokens_from false (line_at_end 1 (lines ++ text)) later =
-    ap (λ (n : ℕ). tokens_from false n later) (line_adds 1 lines text) in
-    whole ∙ regrouped ∙ ap (λ (ts : List Token). tokens_of (lines ++ text) ++ ts) same
-
--- they end behind an LF
-pub line_ends : (bytes : List ℕ) (end : ℕ) → 0 < end → end ≤ length bytes
-    → get_or bytes (end - 1) 0 ≡ 10
-    → EndsLine (take end bytes)
-line_ends bytes end some within feed =
-    let whole : end - 1 + 1 ≡ end = omega arith in
-    let more : take (end - 1 + 1) bytes ≡ take (end - 1) bytes ++ get_or bytes (end - 1) 0 ∷ [] =
-    take_more bytes (end - 1) 0 (omega arith) in (
-      take (end - 1) bytes,
-      ap (λ (n : ℕ). take n bytes) (sym whole)
-          ∙ more
-          ∙ ap (λ (b : ℕ). take (end - 1) bytes ++ b ∷ []) feed,
-    )
-
--- ---- from piece to piece
-
-pub taken_first : (reader : MarkReader) (meter : Tally)
-    → IsReadSoFar [] [] reader
-    → HasNoItems reader
-    → IsBegun meter
-    → HasTakenLines [] [] 1 reader meter
-unfolding tokens_from
-taken_first reader meter so_far none begun = record {
-  lines = [];
-  all = refl;
-  cuts = no_cut;
-  line_is = refl;
-  so_far = record {
-    marks = [];
-    so_far = so_far;
-    measures = begun.tallies;
-    prints = subst (λ (items : List Item). PrintsBy meter.printer reader.names items []) (sym none)
-        (begun.prints reader.names);
-  };
+pub kept_none : (head : List ℕ) (plain : PlainMeter)
+    → head ≡ []
+    → HasTakenPlain [] plain
+    → IsBegun plain.meter
+    → HasKept [] head plain
+kept_none head plain is taken begun = record {
+  all = is;
+  few = omega arith;
+  plain_begun = taken;
+  begun = begun;
 }
 
--- a line that is not whole is kept
-pub keeps_more : (bytes tail more : List ℕ) (line : ℕ) (reader : MarkReader) (meter : Tally)
-    → HasTakenLines bytes tail line reader meter
-    → HasTakenLines (bytes ++ more) (tail ++ more) line reader meter
-keeps_more bytes tail more line reader meter h = record {
-  lines = h.lines;
-  all = ap (λ (a : List ℕ). a ++ more) h.all ∙ append_assoc h.lines tail more;
-  cuts = h.cuts;
-  line_is = h.line_is;
-  so_far = h.so_far;
-}
+pub kept_at : (stage : Stage) (bytes head : List ℕ) (plain : PlainMeter)
+    → stage ≡ Kept
+    → HasTakenIn stage bytes head plain
+    → HasKept bytes head plain
+kept_at stage bytes head plain is h =
+    subst (λ (s : Stage). HasTakenIn s bytes head plain) is h
 
--- a text of which nothing is taken yet
-pub taken_none : (text : List ℕ) (reader : MarkReader) (meter : Tally)
-    → IsReadSoFar [] [] reader
-    → HasNoItems reader
-    → IsBegun meter
-    → HasTakenLines text text 1 reader meter
-taken_none text reader meter so_far none begun =
-    keeps_more [] [] text 1 reader meter (taken_first reader meter so_far none begun)
+pub plain_at : (stage : Stage) (bytes head : List ℕ) (plain : PlainMeter)
+    → stage ≡ Plain
+    → HasTakenIn stage bytes head plain
+    → IsPlain bytes plain
+plain_at stage bytes head plain is h =
+    subst (λ (s : Stage). HasTakenIn s bytes head plain) is h
 
--- and a fault stays the first
-pub stays_fault : (bytes more : List ℕ) (fault : ReadFault)
-    → HasFault bytes fault
-    → HasFault (bytes ++ more) fault
-stays_fault bytes more fault h = λ later end_line.
-    subst (λ (all : List ℕ). IsLargeFirstFault (tokens_of all) end_line fault)
-    (sym (append_assoc bytes more later)) (h (more ++ later) end_line)
+pub long_at : (stage : Stage) (bytes head : List ℕ) (plain : PlainMeter)
+    → stage ≡ TooLong
+    → HasTakenIn stage bytes head plain
+    → IsTooLongTwo bytes
+long_at stage bytes head plain is h =
+    subst (λ (s : Stage). HasTakenIn s bytes head plain) is h
 
-pub kept : (found : Option ReadFault) (bytes tail more after : List ℕ) (line : ℕ)
-    (reader : MarkReader) (meter : Tally)
-    → after ≡ tail ++ more
-    → HasTakenBy found bytes tail line reader meter
-    → HasTakenBy found (bytes ++ more) after line reader meter
-kept None bytes tail more after line reader meter is h =
-    subst (λ (end : List ℕ). HasTakenLines (bytes ++ more) end line reader meter) (sym is)
-    (keeps_more bytes tail more line reader meter h)
-kept (Some fault) bytes tail more after line reader meter is h = stays_fault bytes more fault h
+pub kept_few : (more : List ℕ) (text_meter : TextMeter)
+    → text_meter.stage ≡ Kept
+    → CanTakeBytes more text_meter
+    → length text_meter.head.items ≤ MOST_TEXT_BYTES
+kept_few more text_meter is can =
+    let kept = kept_at text_meter.stage can.bytes text_meter.head.items text_meter.plain is
+    can.taken.taken in
+    omega (arith, kept.few, ap (λ (bytes : List ℕ). length bytes) kept.all)
 
--- where memory for it is at hand
-pub where_ok : {E : Type 0} (result : Result (Unit {0}) E) (P : Type 0) (after tail more : List ℕ)
-    → after ≡ cond (is_ok result) (tail ++ more) tail
-    → (after ≡ tail ++ more → P)
-    → OnOk result P
-where_ok (Ok u) P after tail more is then = then is
-where_ok (Err fault) P after tail more is then = cc
-
--- ---- what fits
-
-pub fits_none : FitsText []
-fits_none = record {
-  short = omega arith;
-  lines = λ front line later is none.
-      omega (arith, ap length is, length-append front (line ++ later), length-append line later);
-}
-
-pub fits_short : (bytes : List ℕ) → length bytes ≤ LARGEST_LINE → FitsText bytes
-fits_short bytes few = record {
-  short = omega (arith, few);
-  lines = λ front line later is none. omega (
-    arith,
-    few,
-    ap length is,
-    length-append front (line ++ later),
-    length-append line later,
-  );
-}
-
-fits_front : (front back : List ℕ) → FitsText (front ++ back) → FitsText front
-fits_front front back fits = record {
-  short = omega (arith, fits.short, length-append front back);
-  lines = λ before line later is none. fits.lines before line (later ++ back)
-      (ap (λ (bytes : List ℕ). bytes ++ back) is
-      ∙ append_assoc before (line ++ later) back
-      ∙ ap (λ (bytes : List ℕ). before ++ bytes) (append_assoc line later back)) none;
-}
-
-pub no_feed_more : (first second : List ℕ) → HasNoLineFeed first → HasNoLineFeed second
-    → HasNoLineFeed (first ++ second)
-no_feed_more first second a b =
-    omega (arith, a, b, sum_by-append (λ byte. cond (is_line_feed byte) 1 0) first second)
-
--- two pieces, one behind the other
-pub takes_two : (all first second : List ℕ) (old middle new : TextMeter)
-    → all ≡ first ++ second
-    → TakesBytes first old middle
-    → TakesBytes second middle new
-    → TakesBytes all old new
-takes_two all first second old middle new is takes_first takes_second = λ taken fits h.
-    let whole : taken ++ all ≡ (taken ++ first) ++ second =
-    ap (λ (bytes : List ℕ). taken ++ bytes) is ∙ sym (append_assoc taken first second) in
-    let both : FitsText ((taken ++ first) ++ second) = subst FitsText whole fits in
-    subst (λ (bytes : List ℕ). HasTaken bytes new) (sym whole)
-    (takes_second (taken ++ first) both
-    (takes_first taken (fits_front (taken ++ first) second both) h))
-
--- where a whole piece can be taken, so can what it begins with
-pub can_front : (all first second : List ℕ) (text_meter : TextMeter)
-    → all ≡ first ++ second
-    → CanTakeBytes all text_meter
-    → CanTakeBytes first text_meter
-can_front all first second text_meter is can = record {
+pub plain_can : (more : List ℕ) (text_meter : TextMeter)
+    → text_meter.stage ≡ Plain
+    → CanTakeBytes more text_meter
+    → CanTakePlain more text_meter.plain
+plain_can more text_meter is can = record {
   bytes = can.bytes;
-  taken = can.taken;
-  fits = fits_front (can.bytes ++ first) second
-      (subst FitsText
-      (ap (λ (bytes : List ℕ). can.bytes ++ bytes) is ∙ sym (append_assoc can.bytes first second))
-      can.fits);
+  taken = (plain_at text_meter.stage can.bytes text_meter.head.items text_meter.plain is
+      can.taken.taken).taken;
+  fits = can.fits;
 }
 
-pub split_whole : (bytes front back : List ℕ) (n : ℕ) → front ≡ take n bytes → back ≡ drop n bytes
-    → bytes ≡ front ++ back
-split_whole bytes front back n front_is back_is =
-    rw (front_is, back_is) (sym (take-append-drop n bytes))
+-- ---- how each goes on
 
-moved : (lines tail piece bytes : List ℕ) → bytes ≡ lines ++ tail
-    → bytes ++ piece ≡ lines ++ (tail ++ piece)
-moved lines tail piece bytes all =
-    ap (λ (a : List ℕ). a ++ piece) all ∙ append_assoc lines tail piece
+pub kept_more : (stage : Stage) (bytes more head after : List ℕ) (plain : PlainMeter)
+    → stage ≡ Kept
+    → after ≡ head ++ more
+    → length more ≤ MOST_TEXT_BYTES - length head
+    → HasTakenIn stage bytes head plain
+    → HasTakenIn stage (bytes ++ more) after plain
+kept_more stage bytes more head after plain is after_is few h =
+    let kept = kept_at stage bytes head plain is h in
+    let now : HasKept (bytes ++ more) after plain = record {
+      all = after_is ∙ ap (λ (a : List ℕ). a ++ more) kept.all;
+      few = omega (
+        arith,
+        few,
+        kept.few,
+        ap (λ (a : List ℕ). length a) kept.all,
+        length-append bytes more,
+      );
+      plain_begun = kept.plain_begun;
+      begun = kept.begun;
+    } in
+    subst (λ (s : Stage). HasTakenIn s (bytes ++ more) after plain) (sym is) now
 
-ends_line : (tail piece : List ℕ) → EndsLine piece → EndsLine (tail ++ piece)
-ends_line tail piece (front, is) =
-    (tail ++ front, ap (λ (a : List ℕ). tail ++ a) is ∙ sym (append_assoc tail front (10 ∷ [])))
+pub plain_more : (stage : Stage) (bytes more head : List ℕ) (plain after : PlainMeter)
+    → stage ≡ Plain
+    → TakesPlain more plain after
+    → FitsText (bytes ++ more)
+    → HasTakenIn stage bytes head plain
+    → HasTakenIn stage (bytes ++ more) head after
+plain_more stage bytes more head plain after is takes fits h =
+    let known = plain_at stage bytes head plain is h in
+    let now : IsPlain (bytes ++ more) after = record {
+      never_two = λ later.
+          ap (λ (a : List ℕ). is_large_two a) (append_assoc bytes more later)
+          ∙ known.never_two (more ++ later);
+      taken = takes bytes fits known.taken;
+    } in
+    subst (λ (s : Stage). HasTakenIn s (bytes ++ more) head after) (sym is) now
 
--- the tokens of whole lines are taken
-pub lines_taken : (bytes tail piece : List ℕ) (line end : ℕ) (reader next : MarkReader)
-    (meter more : Tally)
-    → HasTakenLines bytes tail line reader meter
-    → EndsLine piece
-    → end ≡ line_at_end line (tail ++ piece)
-    → ((before : List Token) → MeasuresSoFar before reader meter
-    → MeasuresSoFar (before ++ tokens_from false line (tail ++ piece)) next more)
-    → HasTakenLines (bytes ++ piece) [] end next more
-lines_taken bytes tail piece line end reader next meter more h ends end_is reads =
-    let text = tail ++ piece in
-    let tokens : tokens_of h.lines ++ tokens_from false line text ≡ tokens_of (h.lines ++ text) =
-    ap (λ (n : ℕ). tokens_of h.lines ++ tokens_from false n text) h.line_is ∙ sym (h.cuts text) in
+pub not_two : (bytes : List ℕ) (plain : PlainMeter)
+    → IsPlain bytes plain
+    → is_large_two bytes ≡ false
+not_two bytes plain known =
+    ap (λ (a : List ℕ). is_large_two a) (sym (append-nil bytes)) ∙ known.never_two []
+
+pub long_more : (stage : Stage) (bytes more head : List ℕ) (plain : PlainMeter)
+    → stage ≡ TooLong
+    → HasTakenIn stage bytes head plain
+    → HasTakenIn stage (bytes ++ more) head plain
+long_more stage bytes more head plain is h =
+    let known = long_at stage bytes head plain is h in
+    let now : IsTooLongTwo (bytes ++ more) = record {
+      many = omega (arith, known.many, length-append bytes more);
+      two = two_front bytes more (omega (arith, known.many)) ∙ known.two;
+    } in
+    subst (λ (s : Stage). HasTakenIn s (bytes ++ more) head plain) (sym is) now
+
+pub keeps_head : (old new : TextMeter) (more : List ℕ)
+    → old.stage ≡ Kept
+    → new.stage ≡ old.stage
+    → new.plain ≡ old.plain
+    → new.head.items ≡ old.head.items ++ more
+    → length more ≤ MOST_TEXT_BYTES - length old.head.items
+    → TakesBytes more old new
+keeps_head old new more is stage plain after few = λ taken fits h. record {
+  fits = fits;
+  taken = subst (λ (p : PlainMeter). HasTakenIn new.stage (taken ++ more) new.head.items p) (sym plain)
+      (subst (λ (s : Stage). HasTakenIn s (taken ++ more) new.head.items old.plain) (sym stage)
+      (kept_more old.stage taken more old.head.items new.head.items old.plain is after few h.taken));
+}
+
+pub then_takes : (all first rest : List ℕ) (old middle new : TextMeter)
+    → all ≡ first ++ rest
+    → TakesBytes first old middle
+    → TakesBytes rest middle new
+    → TakesBytes all old new
+then_takes all first rest old middle new is one other =
+    takes_two (λ taken. HasTaken taken old) (λ taken. HasTaken taken middle)
+    (λ taken. HasTaken taken new) all first rest is one other
+
+-- ---- behind the bytes that are kept
+
+module _ (bytes head rest : List ℕ) (full : length head ≡ MOST_TEXT_BYTES) (more : 0 < length rest)
+    (all : head ≡ bytes) where
+  longer : MOST_TEXT_BYTES < length (bytes ++ rest)
+  longer = omega (
+    arith,
+    full,
+    more,
+    ap (λ (a : List ℕ). length a) all,
+    length-append bytes rest,
+  )
+
+  same_version : is_large_two (bytes ++ rest) ≡ is_large_two head
+  same_version =
+      two_front bytes rest (omega (arith, full, ap (λ (a : List ℕ). length a) all))
+      ∙ ap (λ (a : List ℕ). is_large_two a) (sym all)
+
+  pub left_long : is_large_two head ≡ true → IsTooLongTwo (bytes ++ rest)
+  left_long two = record { many = longer; two = same_version ∙ two }
+
+  pub left_plain : (plain middle after : PlainMeter)
+      → is_large_two head ≡ false
+      → FitsText (bytes ++ rest)
+      → HasTakenPlain [] plain
+      → TakesPlain head plain middle
+      → TakesPlain rest middle after
+      → IsPlain (bytes ++ rest) after
+  left_plain plain middle after one fits begun first second =
+      let both : FitsText (head ++ rest) =
+      subst (λ (a : List ℕ). FitsText (a ++ rest)) (sym all) fits in
+      record {
+        never_two = λ later.
+            two_front (bytes ++ rest) later (omega (arith, longer)) ∙ same_version ∙ one;
+        taken = subst (λ (a : List ℕ). HasTakenPlain (a ++ rest) after) all
+            (second head both (first [] (fits_front head rest both) begun));
+      }
+
+-- the bytes that are kept can be handed on, and what comes behind them
+pub can_hand_on : (rest : List ℕ) (text_meter : TextMeter)
+    → text_meter.stage ≡ Kept
+    → CanTakeBytes rest text_meter
+    → CanTakePlain text_meter.head.items text_meter.plain
+can_hand_on rest text_meter is can =
+    let kept = kept_at text_meter.stage can.bytes text_meter.head.items text_meter.plain is
+    can.taken.taken in
     record {
-      lines = h.lines ++ text;
-      all = moved h.lines tail piece bytes h.all ∙ sym (append-nil (h.lines ++ text));
-      cuts = cut_more h.lines text h.cuts (ends_line tail piece ends);
-      line_is = end_is
-          ∙ ap (λ (n : ℕ). line_at_end n text) h.line_is
-          ∙ line_adds 1 h.lines text;
-      so_far = subst (λ (ts : List Token). MeasuresSoFar ts next more) tokens
-          (reads (tokens_of h.lines) h.so_far);
+      bytes = [];
+      taken = kept.plain_begun;
+      fits = fits_front text_meter.head.items rest
+          (subst (λ (a : List ℕ). FitsText (a ++ rest)) (sym kept.all) can.fits);
     }
 
--- or one of them is wrong
-pub fault_met : (bytes tail piece : List ℕ) (line : ℕ) (reader : MarkReader) (meter : Tally)
-    (fault : ReadFault)
-    → HasTakenLines bytes tail line reader meter
-    → EndsLine piece
-    → ((before later : List Token) (end_line : ℕ) → MeasuresSoFar before reader meter
-    → IsLargeFirstFault (before ++ (tokens_from false line (tail ++ piece) ++ later)) end_line fault)
-    → HasFault (bytes ++ piece) fault
-fault_met bytes tail piece line reader meter fault h ends refused = λ later end_line.
-    let text = tail ++ piece in
-    let first = tokens_of h.lines in
-    let rest = tokens_from false (line_at_end line text) later in
-    let whole : tokens_of ((bytes ++ piece) ++ later)
-    ≡ first ++ (tokens_from false line text ++ rest) =
-    ap (λ (a : List ℕ). tokens_of (a ++ later)) (moved h.lines tail piece bytes h.all)
-    ∙ ap (λ (a : List ℕ). tokens_of a) (append_assoc h.lines text later)
-    ∙ h.cuts (text ++ later)
-    ∙ ap (λ (n : ℕ). first ++ tokens_from false n (text ++ later)) (sym h.line_is)
-    ∙ ap (λ (ts : List Token). first ++ ts)
-    (cut_once line text later (ends_line tail piece ends)) in
-    subst (λ (ts : List Token). IsLargeFirstFault ts end_line fault) (sym whole)
-    (refused first rest end_line h.so_far)
+pub can_go_on : (rest : List ℕ) (text_meter : TextMeter) (middle : PlainMeter)
+    → text_meter.stage ≡ Kept
+    → CanTakeBytes rest text_meter
+    → TakesPlain text_meter.head.items text_meter.plain middle
+    → CanTakePlain rest middle
+can_go_on rest text_meter middle is can takes =
+    let kept = kept_at text_meter.stage can.bytes text_meter.head.items text_meter.plain is
+    can.taken.taken in
+    let head = text_meter.head.items in
+    let both : FitsText (head ++ rest) =
+    subst (λ (a : List ℕ). FitsText (a ++ rest)) (sym kept.all) can.fits in
+    record {
+      bytes = head;
+      taken = takes [] (fits_front head rest both) kept.plain_begun;
+      fits = both;
+    }
 
--- the same of the text that was gone through, behind which nothing is kept
-pub lines_done : (found : Option ReadFault) (bytes tail piece text after : List ℕ)
-    (line end lines : ℕ)
-    (reader next : MarkReader) (meter more : Tally)
-    → found ≡ None
-    → text ≡ tail ++ piece
-    → after ≡ []
-    → HasTakenBy found bytes tail line reader meter
-    → EndsLine piece
-    → end ≡ line_at_end line text
-    → lines + 1 ≡ end
-    → ((before : List Token) → MeasuresSoFar before reader meter
-    → MeasuresSoFar (before ++ tokens_from false line text) next more)
-    → HasTakenBy found (bytes ++ piece) after (lines + 1) next more
-lines_done None bytes tail piece text after line end lines reader next meter more none is empty h ends
-    end_is lines_is reads =
-    subst (λ (n : ℕ). HasTakenLines (bytes ++ piece) after n next more) (sym lines_is)
-    (subst (λ (rest : List ℕ). HasTakenLines (bytes ++ piece) rest end next more) (sym empty)
-    (lines_taken bytes tail piece line end reader next meter more h ends
-    (end_is ∙ ap (λ (a : List ℕ). line_at_end line a) is)
-    (subst (λ (a : List ℕ). (before : List Token) → MeasuresSoFar before reader meter
-    → MeasuresSoFar (before ++ tokens_from false line a) next more) is reads)))
-lines_done (Some fault) bytes tail piece text after line end lines reader next meter more none is
-    empty h ends end_is lines_is reads = absurd cc
+-- the first of two pieces was kept, and the other can be taken behind it
+pub kept_then : (all first rest : List ℕ) (old middle : TextMeter)
+    → all ≡ first ++ rest
+    → TakesBytes first old middle
+    → CanTakeBytes all old
+    → CanTakeBytes rest middle
+kept_then all first rest old middle is takes can =
+    let whole : can.bytes ++ all ≡ (can.bytes ++ first) ++ rest =
+    ap (λ (a : List ℕ). can.bytes ++ a) is ∙ sym (append_assoc can.bytes first rest) in
+    let both : FitsText ((can.bytes ++ first) ++ rest) = subst FitsText whole can.fits in
+    record {
+      bytes = can.bytes ++ first;
+      taken = takes can.bytes (fits_front (can.bytes ++ first) rest both) can.taken;
+      fits = both;
+    }
 
-pub fault_done : (found : Option ReadFault) (bytes tail piece text : List ℕ) (line : ℕ)
-    (reader : MarkReader) (meter : Tally) (fault : ReadFault)
-    → found ≡ None
-    → text ≡ tail ++ piece
-    → HasTakenBy found bytes tail line reader meter
-    → EndsLine piece
-    → ((before later : List Token) (end_line : ℕ) → MeasuresSoFar before reader meter
-    → IsLargeFirstFault (before ++ (tokens_from false line text ++ later)) end_line fault)
-    → HasFault (bytes ++ piece) fault
-fault_done None bytes tail piece text line reader meter fault none is h ends refused =
-    fault_met bytes tail piece line reader meter fault h ends
-    (subst (λ (a : List ℕ). (before later : List Token) (end_line : ℕ)
-    → MeasuresSoFar before reader meter
-    → IsLargeFirstFault (before ++ (tokens_from false line a ++ later)) end_line fault) is refused)
-fault_done (Some other) bytes tail piece text line reader meter fault none is h ends refused =
-    absurd cc
+-- ---- the end
 
--- ---- the end of the text
+pub long_fault : (text head : List ℕ) (stage : Stage) (plain : PlainMeter)
+    → stage ≡ TooLong
+    → HasTakenIn stage text head plain
+    → IsLargeFault text (fault_so TooLongText 1)
+long_fault text head stage plain is h =
+    let known = long_at stage text head plain is h in
+    fault_long text known.two known.many
 
-tokens_whole : (bytes tail : List ℕ) (line : ℕ) (reader : MarkReader) (meter : Tally)
-    (h : HasTakenLines bytes tail line reader meter)
-    → tokens_of h.lines ++ tokens_from false line tail ≡ tokens_of bytes
-tokens_whole bytes tail line reader meter h =
-    ap (λ (n : ℕ). tokens_of h.lines ++ tokens_from false n tail) h.line_is
-    ∙ sym (h.cuts tail)
-    ∙ ap (λ (a : List ℕ). tokens_of a) (sym h.all)
+-- ---- the version is known, and it is not 2
 
-pub all_taken : (bytes tail : List ℕ) (line : ℕ) (reader next : MarkReader) (meter more : Tally)
-    → HasTakenLines bytes tail line reader meter
-    → ((before : List Token) → MeasuresSoFar before reader meter
-    → MeasuresSoFar (before ++ tokens_from false line tail) next more)
-    → MeasuresSoFar (tokens_of bytes) next more
-all_taken bytes tail line reader next meter more h reads =
-    subst (λ (ts : List Token). MeasuresSoFar ts next more)
-    (tokens_whole bytes tail line reader meter h) (reads (tokens_of h.lines) h.so_far)
-
-pub last_line : (bytes tail : List ℕ) (line end : ℕ) (reader : MarkReader) (meter : Tally)
-    → HasTakenLines bytes tail line reader meter
-    → end ≡ line_at_end line tail
-    → end ≡ line_at_end 1 bytes
-last_line bytes tail line end reader meter h end_is =
-    end_is
-    ∙ ap (λ (n : ℕ). line_at_end n tail) h.line_is
-    ∙ line_adds 1 h.lines tail
-    ∙ ap (λ (a : List ℕ). line_at_end 1 a) (sym h.all)
-
-pub last_fault : (bytes tail : List ℕ) (line : ℕ) (reader : MarkReader) (meter : Tally)
-    (fault : ReadFault)
-    → HasTakenLines bytes tail line reader meter
-    → ((before later : List Token) (end_line : ℕ) → MeasuresSoFar before reader meter
-    → IsLargeFirstFault (before ++ (tokens_from false line tail ++ later)) end_line fault)
-    → (end_line : ℕ) → IsLargeFirstFault (tokens_of bytes) end_line fault
-last_fault bytes tail line reader meter fault h refused = λ end_line.
-    let first = tokens_of h.lines in
-    subst (λ (ts : List Token). IsLargeFirstFault ts end_line fault)
-    (ap (λ (ts : List Token). first ++ ts) (append-nil (tokens_from false line tail))
-    ∙ tokens_whole bytes tail line reader meter h)
-    (refused first [] end_line h.so_far)
-
--- the same of what a meter of a text has taken
-pub told : (found : Option ReadFault) (bytes tail : List ℕ) (line : ℕ) (reader : MarkReader)
-    (meter : Tally) (fault : ReadFault)
-    → found ≡ Some fault
-    → HasTakenBy found bytes tail line reader meter
-    → (end_line : ℕ) → IsLargeFirstFault (tokens_of bytes) end_line fault
-told found bytes tail line reader meter fault is h = λ end_line.
-    let has : HasFault bytes fault =
-    subst (λ (f : Option ReadFault). HasTakenBy f bytes tail line reader meter) is h in
-    subst (λ (all : List ℕ). IsLargeFirstFault (tokens_of all) end_line fault) (append-nil bytes)
-    (has [] end_line)
-
-are_lines : (found : Option ReadFault) (bytes tail text : List ℕ) (line : ℕ) (reader : MarkReader)
-    (meter : Tally)
-    → found ≡ None
-    → text ≡ tail
-    → HasTakenBy found bytes tail line reader meter
-    → HasTakenLines bytes text line reader meter
-are_lines found bytes tail text line reader meter none is h =
-    subst (λ (rest : List ℕ). HasTakenLines bytes rest line reader meter) (sym is)
-    (subst (λ (f : Option ReadFault). HasTakenBy f bytes tail line reader meter) none h)
-
-pub fault_last : (found : Option ReadFault) (bytes tail text : List ℕ) (line : ℕ)
-    (reader : MarkReader) (meter : Tally) (fault : ReadFault)
-    → found ≡ None
-    → text ≡ tail
-    → HasTakenBy found bytes tail line reader meter
-    → ((before later : List Token) (end_line : ℕ) → MeasuresSoFar before reader meter
-    → IsLargeFirstFault (before ++ (tokens_from false line text ++ later)) end_line fault)
-    → (end_line : ℕ) → IsLargeFirstFault (tokens_of bytes) end_line fault
-fault_last found bytes tail text line reader meter fault none is h refused =
-    last_fault bytes text line reader meter fault
-    (are_lines found bytes tail text line reader meter none is h) refused
-
-pub ends_early : (found : Option ReadFault) (bytes tail text : List ℕ) (line end : ℕ)
-    (reader next : MarkReader) (meter more : Tally) (fault : ReadFault)
-    → found ≡ None
-    → text ≡ tail
-    → HasTakenBy found bytes tail line reader meter
-    → end ≡ line_at_end line text
-    → ((before : List Token) → MeasuresSoFar before reader meter
-    → MeasuresSoFar (before ++ tokens_from false line text) next more)
-    → ((before : List Token) (marks : List Mark) → IsReadSoFar before marks next
-    → IsLargeFirstFault before end fault)
-    → IsLargeFirstFault (tokens_of bytes) (line_at_end 1 bytes) fault
-ends_early found bytes tail text line end reader next meter more fault none is h end_is reads
-    refused =
-    let lines = are_lines found bytes tail text line reader meter none is h in
-    stops_early (tokens_of bytes) (tokens_of bytes) (line_at_end 1 bytes) end next more fault
-    (all_taken bytes text line reader next meter more lines reads) refl
-    (last_line bytes text line end reader meter lines end_is) refused
-
-pub ends_whole : (found : Option ReadFault) (bytes tail text : List ℕ) (line : ℕ)
-    (reader next : MarkReader) (meter more : Tally)
-    → found ≡ None
-    → text ≡ tail
-    → HasTakenBy found bytes tail line reader meter
-    → ((before : List Token) → MeasuresSoFar before reader meter
-    → MeasuresSoFar (before ++ tokens_from false line text) next more)
-    → ((before : List Token) (marks : List Mark) → IsReadSoFar before marks next
-    → HasLargeProgram (texts before) (plain_program next.names marks)
-    × IsLargeRightWhole before)
-    → TalliesText (tokens_of bytes) more
-ends_whole found bytes tail text line reader next meter more none is h reads whole =
-    is_measured (tokens_of bytes) (tokens_of bytes) next more
-    (all_taken bytes text line reader next meter more
-    (are_lines found bytes tail text line reader meter none is h) reads) refl whole
+pub handed_on : (old new : TextMeter)
+    → old.stage ≡ Kept
+    → new.stage ≡ Plain
+    → IsNeverTwo old.head.items
+    → TakesPlain old.head.items old.plain new.plain
+    → TakesBytes [] old new
+handed_on old new is now never takes = λ taken fits h.
+    let kept = kept_at old.stage taken old.head.items old.plain is h.taken in
+    let all : old.head.items ≡ taken ++ [] = kept.all ∙ sym (append-nil taken) in
+    let plain : IsPlain old.head.items new.plain = record {
+      never_two = never;
+      taken = takes [] (subst FitsText (sym all) fits) kept.plain_begun;
+    } in
+    record {
+      fits = fits;
+      taken = subst (λ (s : Stage). HasTakenIn s (taken ++ []) new.head.items new.plain) (sym now)
+          (subst (λ (bytes : List ℕ). IsPlain bytes new.plain) all plain);
+    }

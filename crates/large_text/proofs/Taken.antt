@@ -36,7 +36,7 @@ use Rattle.large_text.specs.LargeReading.IsReadSoFar.{AtFirst, OneMore}
 use Rattle.large_text.specs.LargeTrees.{IsLargeFirstFault}
 use Rattle.large_text.specs.declared.limits.TheConstants.{MOST_LARGE_ITEMS}
 use Rattle.large_text.proofs.Sound.{IsBehind, IsSound}
-use Rattle.large_text.proofs.Sound.AreOpen.{NoneOpen}
+use Rattle.large_text.specs.LoopMarked.AreOpen.{NoneOpen}
 use Rattle.large_text.proofs.SoFar.{read_more}
 use Rattle.large_text.proofs.Steps.{Passed, is_there, passed}
 use Rattle.std.proofs.lemmas.Bool.{not-false}

@@ -4,7 +4,6 @@ use Rattle.std.specs.Option.{IfSome, is_some}
 use Rattle.task_program.specs.Nested.{IsNested}
 use Rattle.task_segments.specs.Moments.{last_moment}
 use Rattle.task_segments.specs.Table.{Table, table_of}
-use Rattle.program_text.specs.Tokens.{Token}
 use Rattle.large_text.specs.declared.tally.Tally.{Tally}
 use Rattle.std.specs.String.{string_bytes}
 use Rattle.task_program.specs.Canonical.{canonical_text}
@@ -22,6 +21,7 @@ use Rattle.std.proofs.lemmas.Bool.Decides.{nat_tests}
 use Rattle.program_text.specs.Limits.{work_of}
 use Rattle.program_text.specs.declared.limits.TheConstants.{MOST_WORK}
 use Rattle.task_segments.proofs.Work.{work_read}
+use Rattle.large_text.proofs.ReadingTexts.{nested_of}
 use Rattle.large_text.specs.Tallied.{CanEnter, Tallies, IsWholeTally, keeps_rows}
 use Rattle.std.proofs.Common.{ap}
 use Rattle.task_segments.specs.MarksTable.{IsReading}
@@ -44,36 +44,36 @@ can_enter rows mark can room = record {
 
 -- ---- a whole text
 
-pub of_tally : (tokens : List Token) (tally : Tally)
-    → TalliesText tokens tally
-    → MeasuresText tokens tally.meter
-of_tally tokens tally h = record {
-  marks = h.program.marks;
-  tree = h.stands.tree;
+pub of_tally : (text : List ℕ) (tally : Tally)
+    → TalliesText text tally
+    → MeasuresText text tally.meter
+of_tally text tally h = record {
+  program = h.program;
+  stands = h.stands;
   right = h.right;
   measures = h.measures.measures;
 }
 
-pub whole_tally : (tokens : List Token) (tally : Tally)
-    → TalliesText tokens tally
+pub whole_tally : (text : List ℕ) (tally : Tally)
+    → TalliesText text tally
     → IsWholeTally tally
-whole_tally tokens tally h = record {
+whole_tally text tally h = record {
   marks = h.program.marks;
-  nested = h.stands.tree.nested;
+  nested = nested_of text h.program h.stands;
   tallies = h.measures;
 }
 
-pub told_table : (tokens : List Token) (tally : Tally) (found : Option Table)
-    → TalliesText tokens tally
+pub told_table : (text : List ℕ) (tally : Tally) (found : Option Table)
+    → TalliesText text tally
     → IfSome found (λ (table : Table). (marks : List Mark) → IsNested marks
     → Tallies tally (last_moment marks) → table ≡ table_of marks)
-    → IfSome found (IsTableOfText tokens)
-told_table tokens tally None h is = tt
-told_table tokens tally (Some table) h is = record {
-  marks = h.program.marks;
-  tree = h.stands.tree;
+    → IfSome found (IsTableOfText text)
+told_table text tally None h is = tt
+told_table text tally (Some table) h is = record {
+  program = h.program;
+  stands = h.stands;
   right = h.right;
-  is = is h.program.marks h.stands.tree.nested h.measures;
+  is = is h.program.marks (nested_of text h.program h.stands) h.measures;
 }
 
 -- the rows that are kept have the marks too
@@ -142,25 +142,25 @@ rows_within rows marks reading h =
       segments = omega (arith, reading.segments, segments, count_read opens start marks);
     }
 
-pub told_some : (tokens : List Token) (tally : Tally) (found : Option Table)
-    → TalliesText tokens tally
+pub told_some : (text : List ℕ) (tally : Tally) (found : Option Table)
+    → TalliesText text tally
     → (IsTrue (keeps_rows tally) → (marks : List Mark) → IsReading marks
     → Tallies tally (last_moment marks) → IsTrue (is_some found))
     → IsTrue (keeps_rows tally)
-    → FitsTable tokens
+    → FitsTable text
     → IsTrue (is_some found)
-told_some tokens tally found h some kept fits =
-    some kept h.program.marks (fits h.program.marks h.stands.tree) h.measures
+told_some text tally found h some kept fits =
+    some kept h.program.marks (fits h.program h.stands) h.measures
 
-pub told_text : {V : Type 0} (tokens : List Token) (tally : Tally) (found : Option V)
+pub told_text : {V : Type 0} (text : List ℕ) (tally : Tally) (found : Option V)
     (bytes : V → List ℕ)
-    → TalliesText tokens tally
-    → IfSome found (λ (text : V). (wanted : List ℕ)
+    → TalliesText text tally
+    → IfSome found (λ (written : V). (wanted : List ℕ)
     → IfSome tally.printer (λ (printer : Printer). string_bytes printer.text ≡ wanted)
-    → bytes text ≡ wanted)
-    → IfSome found (λ (text : V). IsCanonicalOf tokens (bytes text))
-told_text tokens tally None bytes h is = tt
-told_text tokens tally (Some text) bytes h is = record {
+    → bytes written ≡ wanted)
+    → IfSome found (λ (written : V). IsCanonicalOf text (bytes written))
+told_text text tally None bytes h is = tt
+told_text text tally (Some written) bytes h is = record {
   program = h.program;
   stands = h.stands;
   right = h.right;

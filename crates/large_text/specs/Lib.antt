@@ -3,5 +3,10 @@ pub mod LargeFaults
 pub mod LargeReading
 pub mod Measured
 pub mod Printed
+pub mod PlainStreamed
 pub mod Streamed
 pub mod Tallied
+pub mod LoopFaults
+pub mod LoopMarked
+pub mod LargeTexts
+pub mod LoopTallied

@@ -17,10 +17,20 @@ use Rattle.large_text.specs.Tallied.{Tallies}
 use Rattle.large_text.specs.declared.printer.Printer.{Printer}
 use Rattle.large_text.specs.declared.reader.MarkReader.{MarkReader}
 use Rattle.large_text.specs.LargeReading.{IsReadSoFar}
-use Rattle.large_text.specs.LargeTrees.{HasLargeProgram, HasLargeTree, IsLargeRightWhole}
+use Rattle.large_text.specs.LargeTexts.{IsLargeRight, StandsForLarge}
+use Rattle.large_text.specs.LargeTrees.{HasLargeProgram, IsLargeRightWhole}
 
--- these tokens are a text without a fault, and all of its marks have been taken
-pub record TalliesText (tokens : List Token) (meter : Tally) : Type 0 where
+-- the text has no fault, and all of its marks have been taken
+pub record TalliesText (text : List ℕ) (meter : Tally) : Type 0 where
+  pub program : ProgramMarks
+  pub stands : StandsForLarge text program
+  pub right : IsLargeRight text
+  pub measures : Tallies meter (last_moment program.marks)
+  pub prints : IfSome meter.printer
+      (λ (printer : Printer). string_bytes printer.text ≡ canonical_text program)
+
+-- the same of the tokens of a text of version 1
+pub record TalliesPlain (tokens : List Token) (meter : Tally) : Type 0 where
   pub program : ProgramMarks
   pub stands : HasLargeProgram (texts tokens) program
   pub right : IsLargeRightWhole tokens
@@ -29,11 +39,11 @@ pub record TalliesText (tokens : List Token) (meter : Tally) : Type 0 where
       (λ (printer : Printer). string_bytes printer.text ≡ canonical_text program)
 
 -- the same of a meter alone
-pub record MeasuresText (tokens : List Token) (meter : Meter) : Type 0 where
-  pub marks : List Mark
-  pub tree : HasLargeTree (texts tokens) marks
-  pub right : IsLargeRightWhole tokens
-  pub measures : Measures meter (last_moment marks)
+pub record MeasuresText (text : List ℕ) (meter : Meter) : Type 0 where
+  pub program : ProgramMarks
+  pub stands : StandsForLarge text program
+  pub right : IsLargeRight text
+  pub measures : Measures meter (last_moment program.marks)
 
 -- the reader has taken these tokens, and the meter the marks that the reader has handed on
 pub record MeasuresSoFar (tokens : List Token) (reader : MarkReader) (meter : Tally) : Type 0 where
@@ -48,19 +58,19 @@ pub record CanMeasure (reader : MarkReader) (meter : Tally) : Type 0 where
   pub so_far : MeasuresSoFar tokens reader meter
 
 -- the numbers of its marks fit a table
-abbrev pub FitsTable : List Token → Type 0
-FitsTable tokens = (marks : List Mark) → HasLargeTree (texts tokens) marks → IsReading marks
+abbrev pub FitsTable : List ℕ → Type 0
+FitsTable text = (program : ProgramMarks) → StandsForLarge text program → IsReading program.marks
 
--- these tokens are a text without a fault, and this is the table of its marks
-pub record IsTableOfText (tokens : List Token) (table : Table) : Type 0 where
-  pub marks : List Mark
-  pub tree : HasLargeTree (texts tokens) marks
-  pub right : IsLargeRightWhole tokens
-  pub is : table ≡ table_of marks
+-- the text has no fault, and this is the table of its marks
+pub record IsTableOfText (text : List ℕ) (table : Table) : Type 0 where
+  pub program : ProgramMarks
+  pub stands : StandsForLarge text program
+  pub right : IsLargeRight text
+  pub is : table ≡ table_of program.marks
 
 -- and this is the canonical text of its program
-pub record IsCanonicalOf (tokens : List Token) (text : List ℕ) : Type 0 where
+pub record IsCanonicalOf (text written : List ℕ) : Type 0 where
   pub program : ProgramMarks
-  pub stands : HasLargeProgram (texts tokens) program
-  pub right : IsLargeRightWhole tokens
-  pub is : text ≡ canonical_text program
+  pub stands : StandsForLarge text program
+  pub right : IsLargeRight text
+  pub is : written ≡ canonical_text program

@@ -9,10 +9,12 @@ use Rattle.program_text.specs.Marks.{Mark}
 use Rattle.program_text.specs.Marks.Mark.{Begins}
 use Rattle.program_text.specs.Words.{is_word, type_word}
 use Rattle.task_program.specs.Canonical.{canonical_text, item_separator, name_of}
+use Rattle.task_program.specs.ProgramMarks.{ProgramMarks}
+use Rattle.task_program.specs.declared.version.Version.{Version}
+use Rattle.task_program.specs.declared.version.Version.TheVariants.{One}
 use Rattle.task_program.specs.Names.{number_of_name, with_name}
 use Rattle.task_program.specs.declared.place.Place.{Place}
 use Rattle.task_program.specs.declared.place.Place.TheVariants.{DependName}
-use Rattle.large_text.specs.LargeTrees.{plain_program}
 use Rattle.large_text.specs.declared.printer.Printer.{Printer}
 
 -- ---- the clauses, without the last `)`
@@ -56,21 +58,30 @@ task_line undeferred clauses last = task_begins undeferred ++ (clauses ++ task_e
 
 -- ---- a printer
 
--- the canonical text of these marks and the clauses of these items have been written, whatever names
--- are mentioned behind these
-pub record Prints (printer : Printer) (names : List (List ℕ)) (items : List Item)
-    (marks : List Mark)
+-- a program of this version with these names and marks
+abbrev pub program_in : Version → (names : List (List ℕ)) → List Mark → ProgramMarks
+program_in version names marks = record { version = version; marks = marks; names = names }
+
+-- the canonical text of these marks in this version and the clauses of these items have been
+-- written, whatever names are mentioned behind these
+pub record Prints (version : Version) (printer : Printer) (names : List (List ℕ))
+    (items : List Item) (marks : List Mark)
     : Type 0 where
   pub text : (more : List (List ℕ))
-      → string_bytes printer.text ≡ canonical_text (plain_program (fold with_name names more) marks)
+      → string_bytes printer.text
+      ≡ canonical_text (program_in version (fold with_name names more) marks)
   pub clauses : (more : List (List ℕ))
       → string_bytes printer.clauses ≡ clauses_open (fold with_name names more) items
   pub last : printer.last ≡ last_of items
 
 -- where something is written
+abbrev pub PrintsIn : Version → Option Printer → List (List ℕ) → List Item → List Mark → Type 0
+PrintsIn version printer names items marks =
+    IfSome printer (λ (printer : Printer). Prints version printer names items marks)
+
+-- and the text is of version 1
 abbrev pub PrintsBy : Option Printer → List (List ℕ) → List Item → List Mark → Type 0
-PrintsBy printer names items marks =
-    IfSome printer (λ (printer : Printer). Prints printer names items marks)
+PrintsBy printer names items marks = PrintsIn One printer names items marks
 
 -- ---- a token and a mark more
 
@@ -92,9 +103,13 @@ items_read place names items text = items
 -- with this token what was printed goes on
 abbrev pub PrintsItem : Place → List ℕ → (before after : Option Printer) → Type 0
 PrintsItem place text before after =
-    (names : List (List ℕ)) (items : List Item) (marks : List Mark)
-    → PrintsBy before names items marks
-    → PrintsBy after (names_read place names text) (items_read place names items text) marks
+    (version : Version) (names : List (List ℕ)) (items : List Item) (marks : List Mark)
+    → PrintsIn version before names items marks
+    → PrintsIn version after (names_read place names text) (items_read place names items text) marks
+
+-- and so with an item of this type and name
+abbrev pub PrintsNamed : DependKind → List ℕ → (before after : Option Printer) → Type 0
+PrintsNamed kind name before after = PrintsItem (DependName kind) name before after
 
 -- a task that begins has the items so far
 abbrev pub IsOwn : List Item → Mark → Type 0
@@ -109,7 +124,7 @@ items_behind items mark = items
 -- with this mark what was printed goes on
 abbrev pub PrintsMark : (before after : Option Printer) → Mark → Type 0
 PrintsMark before after mark =
-    (names : List (List ℕ)) (items : List Item) (marks : List Mark)
+    (version : Version) (names : List (List ℕ)) (items : List Item) (marks : List Mark)
     → IsOwn items mark
-    → PrintsBy before names items marks
-    → PrintsBy after names (items_behind items mark) (marks ++ mark ∷ [])
+    → PrintsIn version before names items marks
+    → PrintsIn version after names (items_behind items mark) (marks ++ mark ∷ [])

@@ -1,69 +1,51 @@
--- What a meter of a text has taken of its bytes.
-use Rattle.std.specs.Prelude.{◌≡◌, ℕ, ◌+◌, ◌≤◌, false, List, [], ◌∷◌, ◌++◌, length, count_by}
-use Rattle.std.specs.Prelude.{IsTrue, Option, Some, None}
-use Rattle.program_text.specs.declared.fault.ReadFault.{ReadFault}
-use Rattle.program_text.specs.Tokens.{is_line_feed, tokens_from, tokens_of, line_at_end}
-use Rattle.large_text.specs.declared.tally.Tally.{Tally}
-use Rattle.large_text.specs.declared.reader.MarkReader.{MarkReader}
+-- What a meter of a text of either version has taken of its bytes.
+use Rattle.std.specs.Prelude.{◌≡◌, ℕ, ◌<◌, ◌≤◌, true, false, List, [], ◌++◌, length, IsTrue}
+use Rattle.program_text.specs.declared.limits.TheConstants.{MOST_TEXT_BYTES}
+use Rattle.large_text.specs.declared.plain_stream.PlainMeter.{PlainMeter}
+use Rattle.large_text.specs.declared.stream.Stage.{Stage}
+use Rattle.large_text.specs.declared.stream.Stage.TheVariants.{Kept, Plain, TooLong}
 use Rattle.large_text.specs.declared.stream.TextMeter.{TextMeter}
-use Rattle.large_text.specs.declared.limits.TheConstants.{LARGEST_TEXT, LARGEST_LINE}
-use Rattle.large_text.specs.LargeTrees.{IsLargeFirstFault}
-use Rattle.large_text.specs.Measured.{MeasuresSoFar}
-use Rattle.large_text.specs.Tallied.{keeps_rows, keeps_text}
+use Rattle.large_text.specs.LargeTexts.{FitsText, is_large_two}
+use Rattle.large_text.specs.PlainStreamed.{HasTakenPlain}
+use Rattle.large_text.specs.Tallied.{IsBegun, keeps_rows, keeps_text}
 
--- they end with an LF
-abbrev pub EndsLine : List ℕ → Type 0
-EndsLine bytes = (front : List ℕ) × (bytes ≡ front ++ 10 ∷ [])
+-- all bytes are kept, and none were handed on
+pub record HasKept (bytes head : List ℕ) (plain : PlainMeter) : Type 0 where
+  pub all : head ≡ bytes
+  pub few : length bytes ≤ MOST_TEXT_BYTES
+  pub plain_begun : HasTakenPlain [] plain
+  pub begun : IsBegun plain.meter
 
--- the tokens of a text that begins with these bytes are theirs and those of what follows
-abbrev pub CutsTokens : List ℕ → Type 0
-CutsTokens bytes =
-    (later : List ℕ)
-    → tokens_of (bytes ++ later) ≡ tokens_of bytes ++ tokens_from false (line_at_end 1 bytes) later
+-- no text that begins with them is of version 2
+abbrev pub IsNeverTwo : List ℕ → Type 0
+IsNeverTwo bytes = (later : List ℕ) → is_large_two (bytes ++ later) ≡ false
 
--- the tokens of some lines have been taken, and what follows them is kept: it begins on this line
-pub record HasTakenLines (bytes tail : List ℕ) (line : ℕ) (reader : MarkReader) (meter : Tally)
-    : Type 0 where
-  pub lines : List ℕ
-  pub all : bytes ≡ lines ++ tail
-  pub cuts : CutsTokens lines
-  pub line_is : line ≡ line_at_end 1 lines
-  pub so_far : MeasuresSoFar (tokens_of lines) reader meter
+pub record IsPlain (bytes : List ℕ) (plain : PlainMeter) : Type 0 where
+  pub never_two : IsNeverTwo bytes
+  pub taken : HasTakenPlain bytes plain
 
--- it is the first fault of every text that begins with these bytes
-abbrev pub HasFault : List ℕ → ReadFault → Type 0
-HasFault bytes fault =
-    (later : List ℕ) (end_line : ℕ) → IsLargeFirstFault (tokens_of (bytes ++ later)) end_line fault
+-- they are too many for the text of version 2 that they begin
+pub record IsTooLongTwo (bytes : List ℕ) : Type 0 where
+  pub many : MOST_TEXT_BYTES < length bytes
+  pub two : is_large_two bytes ≡ true
 
-abbrev pub HasTakenBy : Option ReadFault → (bytes tail : List ℕ) (line : ℕ) → MarkReader → Tally
-    → Type 0
-HasTakenBy None bytes tail line reader meter = HasTakenLines bytes tail line reader meter
-HasTakenBy (Some fault) bytes tail line reader meter = HasFault bytes fault
-
--- no byte of them is an LF
-abbrev pub HasNoLineFeed : List ℕ → Type 0
-HasNoLineFeed line = count_by is_line_feed line ≡ 0
-
--- neither the bytes nor those of a line are too many
-pub record FitsText (bytes : List ℕ) : Type 0 where
-  pub short : length bytes ≤ LARGEST_TEXT
-  pub lines : (front line later : List ℕ) → bytes ≡ front ++ (line ++ later)
-      → HasNoLineFeed line → length line ≤ LARGEST_LINE
+abbrev pub HasTakenIn : Stage → (bytes head : List ℕ) → PlainMeter → Type 0
+HasTakenIn Kept bytes head plain = HasKept bytes head plain
+HasTakenIn Plain bytes head plain = IsPlain bytes plain
+HasTakenIn TooLong bytes head plain = IsTooLongTwo bytes
 
 -- the meter has taken these bytes, with which a text begins
 pub record HasTaken (bytes : List ℕ) (text_meter : TextMeter) : Type 0 where
   pub fits : FitsText bytes
-  pub last : HasNoLineFeed text_meter.tail.items
-  pub taken : HasTakenBy text_meter.fault bytes text_meter.tail.items (text_meter.lines + 1)
-      text_meter.reader text_meter.meter
+  pub taken : HasTakenIn text_meter.stage bytes text_meter.head.items text_meter.plain
 
 -- it keeps the rows of the table beside
 abbrev pub KeepsRows : TextMeter → Type 0
-KeepsRows text_meter = IsTrue (keeps_rows text_meter.meter)
+KeepsRows text_meter = IsTrue (keeps_rows text_meter.plain.meter)
 
 -- and the canonical text
 abbrev pub KeepsText : TextMeter → Type 0
-KeepsText text_meter = IsTrue (keeps_text text_meter.meter)
+KeepsText text_meter = IsTrue (keeps_text text_meter.plain.meter)
 
 -- some bytes were taken, and these behind them are not too many
 pub record CanTakeBytes (more : List ℕ) (text_meter : TextMeter) : Type 0 where

@@ -10,7 +10,9 @@ use Rattle.program_text.specs.declared.limits.TheConstants.{MOST_WORK}
 use Rattle.task_segments.specs.MarkCutting.{Tables}
 use Rattle.task_segments.specs.declared.mark_cutter.MarkCutter.{MarkCutter}
 use Rattle.online_span.specs.Measuring.{Measures, Fits}
-use Rattle.large_text.specs.Printed.{PrintsBy}
+use Rattle.task_program.specs.declared.version.Version.{Version}
+use Rattle.task_program.specs.declared.version.Version.TheVariants.{One}
+use Rattle.large_text.specs.Printed.{PrintsIn}
 use Rattle.large_text.specs.declared.tally.Tally.{Tally}
 
 -- the meter has taken the marks of this moment, and so have the rows, where they are kept
@@ -26,10 +28,14 @@ keeps_rows tally = is_some tally.rows
 abbrev pub keeps_text : Tally → Bool
 keeps_text tally = is_some tally.printer
 
--- no mark has come
-pub record IsBegun (tally : Tally) : Type 0 where
+-- no mark of a text of this version has come
+pub record IsBegunIn (version : Version) (tally : Tally) : Type 0 where
   pub tallies : Tallies tally (Begins false [] ∷ [])
-  pub prints : (names : List (List ℕ)) → PrintsBy tally.printer names [] []
+  pub prints : (names : List (List ℕ)) → PrintsIn version tally.printer names [] []
+
+-- of version 1
+abbrev pub IsBegun : Tally → Type 0
+IsBegun tally = IsBegunIn One tally
 
 -- a mark can come at this moment, and the work stays within the limit
 pub record FitsWork (mark : Mark) (e : List Mark) : Type 0 where

@@ -18,3 +18,9 @@ pub const MOST_LARGE_NESTING: usize = 1_048_576;
 /// Depend items of all tasks together. Each may mention a name of its own, and names are numbered in
 /// 32 bits.
 pub const MOST_LARGE_ITEMS: u32 = 4_294_967_294;
+
+/// Turns of all loops of a text of version 2 together.
+pub const MOST_LARGE_TURNS: u32 = 4_000_000_000;
+
+/// Lines of the canonical text of a text of version 2, its header not counted.
+pub const MOST_LARGE_LINES: u32 = 4_000_000_000;

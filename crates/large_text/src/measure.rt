@@ -7,6 +7,7 @@ ghost use Rattle.program_text.specs.Tokens as tokens;
 ghost use Rattle.program_text.specs.Tokens.{tokens_of, tokens_from, line_at_end};
 ghost use Rattle.large_text.specs.declared.limits.TheConstants.{LARGEST_TEXT};
 ghost use Rattle.large_text.specs.LargeReading.{mark_seen, token_on};
+ghost use Rattle.large_text.specs.LargeTexts.{is_large_two, IsLargeFault};
 ghost use Rattle.large_text.specs.LargeTrees.{IsLargeFirstFault};
 ghost use Rattle.large_text.specs.Measured.{MeasuresText, MeasuresSoFar, CanMeasure};
 ghost use Rattle.large_text.specs.Printed.{IsNameAt, PrintsItem};
@@ -15,6 +16,7 @@ ghost use Rattle.std.specs.Option.{is_some};
 ghost use Rattle.std.specs.Prelude.{Some};
 
 use crate::fault::LargeFault;
+use crate::large_texts::{is_large_two, tally_two};
 use crate::marks::TextMark;
 use crate::printer::Printer;
 use crate::reader::MarkReader;
@@ -27,16 +29,31 @@ use task_program::AllocFault;
 use task_program::name_key::NameKey;
 use task_program::place::Place;
 
-/// The meter that has taken all marks of a text of version 1, which is gone through once. The fault
-/// is the text's first, or out of memory, on line 0.
+/// The meter that has taken all marks of a text. The fault is the text's first, or out of memory, on
+/// line 0.
 pub fn measure_text(alloc: Global, text: &[u8]) -> Result<Meter, LargeFault>
     requires { length text.now + 1 < 2 ^ 32 }
-    ensures measured { IfOk result (λ meter. MeasuresText (tokens_of text.now) meter) }
-    ensures refused { IfErr result (λ fault. fault.kind ≢ OutOfMemory
-        → IsLargeFirstFault (tokens_of text.now) (line_at_end 1 text.now) fault) }
+    ensures measured { IfOk result (MeasuresText text.now) }
+    ensures refused { IfErr result (λ fault. fault.kind ≢ OutOfMemory → IsLargeFault text.now fault) }
     ensures memory { IfErr result (λ fault. fault.kind ≡ OutOfMemory → fault.line ≡ 0) }
 {
-    let mut reader = MarkReader::new(alloc, NameKey::of_text(text));
+    let key = NameKey::of_text(text);
+    if is_large_two(text) {
+        let tally = tally_two(alloc, key, text, Tally::new(alloc))?;
+        return Ok(tally.into_meter());
+    }
+    measure_plain(alloc, key, text)
+}
+
+// The same of a text of version 1, which is gone through once.
+fn measure_plain(alloc: Global, key: NameKey, text: &[u8]) -> Result<Meter, LargeFault>
+    requires short { length text.now + 1 < 2 ^ 32 }
+    requires not_two { is_large_two text.now ≡ false }
+    ensures measured { IfOk result (MeasuresText text.now) }
+    ensures refused { IfErr result (λ fault. fault.kind ≢ OutOfMemory → IsLargeFault text.now fault) }
+    ensures memory { IfErr result (λ fault. fault.kind ≡ OutOfMemory → fault.line ≡ 0) }
+{
+    let mut reader = MarkReader::new(alloc, key);
     let mut meter = Tally::new(alloc);
     let line = take_tokens(&mut reader, &mut meter, text, 0)?;
     reader.finish(line)?;

@@ -5,7 +5,9 @@ ghost use Rattle.std.specs.String.{string_bytes};
 ghost use Rattle.program_text.specs.declared.statement.Item.{Item};
 ghost use Rattle.program_text.specs.Marks.{Mark};
 ghost use Rattle.program_text.specs.Words.{type_word};
+ghost use Rattle.task_program.specs.Canonical.{header_line};
 ghost use Rattle.task_program.specs.Names.{number_of_name, with_name};
+ghost use Rattle.task_program.specs.declared.version.Version.{Version};
 ghost use Rattle.large_text.specs.LargeReading.{mark_seen};
 ghost use Rattle.large_text.specs.Printed.{IsOwn, Prints, items_behind, joint, task_line};
 
@@ -13,6 +15,7 @@ use crate::marks::TextMark;
 use std::alloc::Global;
 use task_program::AllocFault;
 use task_program::statement::DependKind;
+use task_program::version::Version;
 
 /// What is written of a text: the lines of the marks so far, and the clauses of the task whose
 /// clauses are being read.
@@ -27,11 +30,12 @@ pub struct Printer {
 
 impl Printer {
     /// What is written of a text of which no mark has come: its header.
-    pub(crate) fn new(alloc: Global) -> Result<Printer, AllocFault>
-        ensures { IfOk result (λ printer. (names : List (List ℕ)) → Prints printer names [] []) }
+    pub(crate) fn new(alloc: Global, version: Version) -> Result<Printer, AllocFault>
+        ensures { IfOk result (λ printer. (names : List (List ℕ))
+            → Prints version printer names [] []) }
     {
         Ok(Printer {
-            text: String::from_str(alloc, "omptasks 1\n")?,
+            text: String::from_str(alloc, header_line(version))?,
             clauses: String::new(alloc),
             last: None,
         })
@@ -47,9 +51,10 @@ impl Printer {
 
     /// Puts an item of this type and name behind the clauses.
     pub(crate) fn put_item(&mut self, kind: DependKind, name: &str) -> Result<(), AllocFault>
-        ensures { OnOk result ((names : List (List ℕ)) (items : List Item) (marks : List Mark)
-            → Prints self.old names items marks
-            → Prints self.new (with_name names name.now)
+        ensures { OnOk result ((version : Version) (names : List (List ℕ)) (items : List Item)
+            (marks : List Mark)
+            → Prints version self.old names items marks
+            → Prints version self.new (with_name names name.now)
             (items ++ record { kind = kind; name = number_of_name names name.now } ∷ []) marks) }
     {
         put_joint(&mut self.clauses, self.last, kind)?;
@@ -60,10 +65,11 @@ impl Printer {
 
     /// Puts the line of the next mark. That of a task takes the clauses.
     pub(crate) fn put_mark(&mut self, mark: &TextMark) -> Result<(), AllocFault>
-        ensures { OnOk result ((names : List (List ℕ)) (items : List Item) (marks : List Mark)
+        ensures { OnOk result ((version : Version) (names : List (List ℕ)) (items : List Item)
+            (marks : List Mark)
             → IsOwn items (mark_seen mark.now)
-            → Prints self.old names items marks
-            → Prints self.new names (items_behind items (mark_seen mark.now))
+            → Prints version self.old names items marks
+            → Prints version self.new names (items_behind items (mark_seen mark.now))
             (marks ++ mark_seen mark.now ∷ [])) }
     {
         match mark {
@@ -91,6 +97,15 @@ impl Printer {
         self.clauses.clear();
         self.last = None;
         Ok(())
+    }
+}
+
+fn header_line(version: Version) -> &'static str
+    ensures { result.now ≡ header_line version }
+{
+    match version {
+        Version::One => "omptasks 1\n",
+        Version::Two => "omptasks 2\n",
     }
 }
 

@@ -41,7 +41,7 @@ use task_program::statement::{DependKind, Item, Items};
 
 /// An open block, by the line of its `{`.
 #[derive(Clone, Copy, Debug)]
-enum OpenBlock {
+pub(crate) enum OpenBlock {
     OpenTask(u64),
     OpenGroup(u64),
 }

@@ -1,39 +1,53 @@
-//! Work and span of a text that comes in pieces.
-ghost use Rattle.std.specs.Prelude.{◌≡◌, ◌≢◌, ◌+◌, ◌<◌, ◌≤◌, ◌^◌, [], ◌∷◌, false, ◌++◌, List, ℕ, IfOk, IfErr};
-ghost use Rattle.std.specs.Prelude.{IsTrue, OnOk, None, length, take, drop};
-ghost use Rattle.program_text.specs.declared.fault.ReadKind.TheVariants.{OutOfMemory};
-ghost use Rattle.program_text.specs.Tokens.{tokens_of, line_at_end};
-ghost use Rattle.large_text.specs.declared.limits.TheConstants.{LARGEST_PIECE};
-ghost use Rattle.large_text.specs.LargeTrees.{IsLargeFirstFault};
-ghost use Rattle.large_text.specs.Measured.{FitsTable, IsCanonicalOf, IsTableOfText, MeasuresText, TalliesText};
+//! Work and span of a text that comes in pieces, in either version.
+ghost use Rattle.std.specs.Prelude.{◌≡◌, ◌≢◌, ◌≤◌, ◌<◌, ◌+◌, ◌-◌, [], ◌++◌, List, ℕ, IfOk, IfErr, IsTrue, OnOk};
+ghost use Rattle.std.specs.Prelude.{length};
 ghost use Rattle.std.specs.Option.{IfSome, is_some};
+ghost use Rattle.program_text.specs.declared.fault.ReadKind.TheVariants.{OutOfMemory};
+ghost use Rattle.program_text.specs.declared.limits.TheConstants.{MOST_TEXT_BYTES};
+ghost use Rattle.large_text.specs.declared.limits.TheConstants.{LARGEST_PIECE};
+ghost use Rattle.large_text.specs.LargeTexts.{IsLargeFault};
+ghost use Rattle.large_text.specs.Measured.{FitsTable, IsCanonicalOf, IsTableOfText, MeasuresText, TalliesText};
+ghost use Rattle.large_text.specs.PlainStreamed.{HasTakenPlain};
+ghost use Rattle.large_text.specs.Streamed.{CanTakeBytes, HasTaken, IsNeverTwo, KeepsRows, KeepsText, TakesBytes};
 ghost use Rattle.large_text.specs.Tallied.{IsBegun, keeps_rows, keeps_text};
-ghost use Rattle.large_text.specs.Streamed.{CanTakeBytes, EndsLine, HasTaken};
-ghost use Rattle.large_text.specs.Streamed.{HasNoLineFeed, KeepsRows, KeepsText, TakesBytes};
+ghost use Rattle.large_text.specs.declared.stream.Stage.TheVariants.{Kept};
 
 use crate::fault::LargeFault;
-use crate::measure::take_tokens;
-use crate::reader::MarkReader;
+use crate::large_texts::{is_large_two, tally_two};
+use crate::plain_stream::PlainMeter;
 use crate::tally::Tally;
+use crate::version_known::is_never_two;
 use online_span::Meter;
-use std::alloc::{AllocError, Global};
+use std::alloc::Global;
+use std::mem::replace;
 use task_program::AllocFault;
 use task_program::fault::ReadKind;
+use task_program::limits::MOST_TEXT_BYTES;
 use task_program::name_key::NameKey;
 use task_segments::table::LargeTable;
 
-/// Takes the bytes of a text piece by piece, however it is cut, and measures what it says. Beside the
-/// names and what the nesting takes, only the last line is kept, as far as it has come.
+/// What is known of the version of a text.
+#[derive(Clone, Copy, Debug, PartialEq, Eq)]
+enum Stage {
+    /// It may be of either: all that has come is kept.
+    Kept,
+    /// It is not of version 2.
+    Plain,
+    /// It is of version 2, and too long.
+    TooLong,
+}
+
+/// Takes the bytes of a text piece by piece, however it is cut, and measures what it says. A text of
+/// version 2 is kept whole. Of any other the first lines are, until they tell the version, and then
+/// only the last line, as far as it has come, beside the names and what the nesting takes.
 #[derive(Drop)]
 pub struct TextMeter {
-    reader: MarkReader,
-    meter: Tally,
-    /// What came behind the last LF.
-    tail: Vec<u8>,
-    /// How many lines came before it.
-    lines: u64,
-    /// The first fault of the text, once it is known.
-    fault: Option<LargeFault>,
+    alloc: Global,
+    key: NameKey,
+    stage: Stage,
+    /// All that has come, while it is kept.
+    head: Vec<u8>,
+    plain: PlainMeter,
 }
 
 impl TextMeter {
@@ -42,7 +56,7 @@ impl TextMeter {
     pub fn new(alloc: Global, key: NameKey) -> TextMeter
         ensures { HasTaken [] result }
     {
-        TextMeter::with_tally(alloc, key, Tally::new(alloc))
+        TextMeter::of_tally(alloc, key, Tally::new(alloc))
     }
 
     /// The same, where the rows of its table are kept.
@@ -50,7 +64,7 @@ impl TextMeter {
         ensures taken { IfOk result (λ made. HasTaken [] made) }
         ensures rows { IfOk result KeepsRows }
     {
-        Ok(TextMeter::with_tally(alloc, key, Tally::with_rows(alloc)?))
+        Ok(TextMeter::of_tally(alloc, key, Tally::with_rows(alloc)?))
     }
 
     /// The same, where its canonical text is kept.
@@ -58,7 +72,7 @@ impl TextMeter {
         ensures taken { IfOk result (λ made. HasTaken [] made) }
         ensures text { IfOk result KeepsText }
     {
-        Ok(TextMeter::with_tally(alloc, key, Tally::with_text(alloc)?))
+        Ok(TextMeter::of_tally(alloc, key, Tally::with_text(alloc)?))
     }
 
     /// The same, where both are kept.
@@ -67,21 +81,20 @@ impl TextMeter {
         ensures rows { IfOk result KeepsRows }
         ensures text { IfOk result KeepsText }
     {
-        Ok(TextMeter::with_tally(alloc, key, Tally::with_rows_and_text(alloc)?))
+        Ok(TextMeter::of_tally(alloc, key, Tally::with_rows_and_text(alloc)?))
     }
 
-    fn with_tally(alloc: Global, key: NameKey, meter: Tally) -> TextMeter
-        requires { IsBegun meter }
+    fn of_tally(alloc: Global, key: NameKey, tally: Tally) -> TextMeter
+        requires { IsBegun tally }
         ensures taken { HasTaken [] result }
-        ensures rows { keeps_rows result.meter ≡ keeps_rows meter }
-        ensures text { keeps_text result.meter ≡ keeps_text meter }
+        ensures tally { result.plain.meter ≡ tally }
     {
         TextMeter {
-            reader: MarkReader::new(alloc, key),
-            meter,
-            tail: Vec::new(alloc),
-            lines: 0,
-            fault: None,
+            alloc,
+            key,
+            stage: Stage::Kept,
+            head: Vec::new(alloc),
+            plain: PlainMeter::new(alloc, key, tally),
         }
     }
 
@@ -94,58 +107,83 @@ impl TextMeter {
         ensures rows { KeepsRows self.old → KeepsRows self.new }
         ensures text { KeepsText self.old → KeepsText self.new }
     {
-        if self.fault.is_some() {
-            return Ok(());
+        match self.stage {
+            Stage::Kept => self.take_first(bytes),
+            Stage::Plain => self.plain.take(bytes),
+            Stage::TooLong => Ok(()),
         }
-        let end = whole_lines(bytes);
-        if end == 0 {
+    }
+
+    // The bytes are kept, as long as they are few.
+    fn take_first(&mut self, bytes: &[u8]) -> Result<(), AllocFault>
+        requires room { CanTakeBytes bytes.now self.old }
+        requires piece { length bytes.now ≤ LARGEST_PIECE }
+        requires kept { self.old.stage ≡ Kept }
+        ensures takes { OnOk result (TakesBytes bytes.now self.old self.new) }
+        ensures rows { KeepsRows self.old → KeepsRows self.new }
+        ensures text { KeepsText self.old → KeepsText self.new }
+    {
+        let room = MOST_TEXT_BYTES - self.head.len();
+        if bytes.len() <= room {
             return self.keep(bytes);
         }
-        let (lines, tail) = bytes.split_at(end);
-        self.take_lines(lines)?;
-        self.keep(tail)
+        let (first, rest) = bytes.split_at(room);
+        self.head.extend_from_slice(first)?;
+        self.leave_head(rest)
     }
 
-    // Keeps bytes of a line that may go on.
+    // These are kept behind those before them, unless that tells a version that is not 2. It is looked
+    // for where the bytes have one binary digit more: so all looks take no longer than two of them.
     fn keep(&mut self, bytes: &[u8]) -> Result<(), AllocFault>
-        requires { HasNoLineFeed bytes.now }
+        requires room { CanTakeBytes bytes.now self.old }
+        requires few { length bytes.now ≤ MOST_TEXT_BYTES - length self.old.head.items }
+        requires kept { self.old.stage ≡ Kept }
         ensures takes { OnOk result (TakesBytes bytes.now self.old self.new) }
-        ensures rows { self.new.meter ≡ self.old.meter }
+        ensures rows { KeepsRows self.old → KeepsRows self.new }
+        ensures text { KeepsText self.old → KeepsText self.new }
     {
-        self.tail.extend_from_slice(bytes)
+        let before = self.head.len();
+        self.head.extend_from_slice(bytes)?;
+        let looks = self.head.len().leading_zeros() < before.leading_zeros();
+        if looks && is_never_two(self.head.as_slice()) {
+            return self.hand_on();
+        }
+        Ok(())
     }
 
-    // Takes the tokens of these lines, the first of which goes on from the tail.
-    fn take_lines(&mut self, lines: &[u8]) -> Result<(), AllocFault>
-        requires taken { CanTakeBytes lines.now self.old }
-        requires piece { length lines.now ≤ LARGEST_PIECE }
-        requires no_fault { self.old.fault ≡ None }
-        requires ends { EndsLine lines.now }
-        ensures takes { OnOk result (TakesBytes lines.now self.old self.new) }
-        ensures rows { keeps_rows self.new.meter ≡ keeps_rows self.old.meter }
-        ensures text { keeps_text self.new.meter ≡ keeps_text self.old.meter }
+    // No text that begins with the bytes that are kept is of version 2.
+    fn hand_on(&mut self) -> Result<(), AllocFault>
+        requires room { CanTakeBytes [] self.old }
+        requires kept { self.old.stage ≡ Kept }
+        requires never_two { IsNeverTwo self.old.head.items }
+        ensures takes { OnOk result (TakesBytes [] self.old self.new) }
+        ensures rows { KeepsRows self.old → KeepsRows self.new }
+        ensures text { KeepsText self.old → KeepsText self.new }
     {
-        self.tail.extend_from_slice(lines)?;
-        let taken = take_tokens(
-            &mut self.reader,
-            &mut self.meter,
-            self.tail.as_slice(),
-            self.lines,
-        );
-        self.tail.clear();
-        match taken {
-            Ok(line) => {
-                self.lines = line - 1;
-                Ok(())
-            }
-            Err(fault) => {
-                if fault.kind == ReadKind::OutOfMemory {
-                    return Err(AllocError);
-                }
-                self.fault = Some(fault);
-                Ok(())
-            }
+        let head = replace(&mut self.head, Vec::new(self.alloc));
+        self.stage = Stage::Plain;
+        self.plain.take(head.as_slice())
+    }
+
+    // As many bytes are kept as a text of version 2 may have, and these come behind them.
+    fn leave_head(&mut self, rest: &[u8]) -> Result<(), AllocFault>
+        requires room { CanTakeBytes rest.now self.old }
+        requires piece { length rest.now ≤ LARGEST_PIECE }
+        requires kept { self.old.stage ≡ Kept }
+        requires full { length self.old.head.items ≡ MOST_TEXT_BYTES }
+        requires more { 0 < length rest.now }
+        ensures takes { OnOk result (TakesBytes rest.now self.old self.new) }
+        ensures rows { KeepsRows self.old → KeepsRows self.new }
+        ensures text { KeepsText self.old → KeepsText self.new }
+    {
+        let head = replace(&mut self.head, Vec::new(self.alloc));
+        if is_large_two(head.as_slice()) {
+            self.stage = Stage::TooLong;
+            return Ok(());
         }
+        self.stage = Stage::Plain;
+        self.plain.take(head.as_slice())?;
+        self.plain.take(rest)
     }
 
     /// The text ends here. The meter has taken all of its marks; or the fault is its first, or out of
@@ -153,10 +191,9 @@ impl TextMeter {
     pub fn finish(self) -> Result<Meter, LargeFault>
         requires { CanTakeBytes [] self }
         ensures measured { IfOk result (λ meter. (text : List ℕ) → HasTaken text self
-            → MeasuresText (tokens_of text) meter) }
+            → MeasuresText text meter) }
         ensures refused { IfErr result (λ fault. fault.kind ≢ OutOfMemory
-            → (text : List ℕ) → HasTaken text self
-            → IsLargeFirstFault (tokens_of text) (line_at_end 1 text) fault) }
+            → (text : List ℕ) → HasTaken text self → IsLargeFault text fault) }
         ensures memory { IfErr result (λ fault. fault.kind ≡ OutOfMemory → fault.line ≡ 0) }
     {
         Ok(self.whole()?.into_meter())
@@ -166,12 +203,11 @@ impl TextMeter {
     pub fn finish_table(self) -> Result<Option<LargeTable>, LargeFault>
         requires { CanTakeBytes [] self }
         ensures table { IfOk result (λ table. (text : List ℕ) → HasTaken text self
-            → IfSome table (IsTableOfText (tokens_of text))) }
+            → IfSome table (IsTableOfText text)) }
         ensures some { IfOk result (λ table. KeepsRows self → (text : List ℕ)
-            → HasTaken text self → FitsTable (tokens_of text) → IsTrue (is_some table)) }
+            → HasTaken text self → FitsTable text → IsTrue (is_some table)) }
         ensures refused { IfErr result (λ fault. fault.kind ≢ OutOfMemory
-            → (text : List ℕ) → HasTaken text self
-            → IsLargeFirstFault (tokens_of text) (line_at_end 1 text) fault) }
+            → (text : List ℕ) → HasTaken text self → IsLargeFault text fault) }
         ensures memory { IfErr result (λ fault. fault.kind ≡ OutOfMemory → fault.line ≡ 0) }
     {
         Ok(self.whole()?.into_table())
@@ -181,71 +217,67 @@ impl TextMeter {
     pub fn finish_text(self) -> Result<(Option<Vec<u8>>, Option<LargeTable>), LargeFault>
         requires { CanTakeBytes [] self }
         ensures text { IfOk result (λ found. (text : List ℕ) → HasTaken text self
-            → IfSome found.0 (λ written. IsCanonicalOf (tokens_of text) written.items)) }
+            → IfSome found.0 (λ written. IsCanonicalOf text written.items)) }
         ensures some_text { IfOk result (λ found. KeepsText self → IsTrue (is_some found.0)) }
         ensures table { IfOk result (λ found. (text : List ℕ) → HasTaken text self
-            → IfSome found.1 (IsTableOfText (tokens_of text))) }
+            → IfSome found.1 (IsTableOfText text)) }
         ensures some_table { IfOk result (λ found. KeepsRows self → (text : List ℕ)
-            → HasTaken text self → FitsTable (tokens_of text) → IsTrue (is_some found.1)) }
+            → HasTaken text self → FitsTable text → IsTrue (is_some found.1)) }
         ensures refused { IfErr result (λ fault. fault.kind ≢ OutOfMemory
-            → (text : List ℕ) → HasTaken text self
-            → IsLargeFirstFault (tokens_of text) (line_at_end 1 text) fault) }
+            → (text : List ℕ) → HasTaken text self → IsLargeFault text fault) }
         ensures memory { IfErr result (λ fault. fault.kind ≡ OutOfMemory → fault.line ≡ 0) }
     {
         Ok(self.whole()?.into_text())
     }
 
     // The tally of the whole text.
-    fn whole(mut self) -> Result<Tally, LargeFault>
+    fn whole(self) -> Result<Tally, LargeFault>
         requires { CanTakeBytes [] self }
         ensures measured { IfOk result (λ tally. (text : List ℕ) → HasTaken text self
-            → TalliesText (tokens_of text) tally) }
-        ensures rows { IfOk result (λ tally. keeps_rows tally ≡ keeps_rows self.meter) }
-        ensures text { IfOk result (λ tally. keeps_text tally ≡ keeps_text self.meter) }
+            → TalliesText text tally) }
+        ensures rows { IfOk result (λ tally. keeps_rows tally ≡ keeps_rows self.plain.meter) }
+        ensures text { IfOk result (λ tally. keeps_text tally ≡ keeps_text self.plain.meter) }
         ensures refused { IfErr result (λ fault. fault.kind ≢ OutOfMemory
-            → (text : List ℕ) → HasTaken text self
-            → IsLargeFirstFault (tokens_of text) (line_at_end 1 text) fault) }
+            → (text : List ℕ) → HasTaken text self → IsLargeFault text fault) }
         ensures memory { IfErr result (λ fault. fault.kind ≡ OutOfMemory → fault.line ≡ 0) }
     {
-        self.end()?;
-        let TextMeter { meter, .. } = self;
-        Ok(meter)
-    }
-
-    // What `finish` does before it hands on the meter.
-    fn end(&mut self) -> Result<(), LargeFault>
-        requires { CanTakeBytes [] self.old }
-        ensures measured { OnOk result ((text : List ℕ) → HasTaken text self.old
-            → TalliesText (tokens_of text) self.new.meter) }
-        ensures rows { keeps_rows self.new.meter ≡ keeps_rows self.old.meter }
-        ensures text { keeps_text self.new.meter ≡ keeps_text self.old.meter }
-        ensures refused { IfErr result (λ fault. fault.kind ≢ OutOfMemory
-            → (text : List ℕ) → HasTaken text self.old
-            → IsLargeFirstFault (tokens_of text) (line_at_end 1 text) fault) }
-        ensures memory { IfErr result (λ fault. fault.kind ≡ OutOfMemory → fault.line ≡ 0) }
-    {
-        if let Some(fault) = self.fault {
-            return Err(fault);
+        let TextMeter {
+            alloc,
+            key,
+            stage,
+            head,
+            plain,
+        } = self;
+        match stage {
+            Stage::Kept => tally_kept(alloc, key, head.as_slice(), plain),
+            Stage::Plain => plain.whole(),
+            Stage::TooLong => Err(LargeFault {
+                kind: ReadKind::TooLong,
+                line: 1,
+            }),
         }
-        let line = take_tokens(
-            &mut self.reader,
-            &mut self.meter,
-            self.tail.as_slice(),
-            self.lines,
-        )?;
-        self.reader.finish(line)
     }
 }
 
-// How many bytes the whole lines have with which these bytes begin.
-fn whole_lines(bytes: &[u8]) -> usize
-    ensures within { result ≤ length bytes.now }
-    ensures ends { 0 < result → EndsLine (take result bytes.now) }
-    ensures last { HasNoLineFeed (drop result bytes.now) }
+// The tally of a text that was kept whole.
+fn tally_kept(
+    alloc: Global,
+    key: NameKey,
+    text: &[u8],
+    mut plain: PlainMeter,
+) -> Result<Tally, LargeFault>
+    requires few { length text.now ≤ MOST_TEXT_BYTES }
+    requires taken { HasTakenPlain [] plain }
+    requires begun { IsBegun plain.meter }
+    ensures measured { IfOk result (TalliesText text.now) }
+    ensures rows { IfOk result (λ tally. keeps_rows tally ≡ keeps_rows plain.meter) }
+    ensures text { IfOk result (λ tally. keeps_text tally ≡ keeps_text plain.meter) }
+    ensures refused { IfErr result (λ fault. fault.kind ≢ OutOfMemory → IsLargeFault text.now fault) }
+    ensures memory { IfErr result (λ fault. fault.kind ≡ OutOfMemory → fault.line ≡ 0) }
 {
-    let mut end = bytes.len();
-    'back: while end > 0 && bytes[end - 1] != b'\n' {
-        end -= 1;
+    if is_large_two(text) {
+        return tally_two(alloc, key, text, plain.into_tally());
     }
-    end
+    plain.take(text)?;
+    plain.whole()
 }

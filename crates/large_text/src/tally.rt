@@ -8,8 +8,8 @@ ghost use Rattle.task_segments.specs.MarkCutting.{AreWithin, Tables};
 ghost use Rattle.task_segments.specs.MarksTable.{IsReading};
 ghost use Rattle.online_span.specs.Measuring.{Measures, CanTake};
 ghost use Rattle.large_text.specs.LargeReading.{mark_seen};
-ghost use Rattle.large_text.specs.Printed.{PrintsMark};
-ghost use Rattle.large_text.specs.Tallied.{keeps_rows, Tallies, CanTally, CanEnter, HasRowsOf, IsBegun, IsWholeTally};
+ghost use Rattle.large_text.specs.Printed.{PrintsIn, PrintsMark};
+ghost use Rattle.large_text.specs.Tallied.{keeps_rows, Tallies, CanTally, CanEnter, HasRowsOf, IsBegun, IsBegunIn, IsWholeTally};
 ghost use Rattle.large_text.specs.Tallied.{keeps_text};
 ghost use Rattle.std.specs.Prelude.{ℕ};
 ghost use Rattle.std.specs.String.{string_bytes};
@@ -17,6 +17,7 @@ ghost use Rattle.large_text.specs.declared.printer.Printer.{Printer};
 ghost use Rattle.program_text.specs.Limits.{work_of};
 ghost use Rattle.program_text.specs.declared.limits.TheConstants.{MOST_WORK};
 ghost use Rattle.task_program.specs.Nested.{IsNested};
+ghost use Rattle.task_program.specs.declared.version.Version.TheVariants.{Two};
 ghost use Rattle.task_segments.specs.Moments.{last_moment};
 ghost use Rattle.task_segments.specs.Table.{table_of};
 
@@ -26,6 +27,7 @@ use online_span::Meter;
 use std::alloc::{AllocError, Global};
 use task_program::AllocFault;
 use task_program::limits::MOST_WORK;
+use task_program::version::Version;
 use task_segments::mark_cutter::MarkCutter;
 use task_segments::table::LargeTable;
 
@@ -70,7 +72,7 @@ impl Tally {
         Ok(Tally {
             meter: Meter::new(alloc),
             rows: None,
-            printer: Some(Printer::new(alloc)?),
+            printer: Some(Printer::new(alloc, Version::One)?),
         })
     }
 
@@ -83,12 +85,32 @@ impl Tally {
         Ok(Tally {
             meter: Meter::new(alloc),
             rows: Some(MarkCutter::new(alloc)?),
-            printer: Some(Printer::new(alloc)?),
+            printer: Some(Printer::new(alloc, Version::One)?),
         })
     }
 }
 
 impl Tally {
+    /// The same at its beginning, for a text of version 2.
+    pub(crate) fn for_loops(self, alloc: Global) -> Result<Tally, AllocFault>
+        requires { IsBegun self }
+        ensures begun { IfOk result (IsBegunIn Two) }
+        ensures rows { IfOk result (λ tally. keeps_rows tally ≡ keeps_rows self) }
+        ensures text { IfOk result (λ tally. keeps_text tally ≡ keeps_text self) }
+    {
+        let Tally {
+            meter,
+            rows,
+            printer,
+        } = self;
+        let printer = printer_for_loops(alloc, printer.is_some())?;
+        Ok(Tally {
+            meter,
+            rows,
+            printer,
+        })
+    }
+
     /// The table of the marks, where rows were kept and the numbers of the table fit.
     pub fn into_table(self) -> Option<LargeTable>
         requires { IsWholeTally self }
@@ -137,6 +159,19 @@ impl Tally {
     {
         let Tally { meter, .. } = self;
         meter
+    }
+}
+
+/// The printer of a text of version 2, where its text is kept.
+fn printer_for_loops(alloc: Global, keeps_text: bool) -> Result<Option<Printer>, AllocFault>
+    ensures prints { IfOk result (λ printer. (names : List (List ℕ))
+        → PrintsIn Two printer names [] []) }
+    ensures text { IfOk result (λ printer. is_some printer ≡ keeps_text) }
+{
+    if keeps_text {
+        Ok(Some(Printer::new(alloc, Version::Two)?))
+    } else {
+        Ok(None)
     }
 }
 

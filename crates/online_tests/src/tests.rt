@@ -6,6 +6,7 @@ use std::process::Abort;
 use std::test::Fail;
 use task_program::read::read_program;
 
+mod loops;
 mod pieces;
 mod texts;
 

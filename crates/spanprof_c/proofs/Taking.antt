@@ -1,22 +1,27 @@
 -- Texts that a meter takes piece by piece.
 use Rattle.std.proofs.Common.{ℕ, ◌≡◌, ◌≤◌, ◌++◌, ◌∙◌, List, append_assoc, ap, arith, length}
-use Rattle.std.proofs.Common.{length-append, sym, true}
+use Rattle.std.proofs.Common.{length-append, refl, sym, true}
 use Rattle.large_text.specs.Measured.{IsTableOfText}
 use Rattle.large_text.specs.Streamed.{CanTakeBytes, HasTaken, TakesBytes}
 use Rattle.large_text.specs.declared.limits.TheConstants.{LARGEST_LINE}
 use Rattle.large_text.specs.declared.stream.TextMeter.{TextMeter}
-use Rattle.large_text.proofs.Streaming.{fits_short}
-use Rattle.program_text.specs.Tokens.{tokens_of}
+use Rattle.large_text.proofs.PlainStreaming.{fits_short}
 use Rattle.task_segments.specs.Table.{Table}
 use Rattle.spanprof_c.specs.Programs.{OfText, source}
 
 -- the table of a text of any size that is short enough is the text's
 pub table_there : (text : List ℕ) (table : Table) → length text ≤ LARGEST_LINE
-    → IsTableOfText (tokens_of text) table
+    → IsTableOfText text table
     → OfText (source true text) (λ other. other ≡ table)
 table_there text table short is = record {
-  marks = is.marks;
-  stands = record { short = short; tree = is.tree; right = is.right };
+  marks = is.program.marks;
+  stands = record {
+    short = short;
+    program = is.program;
+    stands = is.stands;
+    right = is.right;
+    are = refl;
+  };
   says = sym is.is;
 }
 

@@ -1,9 +1,8 @@
 -- What is said of a text's program, under its own costs or under others.
 use Rattle.std.specs.Prelude.{ℕ, ◌≡◌, ◌<◌, ◌⊎◌, Bool, true, false, List, [], ◌∷◌, ◌≤◌, length, sum}
-use Rattle.large_text.specs.LargeTrees.{HasLargeTree, IsLargeFirstFault, IsLargeRightWhole}
+use Rattle.large_text.specs.LargeTexts.{IsLargeFault, IsLargeRight, StandsForLarge}
 use Rattle.large_text.specs.declared.limits.TheConstants.{LARGEST_LINE}
 use Rattle.program_text.specs.Marks.{Mark}
-use Rattle.program_text.specs.Tokens.{line_at_end, texts, tokens_of}
 use Rattle.program_text.specs.declared.fault.ReadFault.{ReadFault}
 use Rattle.program_text.specs.declared.fault.ReadKind.TheVariants.{TooLong}
 use Rattle.program_text.specs.declared.limits.TheConstants.{MOST_WORK}
@@ -30,8 +29,10 @@ pub record HasProgram (text : List ℕ) (marks : List Mark) : Type 0 where
 -- a text of any size stands for these marks, within the limits of such texts
 pub record HasLargeText (text : List ℕ) (marks : List Mark) : Type 0 where
   pub short : length text ≤ LARGEST_LINE
-  pub tree : HasLargeTree (texts (tokens_of text)) marks
-  pub right : IsLargeRightWhole (tokens_of text)
+  pub program : ProgramMarks
+  pub stands : StandsForLarge text program
+  pub right : IsLargeRight text
+  pub are : program.marks ≡ marks
 
 -- the text stands for these marks
 abbrev pub StandsFor : Bool → List ℕ → List Mark → Type 0
@@ -48,7 +49,7 @@ pub record IsTooLong (text : List ℕ) (fault : ReadFault) : Type 0 where
 abbrev pub IsFaultOf : Bool → List ℕ → ReadFault → Type 0
 IsFaultOf false text fault = HasFirstFault text fault
 IsFaultOf true text fault =
-    IsTooLong text fault ⊎ IsLargeFirstFault (tokens_of text) (line_at_end 1 text) fault
+    IsTooLong text fault ⊎ IsLargeFault text fault
 
 -- the text stands for a program, of whose table something is so
 pub record OfText (from : Source) (Says : Table → Type 0) : Type 0 where

@@ -97,11 +97,31 @@ const ENDS: &[(&[&str], &str, (Status, &str))] = &[
     ),
     (
         &[],
-        "omptasks 2\n",
+        "omptasks 3\n",
+        (Status::Refused, "error: line 1: BadHeader\n"),
+    ),
+    (
+        &[],
+        "omptasks 2\nfor i 1 3 { task { work 4 } } taskwait\n",
+        (Status::Done, "tasks 3\nsegments 8\nwork 12\nspan 4\n"),
+    ),
+    (
+        &["show"],
+        "omptasks 2\nfor i 1 2 { task depend(out: a[i]) { } }\n",
         (
-            Status::Refused,
-            "error: line 1: BadHeader, only version 1 is read\n",
+            Status::Done,
+            "omptasks 2\ntask depend(out: a[1]) {\n}\ntask depend(out: a[2]) {\n}\n",
         ),
+    ),
+    (
+        &[],
+        "omptasks 2\nfor i 0 65536 { }",
+        (Status::Done, "tasks 0\nsegments 1\nwork 0\nspan 0\n"),
+    ),
+    (
+        &[],
+        "omptasks 2\nfor i 1 2 {\nfor i 1 2 { } }\n",
+        (Status::Refused, "error: line 3: BadWord\n"),
     ),
     (
         &["--upto", "3"],

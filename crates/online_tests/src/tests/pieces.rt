@@ -13,14 +13,17 @@ use task_program::fault::ReadKind;
 use task_program::name_key::NameKey;
 
 /// With comments, CR and names to cut, and with faults early, late and at the end.
-static TEXTS: [&str; 8] = [
+static TEXTS: [&str; 11] = [
     "omptasks 1 # a\r\nwork 12 task depend(inout: ab) { # } {\r\nwork 3 }\ntaskwait work 4",
     "omptasks 1\n\n\ntask { work 1 }\n# the end",
     "omptasks 1 work 345",
     "omptasks 1\nwork 5\n\nwork $ work\n}\n",
     "omptasks 1\ntask {\ntaskgroup {\nwork 1\n",
     "omptasks 1\nwork\n\n",
-    "omptasks 2\nwork 1\n",
+    "omptasks 2\nfor ij 1 3 {\r\nwork 12 task depend(inout: a[ij-1]) { # } {\nwork 3 }\n}",
+    "omptasks 2 # a\nfor i 0 1 {\ntask depend(in: a[i+1000000]) { } }\n",
+    "omptasks 2\nfor i 0 1 {\nwork 1\n",
+    "omptasks 3\nwork 1\n",
     "",
 ];
 

@@ -11,7 +11,7 @@ use task_program::AllocFault;
 use task_program::fault::ReadKind;
 
 /// The numbers of a text.
-fn measured(alloc: Global, text: &str) -> Result<Numbers, LargeFault> {
+pub(super) fn measured(alloc: Global, text: &str) -> Result<Numbers, LargeFault> {
     if text.len() > 1_000_000_000 {
         return Err(LargeFault {
             kind: ReadKind::TooLong,
@@ -22,7 +22,7 @@ fn measured(alloc: Global, text: &str) -> Result<Numbers, LargeFault> {
 }
 
 /// The fault of a text and its line; none where it is whole.
-fn fault_of(alloc: Global, text: &str) -> Option<(ReadKind, u64)> {
+pub(super) fn fault_of(alloc: Global, text: &str) -> Option<(ReadKind, u64)> {
     match measured(alloc, text) {
         Ok(_) => None,
         Err(fault) => Some((fault.kind, fault.line)),
@@ -148,7 +148,7 @@ fn limits(rt: HostRuntime) -> Result<(), Fail> {
 
 const FAULTS: &[(&str, ReadKind, u64)] = &[
     ("", ReadKind::BadHeader, 1),
-    ("omptasks 2\nwork 1", ReadKind::BadHeader, 1),
+    ("omptasks 3\nwork 1", ReadKind::BadHeader, 1),
     ("omptasks 1\nwork 5 $", ReadKind::BadByte, 2),
     ("omptasks 1\nwork 5x", ReadKind::BadNumber, 2),
     ("omptasks 1\nwork 1000000000001", ReadKind::BadNumber, 2),

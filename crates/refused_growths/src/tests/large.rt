@@ -22,10 +22,16 @@ const DEEP: &[u8] = b"omptasks 1\nwork 1\ntask depend(in: a, b, c) depend(out: d
     task { work 3 task { work 4 task { task { taskgroup { work 5 } } } } }\n\
     work 13\n}\ntask depend(in: d) { work 1 }\ntaskwait\n";
 
+/// Three turns of a loop, each of three tasks.
+const LOOPS: &[u8] = b"omptasks 2\nfor i 1 3 {\n\
+    task depend(inout: a[i], b[i-1]) { task final(1) { task { taskgroup { work 2 } } } }\n}\ntaskwait\n";
+
 /// Tasks, segments, work and span.
 type Numbers = (u64, u64, u64, u64);
 
 const NUMBERS: Numbers = (7, 18, 29, 17);
+
+const NUMBERS_OF_LOOPS: Numbers = (9, 23, 6, 2);
 
 fn numbers_of(meter: &Meter) -> Numbers {
     (
@@ -63,19 +69,35 @@ fn of_text(alloc: Global, text: &[u8]) -> Result<Numbers, LargeFault>
     Ok(numbers_of(&meter))
 }
 
-/// The numbers of a text.
-pub(super) fn text<H: AllocGlobal + Abort>(rt: &H, supply: &mut Supply) -> Result<(), Fail> {
+fn has_numbers<H: AllocGlobal + Abort>(
+    rt: &H,
+    supply: &mut Supply,
+    text: &[u8],
+    wanted: Numbers,
+) -> Result<(), Fail>
+    requires { length text.now + 1 < 2 ^ 32 }
+{
     supply.before_call();
-    let numbers = match of_text(rt.alloc(), DEEP) {
+    let numbers = match of_text(rt.alloc(), text) {
         Ok(numbers) => numbers,
         Err(fault) => {
             supply.refused();
             assert_eq!(rt; fault.kind, ReadKind::OutOfMemory);
-            of_text(rt.alloc(), DEEP)?
+            of_text(rt.alloc(), text)?
         }
     };
-    assert_eq!(rt; numbers, NUMBERS);
+    assert_eq!(rt; numbers, wanted);
     Ok(())
+}
+
+/// The numbers of a text.
+pub(super) fn text<H: AllocGlobal + Abort>(rt: &H, supply: &mut Supply) -> Result<(), Fail> {
+    has_numbers(rt, supply, DEEP, NUMBERS)
+}
+
+/// The numbers of a text with loops.
+pub(super) fn loops<H: AllocGlobal + Abort>(rt: &H, supply: &mut Supply) -> Result<(), Fail> {
+    has_numbers(rt, supply, LOOPS, NUMBERS_OF_LOOPS)
 }
 
 fn of_pieces(alloc: Global, supply: &mut Supply, text: &[u8]) -> Result<Numbers, LargeFault>

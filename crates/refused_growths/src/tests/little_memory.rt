@@ -105,6 +105,11 @@ fn large_texts(rt: HostRuntime) -> Result<(), Fail> {
 }
 
 #[test]
+fn large_loops(rt: HostRuntime) -> Result<(), Fail> {
+    refuse_each(&rt, Calls::LargeLoops)
+}
+
+#[test]
 fn pieces(rt: HostRuntime) -> Result<(), Fail> {
     refuse_each(&rt, Calls::Pieces)
 }

@@ -118,6 +118,11 @@ fn large_texts(rt: HostRuntime) -> Result<(), Fail> {
 }
 
 #[test]
+fn large_loops(rt: HostRuntime) -> Result<(), Fail> {
+    make_once(&rt, Calls::LargeLoops)
+}
+
+#[test]
 fn pieces(rt: HostRuntime) -> Result<(), Fail> {
     make_once(&rt, Calls::Pieces)
 }

@@ -1,9 +1,8 @@
 use Rattle.std.proofs.Common.{◌<◌, ◌^◌, IfSome, List, Option, arith, inr, length, subst, sym, ℕ}
 use Rattle.std.proofs.lemmas.Result.{IfOk-weaker}
 use Rattle.std.specs.Prelude.{MatchResult}
-use Rattle.program_text.specs.Tokens.{tokens_of}
 use Rattle.large_text.specs.Measured.{IsTableOfText}
-use Rattle.large_text.specs.Streamed.{FitsText}
+use Rattle.large_text.specs.LargeTexts.{FitsText}
 use Rattle.large_command.specs.LargeReports.{RefusesText}
 use Rattle.large_command.proofs.Parts.{fits_program, rest_within}
 use Rattle.large_command.proofs.Told.{accepts_document}
@@ -28,9 +27,9 @@ tell_document-requires-clause-rest c =
 
 pub returns-in-Ok : goal.returns-in-Ok
 returns-in-Ok c =
-    let of : IsTableOfText (tokens_of c.split_document.result.program.now) c.in-Ok.table =
+    let of : IsTableOfText c.split_document.result.program.now c.in-Ok.table =
     subst (λ read. MatchResult read
-    (IsTableOfText (tokens_of c.split_document.result.program.now))
+    (IsTableOfText c.split_document.result.program.now)
     (RefusesText c.split_document.result.program.now)) c.in-Ok.is c.in_ok-table.ensures in
     IfOk-weaker c.tell_document.result _ _
     (λ report tells. accepts_document c.args.asked c.args.document.now _ _ c.in-Ok.table report
@@ -41,7 +40,7 @@ pub returns-in-Err : goal.returns-in-Err
 returns-in-Err c =
     let refused : RefusesText c.split_document.result.program.now c.in-Err.report =
     subst (λ read. MatchResult read
-    (IsTableOfText (tokens_of c.split_document.result.program.now))
+    (IsTableOfText c.split_document.result.program.now)
     (RefusesText c.split_document.result.program.now)) c.in-Err.is c.in_ok-table.ensures in
     inr (subst (λ (text : List ℕ). RefusesText text c.in-Err.report)
     c.split_document.ensures.program refused)

@@ -1,5 +1,5 @@
 use Rattle.std.proofs.Common.{sym}
-use Rattle.large_text.proofs.Streaming.{split_whole}
+use Rattle.large_text.proofs.PlainStreaming.{split_whole}
 use Rattle.large_command.proofs.Parts.{can_take_piece, takes_piece}
 use Rattle.large_command.proofs.documents.take_text.Goals as goal
 

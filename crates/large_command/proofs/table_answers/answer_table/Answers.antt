@@ -1,7 +1,6 @@
 use Rattle.std.proofs.Common.{inr, subst}
 use Rattle.std.proofs.lemmas.Result.{IfOk-weaker}
 use Rattle.std.specs.Prelude.{MatchResult}
-use Rattle.program_text.specs.Tokens.{tokens_of}
 use Rattle.large_command.specs.LargeReports.{RefusesText}
 use Rattle.large_command.proofs.Told.{accepts_table}
 use Rattle.large_text.specs.Measured.{IsTableOfText}
@@ -11,8 +10,8 @@ pub returns-in-Ok : goal.returns-in-Ok
 returns-in-Ok g c =
     IfOk-weaker c.tell_table.result _ _
     (λ report tells bytes taken.
-    let of : IsTableOfText (tokens_of bytes) c.in-Ok.table =
-    subst (λ read. MatchResult read (IsTableOfText (tokens_of bytes)) (RefusesText bytes))
+    let of : IsTableOfText bytes c.in-Ok.table =
+    subst (λ read. MatchResult read (IsTableOfText bytes) (RefusesText bytes))
     c.in-Ok.is (c.in_ok-table.ensures bytes taken) in
     accepts_table c.args.asked.now bytes c.in-Ok.table report of tells)
     c.tell_table.ensures
@@ -20,6 +19,6 @@ returns-in-Ok g c =
 pub returns-in-Err : goal.returns-in-Err
 returns-in-Err g c = λ bytes taken.
     let refused : RefusesText bytes c.in-Err.report =
-    subst (λ read. MatchResult read (IsTableOfText (tokens_of bytes)) (RefusesText bytes))
+    subst (λ read. MatchResult read (IsTableOfText bytes) (RefusesText bytes))
     c.in-Err.is (c.in_ok-table.ensures bytes taken) in
     inr refused

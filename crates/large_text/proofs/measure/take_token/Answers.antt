@@ -1,4 +1,4 @@
-use Rattle.std.proofs.Common.{None, Option, Some, [], ◌∷◌, ◌++◌, subst, sym}
+use Rattle.std.proofs.Common.{Option, [], ◌∷◌, ◌++◌, subst, sym}
 use Rattle.large_text.specs.declared.marks.TextMark.{TextMark}
 use Rattle.large_text.specs.LargeReading.{GoesTo, IsReadSoFar, marks_after, mark_seen, token_on}
 use Rattle.large_text.specs.Printed.{IsNameAt, PrintsItem}

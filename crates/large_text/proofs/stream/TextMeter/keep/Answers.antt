@@ -1,16 +1,36 @@
-use Rattle.std.proofs.Common.{◌+◌, subst, sym}
-use Rattle.large_text.specs.Streamed.{HasNoLineFeed}
-use Rattle.large_text.proofs.Streaming.{kept, where_ok, no_feed_more}
+use Rattle.std.proofs.Common.{[], List, append-nil, ap, arith, length, length-append, refl, sym, ℕ}
+use Rattle.std.proofs.lemmas.Result.{on_ok_weaker}
+use Rattle.large_text.proofs.Streaming.{keeps_head, kept_few, kept_then, then_takes}
 use Rattle.large_text.proofs.stream.TextMeter.keep.Goals as goal
 
-pub returns-clause-takes : goal.returns-clause-takes
-returns-clause-takes c =
+pub is_never_two-requires : goal.is_never_two-requires
+is_never_two-requires c =
     let self = c.args.self.now in
-    where_ok c.extend_from_slice.result _ c.extend_from_slice.new.self.items self.tail.items
-    c.args.bytes.now c.extend_from_slice.ensures.items (λ is taken fits h. record {
-      fits = fits;
-      last = subst HasNoLineFeed (sym is)
-          (no_feed_more self.tail.items c.args.bytes.now h.last c.requires);
-      taken = kept self.fault taken self.tail.items c.args.bytes.now
-          c.extend_from_slice.new.self.items (self.lines + 1) self.reader self.meter is h.taken;
-    })
+    omega (
+      arith,
+      c.requires.few,
+      kept_few c.args.bytes.now self c.requires.kept c.requires.room,
+      ap (λ (bytes : List ℕ). length bytes) c.as_slice.ensures.value,
+      ap (λ (bytes : List ℕ). length bytes) c.in_ok-extend_from_slice.ensures.items,
+      length-append self.head.items c.args.bytes.now,
+    )
+
+pub hand_on-requires-clause-room : goal.hand_on-requires-clause-room
+hand_on-requires-clause-room c =
+    let self = c.args.self.now in
+    let bytes = c.args.bytes.now in
+    kept_then bytes bytes [] self _ (sym (append-nil bytes))
+    (keeps_head self _ bytes c.requires.kept refl refl c.in_ok-extend_from_slice.ensures.items
+    c.requires.few)
+    c.requires.room
+
+pub returns-then-is_never_two-clause-takes : goal.returns-then-is_never_two-clause-takes
+returns-then-is_never_two-clause-takes c =
+    let self = c.args.self.now in
+    let bytes = c.args.bytes.now in
+    on_ok_weaker c.hand_on.result
+    (λ later. then_takes bytes bytes [] self _ c.hand_on.new.self (sym (append-nil bytes))
+    (keeps_head self _ bytes c.requires.kept refl refl c.in_ok-extend_from_slice.ensures.items
+    c.requires.few)
+    later)
+    c.hand_on.ensures.takes

@@ -1,22 +1,26 @@
 use Rattle.std.proofs.lemmas.Result.{on_ok_weaker}
-use Rattle.large_text.proofs.Streaming.{can_front, takes_two, split_whole}
+use Rattle.large_text.proofs.Streaming.{long_more, plain_can, plain_more}
 use Rattle.large_text.proofs.stream.TextMeter.take.Goals as goal
 
-pub take_lines-requires-clause-taken : goal.take_lines-requires-clause-taken
-take_lines-requires-clause-taken c =
-    let bytes = c.args.bytes.now in
-    let lines = c.split_at.result.0.now in
-    let tail = c.split_at.result.1.now in
-    can_front bytes lines tail c.args.self.now
-    (split_whole bytes lines tail c.whole_lines-end.result c.split_at.ensures.front
-    c.split_at.ensures.back) c.requires.room
+pub take-requires-clause-room : goal.take-requires-clause-room
+take-requires-clause-room c =
+    plain_can c.args.bytes.now c.args.self.now c.in-Plain.is c.requires.room
 
-pub returns-clause-takes : goal.returns-clause-takes
-returns-clause-takes c =
-    let bytes = c.args.bytes.now in
-    let lines = c.split_at.result.0.now in
-    let tail = c.split_at.result.1.now in
-    on_ok_weaker c.keep-2.result
-    (takes_two bytes lines tail c.args.self.now c.take_lines.new.self c.keep-2.new.self
-    (split_whole bytes lines tail c.whole_lines-end.result c.split_at.ensures.front
-    c.split_at.ensures.back) c.in_ok-take_lines.ensures.takes) c.keep-2.ensures.takes
+pub returns-in-Plain-clause-takes : goal.returns-in-Plain-clause-takes
+returns-in-Plain-clause-takes c =
+    let self = c.args.self.now in
+    on_ok_weaker c.take.result
+    (λ takes taken fits h. record {
+      fits = fits;
+      taken = plain_more self.stage taken c.args.bytes.now self.head.items self.plain
+          c.take.new.self c.in-Plain.is takes fits h.taken;
+    }) c.take.ensures.takes
+
+pub returns-in-TooLong-clause-takes : goal.returns-in-TooLong-clause-takes
+returns-in-TooLong-clause-takes c = λ taken fits h.
+    let self = c.args.self.now in
+    record {
+      fits = fits;
+      taken = long_more self.stage taken c.args.bytes.now self.head.items self.plain c.in-TooLong.is
+          h.taken;
+    }

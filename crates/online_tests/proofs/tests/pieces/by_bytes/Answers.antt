@@ -4,7 +4,7 @@ use Rattle.large_text.specs.declared.limits.TheConstants.{LARGEST_PIECE}
 use Rattle.large_text.specs.declared.limits.TheConstants.{LARGEST_LINE}
 use Rattle.large_text.specs.declared.stream.TextMeter.{TextMeter}
 use Rattle.large_text.specs.Streamed.{HasTaken, TakesBytes, CanTakeBytes}
-use Rattle.large_text.proofs.Streaming.{fits_short}
+use Rattle.large_text.proofs.PlainStreaming.{fits_short}
 use Rattle.online_tests.proofs.tests.pieces.by_bytes.Goals as goal
 
 -- a text that is no longer than a line can be taken in pieces

@@ -2,7 +2,7 @@ use Rattle.std.proofs.Common.{ℕ, ◌+◌, ◌≤◌, List, [], ◌++◌, lengt
 use Rattle.large_text.specs.declared.limits.TheConstants.{LARGEST_LINE}
 use Rattle.large_text.specs.declared.stream.TextMeter.{TextMeter}
 use Rattle.large_text.specs.Streamed.{HasTaken, CanTakeBytes}
-use Rattle.large_text.proofs.Streaming.{fits_short}
+use Rattle.large_text.proofs.PlainStreaming.{fits_short}
 use Rattle.analysis_tests.proofs.tests.spans.measured.large_table_of.Goals as goal
 
 -- a text that is no longer than a line can be taken in pieces
