@@ -11,10 +11,11 @@ from spanprof.measure import HOW, measure as measure_large, spanprof_large
 
 LIMITS = re.compile("TooLong|TooDeep|TooManyTasks|TooManySegments|input too long")
 LONGEST = 8388608   # bytes that spanprof reads
+OUT_OF_MEMORY = "error: out of memory"
 
 
 class OnThreads(NamedTuple):
-    """spanprof_large tells no end of a greedy run."""
+    """Without `end` where a text was too large for the memory that its greedy runs take."""
     least: int
     bound: int
     end: Optional[int] = None
@@ -57,8 +58,18 @@ def by_large(path, threads, refused):
     if not large:
         raise Fault("%s; %s" % (refused, HOW))
     numbers = measure_large(large, path)
-    told = ask_large(large + ["--upto", str(max(threads))], path)
+    told = large_table(large, path, ["--upto", str(max(threads))])
     return Numbers("spanprof_large", numbers["segments"], numbers["work"], numbers["span"], on_threads(told, threads))
+
+
+def large_table(large, path, upto):
+    """With the ends of greedy runs, for which the text's table is kept, or without them where memory is too little."""
+    try:
+        return ask_large(large + ["curve"] + upto, path)
+    except Fault as refused:
+        if OUT_OF_MEMORY not in str(refused):
+            raise
+        return ask_large(large + upto, path)
 
 
 def measure(path, threads):
