@@ -1,5 +1,5 @@
-/* The longest way down to one of numbers by halving and tripling, by a taskloop for each of two ranges at once; rewritten,
- * with six tasks for one. */
+/* The longest way down to one of numbers by halving and tripling, by a taskloop for each of two ranges at once;
+ * rewritten, with six tasks for one. */
 #include <stdio.h>
 
 #ifdef REWRITTEN

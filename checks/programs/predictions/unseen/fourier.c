@@ -1,12 +1,12 @@
-/* A fast Fourier transform by halves, as tasks; rewritten, the halves of long pieces are put together in eight tasks. */
+/* A fast Fourier transform by halves, as tasks; rewritten, long halves are put together in tasks, at most eight. */
 #include <complex.h>
 #include <math.h>
 #include <stdio.h>
 #include <stdlib.h>
 
-enum { count = 1 << 19, few = 1 << 12, parts = 8 };
+enum { count = 1 << 19, few = 1 << 12 };
 #ifdef REWRITTEN
-enum { longest = 1 << 17 };
+enum { longest = count / 16 };
 #else
 enum { longest = count };
 #endif
@@ -24,11 +24,11 @@ static void together(double complex *to, const double complex *even, const doubl
 
 static void put_together(double complex *to, const double complex *halves, long many) {
     long half = many / 2, step = count / many;
-    if (many <= longest) return together(to, halves, halves + half, 0, half, step);
+    if (half <= longest) return together(to, halves, halves + half, 0, half, step);
 #pragma omp taskgroup
-    for (int part = 0; part < parts; part++) {
+    for (long from = 0; from < half; from += longest) {
 #pragma omp task
-        together(to, halves, halves + half, half * part / parts, half * (part + 1) / parts, step);
+        together(to, halves, halves + half, from, from + longest, step);
     }
 }
 

@@ -2,7 +2,7 @@
 #include <stdio.h>
 #include <stdlib.h>
 
-enum { side = 400, unknowns = side * side, parts = 200, length = unknowns / parts, steps = 60 };
+enum { side = 400, unknowns = side * side, parts = 40, length = unknowns / parts, steps = 45 };
 #ifdef REWRITTEN
 enum { together = 4 };
 #else

@@ -1,5 +1,5 @@
-/* How often each value is in an array, a task for each piece, which adds its counts inside a critical; rewritten, a task
- * for four pieces. */
+/* How often each value is in an array, a task for each piece, which adds its counts inside a critical; rewritten, a
+ * task for four pieces. */
 #include <stdio.h>
 #include <string.h>
 

@@ -1,12 +1,12 @@
-/* The area below a curve, each interval halved until it is fine enough, as tasks; rewritten, tasks of depth 7 make no
+/* The area below a curve, each interval halved until it is fine enough, as tasks; rewritten, tasks of depth 6 make no
  * more. */
 #include <math.h>
 #include <stdio.h>
 
 #ifdef REWRITTEN
-enum { deepest = 7 };
+enum { deepest = 6 };
 #else
-enum { deepest = 12 };
+enum { deepest = 10 };
 #endif
 static const double fine = 1e-13;
 
@@ -25,6 +25,7 @@ static double halved(double from, double to, double area, int depth) {
     if (depth >= deepest) return halved(from, middle, left, depth + 1) + halved(middle, to, right, depth + 1);
 #pragma omp task shared(a)
     a = halved(from, middle, left, depth + 1);
+#pragma omp task shared(b)
     b = halved(middle, to, right, depth + 1);
 #pragma omp taskwait
     return a + b;

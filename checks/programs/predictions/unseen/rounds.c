@@ -1,5 +1,5 @@
-/* Rounds in which tasks that may run in any order (inoutset) fill parts of a table, and others read all of it; rewritten,
- * those that read need half the turns. */
+/* Rounds in which tasks that may run in any order (inoutset) fill parts of a table, and others read all of it;
+ * rewritten, those that read need half the turns. */
 #include <math.h>
 #include <stdio.h>
 

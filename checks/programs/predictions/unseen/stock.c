@@ -1,5 +1,5 @@
-/* Tasks that make goods, and one thread that takes each when it is made (taskwait with depend) and packs it; rewritten,
- * a task packs it. */
+/* Tasks that make goods, and one thread that takes each when it is made (taskwait with depend) and packs it;
+ * rewritten, a task packs it. */
 #include <stdio.h>
 
 enum { goods = 96, size = 2000 };

@@ -1,12 +1,12 @@
-/* The shortest way through eleven towns among all that are shorter than a known one, tasks down to the fourth town, and
- * below that `final` ones; rewritten, tasks down to the second. */
+/* The shortest way through eleven towns among all that are shorter than a known one, tasks down to the third town, of
+ * which the last are `final`; rewritten, tasks down to the second. */
 #include <stdio.h>
 
 enum { towns = 11 };
 #ifdef REWRITTEN
 enum { deepest = 2 };
 #else
-enum { deepest = 4 };
+enum { deepest = 3 };
 #endif
 static int far[towns][towns], known;
 
@@ -29,7 +29,7 @@ static int visit(int at, unsigned left, int length, int depth) {
     for (int next = 1; next < towns; next++) {
         found[next] = known;
         if (!(left >> next & 1)) continue;
-#pragma omp task shared(found) firstprivate(next) final(depth >= 3)
+#pragma omp task shared(found) firstprivate(next) final(depth >= 2)
         found[next] = visit(next, left & ~(1u << next), length + far[at][next], depth + 1);
     }
 #pragma omp taskwait
