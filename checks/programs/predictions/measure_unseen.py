@@ -64,10 +64,12 @@ def is_recorded(turn, turns, recordings):
 
 
 def turn_of(folder, kind, turn, with_recordings, out):
+    """First the runs: behind a recording the system still writes its files."""
     for one in UNSEEN:
         for version in VERSIONS[kind]:
             out.writerow([one.name, version, turn, *region_time(folder, program_of(folder, one, version), THREADS)])
-        for threads in RECORDED[kind] if with_recordings else ():
+    for one in UNSEEN if with_recordings else ():
+        for threads in RECORDED[kind]:
             record(folder, program_of(folder, one, "before"), "%s.%d.%d" % (one.name, threads, turn), threads)
 
 

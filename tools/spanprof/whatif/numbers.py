@@ -15,7 +15,7 @@ OUT_OF_MEMORY = "error: out of memory"
 
 
 class OnThreads(NamedTuple):
-    """Without `end` where a text was too large for the memory that its greedy runs take."""
+    """Without `end` where memory was too little for a greedy run of the text."""
     least: int
     bound: int
     end: Optional[int] = None
@@ -53,23 +53,27 @@ def ask_large(words, path):
     return done.stdout
 
 
+def greedy_end(large, path, threads):
+    """The last end in the table of its greedy run, which is read as it comes; None where that takes too much memory."""
+    words = large + ["greedy", "--threads", str(threads)]
+    with open(path, "rb") as text, subprocess.Popen(words, stdin=text, stdout=subprocess.PIPE, text=True,
+                                                    errors="replace") as running:
+        first = running.stdout.readline().strip()
+        ends = (row.split(",")[2] for row in running.stdout) if first.startswith("segment,start,end") else ()
+        end = max(map(int, ends), default=0)
+    if running.returncode and OUT_OF_MEMORY not in first:
+        raise Fault("spanprof_large: %s" % (first or "it ended with status %d" % running.returncode))
+    return None if running.returncode else end
+
+
 def by_large(path, threads, refused):
     large = spanprof_large()
     if not large:
         raise Fault("%s; %s" % (refused, HOW))
     numbers = measure_large(large, path)
-    told = large_table(large, path, ["--upto", str(max(threads))])
-    return Numbers("spanprof_large", numbers["segments"], numbers["work"], numbers["span"], on_threads(told, threads))
-
-
-def large_table(large, path, upto):
-    """With the ends of greedy runs, for which the text's table is kept, or without them where memory is too little."""
-    try:
-        return ask_large(large + ["curve"] + upto, path)
-    except Fault as refused:
-        if OUT_OF_MEMORY not in str(refused):
-            raise
-        return ask_large(large + upto, path)
+    bounds = on_threads(ask_large(large + ["--upto", str(max(threads))], path), threads)
+    rows = {p: row._replace(end=greedy_end(large, path, p)) for p, row in bounds.items()}
+    return Numbers("spanprof_large", numbers["segments"], numbers["work"], numbers["span"], rows)
 
 
 def measure(path, threads):

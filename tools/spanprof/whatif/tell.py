@@ -36,7 +36,7 @@ def proved(before, after):
         return "proved of the text, and of the changed text: spanprof has read both"
     words = "proved of the text, and of the changed text: spanprof_large has read one beyond the limits of spanprof"
     has_ends = all(row.end is not None for numbers in (before, after) for row in numbers.on.values())
-    return words if has_ends else words + "; there was too little memory for its greedy runs"
+    return words if has_ends else words + "; there was too little memory for a greedy run"
 
 
 def on_more_threads(head, threads):

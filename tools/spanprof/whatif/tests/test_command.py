@@ -23,12 +23,12 @@ LARGE = """\
 #!/bin/sh
 cat > /dev/null
 case "$1" in
-    curve) printf 'threads,end,least,bound\\n1,76,76,76\\n2,66,60,68\\n' ;;
+    greedy) printf 'segment,start,end,thread\\n0,0,66,0\\n1,0,5,\\n' ;;
     --upto) printf 'threads,least,bound\\n1,76,76\\n2,60,68\\n' ;;
     *) printf 'tasks 3\\nsegments 9\\nwork 76\\nspan 60\\n' ;;
 esac
 """
-LITTLE_MEMORY = LARGE.replace("    curve) ", "    curve) echo 'error: out of memory'; exit 1 ;;\n    none) ")
+LITTLE_MEMORY = LARGE.replace("printf 'segment", "echo 'error: out of memory'; exit 1; printf 'segment")
 
 
 class Commands(InFolder):
@@ -96,7 +96,9 @@ proved of the text, and of the changed text: spanprof has read both
         self.assertEqual(status, 0)
         self.assertNotIn("end  ", out)
         self.assertIn("2 threads, bound                       68                 68", out)
-        self.assertTrue(out.endswith("limits of spanprof; there was too little memory for its greedy runs\n"))
+        self.variables["SPANPROF_LARGE"] = self.program("large", LITTLE_MEMORY.replace("out of memory", "BadWord"))
+        self.assertEqual(self.told("--cutoff", "1")[2], "spanprof-whatif: spanprof_large: error: BadWord\n")
+        self.assertTrue(out.endswith("limits of spanprof; there was too little memory for a greedy run\n"))
 
     def test_a_place_list(self):
         self.assertIn("waits (--drop-wait):", self.told("--places")[1])
