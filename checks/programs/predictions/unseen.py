@@ -22,6 +22,6 @@ UNSEEN = (
     unseen("tour", ("cutoff", "2")),
     unseen("fourier", (GRAIN, "after taskwait at fourier.c:53=8")),
     unseen("rounds", ("factor", "task at rounds.c:35=0.5")),
-    unseen("stock", ("task", "taskwait at stock.c")),
+    unseen("stock", ("task", "after creating a task at stock.c:34")),
     unseen("collatz", ("split", "task at collatz.c:20=6")),
 )

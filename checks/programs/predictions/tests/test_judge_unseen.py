@@ -1,6 +1,7 @@
 import contextlib
 import io
 import pathlib
+import re
 import tempfile
 import unittest
 from unittest import mock
@@ -28,6 +29,10 @@ work 600
 """
 QUIET, BUSY = Used(0, 0.01, 1), Used(0.2, 0.1, 9)
 NOTHING = Machine({1: {}}, {})
+
+
+def source_of(one):
+    return (HERE / "unseen" / (one.name + ".c")).read_text(encoding="utf-8")
 
 
 def predicted(time, program="a", true=100):
@@ -119,8 +124,15 @@ class Programs(unittest.TestCase):
 
     def test_sources(self):
         for one in UNSEEN:
-            source = HERE / "unseen" / (one.name + ".c")
-            self.assertIn("REWRITTEN", source.read_text(encoding="utf-8"))
+            self.assertIn("REWRITTEN", source_of(one))
+
+    def test_places(self):
+        """Each line that a change names is one of a task or a wait."""
+        for one in UNSEEN:
+            lines = source_of(one).splitlines()
+            for _, word in one.changes:
+                for number in re.findall(r"\.c:(\d+)", word):
+                    self.assertRegex(lines[int(number) - 1], "#pragma omp task", (one.name, word))
 
 
 if __name__ == "__main__":
