@@ -93,6 +93,14 @@ def kinds(measured):
     return ("4 from 4", RECORDED, BEFORE, False), ("4 from 1 and 2", FEWER, BEFORE, False)
 
 
+def worst_program(of_case):
+    """The greatest error of a program, of which the median of its recordings' counts."""
+    errors = defaultdict(list)
+    for one in of_case:
+        errors[one.program].append(one.error)
+    return max(abs(statistics.median(found)) for found in errors.values())
+
+
 def line(name, case, of_case, by_worst):
     """In words, and whether it is as near as it has to be."""
     if not of_case:
@@ -102,9 +110,10 @@ def line(name, case, of_case, by_worst):
         covered >= COVERED * len(of_case)
     goals = ("", " (%.0f)" % (100 * WORST)) if by_worst else (" (%.0f)" % (100 * case.nine_of_ten), "")
     words = "%s  not fitted to: %s, %d programs, %d recordings: median %.1f %% (%.0f), nine of ten %.1f %%%s, worst " \
-        "%.1f %%%s, intervals with the truth %d" % (
+        "%.1f %%%s, of the medians of programs %.1f %%, intervals with the truth %d" % (
             "ok    " if is_met else "FAILED", name, len({one.program for one in of_case}), len(of_case), 100 * median,
-            100 * case.median, 100 * nine, goals[0], 100 * worst, goals[1], covered)
+            100 * case.median, 100 * nine, goals[0], 100 * worst, goals[1],
+            100 * worst_program(of_case), covered)
     return words, is_met
 
 

@@ -80,10 +80,10 @@ class Told(unittest.TestCase):
         near = [predicted(101), predicted(96), predicted(112, "b")]
         self.assertEqual(line("4 from 4", RECORDED, near[:2], False), (
             "ok      not fitted to: 4 from 4, 1 programs, 2 recordings: median 2.5 % (5), nine of ten 4.0 % (15), "
-            "worst 4.0 %, intervals with the truth 2", True))
+            "worst 4.0 %, of the medians of programs 1.5 %, intervals with the truth 2", True))
         self.assertFalse(line("4 from 4", RECORDED, near, False)[1], "an interval misses the truth")
-        self.assertEqual(line("changed", RECORDED, near, True)[0].partition("nine")[2],
-                         " of ten 12.0 %, worst 12.0 % (20), intervals with the truth 2")
+        self.assertEqual(line("changed", RECORDED, near, True)[0].partition("worst")[2],
+                         " 12.0 % (20), of the medians of programs 12.0 %, intervals with the truth 2")
 
     def test_nothing_that_was_measured(self):
         self.assertEqual(line("changed", RECORDED, [], True),
