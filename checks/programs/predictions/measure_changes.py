@@ -13,7 +13,7 @@ import pathlib
 import sys
 
 from changes import MADE, SAME_CODE
-from runs import TOP, build_clock, compiled, convert, record, region_time
+from runs import TOP, build_clock, compiled, convert, record_all, region_time
 
 sys.path.insert(0, str(TOP / "tools"))
 
@@ -42,10 +42,9 @@ def run(folder, turns):
         out.writerow(["program", "version", "runtime", "turn", "nanoseconds", "gave_way"])
         for turn in range(1, turns + 1):
             for name, version, by in KINDS:
-                program = folder / by / version / name
-                out.writerow([name, version, by, turn, *region_time(folder, program, THREADS)])
-                if (version, by) == ("before", LLVM):
-                    record(folder, program, "%s.%d" % (name, turn), THREADS)
+                out.writerow([name, version, by, turn, *region_time(folder, folder / by / version / name, THREADS)])
+            record_all(folder, [(folder / LLVM / "before" / one.name, "%s.%d" % (one.name, turn), THREADS)
+                                for one in MADE])
             file.flush()
             print("turn %d" % turn, flush=True)
 

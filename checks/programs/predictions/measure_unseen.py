@@ -15,7 +15,7 @@ import sys
 from concurrent.futures import ThreadPoolExecutor
 
 from quiet import Watch
-from runs import TOP, build_clock, compiled, convert, record, region_time
+from runs import TOP, build_clock, compiled, convert, record_all, region_time
 from unseen import UNSEEN
 
 sys.path.insert(0, str(TOP / "checks" / "llvm"))
@@ -64,13 +64,12 @@ def is_recorded(turn, turns, recordings):
 
 
 def turn_of(folder, kind, turn, with_recordings, out):
-    """First the runs: behind a recording the system still writes its files."""
     for one in UNSEEN:
         for version in VERSIONS[kind]:
             out.writerow([one.name, version, turn, *region_time(folder, program_of(folder, one, version), THREADS)])
-    for one in UNSEEN if with_recordings else ():
-        for threads in RECORDED[kind]:
-            record(folder, program_of(folder, one, "before"), "%s.%d.%d" % (one.name, threads, turn), threads)
+    if with_recordings:
+        record_all(folder, [(program_of(folder, one, "before"), "%s.%d.%d" % (one.name, threads, turn), threads)
+                            for one in UNSEEN for threads in RECORDED[kind]])
 
 
 def measure(folder, kind, turns, recordings):

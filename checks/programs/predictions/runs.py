@@ -50,6 +50,14 @@ def record(folder, program, out, threads):
         SPANPROF_CLOCK="wall", SPANPROF_OUT=str(folder / out)))
 
 
+def record_all(folder, several):
+    """Of programs, each with its log and threads, once the runs of a turn are over: right behind a recording the system
+    still writes its files."""
+    for program, out, threads in several:
+        record(folder, program, out, threads)
+    os.sync()
+
+
 def convert(log):
     """A log's text, with its times."""
     subprocess.run([str(TOP / "tools" / "spanprof-convert"), "--unit", "ns", "--times", "--parts", "none", str(log)],
