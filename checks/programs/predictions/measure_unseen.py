@@ -53,8 +53,10 @@ def calibrate(folder):
     known = os.environ.get("SPANPROF_MACHINE", "")
     if not os.path.exists(known):
         known = str(folder / "machine.json")
-        subprocess.run([str(TOP / "tools" / "spanprof-record"), "--calibrate", "--runtime", llvm().runtime], check=True,
-                       env=dict(os.environ, SPANPROF_MACHINE=known), stdout=subprocess.DEVNULL)
+        done = subprocess.run([str(TOP / "tools" / "spanprof-record"), "--calibrate", "--runtime", llvm().runtime],
+                              env=dict(os.environ, SPANPROF_MACHINE=known), stdout=subprocess.DEVNULL, check=False)
+        if done.returncode:
+            sys.exit("the runtime's costs are not known; SPANPROF_MACHINE names a file that has them")
     (folder / "model").write_text(known)
 
 
