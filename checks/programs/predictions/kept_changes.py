@@ -10,7 +10,8 @@ import sys
 import tarfile
 
 from changes import MADE, SAME_CODE
-from measure_changes import HERE, LLVM
+from measure_changes import LLVM
+from runs import HERE
 
 from spanprof.predict.recorded import lines_after_the_divider, recorded_as, take_times
 

@@ -10,70 +10,29 @@ turns, and recordings by the wall clock of those before it, all on four threads.
 import csv
 import os
 import pathlib
-import shutil
-import subprocess
 import sys
 
 from changes import MADE, SAME_CODE
+from runs import TOP, build_clock, compiled, convert, record_all, region_time
 
-TOP = pathlib.Path(__file__).resolve().parents[3]
-HERE = TOP / "checks" / "programs" / "predictions"
 sys.path.insert(0, str(TOP / "tools"))
 
 LLVM, GCC = "llvm", "gcc"
 LIBRARY = os.environ.get("LLVM_LIBRARY", "/usr/lib/llvm-19/lib")
-COMPILERS = {LLVM: ["clang-19"], GCC: ["gcc"]}
-LINKED = {LLVM: ["-L" + LIBRARY, "-Wl,-rpath," + LIBRARY], GCC: []}
 TURNS, THREADS = 300, 4
+COMPILERS = {LLVM: ["clang-19", "-DTURNS=%d" % TURNS], GCC: ["gcc", "-DTURNS=%d" % TURNS]}
+LINKED = {LLVM: ["-L" + LIBRARY, "-Wl,-rpath," + LIBRARY], GCC: []}
 VERSIONS = ("before", "after")
 KINDS = [(one.name, version, by) for one in MADE for version in VERSIONS for by in (LLVM, GCC)
          if by == LLVM or one.name in SAME_CODE]
 
 
-def compiled(folder, one, version, by):
-    """The path of a program, which is compiled."""
-    source = one.rewritten if version == "after" and one.rewritten else one.source
-    flags = ["-DREWRITTEN"] if version == "after" and not one.rewritten else []
-    # A program is known by its source's name, in places too.
-    path = folder / by / version / one.name
-    path.parent.mkdir(parents=True, exist_ok=True)
-    subprocess.run([*COMPILERS[by], "-O2", "-g", "-fopenmp", "-fno-optimize-sibling-calls", "-DTURNS=%d" % TURNS,
-                    *flags, str(TOP / (source + ".c")), "-o", str(path), *LINKED[by]], check=True)
-    return path
-
-
 def build(folder):
-    folder.mkdir(parents=True, exist_ok=True)
-    subprocess.run(["gcc", "-O2", "-shared", "-fPIC", str(HERE / "programs" / "region_clock.c"), "-o",
-                    str(folder / "region_clock.so"), "-ldl"], check=True)
+    build_clock(folder)
     for one in MADE:
         for version in VERSIONS:
-            compiled(folder, one, version, LLVM)
-            if one.name in SAME_CODE:
-                compiled(folder, one, version, GCC)
-
-
-def variables(**more):
-    return dict(os.environ, OMP_NUM_THREADS=str(THREADS), OMP_PROC_BIND="close", **more)
-
-
-def region_time(folder, program):
-    """Nanoseconds of the longest region of one run, and how often a thread had to give way to another program."""
-    told = folder / "region_time"
-    process = subprocess.Popen([str(program)], stdout=subprocess.DEVNULL, env=variables(
-        LD_PRELOAD=str(folder / "region_clock.so"), REGION_TIME=str(told), OMP_TOOL="disabled"))
-    _, status, used = os.wait4(process.pid, 0)
-    process.returncode = status
-    if status:
-        sys.exit("%s: status %d" % (program, status))
-    return int(told.read_text()), used.ru_nivcsw
-
-
-def record(folder, program, out):
-    shutil.rmtree(folder / (out + ".log"), ignore_errors=True)
-    subprocess.run([str(program)], stdout=subprocess.DEVNULL, check=True, env=variables(
-        OMP_TOOL_LIBRARIES=str(TOP / "tools" / "openmp_recorder" / "librecorder.so"), SPANPROF_QUIET="1",
-        SPANPROF_CLOCK="wall", SPANPROF_OUT=str(folder / out)))
+            for by in (LLVM, GCC) if one.name in SAME_CODE else (LLVM,):
+                compiled(COMPILERS[by], one, version, folder / by / version / one.name, LINKED[by])
 
 
 def run(folder, turns):
@@ -83,19 +42,11 @@ def run(folder, turns):
         out.writerow(["program", "version", "runtime", "turn", "nanoseconds", "gave_way"])
         for turn in range(1, turns + 1):
             for name, version, by in KINDS:
-                program = folder / by / version / name
-                out.writerow([name, version, by, turn, *region_time(folder, program)])
-                if (version, by) == ("before", LLVM):
-                    record(folder, program, "%s.%d" % (name, turn))
+                out.writerow([name, version, by, turn, *region_time(folder, folder / by / version / name, THREADS)])
+            record_all(folder, [(folder / LLVM / "before" / one.name, "%s.%d" % (one.name, turn), THREADS)
+                                for one in MADE])
             file.flush()
             print("turn %d" % turn, flush=True)
-
-
-def texts(folder):
-    """Of the logs, each with its times."""
-    for log in sorted(folder.glob("*.log")):
-        subprocess.run([str(TOP / "tools" / "spanprof-convert"), "--unit", "ns", "--times", "--parts", "none",
-                        str(log)], check=True, stderr=subprocess.DEVNULL)
 
 
 def main(words):
@@ -105,7 +56,8 @@ def main(words):
     elif words[0] == "run":
         run(folder, int(words[2]))
     else:
-        texts(folder)
+        for log in sorted(folder.glob("*.log")):
+            convert(log)
 
 
 if __name__ == "__main__":

@@ -11,10 +11,11 @@ from spanprof.measure import HOW, measure as measure_large, spanprof_large
 
 LIMITS = re.compile("TooLong|TooDeep|TooManyTasks|TooManySegments|input too long")
 LONGEST = 8388608   # bytes that spanprof reads
+OUT_OF_MEMORY = "error: out of memory"
 
 
 class OnThreads(NamedTuple):
-    """spanprof_large tells no end of a greedy run."""
+    """Without `end` where memory was too little for a greedy run of the text."""
     least: int
     bound: int
     end: Optional[int] = None
@@ -52,13 +53,27 @@ def ask_large(words, path):
     return done.stdout
 
 
+def greedy_end(large, path, threads):
+    """The last end in the table of its greedy run, which is read as it comes; None where that takes too much memory."""
+    words = large + ["greedy", "--threads", str(threads)]
+    with open(path, "rb") as text, subprocess.Popen(words, stdin=text, stdout=subprocess.PIPE, text=True,
+                                                    errors="replace") as running:
+        first = running.stdout.readline().strip()
+        ends = (row.split(",")[2] for row in running.stdout) if first.startswith("segment,start,end") else ()
+        end = max(map(int, ends), default=0)
+    if running.returncode and OUT_OF_MEMORY not in first:
+        raise Fault("spanprof_large: %s" % (first or "it ended with status %d" % running.returncode))
+    return None if running.returncode else end
+
+
 def by_large(path, threads, refused):
     large = spanprof_large()
     if not large:
         raise Fault("%s; %s" % (refused, HOW))
     numbers = measure_large(large, path)
-    told = ask_large(large + ["--upto", str(max(threads))], path)
-    return Numbers("spanprof_large", numbers["segments"], numbers["work"], numbers["span"], on_threads(told, threads))
+    bounds = on_threads(ask_large(large + ["--upto", str(max(threads))], path), threads)
+    rows = {p: row._replace(end=greedy_end(large, path, p)) for p, row in bounds.items()}
+    return Numbers("spanprof_large", numbers["segments"], numbers["work"], numbers["span"], rows)
 
 
 def measure(path, threads):

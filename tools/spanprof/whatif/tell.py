@@ -34,8 +34,9 @@ def pairs(before, after):
 def proved(before, after):
     if before.by == after.by == "spanprof":
         return "proved of the text, and of the changed text: spanprof has read both"
-    return "proved of the text, and of the changed text: spanprof_large has read one beyond the limits of spanprof, " \
-        "and tells no end of a greedy run"
+    words = "proved of the text, and of the changed text: spanprof_large has read one beyond the limits of spanprof"
+    has_ends = all(row.end is not None for numbers in (before, after) for row in numbers.on.values())
+    return words if has_ends else words + "; there was too little memory for a greedy run"
 
 
 def on_more_threads(head, threads):

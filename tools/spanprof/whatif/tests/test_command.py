@@ -22,9 +22,13 @@ exit 0
 LARGE = """\
 #!/bin/sh
 cat > /dev/null
-if [ $# -gt 0 ]; then printf 'threads,least,bound\\n1,76,76\\n2,60,68\\n'
-else printf 'tasks 3\\nsegments 9\\nwork 76\\nspan 60\\n'; fi
+case "$1" in
+    greedy) printf 'segment,start,end,thread\\n0,0,66,0\\n1,0,5,\\n' ;;
+    --upto) printf 'threads,least,bound\\n1,76,76\\n2,60,68\\n' ;;
+    *) printf 'tasks 3\\nsegments 9\\nwork 76\\nspan 60\\n' ;;
+esac
 """
+LITTLE_MEMORY = LARGE.replace("printf 'segment", "echo 'error: out of memory'; exit 1; printf 'segment")
 
 
 class Commands(InFolder):
@@ -76,14 +80,25 @@ proved of the text, and of the changed text: spanprof has read both
         self.text = self.write("mine.tasks", SORT + "task { # toolong\n}\n")
         status, out, _ = self.told("--cutoff", "1")
         self.assertEqual(status, 0)
-        self.assertNotIn("end  ", out)
-        self.assertIn("spanprof_large has read one beyond the limits", out)
+        self.assertIn("2 threads, end                         66                 66    +0.0 %\n", out)
+        self.assertTrue(out.endswith("spanprof_large has read one beyond the limits of spanprof\n"))
         self.variables["SPANPROF_LARGE"] = ""
         with mock.patch("spanprof.whatif.numbers.spanprof_large", return_value=[]):
             status, _, errors = self.told("--cutoff", "1")
         self.assertEqual(status, 1)
         self.assertIn("spanprof span: error: line 9: TooManyTasks; spanprof_large, which measures it, is not found",
                       errors)
+
+    def test_a_text_whose_table_is_too_large_for_the_memory(self):
+        self.text = self.write("mine.tasks", SORT + "task { # toolong\n}\n")
+        self.variables["SPANPROF_LARGE"] = self.program("large", LITTLE_MEMORY)
+        status, out, _ = self.told("--cutoff", "1")
+        self.assertEqual(status, 0)
+        self.assertNotIn("end  ", out)
+        self.assertIn("2 threads, bound                       68                 68", out)
+        self.variables["SPANPROF_LARGE"] = self.program("large", LITTLE_MEMORY.replace("out of memory", "BadWord"))
+        self.assertEqual(self.told("--cutoff", "1")[2], "spanprof-whatif: spanprof_large: error: BadWord\n")
+        self.assertTrue(out.endswith("limits of spanprof; there was too little memory for a greedy run\n"))
 
     def test_a_place_list(self):
         self.assertIn("waits (--drop-wait):", self.told("--places")[1])

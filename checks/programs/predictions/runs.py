@@ -1,0 +1,64 @@
+"""Runs of a program without the recorder, and recordings of it by the wall clock, on threads that are bound."""
+import os
+import pathlib
+import shutil
+import subprocess
+import sys
+
+TOP = pathlib.Path(__file__).resolve().parents[3]
+HERE = TOP / "checks" / "programs" / "predictions"
+OPTIONS = ("-O2", "-g", "-fopenmp", "-fno-optimize-sibling-calls")
+
+
+def compiled(words, one, version, path, linked=()):
+    """The path of a program, before or after its change, which is compiled. A program is known by its source's name, in
+    places too."""
+    source = one.rewritten if version == "after" and one.rewritten else one.source
+    flags = ["-DREWRITTEN"] if version == "after" and not one.rewritten else []
+    path.parent.mkdir(parents=True, exist_ok=True)
+    subprocess.run([*words, *OPTIONS, *flags, str(TOP / (source + ".c")), "-o", str(path), *linked], check=True)
+    return path
+
+
+def build_clock(folder):
+    """Of regions, in a folder that is made."""
+    folder.mkdir(parents=True, exist_ok=True)
+    subprocess.run(["gcc", "-O2", "-shared", "-fPIC", str(HERE / "programs" / "region_clock.c"), "-o",
+                    str(folder / "region_clock.so"), "-ldl"], check=True)
+
+
+def variables(threads, **more):
+    return dict(os.environ, OMP_NUM_THREADS=str(threads), OMP_PROC_BIND="close", **more)
+
+
+def region_time(folder, program, threads):
+    """Nanoseconds of the longest region of one run, and how often a thread had to give way to another program."""
+    told = folder / "region_time"
+    process = subprocess.Popen([str(program)], stdout=subprocess.DEVNULL, env=variables(
+        threads, LD_PRELOAD=str(folder / "region_clock.so"), REGION_TIME=str(told), OMP_TOOL="disabled"))
+    _, status, used = os.wait4(process.pid, 0)
+    process.returncode = status
+    if status:
+        sys.exit("%s: status %d" % (program, status))
+    return int(told.read_text()), used.ru_nivcsw
+
+
+def record(folder, program, out, threads):
+    shutil.rmtree(folder / (out + ".log"), ignore_errors=True)
+    subprocess.run([str(program)], stdout=subprocess.DEVNULL, check=True, env=variables(
+        threads, OMP_TOOL_LIBRARIES=str(TOP / "tools" / "openmp_recorder" / "librecorder.so"), SPANPROF_QUIET="1",
+        SPANPROF_CLOCK="wall", SPANPROF_OUT=str(folder / out)))
+
+
+def record_all(folder, several):
+    """Of programs, each with its log and threads, once the runs of a turn are over: right behind a recording the system
+    still writes its files."""
+    for program, out, threads in several:
+        record(folder, program, out, threads)
+    os.sync()
+
+
+def convert(log):
+    """A log's text, with its times."""
+    subprocess.run([str(TOP / "tools" / "spanprof-convert"), "--unit", "ns", "--times", "--parts", "none", str(log)],
+                   check=True, stderr=subprocess.DEVNULL)

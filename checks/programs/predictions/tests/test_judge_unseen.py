@@ -1,0 +1,139 @@
+import contextlib
+import io
+import pathlib
+import re
+import tempfile
+import unittest
+from unittest import mock
+
+import judge_unseen
+from changes import MADE
+from judge_unseen import (AFTER, BEFORE, FEWER, RECORDED, Measured, cell, counted, judge, judged, kinds, line,
+                          read_measured, table, true_times)
+from judging import Judged
+from measured import HERE
+from quiet import Used
+from unseen import UNSEEN
+
+from spanprof.predict.machine import Machine, write_machine
+from spanprof.predict.recorded import recorded_as
+
+TEXT = """# recorded: {"program": "words", "threads": 4, "unit": "ns"}
+# region: {"at": "words.c:9", "number": 1, "of": 1}
+omptasks 1
+task {  # words.c:1
+work 1000
+}
+taskwait  # words.c:3
+work 600
+"""
+QUIET, BUSY = Used(0, 0.01, 1), Used(0.2, 0.1, 9)
+NOTHING = Machine({1: {}}, {})
+
+
+def source_of(one):
+    return (HERE / "unseen" / (one.name + ".c")).read_text(encoding="utf-8")
+
+
+def predicted(time, program="a", true=100):
+    return Judged(program, 1, RECORDED, time, time - 5, time + 5, 0.0, true)
+
+
+def measured(times=(1650, 1600, 1700), versions=(BEFORE,)):
+    found = {("words", version, turn): time for version in versions for turn, time in enumerate(times, 1)}
+    return Measured(found, dict.fromkeys(range(1, len(times) + 1), QUIET),
+                    {("words", 4, 2): recorded_as(TEXT, "words.4.2.tasks", 0)})
+
+
+class Turns(unittest.TestCase):
+    def test_quiet_ones_alone(self):
+        watched = dict(enumerate([QUIET] * 5 + [BUSY], 1))
+        self.assertEqual(counted(watched), {1, 2, 3, 4, 5})
+        self.assertEqual(counted({1: QUIET, 2: BUSY}), {1, 2})
+
+    def test_times_of_these_turns(self):
+        self.assertEqual(true_times(measured(), {1, 3}), {("words", BEFORE): [1650, 1700]})
+
+
+class Predictions(unittest.TestCase):
+    def test_the_median_of_the_runs_is_true(self):
+        found = list(judged(measured(), {1, 2, 3}, NOTHING, UNSEEN[6], RECORDED, BEFORE))
+        self.assertEqual([(one.program, one.turn, one.time, one.true) for one in found], [("words", 2, 1600, 1650)])
+
+    def test_the_change_is_made_to_the_text(self):
+        """What follows the wait is a task, which nothing waits for."""
+        found = list(judged(measured(versions=(BEFORE, AFTER)), {1, 2, 3}, NOTHING, UNSEEN[6], RECORDED, AFTER))
+        self.assertEqual([one.time for one in found], [1600])
+
+    def test_a_recording_that_is_missing(self):
+        self.assertEqual(list(judged(measured(), {1, 2, 3}, NOTHING, UNSEEN[6], FEWER, BEFORE)), [])
+
+    def test_what_a_folder_is_of(self):
+        self.assertEqual([(name, is_by_worst) for name, _, _, is_by_worst in kinds(measured())],
+                         [("4 from 4", False), ("4 from 1 and 2", False)])
+        self.assertEqual([(version, is_by_worst) for _, _, version, is_by_worst in
+                          kinds(measured(versions=(BEFORE, AFTER)))], [(BEFORE, False), (AFTER, True)])
+
+
+class Told(unittest.TestCase):
+    def test_lines(self):
+        near = [predicted(101), predicted(96), predicted(112, "b")]
+        self.assertEqual(line("4 from 4", RECORDED, near[:2], False), (
+            "ok      not fitted to: 4 from 4, 1 programs, 2 recordings: median 2.5 % (5), nine of ten 4.0 % (15), "
+            "worst 4.0 %, of the medians of programs 1.5 %, intervals with the truth 2", True))
+        self.assertFalse(line("4 from 4", RECORDED, near, False)[1], "an interval misses the truth")
+        self.assertEqual(line("changed", RECORDED, near, True)[0].partition("worst")[2],
+                         " 12.0 % (20), of the medians of programs 12.0 %, intervals with the truth 2")
+
+    def test_nothing_that_was_measured(self):
+        self.assertEqual(line("changed", RECORDED, [], True),
+                         ("FAILED  not fitted to: changed: nothing was measured", False))
+
+    def test_a_table(self):
+        columns = [("4 from 4", BEFORE, [predicted(101e6, "a", 100e6), predicted(98e6, "a", 100e6)])]
+        self.assertEqual(list(table(["a"], {("a", BEFORE): [100e6, 99e6, 102e6]}, columns)), [
+            "| Program | True, ms | 4 from 4 |", "|---|---|---|",
+            "| a | 100.00 (99.00 to 102.00) | -0.5 (-2.0 to +1.0) |"])
+        self.assertEqual(cell([]), "none")
+
+
+class Folder(unittest.TestCase):
+    def test_one_program(self):
+        with tempfile.TemporaryDirectory() as name:
+            folder = pathlib.Path(name)
+            (folder / "turns.csv").write_text("program,version,turn,nanoseconds,gave_way\nwords,before,1,1650,0\n")
+            (folder / "watched.csv").write_text("turn,stolen,others,load\n1,0.0,0.01,0.5\n")
+            (folder / "words.4.1.tasks").write_text(TEXT)
+            write_machine(NOTHING, str(folder / "machine.json"))
+            (folder / "model").write_text(str(folder / "machine.json"))
+            (folder / "words.4.1.timed").write_text("")
+            self.assertEqual(read_measured(folder).watched, {1: QUIET._replace(load=0.5)})
+            out = io.StringIO()
+            with mock.patch.object(judge_unseen, "UNSEEN", UNSEEN[6:7]), contextlib.redirect_stdout(out):
+                self.assertEqual(judge(folder), 1)
+        self.assertIn("ok      not fitted to: 4 from 4, 1 programs, 1 recordings: median 3.0 % (5)", out.getvalue())
+        self.assertIn("FAILED  not fitted to: 4 from 1 and 2: nothing was measured", out.getvalue())
+        self.assertIn("the machine was quiet: 1 of 1 turns", out.getvalue())
+
+
+class Programs(unittest.TestCase):
+    def test_none_of_those_that_the_model_was_fitted_to(self):
+        names = [one.name for one in UNSEEN]
+        self.assertEqual(len(names), len(set(names)))
+        self.assertFalse({*names} & {one.name for one in MADE})
+
+    def test_sources(self):
+        for one in UNSEEN:
+            self.assertIn("REWRITTEN", source_of(one))
+
+    def test_places(self):
+        """Each line that a change names is one of a task or a wait."""
+        for one in UNSEEN:
+            lines = source_of(one).splitlines()
+            for _, word in one.changes:
+                for number in re.findall(r"\.c:(\d+)", word):
+                    self.assertRegex(lines[int(number) - 1], "#pragma omp task", (one.name, word))
+
+
+if __name__ == "__main__":
+    unittest.main()
