@@ -5,10 +5,11 @@ ghost use Rattle.large_text.specs.Streamed.{CanTakeBytes, HasTaken};
 ghost use Rattle.large_command.specs.LargeReports.{Answers};
 ghost use Rattle.large_command.specs.TableReports.{SaysOfTable, TellsTable};
 
+use crate::answer::Answer;
 use crate::numbers::table_or_refusal;
 use command_words::large::TableRequest;
 use large_text::TextMeter;
-use spanprof_command::{Report, tell_curve, tell_greedy, tell_slacks, try_changes};
+use spanprof_command::{slack_rows, tell_curve, tell_greedy, try_changes};
 use std::alloc::{AllocError, Global};
 use std::thread::Threads;
 use task_segments::table::LargeTable;
@@ -19,14 +20,14 @@ pub(crate) fn answer_table(
     alloc: Global,
     asked: &TableRequest,
     text: TextMeter,
-) -> Result<Report, AllocError>
+) -> Result<Answer, AllocError>
     requires { CanTakeBytes [] text }
     ensures { IfOk result (λ report. (bytes : List ℕ) → HasTaken bytes text
         → Answers (OfTable asked.now) bytes report) }
 {
     match table_or_refusal(alloc, text)? {
         Ok(table) => tell_table(rt, alloc, asked, table),
-        Err(report) => Ok(report),
+        Err(report) => Ok(Answer::of_report(report)),
     }
 }
 
@@ -35,7 +36,7 @@ fn tell_table(
     alloc: Global,
     asked: &TableRequest,
     table: LargeTable,
-) -> Result<Report, AllocError>
+) -> Result<Answer, AllocError>
     ensures { IfOk result (λ report. TellsTable asked.now table report) }
 {
     // Does nothing when it runs: its clauses tell the proof how many rows there are at most.
@@ -49,13 +50,14 @@ fn say_of_table(
     alloc: Global,
     asked: &TableRequest,
     table: LargeTable,
-) -> Result<Report, AllocError>
+) -> Result<Answer, AllocError>
     ensures { IfOk result (λ report. SaysOfTable asked.now table report) }
 {
-    match asked {
-        TableRequest::Slack => tell_slacks(alloc, &table),
-        TableRequest::Greedy { threads } => tell_greedy(alloc, *threads, table),
-        TableRequest::Curve { upto } => tell_curve(rt, alloc, *upto, table),
-        TableRequest::WhatIf { changes } => try_changes(alloc, changes.as_slice(), table),
-    }
+    let report = match asked {
+        TableRequest::Slack => return Ok(Answer::of_slacks(slack_rows(alloc, table)?)),
+        TableRequest::Greedy { threads } => tell_greedy(alloc, *threads, table)?,
+        TableRequest::Curve { upto } => tell_curve(rt, alloc, *upto, table)?,
+        TableRequest::WhatIf { changes } => try_changes(alloc, changes.as_slice(), table)?,
+    };
+    Ok(Answer::of_report(report))
 }
