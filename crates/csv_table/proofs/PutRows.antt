@@ -1,7 +1,8 @@
 -- What stands before a field.
 use Rattle.std.proofs.Common.{◌≡◌, ◌∙◌, ◌==◌, ◌++◌, ℕ, zero, suc, false, List, [], ◌∷◌, ap, arith}
 use Rattle.std.proofs.Common.{Option}
-use Rattle.std.proofs.Common.{append_assoc, drop, flat_map, refl, sym, take}
+use Rattle.std.proofs.Common.{append_assoc, drop, flat_map, refl, sym, take, take-append-drop}
+use Rattle.std.proofs.lemmas.Grind.{flat_map-append}
 use Rattle.std.specs.List.{join_by}
 use Rattle.std.proofs.lemmas.Bool.Decides.{nat_tests}
 use Rattle.csv_table.specs.Row.{number_field, row_line}
@@ -18,11 +19,9 @@ comma_before (suc i) later =
 
 flat_parted : {X : Type 0} (g : X → List ℕ) (xs : List X) (n : ℕ)
     → flat_map g xs ≡ flat_map g (take n xs) ++ flat_map g (drop n xs)
-flat_parted g xs zero = refl
-flat_parted g [] (suc n) = refl
-flat_parted g (x ∷ xs) (suc n) =
-    ap (λ rest. g x ++ rest) (flat_parted g xs n)
-    ∙ sym (append_assoc (g x) (flat_map g (take n xs)) (flat_map g (drop n xs)))
+flat_parted g xs n =
+    ap (λ ys. flat_map g ys) (sym (take-append-drop n xs))
+    ∙ flat_map-append g (take n xs) (drop n xs)
 
 -- a row begins with its first fields
 pub join_parted : {X : Type 0} (f : X → List ℕ) (xs : List X) (n : ℕ)

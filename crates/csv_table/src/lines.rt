@@ -12,7 +12,7 @@ use std::io::Write;
 
 /// Puts a row behind a text that is written part by part, as a [`Table`](crate::Table) has it: each
 /// number in digits, and nothing where there is none. It never allocates.
-pub fn put_row<W: Write>(
+pub(crate) fn put_row<W: Write>(
     text: &mut Pending,
     writer: &mut Counted<W>,
     fields: &[Option<u64>],
