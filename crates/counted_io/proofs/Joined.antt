@@ -73,7 +73,7 @@ pub as_bytes : (held after : Option (List ℕ)) (text : List ℕ)
 as_bytes held after text (rest, h) = (
   length h.written,
   subst (Appends held after) (sym (ap (take (length h.written)) h.is
-  ∙ take-append_seam h.written rest)) h.wrote,
+      ∙ take-append_seam h.written rest)) h.wrote,
 )
 
 -- ---- one part more

@@ -2,10 +2,10 @@
 ghost use Rattle.std.specs.Prelude.{◌≡◌};
 
 use counted_io::Counted;
-use spanprof_command::{Report, SlackRows, Status, finish};
+use spanprof_command::{GreedyRows, Report, SlackRows, Status, finish, finish_rows};
 use std::io::Write;
 use std::marker::Model;
-use task_segments::table::MOST_ROWS;
+use task_segments::limits::MOST_ROWS;
 
 /// A report, which need not stand in memory whole.
 #[derive(Drop)]
@@ -17,6 +17,7 @@ pub(crate) struct Answer {
 enum AnswerKind {
     Whole(Report),
     Slacks(SlackRows<MOST_ROWS, MOST_ROWS>),
+    Greedy(GreedyRows),
 }
 
 impl Model for Answer {
@@ -29,9 +30,11 @@ impl Model for Answer {
 }
 
 impl Answer {
-    ghost use Rattle.std.specs.Prelude.{◌≡◌, ◌≢◌, ◌+◌, ◌-◌, ◌^◌, ◌<◌, ◌≤◌, true};
+    ghost use Rattle.std.specs.Prelude.{◌≡◌, ◌≢◌, ◌+◌, ◌-◌, ◌^◌, ◌<◌, ◌≤◌, length, true};
     ghost use Rattle.counted_io.specs.Counted.{faults_of, flushes_of, inner_of, is_flushed};
     ghost use Rattle.spanprof_command.specs.Command.{HadFaults, SendsWithin};
+    ghost use Rattle.spanprof_command.specs.GreedyRuns.{greedy_of};
+    ghost use Rattle.spanprof_command.specs.Slacks.{slacks_of};
 
     pub(crate) fn of_report(report: Report) -> Answer
         ensures { result ≡ report }
@@ -42,10 +45,19 @@ impl Answer {
     }
 
     pub(crate) fn of_slacks(rows: SlackRows<MOST_ROWS, MOST_ROWS>) -> Answer
-        ensures { result ≡ rows }
+        ensures { result ≡ slacks_of rows.table rows.found }
     {
         Answer {
             kind: AnswerKind::Slacks(rows),
+        }
+    }
+
+    pub(crate) fn of_greedy(rows: GreedyRows) -> Answer
+        ensures { result ≡ greedy_of rows.graph.costs rows.run.starts rows.run.threads
+            (length rows.graph.costs) }
+    {
+        Answer {
+            kind: AnswerKind::Greedy(rows),
         }
     }
 
@@ -63,7 +75,8 @@ impl Answer {
     {
         match self.kind {
             AnswerKind::Whole(report) => finish(writer, Ok(report), retries),
-            AnswerKind::Slacks(rows) => rows.finish(writer, retries),
+            AnswerKind::Slacks(rows) => finish_rows(&rows, writer, retries),
+            AnswerKind::Greedy(rows) => finish_rows(&rows, writer, retries),
         }
     }
 }

@@ -4,12 +4,13 @@ ghost use Rattle.command_words.specs.declared.large.LargeRequest.TheVariants.{Of
 ghost use Rattle.large_text.specs.Streamed.{CanTakeBytes, HasTaken};
 ghost use Rattle.large_command.specs.LargeReports.{Answers};
 ghost use Rattle.large_command.specs.TableReports.{SaysOfTable, TellsTable};
+ghost use Rattle.spanprof_command.specs.GreedyRuns.{SaysGreedyRun};
 
 use crate::answer::Answer;
 use crate::numbers::table_or_refusal;
 use command_words::large::TableRequest;
 use large_text::TextMeter;
-use spanprof_command::{slack_rows, tell_curve, tell_greedy, try_changes};
+use spanprof_command::{greedy_rows, slack_rows, tell_curve, try_changes};
 use std::alloc::{AllocError, Global};
 use std::thread::Threads;
 use task_segments::table::LargeTable;
@@ -53,11 +54,24 @@ fn say_of_table(
 ) -> Result<Answer, AllocError>
     ensures { IfOk result (λ report. SaysOfTable asked.now table report) }
 {
-    let report = match asked {
-        TableRequest::Slack => return Ok(Answer::of_slacks(slack_rows(alloc, table)?)),
-        TableRequest::Greedy { threads } => tell_greedy(alloc, *threads, table)?,
-        TableRequest::Curve { upto } => tell_curve(rt, alloc, *upto, table)?,
-        TableRequest::WhatIf { changes } => try_changes(alloc, changes.as_slice(), table)?,
-    };
-    Ok(Answer::of_report(report))
+    match asked {
+        TableRequest::Slack => Ok(Answer::of_slacks(slack_rows(alloc, table)?)),
+        TableRequest::Greedy { threads } => say_greedy(alloc, *threads, table),
+        TableRequest::Curve { upto } => {
+            Ok(Answer::of_report(tell_curve(rt, alloc, *upto, table)?))
+        }
+        TableRequest::WhatIf { changes } => {
+            let report = try_changes(alloc, changes.as_slice(), table)?;
+            Ok(Answer::of_report(report))
+        }
+    }
+}
+
+fn say_greedy(alloc: Global, threads: u32, table: LargeTable) -> Result<Answer, AllocError>
+    ensures { IfOk result (λ report. SaysGreedyRun threads table.entry report) }
+{
+    match greedy_rows(alloc, threads, table)? {
+        Ok(rows) => Ok(Answer::of_greedy(rows)),
+        Err(report) => Ok(Answer::of_report(report)),
+    }
 }
