@@ -19,7 +19,7 @@ use Rattle.online_span.specs.Measuring.{Measures}
 use Rattle.online_span.specs.Spans.{IsSpanOf}
 use Rattle.large_text.specs.LargeTexts.{FitsText, IsLargeFault, IsLargeRight, StandsForLarge}
 use Rattle.spanprof_command.specs.GreedyRuns.{bound_of, least_of}
-use Rattle.spanprof_command.specs.Tables.{numbered_table}
+use Rattle.csv_table.specs.Tables.{numbered_table}
 use Rattle.spanprof_command.specs.Report.{Report, input_too_long, number_line}
 use Rattle.spanprof_command.specs.Report.{program_refusal}
 use Rattle.spanprof_command.specs.declared.report.Status.TheVariants.{Done}

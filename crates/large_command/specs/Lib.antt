@@ -6,3 +6,4 @@ pub mod DocumentReports
 pub mod LargeReports
 pub mod LargeCommand
 pub mod OneReport
+pub mod Answered

@@ -1,7 +1,7 @@
 //! The table of bounds.
 ghost use Rattle.std.specs.Prelude.{◌≡◌, ◌+◌, ◌<◌, ◌≤◌, ◌^◌, IfOk};
 ghost use Rattle.command_words.specs.declared.large.MeterRequest.TheVariants.{Bounds};
-ghost use Rattle.spanprof_command.specs.Tables.{numbered_table};
+ghost use Rattle.csv_table.specs.Tables.{numbered_table};
 ghost use Rattle.large_command.specs.LargeReports.{IsOfProgram, TellsMeter, bounds_header};
 ghost use Rattle.large_command.specs.LargeReports.{bounds_report, bounds_row};
 

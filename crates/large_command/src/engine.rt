@@ -16,6 +16,7 @@ ghost use Rattle.large_text.specs.Streamed.{CanTakeBytes, HasTaken};
 ghost use Rattle.large_command.specs.LargeCommand.{is_table_in_range, is_thread_count, wants_text};
 ghost use Rattle.large_text.specs.declared.limits.TheConstants.{LARGEST_TEXT};
 
+use crate::answer::Answer;
 use crate::document_input::read_document;
 use crate::documents::answer_document;
 use crate::numbers::answer_meter;
@@ -79,8 +80,10 @@ pub fn command<H: AllocGlobal + Threads + Sync, R: Read, W: Write>(
     ensures flushes { flushes_of writer.new ≤ flushes_of writer.old + 1 }
 {
     let mut retries = MOST_RETRIES;
-    let made = prepare(rt, key, words, reader, &mut retries);
-    finish(writer, made, retries)
+    match prepare(rt, key, words, reader, &mut retries) {
+        Ok(answer) => answer.finish(writer, retries),
+        Err(fault) => finish(writer, Err(fault), retries),
+    }
 }
 
 /// Makes the report of the words and the text.
@@ -90,7 +93,7 @@ fn prepare<H: AllocGlobal + Threads + Sync, R: Read>(
     words: &[String],
     reader: &mut Counted<R>,
     retries: &mut u32,
-) -> Result<Report, NoReport>
+) -> Result<Answer, NoReport>
     requires { faults_of reader.old + retries.old < 2 ^ 64 - 1 }
     ensures report { IfOk result (λ report. IsReport (map string_bytes words.now)
         (R.remaining (inner_of reader.old)) (R.remaining (inner_of reader.new)) report) }
@@ -106,13 +109,11 @@ fn prepare<H: AllocGlobal + Threads + Sync, R: Read>(
     match read_large_words(alloc, words) {
         Ok(asked) => {
             if !is_in_range(&asked) {
-                return Ok(Report::of_line(alloc, b"error: ThreadCount\n", Status::Refused)?);
+                return refuse(alloc, b"error: ThreadCount\n", Status::Refused);
             }
             answer_text(rt, key, &asked, reader, retries)
         }
-        Err(WordsFault::WrongWords) => {
-            Ok(Report::of_line(alloc, b"error: wrong words\n", Status::Usage)?)
-        }
+        Err(WordsFault::WrongWords) => refuse(alloc, b"error: wrong words\n", Status::Usage),
         Err(WordsFault::OutOfMemory) => Err(NoReport::OutOfMemory),
     }
 }
@@ -154,7 +155,7 @@ fn answer_text<H: AllocGlobal + Threads + Sync, R: Read>(
     asked: &LargeRequest,
     reader: &mut Counted<R>,
     retries: &mut u32,
-) -> Result<Report, NoReport>
+) -> Result<Answer, NoReport>
     requires { faults_of reader.old + retries.old < 2 ^ 64 - 1 }
     ensures report { IfOk result (λ report. AnswersText asked.now (R.remaining (inner_of reader.old))
         (R.remaining (inner_of reader.new)) report) }
@@ -198,7 +199,7 @@ fn tell_taken(
     alloc: Global,
     asked: &LargeRequest,
     text: TextMeter,
-) -> Result<Report, AllocError>
+) -> Result<Answer, AllocError>
     requires text { IsOfText asked.now }
     requires can { CanTakeBytes [] text }
     requires keeps { KeepsFor asked.now text }
@@ -206,9 +207,9 @@ fn tell_taken(
         → Answers asked.now bytes report) }
 {
     match asked {
-        LargeRequest::OfMeter(asked) => answer_meter(alloc, *asked, text),
+        LargeRequest::OfMeter(asked) => Ok(Answer::of_report(answer_meter(alloc, *asked, text)?)),
         LargeRequest::OfTable(asked) => answer_table(rt, alloc, asked, text),
-        LargeRequest::OfText(asked) => answer_printed(alloc, *asked, text),
+        LargeRequest::OfText(asked) => Ok(Answer::of_report(answer_printed(alloc, *asked, text)?)),
         LargeRequest::OfDocument(_) => unreachable!(),
     }
 }
@@ -220,7 +221,7 @@ fn answer_whole<R: Read>(
     asked: DocumentRequest,
     reader: &mut Counted<R>,
     retries: &mut u32,
-) -> Result<Report, NoReport>
+) -> Result<Answer, NoReport>
     requires { faults_of reader.old + retries.old < 2 ^ 64 - 1 }
     ensures report { IfOk result (λ report. AnswersText (OfDocument asked) (R.remaining (inner_of reader.old))
         (R.remaining (inner_of reader.new)) report) }
@@ -231,16 +232,27 @@ fn answer_whole<R: Read>(
         (faults_of reader.new) retries.old retries.new }
 {
     match read_document(alloc, reader, retries) {
-        Ok(document) => Ok(answer_document(alloc, key, asked, document.as_slice())?),
+        Ok(document) => {
+            let report = answer_document(alloc, key, asked, document.as_slice())?;
+            Ok(Answer::of_report(report))
+        }
         Err(InputFault::TooLong) => too_long(alloc),
         Err(InputFault::ReadFailed) => Err(NoReport::ReadFault),
         Err(InputFault::OutOfMemory) => Err(NoReport::OutOfMemory),
     }
 }
 
-fn too_long(alloc: Global) -> Result<Report, NoReport>
+fn too_long(alloc: Global) -> Result<Answer, NoReport>
     ensures says { IfOk result (λ report. report ≡ input_too_long) }
     ensures memory { result ≢ Err NoReport.ReadFault }
 {
-    Ok(Report::of_line(alloc, b"error: input too long\n", Status::Refused)?)
+    refuse(alloc, b"error: input too long\n", Status::Refused)
+}
+
+/// A line that is known beforehand.
+fn refuse(alloc: Global, line: &[u8], status: Status) -> Result<Answer, NoReport>
+    ensures says { IfOk result (λ report. report ≡ record { text = line.now; status = status }) }
+    ensures memory { result ≢ Err NoReport.ReadFault }
+{
+    Ok(Answer::of_report(Report::of_line(alloc, line, status)?))
 }

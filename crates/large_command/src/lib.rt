@@ -2,6 +2,7 @@
 //! and a status.
 #![tactic(auto)]
 
+mod answer;
 mod bound_rows;
 mod document_input;
 mod documents;

@@ -10,7 +10,7 @@ use Rattle.time_accounts.specs.Shares.{Shares, ready_moments, shares_of}
 use Rattle.time_accounts.specs.TimedRun.{TimedRun}
 use Rattle.time_text.specs.declared.line.RegionTimes.{RegionTimes}
 use Rattle.spanprof_command.specs.Report.{Report, number_line}
-use Rattle.spanprof_command.specs.Tables.{numbered_table}
+use Rattle.csv_table.specs.Tables.{numbered_table}
 use Rattle.spanprof_command.specs.declared.report.Status.TheVariants.{Done}
 
 -- ---- the sums

@@ -1,7 +1,11 @@
 -- A command ends as what it made says.
 use Rattle.std.proofs.Common.{◌≡◌, ◌≤◌, ◌∙◌, ◌-◌, ℕ, List, Option, Result, Ok, Err, ap, arith}
-use Rattle.std.proofs.Common.{inl, inr, refl, subst, sym}
+use Rattle.std.proofs.Common.{inl, inr, refl, subst, sym, OnErr, OnOk}
 use Rattle.std.specs.Prelude.{IfOk}
+use Rattle.counted_io.proofs.Joined.{as_bytes}
+use Rattle.counted_io.specs.Counted.{faults_of, inner_of}
+use Rattle.counted_io.specs.Parts.{WritesText}
+use Rattle.counted_io.specs.declared.counted.Counted.{Counted}
 use Rattle.spanprof_command.specs.Command.{EndsWith, HadFaults, Sends, SendsWithin}
 use Rattle.spanprof_command.specs.Finished.{SpendsRetries, told}
 use Rattle.spanprof_command.specs.Report.{Report}
@@ -92,4 +96,34 @@ ends_as_made IsReport (Err ReadFault) faults faults_after left held held_after W
       few = omega (arith, spent.retried, sent.few);
       intended = inr (record { faults = omega (arith, spent.failed refl, spent.retried); says = refl });
       sent = sent.sent;
+    }
+
+-- a report of which the text was written so is sent
+pub sends_text : {W T E : Type 0} (contents : W → Option (List ℕ)) (first second : Counted W)
+    (retries left : ℕ) (output : Report) (answer : Result T E) (status : Status)
+    → WritesText contents first second retries left output.text answer
+    → OnOk answer (status ≡ output.status)
+    → OnErr answer (status ≡ Fault)
+    → SendsWithin retries output (contents (inner_of first)) (contents (inner_of second))
+    (HadFaults (faults_of first) (faults_of second)) status
+sends_text contents first second retries left output (Ok x) status wrote done fault = record {
+  writes_again = retries - left;
+  few = omega arith;
+  sent = inl (record {
+    faults = omega (arith, wrote.paid, wrote.retried);
+    wrote = wrote.whole;
+    answers = done;
+  });
+}
+sends_text contents first second retries left output (Err e) status wrote done fault =
+    let part = as_bytes (contents (inner_of first)) (contents (inner_of second)) output.text
+    wrote.prefix in record {
+      writes_again = retries - left;
+      few = omega arith;
+      sent = inr (record {
+        faults = omega (arith, wrote.failed, wrote.retried);
+        answers = fault;
+        size = part.0;
+        wrote = part.1;
+      });
     }

@@ -70,7 +70,7 @@ use Rattle.spanprof_command.specs.Report.{Report, input_too_long, program_refusa
 use Rattle.spanprof_command.specs.Replaying.{SaysOfEvents}
 use Rattle.spanprof_command.specs.Reports.{Answers, AnswersWithin, ReportsBy, Shows, Spans}
 use Rattle.spanprof_command.specs.Slacks.{Slacks, slack_header, slack_row}
-use Rattle.spanprof_command.specs.Tables.{numbered_table}
+use Rattle.csv_table.specs.Tables.{numbered_table}
 use Rattle.spanprof_command.specs.Trials.{Trials, TriesChanges, after_changes, change_refusal}
 use Rattle.spanprof_command.specs.Trials.{spans_told, unless_refused}
 use Rattle.spanprof_command.specs.WorkerRuns.{WorkerRuns, run_told, worker_count}

@@ -1,16 +1,23 @@
-//! Documents of 5,000 tasks: more tasks and segments than the ten commands take.
+//! Documents and texts of 5,000 tasks: more tasks and segments than the ten commands take, and
+//! reports that are longer than what is put together before it is written.
 use crate::tests::command_gives;
 use spanprof_command::Status;
 use std::alloc::Global;
 use std::process::Abort;
 use std::test::Fail;
 
-/// The program and the divider. Segment 2k + 1 is a task, the others are of the root.
-fn begun(alloc: Global) -> Result<String, Fail> {
-    let mut document = String::from_str(alloc, "omptasks 1\n")?;
+/// Segment 2k + 1 is a task, the others are of the root.
+fn program(alloc: Global) -> Result<String, Fail> {
+    let mut text = String::from_str(alloc, "omptasks 1\n")?;
     for _ in 0..5_000 {
-        document.push_str("task { work 1 }\n")?;
+        text.push_str("task { work 1 }\n")?;
     }
+    Ok(text)
+}
+
+/// The program and the divider.
+fn begun(alloc: Global) -> Result<String, Fail> {
+    let mut document = program(alloc)?;
     document.push_str("---\n")?;
     Ok(document)
 }
@@ -97,5 +104,50 @@ fn check(rt: HostRuntime) -> Result<(), Fail> {
     let document = claimed(rt.alloc())?;
     let text = "accepted\nsegments 10001\nend 1\n";
     assert!(&rt; command_gives(&rt, "check", &[], document.as_str(), text, Status::Done)?);
+    Ok(())
+}
+
+/// Each task can begin at once and ends last, and so only the root's last segment has a slack.
+fn slack_report(alloc: Global) -> Result<String, Fail> {
+    let mut text = String::from_str(alloc, "segment,task,cost,start,slack,chain\n")?;
+    text.push_str("0,0,0,0,0,1\n1,1,1,0,0,1\n")?;
+    for task in 2..5_001u32 {
+        let segment = 2 * task - 1;
+        let before = segment - 1;
+        write!(text, "{before},0,0,0,0,0\n{segment},{task},1,0,0,0\n")?;
+    }
+    text.push_str("10000,0,0,0,1,0\n")?;
+    Ok(text)
+}
+
+#[test]
+fn slack(rt: HostRuntime) -> Result<(), Fail> {
+    let alloc = rt.alloc();
+    let (program, text) = (program(alloc)?, slack_report(alloc)?);
+    let (program, text) = (program.as_str(), text.as_str());
+    assert!(&rt; command_gives(&rt, "slack", &[], program, text, Status::Done)?);
+    Ok(())
+}
+
+/// On 64 threads: the root's segments take no time, and each moment has the next 64 tasks.
+fn greedy_report(alloc: Global) -> Result<String, Fail> {
+    let mut text = String::from_str(alloc, "segment,start,end,thread\n")?;
+    for task in 0..5_000u32 {
+        let (before, segment) = (2 * task, 2 * task + 1);
+        let (start, thread) = (task / 64, task % 64);
+        let end = start + 1;
+        write!(text, "{before},0,0,\n{segment},{start},{end},{thread}\n")?;
+    }
+    text.push_str("10000,0,0,\n")?;
+    Ok(text)
+}
+
+#[test]
+fn greedy(rt: HostRuntime) -> Result<(), Fail> {
+    let alloc = rt.alloc();
+    let (program, text) = (program(alloc)?, greedy_report(alloc)?);
+    let words = &["--threads", "64"];
+    let (program, text) = (program.as_str(), text.as_str());
+    assert!(&rt; command_gives(&rt, "greedy", words, program, text, Status::Done)?);
     Ok(())
 }

@@ -1,5 +1,5 @@
 use Rattle.std.proofs.Common.{◌+◌, arith}
-use Rattle.spanprof_command.proofs.Tables.{table_more}
+use Rattle.csv_table.proofs.Tables.{table_more}
 use Rattle.large_command.specs.LargeReports.{bounds_header, bounds_row}
 use Rattle.large_command.proofs.bound_rows.bounds_table.Goals as goal
 

@@ -1,5 +1,5 @@
 use Rattle.std.proofs.Common.{◌≡◌}
-use Rattle.spanprof_command.specs.Tables.{numbered_table}
+use Rattle.csv_table.specs.Tables.{numbered_table}
 use Rattle.large_command.specs.LargeReports.{bounds_header, bounds_row}
 use Rattle.large_command.proofs.bound_rows.bounds_table.Given as goal
 

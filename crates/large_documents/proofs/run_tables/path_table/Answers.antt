@@ -1,6 +1,6 @@
 use Rattle.std.proofs.Common.{arith}
 use Rattle.large_documents.specs.Accounts.{path_header, path_row}
-use Rattle.spanprof_command.proofs.Tables.{table_more}
+use Rattle.csv_table.proofs.Tables.{table_more}
 use Rattle.large_documents.proofs.run_tables.path_table.Goals as goal
 
 pub loop-place-preserved : goal.loop-place-preserved

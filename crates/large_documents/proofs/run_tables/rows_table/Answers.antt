@@ -1,6 +1,6 @@
 use Rattle.std.proofs.Common.{arith}
 use Rattle.large_documents.specs.Accounts.{rows_header, rows_row}
-use Rattle.spanprof_command.proofs.Tables.{table_more}
+use Rattle.csv_table.proofs.Tables.{table_more}
 use Rattle.large_documents.proofs.run_tables.rows_table.Goals as goal
 
 pub loop-segment-preserved : goal.loop-segment-preserved

@@ -1,6 +1,6 @@
 use Rattle.std.proofs.Common.{◌≡◌}
 use Rattle.large_documents.specs.Accounts.{rows_header, rows_row}
-use Rattle.spanprof_command.specs.Tables.{numbered_table}
+use Rattle.csv_table.specs.Tables.{numbered_table}
 use Rattle.large_documents.proofs.run_tables.rows_table.Given as goal
 
 -- the rows so far

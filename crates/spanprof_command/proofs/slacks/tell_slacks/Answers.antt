@@ -1,11 +1,12 @@
-use Rattle.std.proofs.Common.{arith, rules}
-use Rattle.dispatch_core.specs.RecordedGraph.{Precedes}
-use Rattle.spanprof_command.proofs.ChainPlaces.{chain_ascends}
+use Rattle.std.proofs.Common.{subst, sym}
+use Rattle.std.proofs.lemmas.Result.{IfOk-weaker}
+use Rattle.spanprof_command.specs.Report.{Report}
+use Rattle.spanprof_command.specs.Slacks.{TellsSlacks}
 use Rattle.spanprof_command.proofs.slacks.tell_slacks.Goals as goal
 
-pub slack_table-requires : goal.slack_table-requires
-slack_table-requires g c =
-    let known = c.in_ok-found.ensures in
-    let ascends = chain_ascends (Precedes c.in_ok-found.field-0-0) known.is_graph.smaller
-    c.in_ok-found.found.chain known.is_analysis.findings.linked in
-    (omega arith, (search rules, (search rules, ascends)))
+pub returns : goal.returns
+returns g c =
+    IfOk-weaker c.report_of_rows.result _ _
+    (λ report is.
+    subst (λ (output : Report). TellsSlacks c.args.table output) (sym is) c.in_ok-rows.ensures)
+    c.report_of_rows.ensures
