@@ -5,7 +5,8 @@
     repeated_lines.py --list [N]  the N longest runs of lines that stand twice (20), each with its places
 
 A line is repeated where it is one of six lines in a row that stand, word for word, somewhere else too. Layout does not
-count, nor do blank lines, imports and lines without a word. Crates of tests are left out.
+count, nor do blank lines, imports, lines without a word, and the lines of a function's parameters, since what implements
+a trait has to repeat them. Crates of tests are left out.
 """
 import collections
 import pathlib
@@ -16,22 +17,24 @@ from crate_picture import LEFT_OUT
 
 TOP = pathlib.Path(__file__).resolve().parents[2]
 WINDOW = 6
-BOUNDS = {".rt": 360, ".antt": 1360}  # of repeated lines; lower them when there are fewer
-SLACK = 100  # a bound further off than this has to be lowered
+BOUNDS = {".rt": 132, ".antt": 181}  # of 10,000 lines; lower them when there are fewer
+SLACK = 20  # a bound further off than this has to be lowered
 IMPORT = re.compile(r"(pub |ghost )*use |(pub )?mod ")
+PARAMETERS = re.compile(r"(.* )?fn \w+.*\($")
 
 
 def counted(text):
     """The lines of a file that count, each as its number and its text without layout."""
-    lines, importing = [], False
+    lines, end = [], ""
     for number, line in enumerate(text.splitlines(), 1):
         line = " ".join(line.split())
-        if importing:
-            importing = "}" not in line
+        if end:
+            end = "" if line.startswith(end) or (end == "}" and end in line) else end
         elif IMPORT.match(line):
-            importing = line.endswith("{")
+            end = "}" if line.endswith("{") else ""
         elif re.search(r"\w", line):
             lines.append((number, line))
+            end = ")" if PARAMETERS.match(line) else ""
     return lines
 
 
@@ -75,10 +78,11 @@ def read_files(ending):
 
 def judged(ending, count, of, bound):
     """A line on the files of this ending, and whether their bound is kept and near."""
-    told = "%d of %d lines of *%s are repeated; the bound is %d" % (count, of, ending, bound)
-    if count > bound:
+    told = "%d of %d lines of *%s are repeated; the bound is %d of 10,000" % (count, of, ending, bound)
+    share = 10_000 * count / of
+    if share > bound:
         return told + ": say once what you have written twice (checks/sources/repeated_lines.py --list)", False
-    if count < bound - SLACK:
+    if share < bound - SLACK:
         return told + ": lower it in checks/sources/repeated_lines.py", False
     return told, True
 

@@ -20,6 +20,11 @@ class Counted(unittest.TestCase):
         self.assertEqual(counted(text), [(7, "useful = 1")])
 
 
+    def test_parameters_do_not_count(self):
+        text = "    pub fn made(\n        &mut self,\n        line: u32,\n    ) -> u32\n{\n    line + 1\n"
+        self.assertEqual(counted(text), [(1, "pub fn made("), (6, "line + 1")])
+
+
 class Repeated(unittest.TestCase):
     def test_a_row_that_stands_once_is_not_repeated(self):
         self.assertEqual(repeated(files(one=ROW, other=ROW[:-1])), set())
@@ -47,7 +52,7 @@ class Runs(unittest.TestCase):
 
 class Judged(unittest.TestCase):
     def test_more_than_the_bound_is_refused(self):
-        told, kept = judged(".rt", 101, 1000, 100)
+        told, kept = judged(".rt", 11, 1000, 100)
         self.assertFalse(kept)
         self.assertIn("--list", told)
 
@@ -55,8 +60,8 @@ class Judged(unittest.TestCase):
         self.assertFalse(judged(".rt", 0, 1000, SLACK + 1)[1])
 
     def test_near_the_bound_is_kept(self):
-        self.assertTrue(judged(".rt", 100, 1000, 100)[1])
-        self.assertTrue(judged(".rt", 100, 1000, 100 + SLACK)[1])
+        self.assertTrue(judged(".rt", 10, 1000, 100)[1])
+        self.assertTrue(judged(".rt", 10, 1000, 100 + SLACK)[1])
 
 
 if __name__ == "__main__":
