@@ -83,29 +83,22 @@ def place_name(is_root, task_place, after="", after_place=""):
 
 
 class Naming:
-    """The names of the running segments, and what the open blocks are."""
+    """The name of the running segment, which is always the one that began last, and what the open blocks are."""
 
     def __init__(self):
-        self.running = [("", place_name(True, ""))]     # of each open task: its comment, its segment's place
+        self.place = place_name(True, "")
         self.blocks = []
 
-    @property
-    def place(self):
-        return self.running[-1][1]
-
     def go_on(self, after, comment):
-        task = self.running[-1][0]
-        self.running[-1] = task, place_name(len(self.running) == 1, task, after, comment)
+        self.place = place_name(False, "", after, comment)
 
     def begin(self, kind, comment):
         self.blocks.append((kind, comment))
         if kind == "task":
-            self.running.append((comment, place_name(False, comment)))
+            self.place = place_name(False, comment)
 
     def end(self):
         kind, comment = self.blocks.pop()
-        if kind == "task":
-            self.running.pop()
         self.go_on("creating a task" if kind == "task" else kind, comment)
         return kind
 

@@ -4,7 +4,8 @@ import subprocess
 from spanprof.errors import Fault
 
 HEADS = b"segment,task,cost,start,slack,chain\n"
-CHAINED = b",1\n"
+COLUMNS = 6
+PIECE = 1 << 18     # bytes that are read at a time
 NO_MEMORY = "error: out of memory"
 KEPT = "; it keeps the table and the graph of the whole text, and numbers at most 4,000,000,000 segments"
 
@@ -22,11 +23,12 @@ def started(program, text):
         raise Fault("spanprof_large: %s" % wrong) from wrong
 
 
-def cost_and_chain(row):
-    try:
-        return int(row.split(b",", 3)[2]), row.endswith(CHAINED)
-    except (IndexError, ValueError) as wrong:
-        raise Fault("spanprof_large slack: no row: %s" % row.decode(errors="replace").strip()) from wrong
+def costs_and_chain(lines):
+    """Of each row its cost, and whether it is on the chain."""
+    words = b"".join(lines).replace(b"\n", b",").split(b",")
+    if len(words) != COLUMNS * len(lines) + 1:
+        raise Fault("spanprof_large slack: rows of another form")
+    return zip(map(int, words[2::COLUMNS]), map(b"1".__eq__, words[5::COLUMNS]))
 
 
 def rows_of(program, path):
@@ -35,6 +37,7 @@ def rows_of(program, path):
         answer = run.stdout.readline()
         if answer == HEADS:
             answer = b""
-            yield from map(cost_and_chain, run.stdout)
+            while lines := run.stdout.readlines(PIECE):
+                yield from costs_and_chain(lines)
     if run.returncode or answer:
         raise refusal(answer.decode(errors="replace").strip(), run.returncode)

@@ -4,7 +4,7 @@ from collections import Counter
 from unittest import mock
 
 from spanprof.errors import Fault
-from spanprof.path.found import find_path, sum_by_place
+from spanprof.path.found import find_path, places_in, sum_by_place
 from spanprof.path.table import Place
 from spanprof.tests.in_folder import InFolder
 from spanprof.text import marks, segments_of
@@ -13,7 +13,7 @@ COMMENTS = ("", "", "  # a.c:1", "  # a.c:2, again", "  # work 7 { }")
 
 
 def places_of(text, rows):
-    return sum_by_place(marks(text.splitlines(True)), iter(rows))
+    return sum_by_place(places_in(marks(text.splitlines(True))), iter(rows))
 
 
 def drawn(rng, depth=3):
@@ -29,7 +29,7 @@ def drawn(rng, depth=3):
 
 class ByPlace(unittest.TestCase):
     def test_names(self):
-        text = "omptasks 1\nwork 1\ntaskgroup { # a.c:2\ntask { # a.c:3\nwork 5\n}\n}\nwork 7\ntaskwait # a.c:8\nwork 2\n"
+        text = "omptasks 1\nwork 1\ntaskgroup { # a.c:2\ntask { # a.c:3\nwork 5\n}\n}\nwork 7\ntaskwait # a.c:8\n"
         rows = [(1, True), (5, True), (0, False), (7, True), (2, True)]
         self.assertEqual(places_of(text, rows), [
             Place(7, 7, 1, "after taskgroup at a.c:2"), Place(5, 5, 1, "task at a.c:3"),

@@ -20,8 +20,8 @@ class Rows(InFolder):
         self.assertEqual(self.rows(ROWS), [(5, True), (31, True), (2, False)])
 
     def test_the_text_is_read_and_the_table_asked_for(self):
-        large = self.program("large", '#!/bin/sh\n[ "$*" = slack ] && grep -q "work 7" && printf "%s\\n0,0,7,0,0,1\\n"\n'
-                             % HEADS.decode().strip())
+        script = '#!/bin/sh\n[ "$*" = slack ] && grep -q "work 7" && printf "%s\\n0,0,7,0,0,1\\n"\n'
+        large = self.program("large", script % HEADS.decode().strip())
         self.assertEqual(list(rows_of([large], self.write("mine.tasks", "omptasks 1 work 7\n"))), [(7, True)])
 
     def test_no_memory(self):
@@ -37,7 +37,7 @@ class Rows(InFolder):
 
     def test_an_answer_of_another_form(self):
         self.refused("^spanprof_large slack: tasks 4$", "tasks 4\n")
-        self.refused("slack: no row: 1,1$", HEADS.decode() + "1,1\n")
+        self.refused("slack: rows of another form$", HEADS.decode() + "0,0,5,0,0,1\n1,1\n")
 
     def test_who_stops_early_leaves_no_process(self):
         large = self.program("large", "#!/bin/sh\nprintf '%s'\nyes 0,0,5,0,0,1\n" % HEADS.decode().replace("\n", "\\n"))
