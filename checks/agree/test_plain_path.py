@@ -32,7 +32,8 @@ class Plain(unittest.TestCase):
 
     def test_sums(self):
         costs, _, chain = rows_of(TOLD)
-        self.assertEqual(sums_by_place(TEXT, costs, chain)[-2:], [(2, 2, 1, "the beginning"), (5, 5, 1, "task at a.c:3")])
+        self.assertEqual(sums_by_place(TEXT, costs, chain)[-2:],
+                         [(2, 2, 1, "the beginning"), (5, 5, 1, "task at a.c:3")])
         with self.assertRaisesRegex(Wrong, "6 rows of 7 segments"):
             sums_by_place(TEXT, costs[:-1], chain)
 
