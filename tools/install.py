@@ -20,7 +20,7 @@ LIBRARY = os.path.join(TOOLS, "..", "out", "library")
 LIST = os.path.join("share", "spanprof", "installed")
 COMMANDS = ("spanprof-record", "spanprof-convert", "spanprof-report", "spanprof-path", "spanprof-whatif",
             "spanprof-predict", "spanprof-conformance")
-EXECUTABLE = ("bin/", "lib/spanprof/spanprof_path", "lib/spanprof/convert_log", "lib/spanprof/calibrate")
+EXECUTABLE = ("bin/", "lib/spanprof/convert_log", "lib/spanprof/calibrate")
 SHARED = ("*.py", "spanprof/*.py", "spanprof/*/*.py", "spanprof/report/template/*", "conformance/*.txt",
           "conformance/*.sh", "conformance/directed/*.tasks", "conformance/harness/*", "conformance/mutants/*")
 LEFT_OUT = ("install.py", "/tests/")
@@ -64,8 +64,7 @@ def plan(spanprof=SPANPROF, large=LARGE, library=LIBRARY):
     pairs += [(os.path.join(TOOLS, name), "bin/" + name) for name in COMMANDS]
     pairs += [(os.path.join(TOOLS, "openmp_recorder", "librecorder.so"), "lib/spanprof/librecorder.so"),
               (os.path.join(TOOLS, "openmp_recorder", "convert_log"), "lib/spanprof/convert_log"),
-              (os.path.join(TOOLS, "openmp_recorder", "calibrate"), "lib/spanprof/calibrate"),
-              (os.path.join(TOOLS, "large_path", "spanprof_path"), "lib/spanprof/spanprof_path")]
+              (os.path.join(TOOLS, "openmp_recorder", "calibrate"), "lib/spanprof/calibrate")]
     pairs += [(os.path.join(TOOLS, path), "share/spanprof/" + path) for path in shared_files()]
     for name in ("spanprof",) + COMMANDS:
         pairs += [(os.path.join(TOOLS, "man", name + ".1"), "share/man/man1/%s.1" % name),

@@ -1,5 +1,6 @@
 #!/usr/bin/env python3
-"""Runs the commands that the documents show, and compares what they print. Build spanprof first.
+"""Runs the commands that the documents show, and compares what they print. Build spanprof first, or
+let SPANPROF name it.
 
     checks/agree/documents.py [PROGRAM] [--write]     --write puts what they print into the documents
 A command is a line that begins with `$ ` in a block of README.md, docs/ or examples/; what follows is what it prints.
@@ -69,7 +70,8 @@ def put(path, command, expected, printed):
 
 def main():
     words = [word for word in sys.argv[1:] if word != "--write"]
-    program = os.path.abspath(words[0] if words else TOP + "/crates/spanprof/out/spanprof")
+    built = os.environ.get("SPANPROF") or TOP + "/crates/spanprof/out/spanprof"
+    program = os.path.abspath(words[0] if words else built)
     if not os.access(program, os.X_OK):
         sys.exit("no program " + program)
     folder = make_folder(program)

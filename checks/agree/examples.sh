@@ -1,11 +1,12 @@
 #!/usr/bin/env bash
 # Compares the texts of examples/ with what make_kernels.py writes (but for their heads), those that are said by loops
 # with the same program written out, and the table of examples/README.md with what `span` prints. Build spanprof first.
-# Another program may be named.
+# Another program may be named, as a word or in SPANPROF.
 set -euo pipefail
 cd "$(dirname "$0")/../.."
-program=${1:-crates/spanprof/out/spanprof}
-[ -x "$program" ] || { echo "no program $program"; exit 1; }
+. checks/needs.sh
+needs_spanprof "$@"
+program=$SPANPROF
 wrong=0
 fail() { echo "  $1"; wrong=$((wrong + 1)); }
 

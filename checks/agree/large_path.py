@@ -1,12 +1,12 @@
 #!/usr/bin/env python3
-"""Finds a critical path of random programs, of the examples and of programs of a million tasks by tools/spanprof-path,
-and compares: its own comparisons hold, the masked text has this span by a plain program that keeps the whole graph
-(checks/agree/large_recordings), and each place has the costs that spanprof.text finds there in text and masked text.
-Of the large programs it tells time and memory.
+"""Compares the critical paths of spanprof-path and their sums by place with plain programs, on the examples, on random
+programs and on programs of a million tasks. The rows of `spanprof_large slack` have to be those of the whole graph
+(large_recordings/whole_graph.py), their chain a path of it that costs the span, and the sums by place those that
+plain_path.py adds up, which shares nothing with the tools. Of the large programs it tells time and memory.
 
-    checks/agree/large_path.py [COUNT]     COUNT random programs of each of two kinds (200)
+    checks/agree/large_path.py [COUNT]     COUNT random programs of each of two kinds (100)
 
-Needs a compiler of C++17 and make; build spanprof_large first, or let SPANPROF_LARGE name it.
+Build spanprof_large first, or let SPANPROF_LARGE name it.
 """
 import os
 import random
@@ -14,7 +14,6 @@ import re
 import subprocess
 import sys
 import tempfile
-from collections import Counter
 from pathlib import Path
 
 TOP = Path(__file__).resolve().parents[2]
@@ -23,10 +22,10 @@ sys.dont_write_bytecode = True
 
 import any_size  # noqa: E402
 import whole_graph  # noqa: E402
+from plain_path import Wrong, check_rows, rows_of, sums_by_place  # noqa: E402
 from spanprof.errors import Fault  # noqa: E402
 from spanprof.measure import HOW, measure, spanprof_large  # noqa: E402
-from spanprof.path.found import find_path, programs  # noqa: E402
-from spanprof.text import segments_of as segments  # noqa: E402
+from spanprof.path.found import find_path  # noqa: E402
 
 COMMAND = TOP / "tools" / "spanprof-path"
 RUN = """
@@ -39,43 +38,25 @@ sys.exit(status)
 COMMENTS = ("", "  # a.c:1", "# a.c:2, again", " # \"b\"", "  # work 7 { }")
 
 
-class Wrong(Exception):
-    pass
-
-
 def commented(text, rng):
     """With comments behind some of the lines, and blanks in front."""
     return "".join(" " * rng.choice((0, 0, 3)) + line + rng.choice(COMMENTS) + "\n" for line in text.split("\n"))
 
 
-def find(by, text, folder):
-    masked, table = [str(folder / name) for name in ("masked.tasks", "table")]
-    path = find_path(by, str(text), measure(by.large, str(text)), masked, table)
-    if path.faults:
-        raise Wrong("; ".join(path.faults))
-    return path, Path(masked)
-
-
-def costs(text):
-    """The sum at each place; places without costs are left out."""
-    sums = Counter()
-    for segment in segments(text):
-        sums[segment.place()] += segment.cost
-    return +sums
-
-
-def compare(by, text, folder):
-    """One program, whose file is `text`."""
-    path, masked = find(by, text, folder)
-    whole, left = text.read_text(), masked.read_text()
-    graph = whole_graph.read(left.splitlines())
-    if not graph.work == graph.span == path.numbers["span"]:
-        raise Wrong("work %d and span %d by the whole graph, and not %d" % (graph.work, graph.span,
-                                                                            path.numbers["span"]))
-    for what, wanted, found in (("work", costs(whole), {place.name: place.work for place in path.places()}),
-                                ("span", costs(left), {place.name: place.span for place in path.places()})):
-        if +Counter(found) != wanted:
-            raise Wrong("%s by place: %s, and not %s" % (what, +Counter(found), wanted))
+def compare(large, file):
+    """One program, whose text is in the file."""
+    text = file.read_text()
+    with open(file, "rb") as given:
+        told = subprocess.run(large + ["slack"], stdin=given, capture_output=True, text=True, check=True).stdout
+    costs, starts, chain = rows_of(told)
+    graph = whole_graph.read(text.splitlines())
+    check_rows(graph, costs, starts, chain)
+    path = find_path(large, str(file), measure(large, str(file)))
+    if [path.numbers[name] for name in ("work", "span")] != [graph.work, graph.span]:
+        raise Wrong("%s, and by the whole graph work %d and span %d" % (path.numbers, graph.work, graph.span))
+    wanted, found = sums_by_place(text, costs, chain), sorted(map(tuple, path.places))
+    if found != wanted:
+        raise Wrong("by place %s, and not %s" % (found, wanted))
 
 
 def random_programs(count, folder):
@@ -94,13 +75,13 @@ def examples():
             yield str(path.relative_to(TOP)), text
 
 
-def compare_all(by, named, folder):
+def compare_all(large, named, folder):
     count, file = 0, folder / "text.tasks"
     for name, text in named:
         file.write_text(text)
         try:
-            compare(by, file, folder)
-        except (Wrong, Fault) as wrong:
+            compare(large, file)
+        except (Wrong, Fault, subprocess.CalledProcessError) as wrong:
             raise Wrong("%s: %s" % (name, wrong)) from wrong
         count += 1
     return count
@@ -116,19 +97,18 @@ def run(words, file):
     return float(seconds), int(most) // 1024
 
 
-def measure_large(by, name, made, folder):
+def measure_large(name, made, folder):
     """By the command, on a program whose numbers are known."""
     text, (tasks, count, work, span) = made
     file = folder / "large.tasks"
     file.write_text(text)
-    alone, most = run([by.path, file, folder / "large_masked.tasks"], folder / "table")
-    took, _ = run([COMMAND, file], folder / "told")
+    took, most = run([COMMAND, file], folder / "told")
     told = (folder / "told").read_text()
     wanted = "work %d, span %d, parallelism %.1f, " % (work, span, work / span)
     if not told.startswith(wanted) or " of %d segments on" % count not in told:
         raise Wrong("%s: %s, and not %s" % (name, told.split("\n")[0], wanted))
-    print("%s: %s tasks, %.1f MB of text; spanprof_path %.2f s and %d MB, with all comparisons %.2f s (measured)" % (
-        name, format(tasks, ","), len(text) / 1e6, alone, most, took), flush=True)
+    print("%s: %s tasks, %.1f MB of text; %.2f s, and %d MB for its largest process (measured)" % (
+        name, format(tasks, ","), len(text) / 1e6, took, most), flush=True)
 
 
 def one_line(count):
@@ -137,17 +117,17 @@ def one_line(count):
     return "omptasks 1 " + text.split("\n", 1)[1].replace("\n", " ") + "# all\n", numbers
 
 
-def check(by, count):
+def check(large, count):
     with tempfile.TemporaryDirectory(prefix="large_path-") as name:
         folder = Path(name)
-        print("%d examples: the same" % compare_all(by, examples(), folder), flush=True)
-        compared = compare_all(by, random_programs(count, folder), folder)
+        print("%d examples: the same" % compare_all(large, examples(), folder), flush=True)
+        compared = compare_all(large, random_programs(count, folder), folder)
         print("%d random programs: the same" % compared, flush=True)
         for name, made in (("nested", any_size.nested(any_size.MILLION)), ("tree", any_size.tree(20)),
                            ("chain", any_size.chain(any_size.MILLION)),
                            ("independent", any_size.independent(any_size.MILLION)),
                            ("one line", one_line(any_size.MILLION // 10))):
-            measure_large(by, name, made, folder)
+            measure_large(name, made, folder)
 
 
 def main():
@@ -156,9 +136,7 @@ def main():
         sys.exit("large_path: " + HOW)
     os.environ["SPANPROF_LARGE"] = " ".join(large)
     try:
-        by = programs(large, print)
-        subprocess.run(["make", "-s", "-C", TOP / "tools/large_path", "test"], check=True)
-        check(by, int(sys.argv[1]) if len(sys.argv) > 1 else 200)
+        check(large, int(sys.argv[1]) if len(sys.argv) > 1 else 100)
     except (Wrong, Fault, subprocess.CalledProcessError) as wrong:
         sys.exit("FAILED: %s" % wrong)
 

@@ -55,7 +55,6 @@ spanprof-report --replay mi|mine.replay
 spanprof-report mine.tasks --source so|sources
 spanprof-path mi|mine.tasks
 spanprof-path mine.tasks --cs|--csv
-spanprof-path -o mi|mine.tasks
 spanprof-predict mi|mine.tasks
 spanprof-predict mine.tasks --ma|--machine
 spanprof-whatif mi|mine.tasks

@@ -2,14 +2,14 @@
 # Compares the layout of C++ with what clang-format makes of it by tools/.clang-format.
 #
 #     checks/sources/cpp_format.sh [--write] [FOLDER ..]     --write lays the files out; where none is named, those of
-#                                                    tools/large_path and tools/openmp_recorder
+#                                                            tools/openmp_recorder
 #
 # Other versions of clang-format lay out some lines otherwise, so it is skipped where version 14 is missing.
 set -euo pipefail
 cd "$(dirname "$0")/../.."
 how=(--dry-run --Werror)
 if [ "${1:-}" = --write ]; then how=(-i) && shift; fi
-[ $# -gt 0 ] || set -- tools/large_path tools/openmp_recorder
+[ $# -gt 0 ] || set -- tools/openmp_recorder
 for format in clang-format-14 clang-format ''; do
     if command -v "${format:-true}" > /dev/null && [[ -z $format || $("$format" --version) == *" 14."* ]]; then break; fi
 done

@@ -111,13 +111,10 @@ _spanprof_report() {
 }
 
 _spanprof_path() {
-    local current=${COMP_WORDS[COMP_CWORD]} before=${COMP_WORDS[COMP_CWORD - 1]}
-    case $before in
-        -o | --output) _spanprof_files "$current" .tasks ;;
-        *) case $current in
-            -*) _spanprof_among "$current" "$(_spanprof_options "${COMP_WORDS[0]}")" ;;
-            *) _spanprof_files "$current" .tasks ;;
-        esac ;;
+    local current=${COMP_WORDS[COMP_CWORD]}
+    case $current in
+        -*) _spanprof_among "$current" "$(_spanprof_options "${COMP_WORDS[0]}")" ;;
+        *) _spanprof_files "$current" .tasks ;;
     esac
 }
 

@@ -9,6 +9,10 @@ from itertools import islice
 from typing import Iterable, Iterator, NamedTuple, Tuple
 
 DIVIDER = "---"
+HEADER = "omptasks"
+BLOCKS = ("task", "taskgroup")
+MOST_KNOWN = 100000     # lines whose marks are kept
+LONGEST_KNOWN = 1000    # bytes of such a line
 TOKEN = re.compile(r"[A-Za-z0-9_]+|[^\sA-Za-z0-9_]")
 DEPEND = re.compile(r"depend\((\w+):([^)]*)\)")
 UNDEFERRED = re.compile(r"if\(0+\)")
@@ -38,6 +42,11 @@ def lines_of(text):
     for line in text.split("\n"):
         code, _, comment = line.partition("#")
         yield TOKEN.findall(code), comment.strip()
+
+
+def open_text(path):
+    """Its lines end with LF alone, and any bytes may stand in its comments."""
+    return open(path, encoding="utf-8", errors="replace", newline="\n")
 
 
 def words_of(text):
@@ -74,29 +83,22 @@ def place_name(is_root, task_place, after="", after_place=""):
 
 
 class Naming:
-    """The names of the running segments, and what the open blocks are."""
+    """The name of the running segment, which is always the one that began last, and what the open blocks are."""
 
     def __init__(self):
-        self.running = [("", place_name(True, ""))]     # of each open task: its comment, its segment's place
+        self.place = place_name(True, "")
         self.blocks = []
 
-    @property
-    def place(self):
-        return self.running[-1][1]
-
     def go_on(self, after, comment):
-        task = self.running[-1][0]
-        self.running[-1] = task, place_name(len(self.running) == 1, task, after, comment)
+        self.place = place_name(False, "", after, comment)
 
     def begin(self, kind, comment):
         self.blocks.append((kind, comment))
         if kind == "task":
-            self.running.append((comment, place_name(False, comment)))
+            self.place = place_name(False, comment)
 
     def end(self):
         kind, comment = self.blocks.pop()
-        if kind == "task":
-            self.running.pop()
         self.go_on("creating a task" if kind == "task" else kind, comment)
         return kind
 
@@ -118,41 +120,57 @@ def statement(kind, code, comment, naming):
     return Statement(kind, named(kind, comment), comment=comment)
 
 
-def ending(tokens, first):
-    """Where the statement that begins there ends; 0 where it goes on behind these tokens."""
-    kind = tokens[first][0]
-    if kind in ("task", "taskgroup"):
-        return next((i + 1 for i in range(first + 1, len(tokens)) if tokens[i][0] == "{"), 0)
-    end = first + (2 if kind == "work" else 1)
-    return end if end <= len(tokens) else 0
+def is_whole(words):
+    """Whether these are all words of a statement, or of the header."""
+    if words[0] in BLOCKS:
+        return words[-1] == "{"
+    return len(words) == (2 if words[0] in ("work", HEADER) else 1)
 
 
-def lines_before_the_divider(lines):
+def marks_in(line, words):
+    """The marks that end in a line; `words` has those of a statement that begins before it, or goes on behind it."""
+    for word, comment in words_of(line):
+        words.append(word)
+        if is_whole(words):
+            if words[0] != HEADER:
+                yield words[0], "".join(words[1:]).rstrip("{"), comment
+            words.clear()
+
+
+def whole_marks(line):
+    """The marks of a line, where statements begin and end with it; else nothing."""
+    whole = WHOLE.fullmatch(line)
+    if whole:
+        work, cost, single, block, code, comment = whole.groups("")
+        return ((work or single or block, cost or code.replace(" ", ""), comment.strip()),)
+    words = []
+    found = tuple(marks_in(line, words))
+    return None if words else found
+
+
+def marks(lines: Iterable[str]) -> Iterator[Tuple[str, str, str]]:
+    """Of each statement of a text that spanprof has taken its word, what stands between that and its body, and the
+    comment of its line. Most lines of a recording stand there many times, and are read once."""
+    known, words = {}, []
     for line in lines:
-        if line.rstrip("\r\n") == DIVIDER:
-            return
-        yield line
+        code = line.strip()
+        found = None if words else known.get(code)
+        if found is None:
+            if code == DIVIDER:
+                return
+            found = None if words or len(code) > LONGEST_KNOWN else whole_marks(code)
+            if found is None:
+                found = marks_in(code, words)
+            elif len(known) < MOST_KNOWN:
+                known[code] = found
+        yield from found
 
 
 def statements(lines: Iterable[str]) -> Iterator[Statement]:
-    """Of the lines of a text that spanprof has taken. A line that is one statement, as the recorder writes it, is read
-    at once."""
-    naming, pending, header = Naming(), [], 2
-    for line in lines_before_the_divider(lines):
-        whole = not pending and not header and WHOLE.fullmatch(line)
-        if whole:
-            work, cost, single, block, code, comment = whole.groups("")
-            yield statement(work or single or block, cost or code.replace(" ", ""), comment.strip(), naming)
-            continue
-        pending += words_of(line.rstrip("\n"))
-        skipped = min(header, len(pending))
-        header, first = header - skipped, skipped
-        while first < len(pending) and ending(pending, first):
-            end = ending(pending, first)
-            code = "".join(word for word, _ in pending[first + 1:end]).rstrip("{")
-            yield statement(pending[first][0], code, pending[end - 1][1], naming)
-            first = end
-        del pending[:first]
+    """Of the lines of a text that spanprof has taken."""
+    naming = Naming()
+    for word, code, comment in marks(lines):
+        yield statement(word, code, comment, naming)
 
 
 class Cutter:

@@ -14,8 +14,7 @@ class Plan(unittest.TestCase):
         places = [path for _, path in install.plan()]
         for path in ("bin/spanprof", "bin/spanprof-record", "lib/spanprof/librecorder.so", "bin/spanprof-path",
                      "bin/spanprof-convert", "lib/spanprof/convert_log", "lib/spanprof/calibrate",
-                     "bin/spanprof-predict",
-                     "lib/spanprof/spanprof_path", "share/spanprof/spanprof/path/found.py",
+                     "bin/spanprof-predict", "share/spanprof/spanprof/path/found.py",
                      "share/spanprof/spanprof/whatif/command.py",
                      "bin/spanprof-whatif", "share/man/man1/spanprof-path.1",
                      "share/man/man1/spanprof.1", "share/bash-completion/completions/spanprof-report",
@@ -35,7 +34,7 @@ class Plan(unittest.TestCase):
 
     def test_programs_can_be_run(self):
         self.assertEqual([oct(install.mode(path)) for path in (
-            "bin/spanprof", "lib/spanprof/spanprof_path", "lib/spanprof/librecorder.so")], ["0o755", "0o755", "0o644"])
+            "bin/spanprof", "lib/spanprof/convert_log", "lib/spanprof/librecorder.so")], ["0o755", "0o755", "0o644"])
 
     def test_tests_and_the_installer_stay_behind(self):
         self.assertFalse([path for path in install.shared_files() if "tests/" in path or path.endswith("install.py")])

@@ -78,6 +78,10 @@ class Numbers(unittest.TestCase):
         graph = read(["omptasks 1", "work 5 task { work 3 } work 2 taskwait work 1"])
         self.assertEqual(graph.numbers(), {"tasks": 1, "segments": 4, "work": 11, "span": 9})
 
+    def test_undeferred_tasks(self):
+        for clause, span in (("if(0)", 5), ("if(1)", 3), ("if(00)", 5), ("", 3)):
+            self.assertEqual(read(["omptasks 1 task %s { work 3 } work 2" % clause]).span, span)
+
     def test_random_programs(self):
         for seed in range(500):
             text = draw(seed)

@@ -80,8 +80,9 @@ class Reader:
             if word == "{":
                 return undeferred, items
             if word == "if":
-                undeferred = True
-                next(self.words), next(self.words), next(self.words)
+                next(self.words)
+                undeferred = int(next(self.words)) == 0
+                next(self.words)
             elif word == "depend":
                 next(self.words)
                 kind = next(self.words)

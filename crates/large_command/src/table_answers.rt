@@ -67,8 +67,9 @@ fn say_of_table(
     }
 }
 
+/// A greedy run of a table on so many threads, or why there is none.
 fn say_greedy(alloc: Global, threads: u32, table: LargeTable) -> Result<Answer, AllocError>
-    ensures { IfOk result (λ report. SaysGreedyRun threads table.entry report) }
+    ensures { IfOk result (λ report. SaysGreedyRun threads table report) }
 {
     match greedy_rows(alloc, threads, table)? {
         Ok(rows) => Ok(Answer::of_greedy(rows)),

@@ -1,87 +1,73 @@
-"""A critical path of a text of any size: a plain program finds it, and spanprof_large measures what it left."""
-import subprocess
-from dataclasses import dataclass, field
+"""A critical path of a text of any size, by place in the source: spanprof_large tells the path, and its rows are added
+up here, beside the statements of the text."""
+from itertools import zip_longest
 from typing import List, NamedTuple
 
-from spanprof.built import Product, find_or_build
 from spanprof.errors import Fault
-from spanprof.folders import builds_in
-from spanprof.measure import measure
-from spanprof.path.masked import first_other_line
-from spanprof.path.table import place
-
-FOLDERS = builds_in("large_path")
-PROGRAM = Product("spanprof_path", "spanprof_path", "g++ make")
-ENCODING = {"encoding": "utf-8", "errors": "replace", "newline": "\n"}
+from spanprof.path.rows import rows_of
+from spanprof.path.table import Place
+from spanprof.text import BLOCKS, Naming, marks, open_text
 
 
-@dataclass
-class Path:
-    """What spanprof_large tells of the text and of the masked text, and the sums over the places."""
-    numbers: dict
-    masked: dict
-    table: str          # the file of spanprof_path's table
-    span: int = 0
-    work: int = 0
-    segments: int = 0   # on the path
-    faults: List[str] = field(default_factory=list)
+class Path(NamedTuple):
+    numbers: dict           # what spanprof_large tells of the text
+    places: List[Place]     # by their part of the span, then of the work
 
-    def places(self):
-        with open(self.table, **ENCODING) as file:
-            yield from map(place, file)
-
-    def add_up(self):
-        for found in self.places():
-            self.span += found.span
-            self.work += found.work
-            self.segments += found.segments
+    @property
+    def segments(self):
+        return sum(place.segments for place in self.places)
 
 
-class Programs(NamedTuple):
-    """The words that start spanprof_large, and the path of spanprof_path."""
-    large: List[str]
-    path: str
+def places_in(statements):
+    """Of each segment, in the order of their numbers, the name of its place; of the marks of a text."""
+    naming = Naming()
+    yield naming.place
+    for word, _, comment in statements:
+        if word == "work":
+            continue
+        if word == "}":
+            naming.end()
+        elif word == "taskwait":
+            naming.go_on(word, comment)
+        elif word in BLOCKS:
+            naming.begin(word, comment)
+        else:
+            raise Fault("`%s` is no statement of version 1, and other texts have no rows here" % word)
+        if word != "taskgroup":
+            yield naming.place
 
 
-def programs(large, tell):
-    return Programs(large, find_or_build(PROGRAM, FOLDERS, tell))
-
-
-def run(program, text, masked, table):
-    """Has the program write the masked text and its table."""
-    with open(table, "wb") as file:
-        done = subprocess.run([program, text, masked], stdin=subprocess.DEVNULL, stdout=file, stderr=subprocess.PIPE,
-                              check=False)
-    if done.returncode:
-        told = done.stderr.decode(errors="replace").strip()
-        raise Fault("spanprof_path: %s" % (told or "it ended with status %d" % done.returncode))
+def sum_by_place(names, rows):
+    """Of the places of the segments, and their rows."""
+    sums = {}
+    for name, row in zip_longest(names, rows):
+        if row is None or name is None:
+            raise Fault("spanprof_large slack tells %s rows than the text has segments" % ("more" if row else "fewer"))
+        cost, is_on_path = row
+        if name not in sums:
+            sums[name] = [0, 0, 0]
+        if cost:
+            sums[name][1] += cost
+        if is_on_path:
+            sums[name][0] += cost
+            sums[name][2] += 1
+    return sorted((Place(*numbers, name) for name, numbers in sums.items()),
+                  key=lambda place: (-place.span, -place.work, place.name))
 
 
 def disagreements(path):
-    """What is not as it has to be: three spans and a work that are one number, and all else as in the text."""
-    span = path.numbers["span"]
-    for what, number in (("the masked text's span", path.masked["span"]), ("the masked text's work",
-                         path.masked["work"]), ("the places' sum", path.span)):
-        if number != span:
-            yield "%s is %d, and the text's span is %d" % (what, number, span)
-    if path.work != path.numbers["work"]:
-        yield "the places' costs are %d, and the text's work is %d" % (path.work, path.numbers["work"])
-    for name in ("tasks", "segments"):
-        if path.masked[name] != path.numbers[name]:
-            yield "the masked text has %d %s, and the text %d" % (path.masked[name], name, path.numbers[name])
+    """Where the places do not add up to what spanprof_large tells of the text."""
+    for name in ("span", "work"):
+        found = sum(getattr(place, name) for place in path.places)
+        if found != path.numbers[name]:
+            yield "the places' %s is %d, and the text's %d" % (name, found, path.numbers[name])
 
 
-def other_line(text, masked):
-    with open(text, "rb") as lines, open(masked, "rb") as others:
-        number = first_other_line(lines, others)
-    return ["line %d of the masked text is not that of the text with costs 0" % number] if number else []
-
-
-def find_path(by, text, numbers, masked, table):
-    """A path of the text, of which spanprof_large has told the numbers. The masked text and the table are written to
-    the files of these names."""
-    run(by.path, text, masked, table)
-    path = Path(numbers, measure(by.large, masked), table)
-    path.add_up()
-    path.faults = list(disagreements(path)) + other_line(text, masked)
+def find_path(large, text, numbers):
+    """Of the text in a file, of which spanprof_large has told the numbers."""
+    with open_text(text) as lines:
+        path = Path(numbers, sum_by_place(places_in(marks(lines)), rows_of(large, text)))
+    faults = "; ".join(disagreements(path))
+    if faults:
+        raise Fault(faults)
     return path

@@ -14,12 +14,6 @@ class Place(NamedTuple):
     name: str
 
 
-def place(line):
-    """Of a line of spanprof_path's, which has the name as its rest."""
-    span, work, segments, name = line.rstrip("\n").split(" ", 3)
-    return Place(int(span), int(work), int(segments), name)
-
-
 def share(part, whole):
     return 100 * part / max(whole, 1)
 

@@ -1,17 +1,14 @@
 """A recording beyond the limits of the ten commands: its text is one for the program spanprof_large."""
 import os
-import tempfile
 from dataclasses import dataclass, field
-from itertools import islice
 
 from spanprof.account import account_beside, sums_of
 from spanprof.account_words import lines_of
 from spanprof.errors import Fault
 from spanprof.head import Head, head_text, read_head, with_function
 from spanprof.measure import HOW, measure
-from spanprof.path.found import find_path, programs
+from spanprof.path.found import find_path
 from spanprof.path.table import share
-from spanprof.record.console import tell
 from spanprof.record.summary import (MOST_PLACES, first_lines, grouped, lead_lines, lock_lines, named, remark_lines,
                                      title)
 from spanprof.whatif.large_lead import Bounded, large_lead
@@ -21,7 +18,7 @@ ASK = "spanprof-whatif tells what a change brings, and --places what can be chan
 
 @dataclass
 class LargeAnswers:
-    """The head of a text, and what spanprof_large tells of it; the heaviest places by spanprof_path."""
+    """The head of a text, and what spanprof_large tells of it; the heaviest places of a critical path."""
     name: str
     head: Head
     tasks: int = 0
@@ -38,14 +35,8 @@ def head_of(path):
 
 
 def heaviest_places(program, path, numbers):
-    """Those with the most of the span, on a path whose masked text spanprof_large has measured."""
-    by = programs(program, tell)
-    with tempfile.TemporaryDirectory(prefix="spanprof-record-") as folder:
-        masked, table = [os.path.join(folder, name) for name in ("masked.tasks", "table")]
-        found = find_path(by, path, numbers, masked, table)
-        if found.faults:
-            raise Fault("; ".join(found.faults))
-        return [place for place in islice(found.places(), MOST_PLACES) if place.span]
+    """Those with the most of the span, on the critical path that spanprof_large tells."""
+    return [place for place in find_path(program, path, numbers).places[:MOST_PLACES] if place.span]
 
 
 def answers(program, path):

@@ -1,12 +1,11 @@
-"""A text of any size with what spanprof_large answers of it, and the sums by place of spanprof_path."""
+"""A text of any size with what spanprof_large answers of it, and the sums by place of a critical path."""
 import os
 import re
-import tempfile
 from functools import cached_property
 
 from spanprof import client
 from spanprof.head import head_text, read_head
-from spanprof.path.found import find_path, programs
+from spanprof.path.found import find_path
 from spanprof.errors import Fault
 from spanprof.measure import HOW, measure, spanprof_large
 from spanprof.answers import LONGEST_CURVE, Asked
@@ -72,19 +71,15 @@ class LargeAnswers(Asked):
 
     @cached_property
     def on_the_path(self):
-        """Of each place, by its name, what spanprof_path tells; nothing where that program is not to be had."""
+        """Of each place, by its name, its sums; nothing where spanprof_large has no memory for the path."""
         try:
-            return self.path_of(programs(self.program, self.tell))
+            return self.path_of()
         except (Fault, OSError) as wrong:
             self.without_path = "span by place is left out: %s" % wrong
             return {}
 
-    def path_of(self, by):
+    def path_of(self):
         self.tell("spanprof-path " + self.name)
-        with tempfile.TemporaryDirectory(prefix="spanprof-report-") as folder:
-            masked, table = (os.path.join(folder, name) for name in ("masked.tasks", "table"))
-            found = find_path(by, self.path, self.span_numbers, masked, table)
-            if found.faults:
-                raise Fault("; ".join(found.faults))
-            self.asked.append("spanprof-path %s" % self.name)
-            return {place.name: place for place in found.places()}
+        found = find_path(self.program, self.path, self.span_numbers)
+        self.asked.append("spanprof-path %s" % self.name)
+        return {place.name: place for place in found.places}

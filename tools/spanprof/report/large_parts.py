@@ -25,9 +25,8 @@ def path_part(view):
     answers = view.answers
     if answers.without_path:
         return section("path", "Critical path", note(tag("span", answers.without_path, class_="given")))
-    found = note("A longest chain that a plain program has found, and spanprof_large has measured: the text with all "
-                 "costs off it set to nothing has the span of the text, and as much work ", badges(PROVED),
-                 ". Which places it is of is the plain program's word. Costs ", badges(view.cost_kind), ".")
+    found = note("The critical path that ", tag("code", "spanprof_large slack"), " shows ", badges(PROVED),
+                 ". What of it is at which place, a plain program adds up. Costs ", badges(view.cost_kind), ".")
     return section("path", "Critical path", found, by_place(view))
 
 

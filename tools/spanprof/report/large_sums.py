@@ -1,5 +1,4 @@
 """Sums over a text of any size in one pass: by place of code, and by place of tasks."""
-import re
 from array import array
 from dataclasses import dataclass, field
 from typing import Dict
@@ -7,11 +6,7 @@ from typing import Dict
 from spanprof.answers import OF_A_THREAD
 from spanprof.errors import Fault
 from spanprof.report.places import TaskPlace
-from spanprof.text import Naming, statements
-
-ENCODING = {"encoding": "utf-8", "errors": "replace", "newline": "\n"}
-MOST_KNOWN = 100000  # lines whose marks are kept
-BLOCK = re.compile(r"(taskgroup|task)(?: [\w(): ,]*)?\{(?: *#(.*))?")
+from spanprof.text import Naming, marks, open_text
 
 
 @dataclass
@@ -29,48 +24,6 @@ class Sums:
     parts: int = 0
 
 
-class Unusual(Exception):
-    """A line is not one statement, as the recorder writes it."""
-
-
-def mark_of(line):
-    """Kind, cost and comment of a line that is one statement; nothing of an empty line."""
-    code = line.strip()
-    if code.startswith("work "):
-        return "work", int(code[5:]), ""
-    if code == "}":
-        return "end", 0, ""
-    if code.startswith("taskwait"):
-        return "taskwait", 0, code.partition("#")[2].strip()
-    block = BLOCK.fullmatch(code)
-    if code and not block:
-        raise Unusual(line)
-    return (block[1], 0, (block[2] or "").strip()) if block else ()
-
-
-def usual_marks(lines):
-    """The marks of a text of the recorder's, in which most lines stand many times."""
-    for line in lines:
-        if line.strip() == "omptasks 1":
-            break
-        if not line.startswith("#"):
-            raise Unusual(line)
-    known = {}
-    for line in lines:
-        mark = known.get(line)
-        if mark is None:
-            mark = mark_of(line)
-            if len(known) < MOST_KNOWN:
-                known[line] = mark
-        if mark:
-            yield mark
-
-
-def any_marks(lines):
-    for one in statements(lines):
-        yield one.kind, one.cost, one.comment
-
-
 class Summing:
     """Goes over marks; of each open task its place, its cost, that of its running segment, and its place's number."""
 
@@ -85,8 +38,8 @@ class Summing:
         self.out.of_segment.append(self.open[-1][3])
         self.open[-1][2] = 0
 
-    def work(self, cost, _):
-        running = self.open[-1]
+    def work(self, code, _):
+        cost, running = int(code), self.open[-1]
         self.code.cost += cost
         running[1] += cost
         running[2] += cost
@@ -122,19 +75,19 @@ class Summing:
         return self.out
 
 
-def sums_of(marks):
+def sums_of(statements):
+    """Of the marks of a text."""
     summing = Summing()
-    does = {kind: getattr(summing, kind) for kind in ("work", "taskwait", "taskgroup", "task", "end")}
-    for kind, cost, comment in marks:
-        does[kind](cost, comment)
+    does = {"work": summing.work, "taskwait": summing.taskwait, "taskgroup": summing.taskgroup, "task": summing.task,
+            "}": summing.end}
+    for word, code, comment in statements:
+        does[word](code, comment)
     return summing.finish()
 
 
 def sums_in(path):
-    for marks in (usual_marks, any_marks):
-        try:
-            with open(path, **ENCODING) as lines:
-                return sums_of(marks(lines))
-        except (Unusual, ValueError):
-            continue
-    raise Fault("%s is no text of version 1" % path)
+    try:
+        with open_text(path) as lines:
+            return sums_of(marks(lines))
+    except (KeyError, IndexError, ValueError) as wrong:
+        raise Fault("%s is no text of version 1" % path) from wrong

@@ -29,8 +29,8 @@ class Files(InFolder):
         check_files(text, os.path.join(self.folder, "other.tasks"))
         with self.assertRaisesRegex(Fault, "none.tasks: no such file"):
             check_files("none.tasks")
-        with self.assertRaisesRegex(Fault, "the masked text would be written over the text"):
-            check_files(text, os.path.join(self.folder, ".", "mine.tasks"), "masked")
+        with self.assertRaisesRegex(Fault, "the burdened text would be written over the text"):
+            check_files(text, os.path.join(self.folder, ".", "mine.tasks"), "burdened")
 
     def test_the_order_in_which_programs_are_looked_for(self):
         place = self.program("spanprof_large", "")

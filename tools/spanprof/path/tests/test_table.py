@@ -1,14 +1,10 @@
 import io
 import unittest
 
-from spanprof.path.table import HEADS, MOST_ROWS, Place, lines, place, write_csv
+from spanprof.path.table import HEADS, MOST_ROWS, Place, lines, write_csv
 
 
 class Tables(unittest.TestCase):
-    def test_a_line_of_the_program(self):
-        self.assertEqual(place("7 8 2 after taskwait at a.c:3, b\n"), Place(7, 8, 2, "after taskwait at a.c:3, b"))
-        self.assertEqual(place("0 0 1 the beginning\n"), Place(0, 0, 1, "the beginning"))
-
     def test_what_is_shown(self):
         places = [Place(30, 50, 2, "a task"), Place(0, 2, 0, "b"), Place(0, 1, 0, "c"), Place(0, 0, 3, "d")]
         self.assertEqual(list(lines(places, 200, 40)), [

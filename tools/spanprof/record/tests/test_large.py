@@ -58,11 +58,8 @@ class Verdict(unittest.TestCase):
 
 
 class Heaviest(unittest.TestCase):
-    def heaviest(self, places, faults=()):
-        found = mock.Mock(faults=list(faults))
-        found.places.return_value = iter(places)
-        with mock.patch("spanprof.record.large.programs"), \
-                mock.patch("spanprof.record.large.find_path", return_value=found):
+    def heaviest(self, places):
+        with mock.patch("spanprof.record.large.find_path", return_value=mock.Mock(places=places)):
             return large.heaviest_places(["large"], "mine.large.tasks", {"span": 30})
 
     def test_the_first_three(self):
@@ -70,10 +67,6 @@ class Heaviest(unittest.TestCase):
 
     def test_those_off_the_path_are_left_out(self):
         self.assertEqual(self.heaviest([PLACES[0], Place(0, 90, 0, "b")]), PLACES[:1])
-
-    def test_numbers_that_do_not_agree(self):
-        with self.assertRaisesRegex(Fault, "the masked text's span is 3; line 4"):
-            self.heaviest(PLACES, ["the masked text's span is 3", "line 4"])
 
 
 if __name__ == "__main__":

@@ -48,7 +48,7 @@ class OfAnySize(unittest.TestCase):
         fake, here = Fake(self.small), "spanprof.report.large_answers."
         patches = [worked.patched(), mock.patch(here + "spanprof_large", return_value=["large"]),
                    mock.patch(here + "measure", fake.measure), mock.patch(here + "ask_large", fake.bounds),
-                   mock.patch(here + "LargeAnswers.path_of", fake.path), mock.patch(here + "programs"),
+                   mock.patch(here + "LargeAnswers.path_of", fake.path),
                    mock.patch("spanprof.report.large_times.greedy_rows", self.greedy_rows)]
         for patch in patches:
             patch.start()
@@ -93,8 +93,8 @@ class OfAnySize(unittest.TestCase):
         self.assertIn("idle though a task was ready", page(view))
 
     def test_without_a_path_it_says_so(self):
-        with mock.patch("spanprof.report.large_answers.LargeAnswers.path_of", side_effect=Fault("no g++")):
-            self.assertIn("span by place is left out: no g++", page(self.view()))
+        with mock.patch("spanprof.report.large_answers.LargeAnswers.path_of", side_effect=Fault("no memory")):
+            self.assertIn("span by place is left out: no memory", page(self.view()))
 
     def test_a_timeline_where_there_are_times(self):
         with tempfile.TemporaryDirectory() as folder:

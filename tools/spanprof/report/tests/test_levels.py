@@ -5,10 +5,11 @@ from types import SimpleNamespace
 
 from spanprof.head import Head
 from spanprof.report.large_levels import Levels, bins_for
-from spanprof.report.large_sums import sums_of, usual_marks
+from spanprof.report.large_sums import sums_of
 from spanprof.report.large_times import NoTimes, colours, levels_in
 from spanprof.report.places import TaskPlace
 from spanprof.report.timeline_data import DIGITS
+from spanprof.text import marks
 
 TEXT = ["omptasks 1\n", "work 2\n", "task {  # a.c:3\n", "work 5\n", "}\n", "work 1\n"]
 
@@ -49,7 +50,7 @@ class Times(unittest.TestCase):
     def setUp(self):
         self.folder = tempfile.TemporaryDirectory()
         self.addCleanup(self.folder.cleanup)
-        self.answers = SimpleNamespace(name="a.tasks", head=Head(threads=3), sums=sums_of(usual_marks(iter(TEXT))))
+        self.answers = SimpleNamespace(name="a.tasks", head=Head(threads=3), sums=sums_of(marks(TEXT)))
 
     def levels(self, *lines):
         path = os.path.join(self.folder.name, "a.times")
