@@ -178,6 +178,6 @@ class Bench:
             verdict, tried = examined.verdict(log, conditions)
             tally.coverage.update(tried)
             if not verdict.accepted:
-                told = explain(examined.text, verdict, log)
+                told = explain(examined.text, verdict, log, conditions.threads)
                 tally.failures.append(Failure(examined.case, conditions, verdict, told.rule, told.words, log))
         return self.expectations.settled(tally)

@@ -29,12 +29,12 @@ class Explanation:
     words: str  # the whole story in a few lines
 
 
-def explain(text, verdict, log):
-    """What a verdict other than accepted means."""
+def explain(text, verdict, log, threads=0):
+    """What a verdict other than accepted means, of a run on so many threads, or on some number that is not known."""
     if verdict.kind == "refused" and verdict.detail.startswith("event "):
         return refused(Table(read_program(text)), verdict.detail, log)
     if verdict.kind in ("hung", "incomplete", "crashed"):
-        return stopped(Table(read_program(text)), verdict, log)
+        return stopped(Table(read_program(text)), verdict, log, threads)
     if log and log.unlogged and verdict.kind == "refused":
         return Explanation("twice", verdict.detail)
     return Explanation(verdict.detail if verdict.kind == "refused" else verdict.kind, verdict.detail)
@@ -75,10 +75,10 @@ def reason_of(table, need, after):
            f"task {first.number}"
 
 
-def stopped(table, verdict, log):
+def stopped(table, verdict, log, threads):
     """Where a run stood that did not come to its end. Hangs are told apart by where they stand, breakdowns by what the
     runtime said."""
-    standing = Standing(table, log.events)
+    standing = Standing(table, log.events, threads)
     detail = f" ({verdict.detail})" if verdict.detail and verdict.kind != "incomplete" else ""
     words = [f"{verdict.kind.capitalize()}{detail}, with {len(standing.finished)} of {len(table.cost)} segments "
              "finished."]

@@ -21,6 +21,7 @@ class Made:
     head: str
     final_inside: bool
     tied: bool = True       # as far as the log tells: not where parts of the text run in another task's place
+    detached: bool = False  # whether an event completes it, which its one child fulfils
     exclusive: frozenset = frozenset()  # the locations on which other tasks must not run at the same time
     implicit: bool = False  # whether it stands for a part of an implicit task of a region
     cancels: bool = False   # whether it asks to cancel its group
@@ -118,7 +119,8 @@ class Table:
         child = self.begin(parent, parent.segments[-1], undeferred, items, head_of(node),
                            node.final or parent.final_inside)
         child.cancels, child.cancellers = "cancels" in node.clauses, self.cancellers
-        child.tied = "untied" not in node.clauses and not (is_detached(node) and not parent.final_inside)
+        child.detached = is_detached(node) and not parent.final_inside
+        child.tied = "untied" not in node.clauses and not child.detached
         child.exclusive = frozenset(place for kind, place in items if kind_in_c(kind, node) == "mutexinoutset")
         self.walk(node.body, child, loops)
         self.open(parent, Cut("undeferred", undeferred, (child,) if undeferred else ()))

@@ -4,13 +4,15 @@ import re
 MOST_SEARCHED = 1000  # segments of a program whose ready segments are looked for
 MOST_NAMED = 3        # constructs that tell hangs apart
 BELOW = " below its waiter"
+NO_WAITER = " that no thread waits for"
 
 
 class Standing:
-    """What a log says of a program, given its table of segments."""
+    """What a log says of a program, given its table of segments and the number of threads, or 0 where it is not
+    known."""
 
-    def __init__(self, table, events):
-        self.table = table
+    def __init__(self, table, events, threads=0):
+        self.table, self.threads = table, threads
         pairs = [line.split() for line in events if line != "overflow"]
         self.last = {table.task_of[int(s)].number: (place, worker) for place, (_, worker, s) in enumerate(pairs)
                      if int(s) < len(table.task_of)}  # of each task, its last event's place and thread
@@ -18,6 +20,7 @@ class Standing:
         self.finished = {int(segment) for what, _, segment in pairs if what == "finish"}
         self.running = [s for s in self.started if s not in self.finished]
         self.ready = self.ready_segments()
+        self.stacks = stacks_of(table, pairs)
 
     def ready_segments(self):
         """The segments that might have been started; none are looked for in a large program."""
@@ -32,7 +35,23 @@ class Standing:
         task, cut = self.table.task_of[segment], self.table.cut[segment]
         if segment != task.segments[0]:
             return cut.construct + BELOW * self.is_below_waiter(task) if cut.construct else "after a task"
+        if task.parent and task.parent.detached:
+            return "begin of the child of detach" + NO_WAITER * self.is_nothing_waited_for()
         return "begin of a task with depend" if task.items else "begin of a task"
+
+    def is_nothing_waited_for(self):
+        """Whether each thread of the team waits inside of a task, and none at a barrier, for tasks that cannot
+        begin."""
+        return 0 < self.threads <= sum(self.waits_in_vain(stack[-1]) for stack in self.stacks.values() if stack)
+
+    def waits_in_vain(self, task):
+        """Whether a task that has begun is at a wait for tasks that cannot begin. The end of a region is no wait
+        inside of a task."""
+        left = next((s for s in task.segments if s not in self.finished), None)
+        if left is None or left in self.started or left in self.ready:
+            return False
+        cut = self.table.cut[left]
+        return cut.construct not in ("", "parallel") and not any(t.segments[0] in self.ready for t in cut.tasks)
 
     def is_below_waiter(self, task):
         """Whether the thread that has left a task has gone on with an untied one that waits for it: then the first lies
@@ -55,6 +74,21 @@ class Standing:
         if self.running:
             return "inside a segment"
         return "end of the region" if len(self.finished) == len(self.table.cost) else "somewhere"
+
+
+def stacks_of(table, pairs):
+    """By thread, the tasks that have begun there and whose code has not ended, the latest last."""
+    stacks = {}
+    for what, thread, segment in pairs:
+        task = table.task_of[int(segment)] if int(segment) < len(table.task_of) else None
+        if not task:
+            continue
+        if what == "start" and int(segment) == task.segments[0]:
+            stacks.setdefault(thread, []).append(task)
+        elif what == "finish" and int(segment) == task.segments[0 if task.detached else -1]:
+            for stack in stacks.values():
+                stack[:] = [other for other in stack if other is not task]
+    return stacks
 
 
 def without_places(breakdown):

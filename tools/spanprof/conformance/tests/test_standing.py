@@ -12,6 +12,13 @@ def standing(text, *segments, running=()):
     return Standing(Table(body_of(text)), events)
 
 
+def moved_on(events):
+    """The events of a program before which a task of one segment stands, which has not begun."""
+    words = [event.split() for event in events]
+    later = [f"{what} {thread} {int(s) + 2 if int(s) else 0}" for what, thread, s in words]
+    return later[:2] + ["start 0 2", "finish 0 2"] + later[2:]
+
+
 class Places(unittest.TestCase):
     def test_the_construct_that_does_not_go_on(self):
         self.assertEqual(standing("task { } taskwait", 0, 1, 2).places(), "taskwait")
@@ -39,6 +46,25 @@ class Places(unittest.TestCase):
         self.assertEqual(places(text, "start 2 4", "finish 2 4"), "taskyield below its waiter, after a task")
         self.assertEqual(places(text, "start 1 4", "finish 1 4"), "after a task, taskyield")
         self.assertEqual(places(text.replace("#: untied", ""), "start 2 4", "finish 2 4"), "after a task, taskyield")
+
+    def test_the_child_of_detach_that_no_thread_waits_for(self):
+        # Segments: 0, 7 and 8 the root; 1, 5 and 6 the outer task; 2 and 4 the one with detach; 3 its child.
+        text = "task { task { #: detach\n task if(0) { } } taskwait } taskwait"
+        events = [f"{what} {run}" for run in ("0 0", "1 1", "0 7", "1 5", "1 2") for what in ("start", "finish")]
+
+        def place(threads, text=text, events=events):
+            return Standing(Table(body_of(text)), events, threads).places()
+
+        self.assertEqual(place(2), "begin of the child of detach that no thread waits for")
+        self.assertEqual(place(2, text.replace("task {", "task { #: untied\n", 1)), place(2))
+        for threads in (0, 3):  # it is not known whether a thread is free, or one is
+            self.assertEqual(place(threads), "begin of the child of detach")
+        at_barrier = text.removesuffix(" taskwait")
+        self.assertEqual(place(2, at_barrier), "begin of the child of detach")
+        # Thread 0 waits for another task too, which could begin: it should have run that.
+        other = "task { } " + text
+        self.assertEqual(place(2, other, [event.replace(" 0 7", " 0 9") for event in moved_on(events)]),
+                         "begin of a task, begin of the child of detach")
 
     def test_without_anything_ready(self):
         self.assertEqual(standing("work 1", 0).places(), "end of the region")
