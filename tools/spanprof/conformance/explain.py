@@ -21,6 +21,7 @@ KINDS = {
     "UnknownWorker": ("unknown", "spanprof counts 64 threads"),
 }
 MOST_RUNNING, MOST_READY = 3, 5  # segments that are named
+CUT_SHORT = "rest of an untied task beside a cancelled group"
 
 
 @dataclass
@@ -52,8 +53,25 @@ def refused(table, detail, log):
         return Explanation(rule, f"{begin}, which is {kind}. The rule: {meaning}.")
     need = table.need(int(others[0]), int(segment))
     rule, why = (need.rule, reason_of(table, need, int(segment))) if need else ("order", "by several rules together")
-    return Explanation(rule, f"{begin} before {table.name_of(int(others[0]))} has finished: {why}. "
+    short = CUT_SHORT if is_cut_short(table, int(others[0]), started_in(log)) else rule
+    return Explanation(short, f"{begin} before {table.name_of(int(others[0]))} has finished: {why}. "
                              f"The rule: {RULES[rule]}.")
+
+
+def started_in(log):
+    """The segments that have begun in a log."""
+    return {int(event.split()[2]) for event in log.events if event.startswith("start ")}
+
+
+def is_cut_short(table, segment, started):
+    """Whether a segment never runs since it is the rest of an untied task that has begun, or is made by that, where the
+    task belongs to a group that is cancelled, or has one in its own code. What has started is told."""
+    task = table.task_of[segment]
+    if segment in started or not task.parent:
+        return False
+    if task.segments[0] not in started:
+        return is_cut_short(table, task.creator, started)
+    return not task.tied and bool(task.cancellers or any(child.cancellers for child in task.children))
 
 
 def reason_of(table, need, after):
@@ -84,5 +102,8 @@ def stopped(table, verdict, log, threads):
              "finished."]
     words += [f"Running: {table.name_of(s)}." for s in standing.running[:MOST_RUNNING]]
     words += [f"Ready, but not started: {table.name_of(s)}." for s in standing.ready[:MOST_READY]]
-    rules = {"hung": f"at {standing.places()}", "crashed": without_places(verdict.detail)}
+    left = set(range(len(table.cost))) - standing.finished
+    is_short = all(is_cut_short(table, segment, set(standing.started)) for segment in left)
+    rules = {"hung": f"at {standing.places()}", "crashed": without_places(verdict.detail),
+             "incomplete": CUT_SHORT if is_short else "incomplete"}
     return Explanation(rules.get(verdict.kind, verdict.kind), " ".join(words))

@@ -1,9 +1,11 @@
 """What is said of a run that was not accepted."""
 import unittest
 
-from spanprof.conformance.explain import RULES, explain
+from spanprof.conformance.explain import CUT_SHORT, RULES, explain
 from spanprof.conformance.judge import Verdict
 from spanprof.conformance.launch import Log
+from spanprof.conformance.reader import read_program
+from spanprof.conformance.segments import Table
 
 WORKED = "omptasks 1\nwork 5 task { work 3 } work 2 taskwait work 1\n"
 DEPENDENCE = "omptasks 1\ntask depend(out: x) { } task depend(in: x) { }\n"
@@ -57,6 +59,34 @@ class Refusals(unittest.TestCase):
         self.assertEqual(told(WORKED, "another record than that of `run`", "start 0 0").rule,
                          "another record than that of `run`")
         self.assertEqual(told(WORKED, "digest 1 and not 2", "start 0 0", kind="values").rule, "values")
+
+
+class Untied(unittest.TestCase):
+    """Segment 1 is the first of an untied task."""
+
+    def test_the_rest_beside_a_cancelled_group(self):
+        text = "omptasks 1 taskgroup { task { #: untied\n task { task { } } taskwait } task { #: cancels\n } }"
+        table = Table(read_program(text))
+        rest, end = table.tasks[1].segments[-1], table.tasks[0].segments[-1]
+        begun = [f"{what} 0 {s}" for s in (0, 1) for what in ("start", "finish")]
+
+        def rule(text, before, *events):
+            log = Log(0, "plain", [*begun, *events, f"start 0 {end}"], "done")
+            return explain(text, Verdict("refused", f"event {len(log.events) - 1}: NotReady {before}"), log).rule
+
+        self.assertEqual(rule(text, rest), CUT_SHORT)
+        self.assertEqual(rule(text, rest, f"start 1 {rest}"), "taskgroup")  # it runs, but too late
+        self.assertEqual(rule(text.replace("#: untied", ""), rest), "taskgroup")
+        self.assertEqual(rule(text.replace("#: cancels", ""), rest), "taskgroup")
+        child = table.tasks[2].segments[0]  # of it, which the first part creates: it may have been left out by itself
+        self.assertNotEqual(rule(text, child), CUT_SHORT)
+
+    def test_nothing_waits_for_the_rest(self):
+        text = "omptasks 1 task { #: untied\n taskgroup { task { #: cancels\n } task { } } }"
+        events = [f"{what} 0 {s}" for s in (0, 1, 2, 7) for what in ("start", "finish")]
+        kinds = {rule.rule for rule in (explain(text, Verdict("incomplete"), Log(0, "plain", some, "done"))
+                                        for some in (events, events[:-2]))}
+        self.assertEqual(kinds, {CUT_SHORT, "incomplete"})
 
 
 class Stops(unittest.TestCase):
