@@ -18,6 +18,7 @@ from dataclasses import dataclass
 CALLS = pathlib.Path(__file__).resolve().parents[2] / "recorders" / "runtime_calls"
 SECONDS = 20  # until a test counts as failed on the runtime as it is; the slowest takes two alone
 LEAST, TIMES_AS_LONG = 5, 10  # on a mutant: so many seconds at least, or so many times as long
+PATIENCE = 4  # times as long, where a test has not ended in its time
 
 
 def options_of(words=None):
@@ -27,6 +28,7 @@ def options_of(words=None):
     add("out", type=pathlib.Path, help="what failed")
     add("--jobs", type=int, default=2, help="tests that run side by side (2)")
     add("--only", type=lambda words: words.split(","), default=[], help="these mutants alone")
+    add("--no-cpp", dest="cpp", action="store_false", help="leave out the tests in C++, which take longest to build")
     add("--enough", type=int, default=0, help="go on to the next mutant once so many tests have failed (0: run all)")
     return parser.parse_args(words)
 
@@ -51,14 +53,20 @@ class Test:
         return self.program.name
 
 
-def passes(test, library):
-    """Whether a test ends with status 0 in time on a library."""
+def status_of(test, library, seconds):
+    """The status with which a test ends on a library, or None where it takes longer."""
     environment = {**os.environ, "LD_PRELOAD": str(library)}
     try:
-        done = subprocess.run([test.program], env=environment, capture_output=True, timeout=test.seconds, check=False)
+        done = subprocess.run([test.program], env=environment, capture_output=True, timeout=seconds, check=False)
     except subprocess.TimeoutExpired:
-        return False
-    return done.returncode == 0
+        return None
+    return done.returncode
+
+
+def passes(test, library):
+    """Whether a test ends with status 0 in time on a library. What may only have been slow gets more time once."""
+    status = status_of(test, library, test.seconds)
+    return (status_of(test, library, PATIENCE * test.seconds) if status is None else status) == 0
 
 
 def timed(test, library):
@@ -82,12 +90,13 @@ def failed(tests, library, jobs, enough=0):
     return sorted(wrong)
 
 
-def build_tests(folder, jobs):
-    """The tests that the compiler takes, as programs in a folder."""
+def build_tests(folder, jobs, cpp=True):
+    """The tests that the compiler takes, as programs in a folder; those in C alone where `cpp` is not."""
     sys.path.insert(0, str(CALLS))
     import testsuite
 
     sources = testsuite.programs(testsuite.unpack(testsuite.archive(), str(folder)))
+    sources = [source for source in sources if cpp or not source.is_cpp]
     with concurrent.futures.ThreadPoolExecutor(jobs) as pool:
         return [Test(program) for program in pool.map(lambda source: compiled(source, folder), sources) if program]
 
@@ -109,7 +118,7 @@ def main():
     options = options_of()
     with tempfile.TemporaryDirectory(prefix="own-tests-") as folder:
         (_, plain), *mutants = libraries(options.folder, options.only)
-        built, seen = build_tests(pathlib.Path(folder), options.jobs), {}
+        built, seen = build_tests(pathlib.Path(folder), options.jobs, options.cpp), {}
         tests = usable(built, plain, options.jobs)
         print(f"{len(tests)} tests; {len(built) - len(tests)} left out, which fail on the runtime as it is", flush=True)
         for name, library in mutants:

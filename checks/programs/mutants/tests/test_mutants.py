@@ -130,6 +130,8 @@ class OwnTests(unittest.TestCase):
             self.assertEqual(own_tests.usable([test], "bad.so", 1), [])
             program.write_text("#!/bin/sh\nexec sleep 9\n")
             self.assertFalse(own_tests.passes(own_tests.Test(program, .1), ""))
+            program.write_text("#!/bin/sh\n[ -f $0.begun ] || { touch $0.begun; exec sleep 99; }\n")
+            self.assertTrue(own_tests.passes(own_tests.Test(program, 2), ""))  # slow once
 
     def test_libraries(self):
         with tempfile.TemporaryDirectory() as folder:
