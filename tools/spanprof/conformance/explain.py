@@ -55,7 +55,7 @@ def refused(table, detail, log):
     rule, why = (need.rule, reason_of(table, need, int(segment))) if need else ("order", "by several rules together")
     short = CUT_SHORT if is_cut_short(table, int(others[0]), started_in(log)) else rule
     return Explanation(short, f"{begin} before {table.name_of(int(others[0]))} has finished: {why}. "
-                             f"The rule: {RULES[rule]}.")
+                              f"The rule: {RULES[rule]}.")
 
 
 def started_in(log):
