@@ -5,8 +5,8 @@
     repeated_lines.py --list [N]  the N longest runs of lines that stand twice (20), each with its places
 
 A line is repeated where it is one of six lines in a row that stand, word for word, somewhere else too. Layout does not
-count, nor do blank lines, imports, lines without a word, and the lines of a function's parameters, since what implements
-a trait has to repeat them. Crates of tests are left out.
+count, nor do blank lines, imports and lines without a word. Parameters of functions do not count either, since whatever
+implements a trait has to repeat them. Crates of tests are left out.
 """
 import collections
 import pathlib

@@ -19,7 +19,6 @@ class Counted(unittest.TestCase):
         text = "use a.{b}\nuse c::{\n    d,\n};\npub ghost use e;\npub mod f\nuseful = 1\n"
         self.assertEqual(counted(text), [(7, "useful = 1")])
 
-
     def test_parameters_do_not_count(self):
         text = "    pub fn made(\n        &mut self,\n        line: u32,\n    ) -> u32\n{\n    line + 1\n"
         self.assertEqual(counted(text), [(1, "pub fn made("), (6, "line + 1")])
