@@ -1,6 +1,6 @@
-// calls LIBRARY TASKS: loads a tool as a runtime of OpenMP does, and makes the calls of so many tasks on one thread:
-// a creation, a beginning and an end each, and for every other task a wait. Prints the processor time of a task in
-// nanoseconds, which says what the tool itself takes, also on a machine that does other things.
+// calls LIBRARY TASKS [REGIONS]: loads a tool as a runtime of OpenMP does, and makes the calls of so many tasks in each of
+// one region or more, on one thread: a creation, a beginning and an end each, and for every other task a wait. Prints the
+// processor time of a task in nanoseconds, which says what the tool itself takes, also on a machine that does other things.
 #include <dlfcn.h>
 #include <omp-tools.h>
 #include <stdio.h>
@@ -26,19 +26,22 @@ static double processor_time(void) {
 }
 
 static const void *code;  // of all constructs: outside of this program, which stands for the runtime
-static ompt_data_t region, root;
+static ompt_data_t region, root, initial;
+
+static void implicit_task(ompt_scope_endpoint_t endpoint, ompt_data_t *of, ompt_data_t *task, int flags) {
+    ((ompt_callback_implicit_task_t)calls[ompt_callback_implicit_task])(endpoint, of, task, 1, 0, flags);
+}
 
 static void begin_region(void) {
-    ompt_data_t initial = {0};
     ((ompt_callback_parallel_begin_t)calls[ompt_callback_parallel_begin])(&initial, 0, &region, 2, 0, exit);
-    ((ompt_callback_implicit_task_t)calls[ompt_callback_implicit_task])(ompt_scope_begin, &region, &root, 2, 0,
-                                                                        ompt_task_implicit);
+    root.value = 0;
+    implicit_task(ompt_scope_begin, &region, &root, ompt_task_implicit);
 }
 
 static void end_region(void) {
-    ompt_data_t initial = {0};
     ((ompt_callback_sync_region_t)calls[ompt_callback_sync_region])(ompt_sync_region_barrier_implicit_parallel,
                                                                     ompt_scope_begin, &region, &root, code);
+    implicit_task(ompt_scope_end, 0, &root, ompt_task_implicit);
     ((ompt_callback_parallel_end_t)calls[ompt_callback_parallel_end])(&region, &initial, 0, code);
 }
 
@@ -59,19 +62,24 @@ static void make_tasks(long count) {
 }
 
 int main(int count, char **words) {
-    void *library = count == 3 ? dlopen(words[1], RTLD_NOW) : 0;
+    void *library = count == 3 || count == 4 ? dlopen(words[1], RTLD_NOW) : 0;
     typedef ompt_start_tool_result_t *start_tool(unsigned, const char *);
     start_tool *start = library ? (start_tool *)dlsym(library, "ompt_start_tool") : 0;
     ompt_start_tool_result_t *tool = start ? start(201811, "calls") : 0;
-    if (!tool) return fprintf(stderr, "usage: calls LIBRARY TASKS\n"), 2;
+    if (!tool) return fprintf(stderr, "usage: calls LIBRARY TASKS [REGIONS]\n"), 2;
     tool->initialize(look_up, 0, &tool->tool_data);
     code = (const void *)printf;
-    begin_region();
-    long tasks = atol(words[2]);
-    double began = processor_time();
-    make_tasks(tasks);
-    printf("%.1f\n", (processor_time() - began) / tasks);
-    end_region();
+    implicit_task(ompt_scope_begin, 0, &initial, ompt_task_initial);
+    long tasks = atol(words[2]), regions = count == 4 ? atol(words[3]) : 1;
+    double spent = 0;
+    for (long i = 0; i < regions; i++) {
+        begin_region();
+        double began = processor_time();
+        make_tasks(tasks);
+        spent += processor_time() - began;
+        end_region();
+    }
+    printf("%.1f\n", spent / tasks / regions);
     tool->finalize(&tool->tool_data);
     return 0;
 }

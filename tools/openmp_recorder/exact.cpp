@@ -86,7 +86,7 @@ class Folder {
   Task &child(Task &maker, const Task &like);
   void work(Task &t, int64_t cost);
   void step(Task &t, Step step);
-  void fillers(Task &maker, const Task &like, int64_t rest, int64_t longest);
+  Task *fillers(Task &maker, const Task &like, int64_t rest, int64_t longest);
   void body(Task &to, const Task &from);
   void fold(Task &maker, const Task &t);
   void fold_row(Task &maker, const Row &row);
@@ -121,8 +121,15 @@ Task &Folder::child(Task &maker, const Task &like) {
   return t;
 }
 
-void Folder::fillers(Task &maker, const Task &like, int64_t rest, int64_t longest) {
-  for (; rest > 0; rest -= longest) work(child(maker, like), std::min(rest, longest));
+// The first of them, if there is one.
+Task *Folder::fillers(Task &maker, const Task &like, int64_t rest, int64_t longest) {
+  Task *first = nullptr;
+  for (; rest > 0; rest -= longest) {
+    Task &filler = child(maker, like);
+    if (!first) first = &filler;
+    work(filler, std::min(rest, longest));
+  }
+  return first;
 }
 
 // The code of a task that has the same work, and the same ends of its own code and of all below it.
@@ -147,12 +154,12 @@ void Folder::fold(Task &maker, const Task &t) {
 
 // The same in a row: the one that ends last is made when it was, and fillers at the row's beginning end no later.
 void Folder::fold_row(Task &maker, const Row &row) {
-  size_t before = made.tasks.size();
-  fillers(maker, *row.first, row.work - row.longest(), row.end);
+  Task *first = fillers(maker, *row.first, row.work - row.longest(), row.end);
   work(maker, row.at);
-  work(child(maker, *row.first), row.longest());
+  Task &longest = child(maker, *row.first);
+  work(longest, row.longest());
   work(maker, row.between - row.at);
-  made.tasks[before].stands_for = static_cast<unsigned>(row.tasks);
+  (first ? *first : longest).stands_for = static_cast<unsigned>(row.tasks);
   made.remarks[Remark::FoldedExactly].add(row.first->code);
 }
 

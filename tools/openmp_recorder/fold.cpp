@@ -119,6 +119,15 @@ void add_up_steps(Task &t) {
 }
 }  // namespace
 
+void Size::add(const Size &next) {
+  tasks += next.tasks;
+  segments += next.segments - 1;  // the root's first
+  blocks = std::max(blocks, next.blocks);
+  items = std::max(items, next.items);
+  largest = std::max(largest, next.largest);
+  total += next.total;
+}
+
 void add_up(Region &region) {
   for (Task &t : region.tasks) add_up_steps(t);
   for (auto t = region.tasks.rbegin(); t != region.tasks.rend(); ++t)

@@ -7,6 +7,7 @@
 #include <vector>
 
 #include "json.hpp"
+#include "stretches.hpp"
 #include "text.hpp"
 
 namespace {
@@ -97,37 +98,17 @@ void Head::covered(const Region &region, const ThreadTime &threads) {
 
 // The thread-time in the text over that of the program.
 void Head::covered_of_whole(const WholeProgram &program, const ThreadTime &threads) {
-  int64_t all = in_units(threads.all()), text = std::min(in_units(program.root->total), all);
+  int64_t all = in_units(threads.all()), text = std::min(in_units(program.work), all);
   if (!all) return;
   covers(text, all, threads.whole);
   line("not covered", Object().put("of the program", all - text));
 }
-
-// What the parts of each phase cost with their tasks, but for the longest of it, and without chunks of loops.
-struct Beside {
-  size_t parts = 0;
-  int64_t cost = 0;
-};
 
 int64_t without_chunks(const Task &part) {
   int64_t cost = part.total;
   for (const Step &step : part.steps)
     if (step.kind == Kind::Create && step.child()->pieces) cost -= step.child()->total;
   return cost;
-}
-
-Beside beside_each_other(const Region &region) {
-  std::map<unsigned, std::vector<int64_t>> phases;
-  for (const Part &part : region.parts)
-    if (part.task->parent && !part.task->pieces) phases[part.phase].push_back(without_chunks(*part.task));
-  Beside out;
-  for (auto &[number, costs] : phases) {
-    if (costs.size() < 2) continue;
-    out.parts += costs.size();
-    for (int64_t cost : costs) out.cost += cost;
-    out.cost -= *std::max_element(costs.begin(), costs.end());
-  }
-  return out;
 }
 
 // What was divided among as many threads as this run had.
@@ -138,7 +119,8 @@ void Head::divided(const Region &region) {
     Object told = begin(what == Divided::Loops ? "loops" : "sections");
     line("divided", put_seen(told, met, places));
   }
-  Beside beside = beside_each_other(region);
+  Beside beside = beside_each_other(region.parts);
+  if (region.before) beside.add(region.before->beside);
   if (beside.parts) line("divided", begin("code").put("parts", beside.parts).put("beside", in_units(beside.cost)));
 }
 
@@ -228,6 +210,20 @@ void Head::remarks(const Region &region) {
   for (auto &[what, seen] : region.remarks) words += "# remark: " + remark_in_json(what, seen, places) + "\n";
 }
 }  // namespace
+
+Beside beside_each_other(const std::vector<Part> &parts) {
+  std::map<unsigned, std::vector<int64_t>> phases;
+  for (const Part &part : parts)
+    if (part.task->parent && !part.task->pieces) phases[part.phase].push_back(without_chunks(*part.task));
+  Beside out;
+  for (auto &[number, costs] : phases) {
+    if (costs.size() < 2) continue;
+    out.parts += costs.size();
+    for (int64_t cost : costs) out.cost += cost;
+    out.cost -= *std::max_element(costs.begin(), costs.end());
+  }
+  return out;
+}
 
 std::string head_of(const Region &region, const Recording &recording, const Options &options, const Places &places) {
   Head head(options, places);

@@ -1,19 +1,12 @@
 #include "lines.hpp"
 
-#include <set>
+#include "stretches.hpp"
 
 namespace {
-struct Constructs {
-  std::set<const void *> tasks, waits;
-};
-
 Constructs constructs_of(const Region &region) {
   Constructs found;
-  for (const Task &t : region.tasks) {
-    if (t.code && !t.part && !t.of_loop) found.tasks.insert(t.code);
-    for (const Step &step : t.steps)
-      if (step.kind == Kind::Wait && step.code()) found.waits.insert(step.code());
-  }
+  if (region.before) found = region.before->constructs;
+  found.add(region);
   return found;
 }
 
@@ -24,6 +17,15 @@ std::set<std::string> lines_of(const std::set<const void *> &codes, const Places
   return lines;
 }
 }  // namespace
+
+void Constructs::add(const Region &part) {
+  const void *last = nullptr;  // most tasks have the place of the one before
+  for (const Task &t : part.tasks) {
+    if (t.code && t.code != last && !t.part && !t.of_loop) tasks.insert(last = t.code);
+    for (const Step &step : t.steps)
+      if (step.kind == Kind::Wait && step.code()) waits.insert(step.code());
+  }
+}
 
 // No `task` or `taskwait` stands on the line of its region, and no `taskwait` on a task's. A call of the runtime that
 // is its function's last may be a jump: then what is told is the place after the call of that function.

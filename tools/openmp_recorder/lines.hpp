@@ -1,7 +1,14 @@
 // Whether the compiler kept a line for each construct.
 #pragma once
+#include <set>
+
 #include "run.hpp"
 #include "source.hpp"
+
+struct Constructs {
+  std::set<const void *> tasks, waits;
+  void add(const Region &part);  // those of its tasks
+};
 
 // Remarks constructs that are told at a line which cannot be theirs.
 void remark_lines(Region &region, const Places &places);

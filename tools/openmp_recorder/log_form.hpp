@@ -30,7 +30,8 @@ struct ShortRecord {
 constexpr uint64_t short_bit = uint64_t{1} << 63;
 constexpr unsigned short_ticks = 56;
 constexpr uint64_t make_short(uint64_t ticks, unsigned detail) {
-  return (ticks & ((uint64_t{1} << short_ticks) - 1)) | uint64_t{detail} << short_ticks | short_bit;
+  constexpr unsigned is_short = 1U << (63 - short_ticks);
+  return (ticks & ((uint64_t{1} << short_ticks) - 1)) | uint64_t{detail | is_short} << short_ticks;
 }
 
 constexpr uint32_t block_bytes = 8 * 12288;  // whole pages

@@ -106,9 +106,8 @@ const char *word_of(Stopped why) {
 }  // namespace
 
 alignas(cache_line) std::atomic<Stopped> log_stopped{Stopped::Not};
-std::atomic<bool> only_records{false};
+std::atomic<uint32_t> only_records{false};
 __thread ThreadLog *thread_log = nullptr;
-__thread uint32_t last_number = 0, numbers_end = 0;
 
 const Beginning &this_log() { return beginning; }
 double nanoseconds_of_tick() { return tick; }
@@ -143,15 +142,11 @@ ThreadLog *make_thread_log() {
   return thread_log;
 }
 
-uint32_t number_of_next_block() {
+void take_numbers(OwnNumbers &of) {
   uint64_t begin = next_number.fetch_add(numbers_at_once, std::memory_order_relaxed);
-  if (begin + numbers_at_once > UINT32_MAX) {
-    stop_log(Stopped::Numbers);
-    return 0;
-  }
-  last_number = static_cast<uint32_t>(begin);
-  numbers_end = last_number + numbers_at_once - 1;
-  return last_number;
+  if (begin + numbers_at_once > UINT32_MAX) return stop_log(Stopped::Numbers);
+  of.last = static_cast<uint32_t>(begin) - 1;
+  of.end = of.last + numbers_at_once;
 }
 
 uint32_t new_region() { return next_region.fetch_add(1, std::memory_order_relaxed); }
@@ -189,7 +184,6 @@ bool inside_a_region() { return open_regions > 0; }
 void forget_log() {
   new (&making) std::mutex;  // another thread may have held it when the process forked
   thread_log = nullptr;
-  last_number = numbers_end = 0;
   head = nullptr;
   is_made = false;
   open_regions = 0;

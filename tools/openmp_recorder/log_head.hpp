@@ -31,15 +31,10 @@ uint64_t ticks_of_beginning();
 int64_t wall_time_at(uint64_t ticks);
 void count_open_region(int more);
 bool inside_a_region();  // any thread of the program
-extern __attribute__((tls_model("initial-exec"))) __thread uint32_t last_number, numbers_end;  // of this thread's block
-uint32_t number_of_next_block();
-inline uint32_t new_number() {  // of a task, from 1; each thread takes them in blocks
-  return __builtin_expect(last_number != numbers_end, true) ? ++last_number : number_of_next_block();
-}
 uint32_t new_region();  // from 1, in the order of time
 
 // Whether a call needs no more than a record with the time-stamp counter, as most do; not where recording has stopped.
-extern std::atomic<bool> only_records;
+extern std::atomic<uint32_t> only_records;
 inline bool is_stopped() { return log_stopped.load(std::memory_order_relaxed) != log_form::Stopped::Not; }
 inline ThreadLog *own_log() { return __builtin_expect(thread_log != nullptr, true) ? thread_log : make_thread_log(); }
 

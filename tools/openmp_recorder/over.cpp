@@ -21,11 +21,11 @@ void Reader::let_go_if_over(Region &region) {
   else held += region.tasks.size();
 }
 
-// Its tasks, by whatever they are known.
-void Reader::forget(const Region &region) {
-  auto is_of_it = [&](const Task *t) { return t && t->region == &region; };
-  for (const Task &t : region.tasks)
-    if (find(t.number) == &t) tasks[t.number] = nullptr;
+// By whatever they are known.
+void Reader::forget(const TaskList &all) {
+  for (const Task &t : all)
+    if (find(t.number) == &t) tasks.put(t.number, nullptr);
+  auto is_of_it = [&](const Task *t) { return t && find(t->number) != t; };
   for (Worker &w : workers) {
     w.waits.erase(std::remove_if(w.waits.begin(), w.waits.end(), is_of_it), w.waits.end());
     if (is_of_it(w.resumed.task) || is_of_it(w.resumed.left)) w.resumed = {};
@@ -33,7 +33,7 @@ void Reader::forget(const Region &region) {
 }
 
 void Reader::let_go(Region &region) {
-  forget(region);
+  forget(region.tasks);
   for (Task &t : region.tasks) t.end_reading();
   leave_out_auxiliary(region);
   region.makes_tasks = makes_tasks(region);

@@ -6,7 +6,7 @@
 
 #include "fold.hpp"
 #include "joined_times.hpp"
-#include "span.hpp"
+#include "stretches.hpp"
 
 namespace {
 constexpr int64_t shortest = 1000;  // of a piece, in nanoseconds
@@ -15,23 +15,14 @@ constexpr int64_t share_that_moves_little = 50;  // of the span
 
 using Row = std::vector<Chunk *>;  // those of one loop that one part makes, one after the other
 
-// Of a loop that the compiler divides into chunks only the first of each thread is told.
-void count_all_turns(Run &run) {
-  for (Chunk &chunk : run.chunks) {
-    const Loop &loop = *chunk.loop;
-    if (chunk.task->children) chunk.turns = 1;  // regions in it
-    else if (loop.told && loop.told < loop.count)
-      chunk.turns = static_cast<uint64_t>(
-          static_cast<double>(chunk.turns) * static_cast<double>(loop.count) / static_cast<double>(loop.told) + 0.5);
-  }
-}
-
-std::vector<Row> rows_of(Run &run) {
+template <class Chunks>
+std::vector<Row> rows_of(Chunks &chunks, size_t first) {
   std::vector<Row> rows;
   std::unordered_map<const Task *, size_t> last;  // by the part
-  for (Chunk &chunk : run.chunks) {
-    if (!chunk.task->pieces) continue;
-    auto [row, is_new] = last.emplace(chunk.task->parent, rows.size());
+  for (size_t i = first; i < chunks.size(); i++) {
+    Chunk &chunk = chunks[i];
+    if (!chunk.is_task) continue;
+    auto [row, is_new] = last.emplace(chunk.part, rows.size());
     if (!is_new && rows[row->second].back()->loop != chunk.loop) is_new = true, row->second = rows.size();
     if (is_new) rows.emplace_back();
     rows[row->second].push_back(&chunk);
@@ -40,7 +31,7 @@ std::vector<Row> rows_of(Run &run) {
 }
 
 uint64_t pieces_of(const Chunk &chunk, int64_t least) {
-  auto most = static_cast<uint64_t>(std::max<int64_t>(chunk.task->total / least, 1));
+  auto most = static_cast<uint64_t>(std::max<int64_t>(chunk.cost / least, 1));
   return std::clamp<uint64_t>(chunk.turns, 1, std::min<uint64_t>(most, UINT32_MAX));
 }
 
@@ -48,10 +39,10 @@ uint64_t pieces_of(const Chunk &chunk, int64_t least) {
 template <class Take>
 void cut(const Row &row, int64_t least, const Take &take) {
   for (size_t from = 0, to = 1; from < row.size(); from = to++) {
-    int64_t cost = row[from]->task->total;
-    for (; cost < least && to < row.size() && !row[to]->task->children && !row[from]->task->children; to++) {
-      if (row[to]->task->total >= least) break;
-      cost += row[to]->task->total;
+    int64_t cost = row[from]->cost;
+    for (; cost < least && to < row.size() && !row[to]->makes_tasks && !row[from]->makes_tasks; to++) {
+      if (row[to]->cost >= least) break;
+      cost += row[to]->cost;
     }
     take(from, to, cost);
   }
@@ -59,15 +50,15 @@ void cut(const Row &row, int64_t least, const Take &take) {
 
 class Chooser {
  public:
-  explicit Chooser(Run &of) : run(of), rows(rows_of(of)) {}
+  explicit Chooser(WholeProgram &of) : whole(of), rows(rows_of(of.chunk_list, 0)) {}
   int64_t least_for(uint64_t most, int64_t from) const;  // of which so many pieces are at most; 0 where none is
   uint64_t pieces(int64_t least) const;
   int64_t longer(int64_t least) const;  // all loops one after the other, than with a piece for each turn
   uint64_t tasks() const;  // that are no pieces
-  void write(int64_t least);
+  void remark(int64_t least, bool moves_span);
 
  private:
-  Run &run;
+  WholeProgram &whole;
   std::vector<Row> rows;
   std::unordered_map<const Loop *, int64_t> longest(int64_t least) const;  // piece of each loop
 };
@@ -109,15 +100,14 @@ int64_t Chooser::longer(int64_t least) const {
 }
 
 uint64_t Chooser::tasks() const {
-  uint64_t count = 0;
-  for (const Task &t : run.whole->tasks) count += t.parent && !t.pieces;
+  uint64_t count = whole.before ? whole.before->tasks : 0;
+  for (const Task &t : whole.tasks) count += t.parent && !t.pieces;
   return count;
 }
 
 void join(Chunk &chunk, Chunk &more) {
   Step &work = chunk.task->steps.back();
   for (const Step &step : more.task->steps) work.add_cost(step.cost());
-  chunk.turns += more.turns;
   more.task->steps.clear();
   more.task->parent = nullptr;
   more.task->pieces = 0;
@@ -140,7 +130,8 @@ void leave_out_joined(Task &part, JoinedTimes &times) {
   part.steps = std::move(steps);
 }
 
-void Chooser::write(int64_t least) {
+// The chunks' tasks become pieces.
+JoinedTimes write(const std::vector<Row> &rows, int64_t least) {
   JoinedTimes times;
   std::set<Task *> parts;
   for (const Row &row : rows) {
@@ -154,7 +145,19 @@ void Chooser::write(int64_t least) {
     });
   }
   for (Task *part : parts) leave_out_joined(*part, times);
-  times.apply(run.whole->events);
+  return times;
+}
+
+void Chooser::remark(int64_t least, bool moves_span) {
+  for (const Row &row : rows)
+    cut(row, least, [&](size_t from, size_t to, int64_t) {
+      uint64_t pieces = to - from > 1 ? 1 : pieces_of(*row[from], least), turns = 0;
+      for (size_t i = from; i < to; i++) turns += row[i]->turns;
+      const void *code = row[from]->loop->code;
+      whole.pieces += pieces;
+      if (pieces > 1) whole.remarks[Remark::EqualTurns].add(code);
+      if (moves_span && pieces < turns) whole.remarks[Remark::TurnsTogether].add(code);
+    });
 }
 
 // A least piece with which the text fits the ten commands, where that is as good as any.
@@ -164,29 +167,70 @@ int64_t for_the_commands(const Chooser &chooser, int64_t from, int64_t span) {
   return least && chooser.longer(least) <= span / share_that_moves_little ? least : 0;
 }
 
-void remark_pieces(Run &run, bool moves_span) {
-  for (const Chunk &chunk : run.chunks) {
-    if (!chunk.task->pieces) continue;
-    run.whole->pieces += chunk.task->pieces;
-    if (chunk.task->pieces > 1) run.whole->remarks[Remark::EqualTurns].add(chunk.task->code);
-    if (moves_span && chunk.task->pieces < chunk.turns) run.whole->remarks[Remark::TurnsTogether].add(chunk.task->code);
-  }
+// Of a loop that the compiler divides into chunks only the first of each thread is told.
+uint64_t all_turns(const Chunk &chunk) {
+  const Loop &loop = *chunk.loop;
+  if (chunk.makes_tasks) return 1;  // regions in it
+  if (!loop.told || loop.told >= loop.count) return chunk.turns;
+  double of_one = static_cast<double>(loop.count) / static_cast<double>(loop.told);
+  return static_cast<uint64_t>(static_cast<double>(chunk.turns) * of_one + 0.5);
+}
+
+int64_t own_cost(const Task &t) {
+  int64_t cost = 0;
+  for (const Step &step : t.steps) cost += step.kind == Kind::Work ? step.cost() : 0;
+  return cost;
+}
+
+size_t let_go(const WholeProgram &whole) { return whole.before ? whole.before->chunks.back() : 0; }
+
+int64_t finest_span(WholeProgram &whole) {
+  put_finest_pieces(whole, let_go(whole), whole.chunk_list.size());
+  RootEnds ends = whole.before ? whole.before->finest : RootEnds();
+  span_of(whole);
+  ends.add(*whole.root);
+  return ends.span();
 }
 }  // namespace
 
-void choose_pieces(Run &run, int64_t unit) {
-  count_all_turns(run);
-  if (run.chunks.empty()) return;
-  Chooser chooser(run);
-  for (Chunk &chunk : run.chunks)
-    if (chunk.task->pieces) chunk.task->pieces = static_cast<uint32_t>(pieces_of(chunk, 1));
-  int64_t span = span_of(*run.whole), from = std::max(shortest, unit);
+void measure_chunks(WholeProgram &whole, size_t first, size_t end) {
+  for (size_t i = first; i < end; i++) {
+    Chunk &chunk = whole.chunk_list[i];
+    chunk.part = chunk.task->parent;
+    chunk.cost = chunk.task->total;
+    chunk.is_task = chunk.task->pieces;
+    chunk.makes_tasks = chunk.task->children;
+    chunk.turns = all_turns(chunk);
+    if (chunk.is_task) whole.in_loops += own_cost(*chunk.task);
+  }
+}
+
+void put_finest_pieces(WholeProgram &whole, size_t first, size_t end) {
+  for (size_t i = first; i < end; i++)
+    if (const Chunk &chunk = whole.chunk_list[i]; chunk.is_task)
+      chunk.task->pieces = static_cast<uint32_t>(pieces_of(chunk, 1));
+}
+
+void choose_pieces(WholeProgram &whole, int64_t unit) {
+  if (whole.chunk_list.empty()) return;
+  Chooser chooser(whole);
+  int64_t span = finest_span(whole), from = std::max(shortest, unit);
   int64_t least = for_the_commands(chooser, from, span);
   if (!least) least = chooser.least_for(most_pieces, from);
   if (!least) least = INT64_MAX;
   bool moves_span = chooser.longer(least) > span / share_that_moves_little;
-  chooser.write(least);
-  add_up(*run.whole);
-  run.whole->least_piece = least;
-  remark_pieces(run, moves_span);
+  chooser.remark(least, moves_span);
+  write(rows_of(whole.chunk_list, let_go(whole)), least).apply(whole.events);
+  add_up(whole);
+  whole.least_piece = least;
+}
+
+void put_pieces(const WholeProgram &whole, size_t stretch, const std::vector<Task *> &tasks) {
+  const std::vector<size_t> &ends = whole.before->chunks;
+  std::vector<Chunk> own;
+  for (size_t i = stretch ? ends[stretch - 1] : 0; i < ends[stretch]; i++) {
+    own.push_back(whole.chunk_list[i]);
+    if (own.back().is_task) own.back().task = tasks[own.back().at];
+  }
+  if (!own.empty()) write(rows_of(own, 0), whole.least_piece);
 }

@@ -3,13 +3,13 @@
 #include <algorithm>
 #include <utility>
 
-namespace {
-void add(Task &t, Step step) {
+void add_step(Task &t, Step step) {
   t.steps.push_back(step);
   t.segment += step.kind != Kind::GroupBegin && step.kind != Kind::Work;
   t.children += step.kind == Kind::Create;
 }
 
+namespace {
 // What costs nothing and makes nothing leaves no trace.
 bool is_empty(const Task &part) {
   return part.items.empty() && std::all_of(part.steps.begin(), part.steps.end(),
@@ -36,12 +36,12 @@ std::vector<Part> place_region(Region &region) {
   std::vector<Part> parts = in_order(region);
   for (size_t i = 0; i < parts.size();) {
     unsigned phase = parts[i].phase;
-    add(owner, Step::at(Kind::GroupBegin, region.code));
+    add_step(owner, Step::at(Kind::GroupBegin, region.code));
     for (; i < parts.size() && parts[i].phase == phase; i++) {
-      add(owner, Step::create(parts[i].task));
+      add_step(owner, Step::create(parts[i].task));
       parts[i].task->parent = &owner;
     }
-    add(owner, Step::at(Kind::GroupEnd, nullptr));
+    add_step(owner, Step::at(Kind::GroupEnd, nullptr));
   }
   return parts;
 }
@@ -50,7 +50,7 @@ void take_over_steps(Task &into, Task &from) {
   for (const Step &step : from.steps) {
     bool joins = step.kind == Kind::Work && !into.steps.empty() && into.steps.back().kind == Kind::Work;
     if (joins) into.steps.back().add_cost(step.cost());
-    else add(into, step);
+    else add_step(into, step);
     if (step.kind == Kind::Create) step.child()->parent = &into;
   }
   from.steps.clear();

@@ -1,6 +1,6 @@
 // Reads the records in their order and makes tasks, steps and events of them. What the runtime tells at each construct,
-// and in which order, is written down in README.md. Its functions stand in run.cpp, over.cpp, waits.cpp, whole.cpp and
-// turns.cpp.
+// and in which order, is written down in README.md. Its functions stand in run.cpp, over.cpp, let_go.cpp, waits.cpp,
+// whole.cpp and turns.cpp.
 #pragma once
 #include <cstdint>
 #include <map>
@@ -9,6 +9,7 @@
 #include <vector>
 
 #include "run.hpp"
+#include "task_numbers.hpp"
 
 // A task that goes on where another was left, unless the thread's next record is of that one.
 struct Resumed {
@@ -40,7 +41,7 @@ struct ImplicitTask {
   unsigned loops = 0;  // that it met
   Loop *loop = nullptr;  // that it is in
   Task *chunk = nullptr;  // of it, that runs
-  size_t number = 0;  // of the chunk
+  Chunk *last = nullptr;  // that began
   size_t left = 0;  // the event with which the part was left for it
   bool in_group = false;  // of the chunks
   bool all_turns = false;  // are taken to be the chunk
@@ -61,15 +62,14 @@ class Reader {
   const Record *r = nullptr;
   const Log *log = nullptr;
   int64_t now = 0;  // on the thread's own clock
-  std::vector<Task *> tasks;  // by number; of an implicit task its part
+  TaskNumbers tasks;  // of an implicit task its part
   std::unordered_map<uint32_t, ImplicitTask> implicit;  // by number
   std::vector<Worker> workers;
 
-  Task *find(uint32_t number) { return number < tasks.size() ? tasks[number] : nullptr; }
+  Task *find(uint32_t number) const { return tasks.find(number); }
   void put(uint32_t number, Task *task) {
     if (!number) return;
-    if (number >= tasks.size()) tasks.resize(number + 1);
-    tasks[number] = task;
+    tasks.put(number, task);
     if (task) task->number = number;
   }
   Worker &worker() { return workers[log->worker]; }
@@ -112,8 +112,27 @@ class Reader {
   uint64_t held = 0;  // their tasks
   bool is_over(const Region &region) const;
   void let_go_if_over(Region &region);
-  void forget(const Region &region);
+  void forget(const TaskList &all);
   void let_go(Region &region);
+
+  // let_go.cpp: the beginning of the whole program, up to a region that is over
+  struct Placed {  // a region in the root; what there was until its end, of what is there
+    size_t blocks, steps, chunks, loops, regions;
+  };
+  std::deque<Placed> placed;
+  std::vector<Region *> begun;  // regions, in their order
+  size_t blocks_over = 1, regions_over = 0;  // of tasks; of those that began
+  size_t seen_steps = 0, chunks_gone = 0, loops_gone = 0;
+  uint64_t room = 0;  // tasks that may be there before the beginning is let go
+  bool may_let_go = false;
+  void note_placed();
+  bool is_over_until(const Placed &end);
+  void let_go_beginning();
+  void let_go_until(const Placed &end);
+  void take_steps(Task &root, size_t count);
+  void end_stretch(Region &stretch, const Placed &end);
+  void forget_loops(const Placed &end);
+  void take_from_placed(const Placed &gone);
 
   // waits.cpp: dependences, barriers, groups, `taskwait`
   static void begin_group(Task *t, const void *code);
@@ -139,6 +158,7 @@ class Reader {
   void initial_begin();
   void meet_region(Region &region);
   void parallel_end();
+  void put_in_its_place(Region &region);
   void time_placed(const std::vector<Part> &parts, const Region &region, Task &owner, unsigned segment);
   void join_with_before(Task &t, size_t end, int64_t since);
   void give_up_times();
@@ -171,5 +191,5 @@ class Reader {
   void order_got();
   void order_left();
   void end_turns(ImplicitTask &own);
-  void take_waits_off();
+  void take_waits_off(Loop &loop);
 };

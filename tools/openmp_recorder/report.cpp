@@ -13,6 +13,7 @@
 #include "lines.hpp"
 #include "region_table.hpp"
 #include "span.hpp"
+#include "stretches.hpp"
 #include "tell.hpp"
 #include "text.hpp"
 #include "whole_program.hpp"
@@ -58,27 +59,56 @@ class Reporter {
   Object &put_size(Object &line, const std::string &file, const Size &size, int64_t work);
 };
 
-void remark_folds(Region &region, const Size &size) {
-  if (1 + size.tasks == region.root->size) return;
-  for (const Task &t : region.tasks)
-    if (t.parent && !is_written(t)) region.remarks[Remark::Folded].add(t.code);
+void remark_folds(const Region &part, const Size &size, Remarks &remarks) {
+  if (1 + size.tasks == part.root->size) return;
+  for (const Task &t : part.tasks)
+    if (t.parent && !is_written(t)) remarks[Remark::Folded].add(t.code);
+}
+
+Folds folds_asked(const Options &options) {
+  int64_t most = INT64_MAX / options.unit;
+  int64_t below = std::min(static_cast<int64_t>(options.fold_cost), most) * options.unit;
+  return {options.fold_depth, below, options.fold_chunk};
+}
+
+// What was let go, as it is folded: what the head of the text and its lines have of it.
+Size fold_before(Region &region, const Folds &folds, const Options &options, RootEnds &ends) {
+  Size size;
+  Stretches &before = *region.before;
+  before.folds = folds;
+  each_stretch(region, [&](Region &stretch) {
+    add_up(stretch);
+    region.work += stretch.root->total;
+    span_of(stretch, before.ends);
+    ends.add(*stretch.root);
+    Size own = fold(stretch, folds);
+    remark_folds(stretch, own, region.remarks);
+    size.add(own);
+    before.take_sums(stretch, options.unit);
+  });
+  return size;
 }
 
 Size Reporter::fold_as_asked(Region &region) {
-  add_up(region);
   remark_locks(region);
-  int64_t most = INT64_MAX / options.unit;
-  int64_t below = std::min(static_cast<int64_t>(options.fold_cost), most) * options.unit;
-  region.work = region.root->total;
-  region.span = span_of(region);
-  Folds folds{options.fold_depth, below, options.fold_chunk};
+  Folds folds = folds_asked(options);
+  RootEnds ends;
+  Size before;
+  region.work = 0;
+  if (region.before) before = fold_before(region, folds, options, ends);
+  add_up(region);
+  region.work += region.root->total;
+  span_of(region);
+  ends.add(*region.root);
+  region.span = ends.span();
   Size size = fold(region, folds);
   if (options.fold_exact && over_the_limits(size, options.unit)) {
     if (fold_exactly(region, options.unit, size)) return size;
     Line("no exact fold");
     size = fold(region, folds);
   }
-  remark_folds(region, size);
+  remark_folds(region, size, region.remarks);
+  size.add(before);
   return size;
 }
 
@@ -93,7 +123,7 @@ std::string Reporter::head(Region &region, int64_t work) {
 }
 
 Text Reporter::finish(Region &region, bool exclusion_as_order) {
-  Text text = program_text(region, {options.unit, exclusion_as_order}, places);
+  Text text = program_text(region, {options.unit, exclusion_as_order, false, !region.before}, places);
   text.words = head(region, text.work) + text.words;
   return text;
 }
@@ -240,7 +270,7 @@ void Reporter::write(Region &region, const std::string &name) {
   std::string file = name + ".tasks";
   if (Excess over = over_the_limits(size, options.unit)) {
     write_large(region, name, size);
-    return tell_advice(region, file, over);
+    return region.before ? tell_excess(file, over) : tell_advice(region, file, over);
   }
   if (options.lines) places.look_up(codes_of(region));
   Text text = finish(region, false);
@@ -285,19 +315,19 @@ void Reporter::write_regions(const Run &run, const WholeTime &time, const std::s
   write_file(name + ".regions", region_table(run, time, places));
 }
 
-bool folds_asked(const Options &options) { return options.fold_depth || options.fold_chunk || options.fold_cost; }
+bool has_folds(const Options &options) { return options.fold_depth || options.fold_chunk || options.fold_cost; }
 
 constexpr uint64_t most_held = 1 << 18;  // tasks of regions that are over, while it is not known which are written
 constexpr uint64_t most_timed = 1 << 18;  // tasks and chunks of loops, of which many are written together
 
 // The most tasks of a region of which the run is kept, or of the whole program.
 uint64_t most_to_replay(const Options &options) {
-  if (folds_asked(options)) return UINT64_MAX;
+  if (has_folds(options)) return UINT64_MAX;
   if (options.whole) return most_timed;
   return options.times ? UINT64_MAX : most_tasks;
 }
 
-WhichParts parts_asked(const Options &options) { return {options.parts, folds_asked(options) || options.fold_exact}; }
+WhichParts parts_asked(const Options &options) { return {options.parts, has_folds(options) || options.fold_exact}; }
 
 // Thread-time outside of regions. Where the thread that ended the program met no region, it is not the one whose
 // processor time that is.
@@ -328,7 +358,9 @@ HowToRead how_to_read(const Job &job) {
           job.options.times,
           job.start,
           job.end,
-          most_held};
+          job.options.whole && job.options.fold_exact ? UINT64_MAX : most_held,
+          {},
+          job.out};
 }
 
 // These regions, composed. Where some were let go, the log is read again, and all but these are.
@@ -345,6 +377,19 @@ std::vector<Region *> held(const std::vector<Region *> &few, const Job &job, End
   return out;
 }
 
+// Where what was let go is of no use, all of it is held.
+Run *read_all(const Job &job, Ending &ending) {
+  const Ending unread = ending;
+  Run *run = new Run(read_run(job.threads, ending, how_to_read(job)));  // given back by the end of the process
+  if (!run->whole || !run->whole->before || !run->whole->before->are_in_vain) return run;
+  HowToRead how = how_to_read(job);
+  how.most_held = UINT64_MAX;
+  ending = unread;
+  *run = Run();
+  *run = read_run(job.read_again(), ending, how);
+  return run;
+}
+
 void report_whole(const Job &job, Run &run, Recording recording, int64_t end) {
   finish_whole(run, {0, true, job.start, end}, job.options.unit);
   recording.whole = run.whole.get();
@@ -359,7 +404,7 @@ void report_whole(const Job &job, Run &run, Recording recording, int64_t end) {
 
 void report(const Job &job, Ending &ending) {
   const Ending unread = ending;
-  Run &run = *new Run(read_run(job.threads, ending, how_to_read(job)));  // given back by the end of the process
+  Run &run = *read_all(job, ending);
   int64_t end = ending.killed ? ending.last : job.end;
   ProgramTime time = divide_time(job.threads, job.start, end);
   ThreadTime threads{outside_regions(job, time), in_code(run), !ending.full && !ending.killed};

@@ -5,36 +5,15 @@
 #include <algorithm>
 
 namespace {
-// When the last task of each type ended that named a location, among those that one task makes.
-struct Location {
-  const Task *maker = nullptr;
-  int64_t in = 0, set = 0, other = 0;
-};
-
-// By their numbers, for one task after the other: what an earlier one left is not looked at.
-class Table {
- public:
-  explicit Table(size_t expected) : locations(expected) {}
-  Location &at(const Item &item, const Task &maker) {
-    if (item.location >= locations.size()) locations.resize(2 * item.location + 1);
-    Location &location = locations[item.location];
-    if (location.maker != &maker) location = {&maker, 0, 0, 0};
-    return location;
-  }
-
- private:
-  std::vector<Location> locations;
-};
-
 // The code of one task from its start, each segment as early as what it waits for lets it be.
 class Timeline {
  public:
-  Timeline(Task &of, Table &shared) : task(of), table(shared) {}
+  Timeline(Task &of, LocationEnds &shared) : task(of), table(shared) { table.begin_task(); }
   void follow();
 
  private:
   Task &task;
-  Table &table;
+  LocationEnds &table;
   int64_t now = 0;
   int64_t children = 0;  // the end of the last child
   int64_t below = 0;  // and of the last task below
@@ -52,7 +31,7 @@ bool is_set(const Item &item) {
 
 int64_t Timeline::after_items(const Task &child, int64_t start) {
   for (const Item &item : child.items) {
-    const Location &location = table.at(item, task);
+    const LocationEnds::Ends &location = table.at(item);
     start = std::max(start, location.other);
     if (item.type != ompt_dependence_type_in) start = std::max(start, location.in);
     if (!is_set(item)) start = std::max(start, location.set);
@@ -62,7 +41,7 @@ int64_t Timeline::after_items(const Task &child, int64_t start) {
 
 void Timeline::name_items(const Task &child, int64_t end) {
   for (const Item &item : child.items) {
-    Location &location = table.at(item, task);
+    LocationEnds::Ends &location = table.at(item);
     int64_t &last = item.type == ompt_dependence_type_in ? location.in : is_set(item) ? location.set : location.other;
     last = std::max(last, end);
   }
@@ -101,20 +80,36 @@ void Timeline::follow() {
   task.end_below = std::max(below, task.end);
 }
 
-void follow(Task &task, Table &table) {
+void follow(Task &task, LocationEnds &table) {
   if (task.fold == Fold::Body || !task.children) task.end = task.end_below = in_pieces(task.total, task) + task.joined;
   else Timeline(task, table).follow();
 }
 }  // namespace
 
+LocationEnds::Ends &LocationEnds::at(const Item &item) {
+  if (item.location >= locations.size()) locations.resize(2 * item.location + 1);
+  Ends &ends = locations[item.location];
+  if (ends.maker != makers) ends = {makers, 0, 0, 0};
+  return ends;
+}
+
+void RootEnds::add(const Task &root) {
+  below = std::max(below, now + root.end_below);
+  now += root.end;
+}
+
 int64_t span_of(Region &region) {
-  Table table(region.locations.size());
-  for (auto task = region.tasks.rbegin(); task != region.tasks.rend(); ++task) follow(*task, table);
+  LocationEnds ends(region.locations.size());
+  return span_of(region, ends);
+}
+
+int64_t span_of(Region &region, LocationEnds &ends) {
+  for (auto task = region.tasks.rbegin(); task != region.tasks.rend(); ++task) follow(*task, ends);
   return region.root->end_below;
 }
 
 int64_t span_of(const std::vector<Task *> &written) {
-  Table table(0);
+  LocationEnds table;
   for (auto task = written.rbegin(); task != written.rend(); ++task) follow(**task, table);
   return written.front()->end_below;
 }

@@ -6,6 +6,7 @@
 #include <utility>
 
 #include "piece.hpp"
+#include "stretches.hpp"
 
 namespace {
 constexpr size_t longest_piece = 1 << 20;
@@ -59,6 +60,7 @@ class Writer {
   void end_task_line(const Task &t);
   void enter(Task &t, unsigned indent);
   void leave();
+  void part(Region &part);
 };
 
 std::string_view type_of(uint64_t type, bool exclusion_as_order) {
@@ -258,15 +260,22 @@ void Writer::leave() {
   open(maker);
 }
 
-void Writer::tell() {
-  region.numbers.clear();
-  line(0, "omptasks 1");
-  enter(*region.root, 0);
+void Writer::part(Region &part) {
+  enter(*part.root, 0);
   while (!inside.empty()) {
     Place &p = inside.back();
     if (p.next < p.task.steps.size()) step(p, p.task.steps[p.next++]);
     else leave();
   }
+}
+
+void Writer::tell() {
+  region.numbers.clear();
+  line(0, "omptasks 1");
+  each_part(region, [&](Region &one) {
+    if (&one != &region) add_up(one), fold(one, region.before->folds);
+    part(one);
+  });
   region.opened = opened;
   taker(piece.words());
 }
@@ -286,8 +295,8 @@ int64_t own_work(const Task &t, int64_t unit) {
 }  // namespace
 
 int64_t work_in_units(const Region &region, int64_t unit) {
-  if (unit == 1 && !region.joined) return region.root->total;
-  int64_t work = 0;
+  int64_t work = region.before ? region.before->work_in_units : 0;
+  if (unit == 1 && !region.joined) return work + region.root->total;
   for (const Task &t : region.tasks)
     if (is_written(t)) work += own_work(t, unit);
   return work;
@@ -306,6 +315,7 @@ Text program_text(Region &region, const Style &style, const Places &places) {
 
 std::vector<const void *> codes_of(const Region &region) {
   std::set<const void *> codes{region.code};
+  if (region.before) codes.insert(region.before->codes.begin(), region.before->codes.end());
   const void *last = region.code;  // most tasks have the place of the one before
   for (const Task &t : region.tasks) {
     if (!is_written(t)) continue;

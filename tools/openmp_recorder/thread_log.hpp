@@ -26,6 +26,32 @@ struct Open {
   bool is_outermost;  // and of the program: LLVM's hidden helpers have a region of their own
 };
 
+// Numbers for the tasks that a thread makes, from 1 on: it takes many at once.
+struct OwnNumbers {
+  uint32_t last = 0, end = 0;  // the last of them
+  bool are_left() const { return last != end; }
+};
+void take_numbers(OwnNumbers &of);  // where none are left; there may be no more
+
+// Places of constructs in the program that the thread told lately, which need not be looked for on the stack.
+class KnownPlaces {
+ public:
+  KnownPlaces() { forget(); }
+  bool has(const void *code) const { return places[slot(code)] == code; }
+  void add(const void *code) {  // where a record takes all of its bits
+    auto bits = reinterpret_cast<uint64_t>(code);
+    if (bits == (bits & log_form::code_mask)) places[slot(code)] = code;
+  }
+  void forget() {
+    for (const void *&place : places) place = this;
+  }
+
+ private:
+  static constexpr uintptr_t most = 16;
+  const void *places[most];
+  static uintptr_t slot(const void *code) { return reinterpret_cast<uintptr_t>(code) / 4 % most; }
+};
+
 class OnlineThread;
 
 class ThreadLog {
@@ -37,6 +63,11 @@ class ThreadLog {
   bool is_slow = false;  // more was done than to write records
   OnlineThread *online = nullptr;  // where the run is measured while it goes on: then no record is put
   uint64_t region() const { return implicit.empty() ? 0 : implicit.back().region; }
+  OwnNumbers numbers;
+  uint32_t new_number() {  // 0 where there are no more
+    if (!numbers.are_left()) take_numbers(numbers);
+    return numbers.are_left() ? ++numbers.last : 0;
+  }
 
   // On the clock of costs, which stands still while the recorder works and while the thread waits for a lock.
   int64_t own_clock(const Moment &now) const;
@@ -122,6 +153,9 @@ class ThreadLog {
   bool grow();
   bool write_block();
   Times times(const Moment &now) const;
+
+ public:
+  KnownPlaces known;  // as long as no region begins or ends; behind what each record needs
 };
 
 uint64_t time_since(const Moment &began);  // on the clock of costs: in ticks, or nanoseconds of the processor

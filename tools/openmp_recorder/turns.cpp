@@ -148,16 +148,15 @@ void Reader::end_turns(ImplicitTask &own) {
   own.turns.reset();
 }
 
-void Reader::take_waits_off() {
-  for (Loop &loop : run.loops) {
-    int64_t usual = usual_cost(loop);
-    for (const TurnWait &wait : loop.waits) {
-      int64_t cost = wait.is_none ? wait.most : std::clamp(usual, wait.least, wait.most);
-      Step *work = last_work(*wait.piece);
-      if (cost == wait.most || !work) continue;
-      work->add_cost(cost - wait.most);
-      wait.piece->region->cost -= wait.most - cost;
-      run.whole->remarks[Remark::WaitsForTurns].add(loop.code);
-    }
+void Reader::take_waits_off(Loop &loop) {
+  int64_t usual = usual_cost(loop);
+  for (const TurnWait &wait : loop.waits) {
+    int64_t cost = wait.is_none ? wait.most : std::clamp(usual, wait.least, wait.most);
+    Step *work = last_work(*wait.piece);
+    if (cost == wait.most || !work) continue;
+    work->add_cost(cost - wait.most);
+    wait.piece->region->cost -= wait.most - cost;
+    run.whole->remarks[Remark::WaitsForTurns].add(loop.code);
   }
+  loop.waits = std::vector<TurnWait>();
 }

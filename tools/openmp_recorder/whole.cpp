@@ -7,6 +7,7 @@
 #include "place_region.hpp"
 #include "reader.hpp"
 #include "runtime_ways.hpp"
+#include "stretches.hpp"
 
 Reader::Reader(const HowToRead &chosen) : how(chosen) {
   if (!how.whole) return;
@@ -14,6 +15,9 @@ Reader::Reader(const HowToRead &chosen) : how(chosen) {
   run.whole->has_events = how.times;
   run.whole->root = fresh(run.whole.get());
   run.whole->root->part = true;
+  run.whole->tasks.begin_block();
+  room = how.most_held;
+  may_let_go = room != UINT64_MAX;
 }
 
 void Reader::begin_root() {
@@ -34,6 +38,8 @@ void Reader::initial_begin() {
     t = fresh(run.whole.get());
     t->part = true;
     hosts.push_back(t);
+    may_let_go = false;
+    if (run.whole->before) run.whole->before->are_in_vain = true;
     give_up_times();
   } else if (!t->on) {
     begin_root();
@@ -42,8 +48,10 @@ void Reader::initial_begin() {
 }
 
 void Reader::meet_region(Region &region) {
+  let_go_beginning();
   Task *t = find(r->task), *root = run.whole->root;
   region.whole = run.whole.get();
+  begun.push_back(&region);
   region.has_events = false;
   if (ImplicitTask *own = in_loop(); own && own->chunk && t && t->part) {
     t = own->chunk;  // whose turns are not told apart then
@@ -100,20 +108,24 @@ void Reader::parallel_end() {
   auto region = run.regions.find(r->other);
   if (region == run.regions.end()) return;
   region->second->over = true;
+  if (region->second->owner) put_in_its_place(*region->second);
   let_go_if_over(*region->second);
-  if (!region->second->owner) return;
-  Task *owner = region->second->owner;
+}
+
+void Reader::put_in_its_place(Region &region) {
+  Task *owner = region.owner;
   unsigned segment = owner->segment;
-  std::vector<Part> parts = place_region(*region->second);
-  time_placed(parts, *region->second, *owner, segment);
-  if (!region->second->resumes) return;
+  std::vector<Part> parts = place_region(region);
+  time_placed(parts, region, *owner, segment);
+  if (owner == run.whole->root && !parts.empty()) note_placed();
+  if (!region.resumes) return;
   begin(owner);
-  if (parts.empty()) join_with_before(*owner, region->second->left, r->wall);
+  if (parts.empty()) join_with_before(*owner, region.left, r->wall);
 }
 
 Loop &Reader::loop_of(uint32_t region, unsigned number) {
   Loop *&known = loops[{region, number}];
-  if (!known) known = &run.loops.emplace_back();
+  if (!known) known = &run.whole->loop_list.emplace_back();
   return *known;
 }
 
@@ -148,7 +160,7 @@ void Reader::divided_begin() {
 // Of chunks that began one soon after the other the first is told, and the turns of the others later.
 void Reader::join_turns(const ImplicitTask &own) {
   if (!r->code || !own.chunk) return;
-  run.chunks[own.number].turns += r->code;
+  own.last->turns += r->code;
   own.loop->told += r->code;
 }
 
@@ -177,8 +189,10 @@ void Reader::begin_chunk(ImplicitTask &own, uint64_t turns) {
   chunk->code = own.loop->code;
   chunk->of_loop = true;
   chunk->pieces = 1;
-  own.number = run.chunks.size();
-  run.chunks.push_back({chunk, own.loop, turns});
+  own.last = &run.whole->chunk_list.emplace_back();
+  own.last->loop = own.loop;
+  own.last->turns = turns;
+  own.last->task = chunk;
   begin(chunk);
 }
 
@@ -248,7 +262,8 @@ void Reader::end_root(int64_t end) {
   if (!root->running) return;
   turn_to(*root->on);
   now = end - worker().stood_still - (log->stood_still - log->told_still);
-  bool is_known = end && (!record_clock().of_processor || log == how.last);
+  bool is_last = how.last && log->worker == how.last->worker;
+  bool is_known = end && (!record_clock().of_processor || is_last);
   if (is_known) charge(root);
   else give_up_times();
   if (run.whole->has_events)

@@ -4,6 +4,7 @@
 
 #include "fold.hpp"
 #include "pieces.hpp"
+#include "stretches.hpp"
 
 namespace {
 int64_t own_cost(const Task &t) {
@@ -23,11 +24,8 @@ void add_differing(Differing &all, const Differing &more) {
 // Phases of different regions have different numbers.
 void take_over_parts(WholeProgram &whole, const Region &region) {
   unsigned first = whole.parts.empty() ? 0 : whole.parts.back().phase + 1;
-  for (const Part &part : region.parts) {
-    whole.parts.push_back({part.task, first + part.phase, 0});
-    if (part.task->pieces) whole.in_loops += own_cost(*part.task);
-    else if (!part.task->children) whole.in_parts += own_cost(*part.task);
-  }
+  for (const Part &part : region.parts) whole.parts.push_back({part.task, first + part.phase, 0});
+  count_parts(whole, region);
 }
 
 void take_over(WholeProgram &whole, const Region &region) {
@@ -43,12 +41,18 @@ void take_over(WholeProgram &whole, const Region &region) {
 }
 
 // What stays as this run divided it: where chunks are not told, or make tasks.
-void count_loops(Run &run) {
-  for (const Loop &loop : run.loops)
-    if (loop.kept || (loop.count && !loop.told)) run.whole->divided[loop.what].add(loop.code);
-    else run.whole->loops++;
+void count_loops(WholeProgram &whole) {
+  for (const Loop &loop : whole.loop_list)
+    if (loop.kept || (loop.count && !loop.told)) whole.divided[loop.what].add(loop.code);
+    else whole.loops++;
 }
 }  // namespace
+
+void count_parts(WholeProgram &whole, const Region &region) {
+  for (const Part &part : region.parts)
+    if (part.task->pieces) whole.in_loops += own_cost(*part.task);
+    else if (!part.task->children) whole.in_parts += own_cost(*part.task);
+}
 
 void finish_whole(Run &run, const RegionTime &time, int64_t unit) {
   WholeProgram &whole = *run.whole;
@@ -56,11 +60,11 @@ void finish_whole(Run &run, const RegionTime &time, int64_t unit) {
   whole.serial = whole.cost;
   for (auto &[number, region] : run.regions)
     if (region->whole) take_over(whole, *region);
-  for (const Chunk &chunk : run.chunks)
-    if (chunk.task->pieces) whole.in_loops += own_cost(*chunk.task);
+  add_up(whole);
+  whole.work = whole.root->total + (whole.before ? whole.before->work : 0);
+  measure_chunks(whole, whole.before ? whole.before->chunks.back() : 0, whole.chunk_list.size());
   whole.in_tasks -= whole.in_parts + whole.in_loops;
   whole.threads = std::max(whole.threads, 1u);
-  count_loops(run);
-  add_up(whole);
-  choose_pieces(run, unit);
+  count_loops(whole);
+  choose_pieces(whole, unit);
 }

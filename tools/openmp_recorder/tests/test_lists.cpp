@@ -3,6 +3,8 @@
 #include "../piece.hpp"
 #include "../run.hpp"
 #include "../short_list.hpp"
+#include "../task_list.hpp"
+#include "../task_numbers.hpp"
 #include "check.hpp"
 
 namespace {
@@ -65,5 +67,63 @@ TEST(a_piece_holds_words_numbers_and_blanks) {
   EXPECT(std::string(piece.words()), expected + "18446744073709551615");
   piece.clear();
   EXPECT(piece.words().empty(), true);
+}
+
+TEST(tasks_stay_where_they_are_in_the_order_in_which_they_were_made) {
+  TaskList list;
+  std::vector<Task *> made;
+  for (int i = 0; i < 3000; i++) made.push_back(&list.emplace_back());
+  made.insert(made.begin(), &list.emplace_front());
+  EXPECT(list.size(), made.size());
+  EXPECT(&list.back() == made.back(), true);
+  size_t at = 0;
+  for (Task &t : list) EXPECT(&t == made[at++], true);
+  EXPECT(at, made.size());
+  for (auto t = list.rbegin(); t != list.rend(); ++t) EXPECT(&*t == made[--at], true);
+  EXPECT(at, 0u);
+}
+
+TEST(a_list_without_tasks_has_no_place) {
+  TaskList list;
+  EXPECT(list.begin() == list.end(), true);
+  EXPECT(list.rbegin() == list.rend(), true);
+  list.emplace_back();
+  list.clear();
+  EXPECT(list.size(), 0u);
+  EXPECT(list.begin() == list.end(), true);
+}
+
+TEST(blocks_of_tasks_are_taken_out_whole) {
+  TaskList list;
+  Task *root = &list.emplace_back();
+  EXPECT(list.begin_block(), 1u);
+  Task *first = nullptr;
+  for (int i = 0; i < 100; i++) first = first ? (list.emplace_back(), first) : &list.emplace_back();
+  size_t end = list.begin_block();
+  Task *after = &list.emplace_back();
+  TaskList taken = list.take(1, end);
+  EXPECT(taken.size(), 100u);
+  EXPECT(&*taken.begin() == first, true);
+  EXPECT(list.size(), 2u);
+  EXPECT(&*list.begin() == root, true);
+  EXPECT(&list.back() == after, true);
+}
+
+TEST(numbers_of_tasks_that_are_forgotten_take_no_memory) {
+  TaskNumbers numbers;
+  Task one, other;
+  numbers.put(5, &one);
+  numbers.put(70000, &other);
+  EXPECT(numbers.find(5) == &one, true);
+  EXPECT(numbers.find(70000) == &other, true);
+  EXPECT(numbers.find(6) == nullptr, true);
+  EXPECT(numbers.find(4000000000) == nullptr, true);
+  for (Task *t : {&other, static_cast<Task *>(nullptr)}) {
+    numbers.put(5, t);
+    EXPECT(numbers.find(5) == t, true);
+  }
+  numbers.put(5, nullptr);
+  EXPECT(numbers.find(5) == nullptr, true);
+  EXPECT(numbers.find(70000) == &other, true);
 }
 }  // namespace

@@ -5,50 +5,11 @@
 #include "../head.hpp"
 #include "../program_time.hpp"
 #include "../span.hpp"
-#include "../whole_program.hpp"
 #include "check.hpp"
-#include "made.hpp"
+#include "whole.hpp"
 
 namespace {
-constexpr int64_t us = 1000;
 const std::string part = "task {  # one of the region's threads\n";
-
-// A program that began 100 before its region, which it meets with its first thread.
-class Program : public Made {
- public:
-  using Made::Made;
-  Run &whole(Ending ending = {}) {
-    found = read(ending, {UINT64_MAX, true, began, ending.wall ? 0 : now(), nullptr, true, began, now()});
-    finish_whole(found, {0, true, began, now()}, 1);
-    fold(*found.whole, {});
-    return found;
-  }
-  std::string text() {
-    whole();
-    return text_of(*found.whole);
-  }
-  std::string times() {  // of the text, below the line of all of them
-    text();
-    std::string words = timed_lines(*found.whole, event_lines(*found.whole));
-    return words.substr(words.find('\n') + 1);
-  }
-  Run found;
-
- private:
-  static constexpr int64_t began = 900;
-};
-
-void end_region(Made &made, unsigned many = 1, uint32_t region = 1) {
-  for (unsigned i = 0; i < many; i++) made.barrier(i, 1 + i);
-  made.add(0, Told::ParallelEnd, 0, region);
-}
-
-void loop(Made &made, unsigned thread, uint32_t count, const std::vector<std::pair<uint32_t, int64_t>> &chunks,
-          uint32_t region = 1) {
-  made.add(thread, Told::Divided, count, region, 0, 50);
-  for (auto &[turns, cost] : chunks) made.add(thread, Told::Chunk, turns).after(cost);
-  made.add(thread, Told::DividedEnd, 0, region);
-}
 
 std::string parts(int64_t cost, unsigned count = 1) {
   std::string words;

@@ -1,0 +1,64 @@
+// Made-up programs of which all is one text.
+#pragma once
+#include <string>
+#include <utility>
+#include <vector>
+
+#include "../events.hpp"
+#include "../fold.hpp"
+#include "../stretches.hpp"
+#include "../whole_program.hpp"
+#include "check.hpp"
+#include "made.hpp"
+
+constexpr int64_t us = 1000;
+
+// A program that began 100 before its region, which it meets with its first thread.
+class Program : public Made {
+ public:
+  using Made::Made;
+  Run &whole(Ending ending = {}) {
+    found = read(ending, {UINT64_MAX, true, began, ending.wall ? 0 : now(), nullptr, true, began, now()});
+    finish_whole(found, {0, true, began, now()}, 1);
+    fold(*found.whole, {});
+    return found;
+  }
+  // Of records of which nothing runs by itself later than the last.
+  Run &let_go() {
+    HowToRead how{UINT64_MAX, true, began, now(), nullptr, false, began, now(), 0, {}, "/tmp/spanprof_let_go"};
+    found = read({}, how);
+    if (found.whole->before && found.whole->before->are_in_vain) {
+      how.most_held = UINT64_MAX;
+      found = read({}, how);
+    }
+    finish_whole(found, {0, true, began, now()}, 1);
+    fold(*found.whole, {});
+    return found;
+  }
+  std::string text() {  // the same where what is over was let go
+    std::string few = text_of(*let_go().whole), all = text_of(*whole().whole);
+    EXPECT(few, all);
+    return all;
+  }
+  std::string times() {  // of the text, below the line of all of them
+    text();
+    std::string words = timed_lines(*found.whole, event_lines(*found.whole));
+    return words.substr(words.find('\n') + 1);
+  }
+  Run found;
+
+ private:
+  static constexpr int64_t began = 900;
+};
+
+inline void end_region(Made &made, unsigned many = 1, uint32_t region = 1) {
+  for (unsigned i = 0; i < many; i++) made.barrier(i, 1 + i);
+  made.add(0, Told::ParallelEnd, 0, region);
+}
+
+inline void loop(Made &made, unsigned thread, uint32_t count, const std::vector<std::pair<uint32_t, int64_t>> &chunks,
+                 uint32_t region = 1) {
+  made.add(thread, Told::Divided, count, region, 0, 50);
+  for (auto &[turns, cost] : chunks) made.add(thread, Told::Chunk, turns).after(cost);
+  made.add(thread, Told::DividedEnd, 0, region);
+}
