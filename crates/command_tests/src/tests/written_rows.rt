@@ -59,6 +59,7 @@ fn text_of(alloc: Global, count: u32) -> Result<String, Fail> {
 }
 
 /// What a writer took of so many rows, with so many retries.
+#[derive(Drop)]
 struct Written {
     is_whole: bool,
     left: u32,
