@@ -67,7 +67,7 @@ struct Written {
     writer: Sink,
 }
 
-fn written(count: u32, writer: Sink, retries: u32) -> Written {
+fn rows_taken(count: u32, writer: Sink, retries: u32) -> Written {
     let mut writer = Counted::new(writer);
     let mut left = retries;
     let is_whole = write_rows(&Numbers { count }, &mut writer, &mut left).is_ok();
@@ -83,7 +83,7 @@ fn written(count: u32, writer: Sink, retries: u32) -> Written {
 /// Whether so many rows are written whole, in as few calls as there is room for, and flushed once.
 fn is_written<H: AllocGlobal>(rt: &H, count: u32) -> Result<bool, Fail> {
     let text = text_of(rt.alloc(), count)?;
-    let told = written(count, sink(rt.alloc()), 0);
+    let told = rows_taken(count, sink(rt.alloc()), 0);
     let calls = text.len().div_ceil(ROOM);
     let same = told.writer.taken.as_slice() == text.as_bytes();
     Ok(told.is_whole && same && told.writer.calls == calls && told.writer.flushes == 1)
@@ -101,7 +101,7 @@ fn to_the_edge_of_the_room(rt: HostRuntime) -> Result<(), Fail> {
 /// Whether a writer that takes so many bytes in each call gets the same.
 fn is_taken_slowly<H: AllocGlobal>(rt: &H, piece: usize) -> Result<bool, Fail> {
     let text = text_of(rt.alloc(), 9_000)?;
-    let told = written(9_000, slow_sink(rt.alloc(), piece, Faults::NONE), 0);
+    let told = rows_taken(9_000, slow_sink(rt.alloc(), piece, Faults::NONE), 0);
     Ok(told.is_whole && told.writer.taken.as_slice() == text.as_bytes())
 }
 
@@ -121,7 +121,7 @@ fn ends_at<H: AllocGlobal>(rt: &H, call: usize) -> Result<bool, Fail> {
         usize::MAX,
         Faults::fail_call(call, ErrorKind::Other),
     );
-    let told = written(20_000, writer, 9);
+    let told = rows_taken(20_000, writer, 9);
     let size = call.saturating_mul(ROOM).min(text.len());
     let same = told.writer.taken.as_slice() == &text.as_bytes()[..size];
     let is_told = !told.is_whole && told.left == 9 && told.faults == 1;
@@ -141,10 +141,10 @@ fn failing_writers(rt: HostRuntime) -> Result<(), Fail> {
 fn interrupted_writers(rt: HostRuntime) -> Result<(), Fail> {
     let text = text_of(rt.alloc(), 20_000)?;
     let faults = Faults::interrupt_calls(1, 3);
-    let told = written(20_000, slow_sink(rt.alloc(), usize::MAX, faults), 3);
+    let told = rows_taken(20_000, slow_sink(rt.alloc(), usize::MAX, faults), 3);
     assert!(rt; told.is_whole && told.left == 0 && told.faults == 3);
     assert!(rt; told.writer.taken.as_slice() == text.as_bytes());
-    let told = written(20_000, slow_sink(rt.alloc(), usize::MAX, faults), 2);
+    let told = rows_taken(20_000, slow_sink(rt.alloc(), usize::MAX, faults), 2);
     assert!(rt; !told.is_whole && told.left == 0 && told.faults == 3);
     assert!(rt; told.writer.taken.as_slice() == &text.as_bytes()[..ROOM]);
     Ok(())
@@ -155,7 +155,7 @@ fn interrupted_writers(rt: HostRuntime) -> Result<(), Fail> {
 fn failing_flush(rt: HostRuntime) -> Result<(), Fail> {
     let mut writer = sink(rt.alloc());
     writer.flush_fault = Some(ErrorKind::Interrupted);
-    let told = written(3, writer, 9);
+    let told = rows_taken(3, writer, 9);
     assert!(rt; !told.is_whole && told.faults == 1 && told.writer.flushes == 1);
     Ok(())
 }

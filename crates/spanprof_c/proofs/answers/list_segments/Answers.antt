@@ -8,7 +8,7 @@ use Rattle.spanprof_c.proofs.answers.list_segments.Goals as goal
 pub returns-in-Err-clause-refused : goal.returns-in-Err-clause-refused
 returns-in-Err-clause-refused c =
     let ask = asked (source c.args.any_size c.args.text.now) [] 1
-        (length c.args.tasks.now ∷ length c.args.costs.now ∷ []) in
+    (length c.args.tasks.now ∷ length c.args.costs.now ∷ []) in
     subst (λ why. IsRefused ask why) (sym c.text_refusal.ensures)
     (unread ask c.in-Err.fault (λ some. subst (λ any. IsFaultOf any c.args.text.now c.in-Err.fault)
     (sym c.if-any_size.true) (c.in-Err.ensures.refused some)))
