@@ -4,7 +4,6 @@ import hashlib
 import os
 import pathlib
 import shlex
-import shutil
 import subprocess
 
 from spanprof.conformance.data import DATA
@@ -70,7 +69,9 @@ class Toolchain:
     def move(made, target):
         """Puts a file where other processes may look for it, which then find the whole of it or none."""
         target.parent.mkdir(parents=True, exist_ok=True)
-        shutil.copy(made, f"{target}.{os.getpid()}")
+        # A copy by this process would be open for writing in whatever another thread starts just then, and a program
+        # that is open for writing cannot be run.
+        subprocess.run(["cp", "--", str(made), f"{target}.{os.getpid()}"], check=True)
         os.rename(f"{target}.{os.getpid()}", target)
 
     def kept_kinds(self):
