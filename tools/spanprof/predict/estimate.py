@@ -1,5 +1,5 @@
 """The program's time on some threads, by a simulation of a runtime's scheduling on the burdened text. It is a model:
-nothing of it is proved. The interval is that which held in nine of ten programs that it was not fitted to."""
+nothing of it is proved. The interval is that which held in nine of ten cases of the programs of one measurement."""
 import statistics
 from dataclasses import dataclass
 from math import exp, log
