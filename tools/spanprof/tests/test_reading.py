@@ -149,8 +149,11 @@ class Finding(unittest.TestCase):
             self.assertEqual(client.spanprof(), ["rt", "run", "--"])
         with mock.patch.dict(os.environ, {"SPANPROF": ""}), mock.patch("shutil.which", return_value="/bin/spanprof"):
             self.assertEqual(client.spanprof(), ["/bin/spanprof"])
-        with mock.patch.dict(os.environ, {"SPANPROF": ""}), mock.patch("shutil.which", return_value=None):
-            self.assertEqual(client.spanprof(), [client.PLACES[0]])
+        with mock.patch.dict(os.environ, {"SPANPROF": ""}), mock.patch("shutil.which", return_value=None), \
+                mock.patch("os.access", side_effect=lambda path, _: path in there) as access:
+            for there, found in ((client.PLACES, 0), (client.PLACES[1:], 1), ((), 0)):
+                self.assertEqual(client.spanprof(), [client.PLACES[found]])
+            self.assertTrue(access.called)
 
     def test_no_program_is_told_without_a_traceback(self):
         with mock.patch.dict(os.environ, {"SPANPROF": "/no/such/program"}):
