@@ -23,6 +23,16 @@ def tested(options, bench, settings):
     return {name: fact for name, fact in facts.items() if fact}
 
 
+def of_mutants(options, bench, settings):
+    """The same of campaigns on mutants."""
+    return {"compiler": bench.toolchain.version(), "flags": " ".join(bench.toolchain.shown_flags),
+            "settings": ", ".join(settings), "threads": ", ".join(map(str, options.threads)),
+            "runs each": str(options.runs), "seed": str(options.seed), "timeout": str(options.timeout),
+            "tasks": ", ".join(options.tasks), "random programs": str(options.programs),
+            "directed programs": options.match if options.directed else "none",
+            "left out of random programs": ", ".join(options.without), "seconds": str(options.seconds)}
+
+
 def lacking(options, kinds):
     """The directed programs that need a kind of item that the compiler lacks."""
     return ", ".join(directed_cases(kinds, options.tasks, options.match)[1]) if options.directed else ""

@@ -69,7 +69,7 @@ def add_options(name, parser):
         add("--report", default="", help=REPORT)
     if name == "judge":
         add("log", help="what a run of it wrote")
-    if name == "run":
+    if name in ("run", "mutants"):
         add("--tasks", type=some_of(VARIANTS), default=list(VARIANTS), metavar="tied,untied,mixed",
             help="how tasks are written (all three; mixed: every other task is untied)")
     if name in ("shrink", "bisect", "emit"):
@@ -114,10 +114,11 @@ def add_mutant_options(parser):
     add("--built", default="", metavar="FOLDER",
         help="runtimes built from changed sources, as checks/programs/mutants leaves them, in place of entry points")
     add("--only", type=lambda words: words.split(","), default=[], metavar="NAME,..", help="these of them alone")
-    add("--programs", type=natural, default=30, help="random programs of a campaign on each of them (30)")
+    add("--programs", type=natural, default=20, help="random programs of a campaign on each of them (20)")
     add("--campaigns", type=positive, default=5,
-        help="campaigns on each of them, until two programs have failed (5)")
-    add("--seconds", type=positive, default=math.inf, help="of a campaign at most, what is slow apart (no limit)")
+        help="campaigns on each of them, until two programs of one have failed, or half of these (5)")
+    add("--seconds", type=positive, default=math.inf, help="of a campaign at most (no limit)")
+    add("--state", default="", metavar="FILE", help="keep each campaign there, and take those that are there")
     add("--no-directed", dest="directed", action="store_false", help="leave the directed part out of campaigns")
     add("--without", type=some_of(CONSTRUCTS), default=[], metavar="CONSTRUCT,..",
         help="constructs that random programs do not have")
