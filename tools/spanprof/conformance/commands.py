@@ -14,6 +14,7 @@ from spanprof.conformance.directed import directed_programs, first_comment
 from spanprof.conformance.discarding import completed, record_of
 from spanprof.conformance.explain import explain
 from spanprof.conformance.facts import facts_of, of_mutants, tested
+from spanprof.conformance.generate import seeds_in_turn
 from spanprof.conformance.journal import Journal
 from spanprof.conformance.judge import Missing, Refused
 from spanprof.conformance.launch import read_logs
@@ -60,7 +61,7 @@ def run_once(options, bench, plan):
     """The results of the directed part and of so many random programs, or of a part of them."""
     kinds = bench.toolchain.kinds
     cases = directed_cases(kinds, options.tasks, options.match)[0] if options.directed else []
-    seeds = range(options.seed, options.seed + options.programs)
+    seeds = seeds_in_turn(options.seed, options.programs)
     cases += random_cases(seeds, kinds, options.tasks, options.without)
     return run_cases(bench, options.shard.part(cases), plan, options.jobs)
 

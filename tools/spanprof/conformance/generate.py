@@ -1,4 +1,5 @@
 """Random programs. One seed, one program."""
+import itertools
 import random
 from dataclasses import dataclass, replace
 
@@ -188,6 +189,21 @@ class Generator:
         if self.rng.random() < (.2 if loops else self.shape.plain):
             return None
         return Index(self.rng.choice((None, *loops)) if loops else None, self.rng.choice(self.shape.offsets))
+
+
+def shape_of(seed):
+    """The name of the shape or form of a seed's program."""
+    return random.Random(seed).choice([*SHAPES, *RECIPES])
+
+
+def seeds_in_turn(first, count):
+    """So many seeds from the first on, whose programs have each of the forms and then each of the shapes in turn."""
+    def seeds_of(name):
+        return (seed for seed in itertools.count(first) if shape_of(seed) == name)
+
+    names = [*RECIPES, *reversed(SHAPES)]
+    seeds = {name: seeds_of(name) for name in names}
+    return [next(seeds[name]) for name in itertools.islice(itertools.cycle(names), count)]
 
 
 def random_program(seed, kinds, without=()):

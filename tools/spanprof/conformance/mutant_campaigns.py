@@ -6,6 +6,7 @@ import time
 from dataclasses import asdict, dataclass, field, replace
 
 from spanprof.conformance.campaign import directed_cases, random_cases
+from spanprof.conformance.generate import seeds_in_turn
 
 ENOUGH = 2        # programs that fail, after which a campaign ends
 SEEDS_APART = 10_000
@@ -74,7 +75,7 @@ def cases_of_campaign(options, kinds, number):
     program first with tasks of the first kind."""
     first = options.seed + number * SEEDS_APART
     directed = directed_cases(kinds, options.tasks, options.match)[0] if options.directed else []
-    seeds = range(first, first + options.programs)
+    seeds = seeds_in_turn(first, options.programs)
     cases = directed + random_cases(seeds, kinds, options.tasks, options.without)
     random.Random(first).shuffle(cases)
     return sorted(cases, key=lambda case: options.tasks.index(case.variant))

@@ -65,7 +65,7 @@ class OnMutants(unittest.TestCase):
 
     def test_goes_on_from_what_was_kept(self):
         kept = [("lost", {"failed": {"p": [2, "free", "taskwait"]}, "tried": 3, "seconds": 1.5})] * 2
-        caught, bench, more = self.caught(lambda case: case.name.endswith("20001"), kept=kept)
+        caught, bench, more = self.caught(lambda case: case.name.startswith("many-20"), kept=kept)
         self.assertEqual([len(one.failed) for one in caught["lost"].campaigns], [1, 1, 1])
         self.assertEqual((len(more), len(bench.tried), caught["lost"].times()), (1, 3, 3))
         caught, bench, _ = self.caught(lambda case: True, kept=kept * 2)
@@ -91,7 +91,7 @@ class WhatWasSeen(unittest.TestCase):
 
 class Order(unittest.TestCase):
     def test_programs_of_the_rule_come_first(self):
-        cases = cases_of_campaign(options(directed=True, match="*wait*"), {"in", "out"}, 0)
+        cases = cases_of_campaign(options(directed=True, match="*wait*", programs=0), {"in", "out"}, 0)
         names = [case.name for case in in_order(cases, "taskwait depend")]
         first = [name for name in names if name.startswith("taskwait_depend")]
         self.assertEqual(names[:len(first)], first)
