@@ -91,7 +91,7 @@ def add_bench_options(name, parser):
     add("--expected", type=lambda word: [word], default=[], metavar="FILE",
         help="failures that do not count, beside those of expected.txt")
     add("--no-known-faults", dest="known_faults", action="store_false", help="count the failures of expected.txt too")
-    add("--seed", type=natural, default=1, help="the first random program's number, and the delays' seed (1)")
+    add("--seed", type=natural, default=1, help="the least number of a random program, and the delays' seed (1)")
     add("--timeout", type=positive, default=10, help="seconds until a run counts as hung (10)")
     add("--jobs", type=positive, default=max(1, (os.cpu_count() or 1) // 2), help="programs that run side by side")
     add("--match", default="*", metavar="PATTERN", help="only the directed programs whose names fit it (*)")
