@@ -49,10 +49,16 @@ def command_run(options, folder):
         if options.shard.of > 1:
             keep_part(options, what, results)
     found = shrink_failures(options, bench, results)
-    sources = list(gcov.rows(gcov.reached(options.gcov))) if options.gcov else []
+    sources = reached_sources(options) if options.gcov else []
     waits = list(delays.tables_of(measured_delays(options, bench, []))) if options.delays else []
     publish(options.report, Report(facts_of(what, results), bench.toolchain.kinds, results, found, sources, waits))
     return 1 if results.groups else 0
+
+
+def reached_sources(options):
+    """What was reached of the runtime's sources."""
+    others = gcov.reached(options.gcov_beside) if options.gcov_beside else None
+    return list(gcov.rows(gcov.reached(options.gcov), others))
 
 
 def run_once(options, bench, plan):
