@@ -3,7 +3,7 @@ how many turns each of them has. Where a log tells which turns went to one task,
 import re
 from dataclasses import dataclass
 
-CLAUSE = re.compile(r"`(\w+)\((strict)?")  # in the words of `wrong_chunks`
+CLAUSE = re.compile(r"with `(\w+)\((strict)?")  # in the words of `wrong_chunks`
 
 
 @dataclass(frozen=True)
@@ -52,20 +52,26 @@ def wrong_number(sizes, number, strict):
     return f"has {wrong[0][0]} turns and not {wrong[0][1]}" if wrong else ""
 
 
+def wrong_in(table, taskloop, sizes):
+    """In words, what is wrong with the sizes of a taskloop's tasks; nothing where they are right."""
+    name, number, strict = clause_of(taskloop.clause)
+    told = (wrong_number if name == "num_tasks" else wrong_grains)(sizes, number, strict)
+    return told and f"the taskloop with `{taskloop.clause}` whose first turn is {table.name_of(taskloop.turns[0])} " \
+                    f"has tasks of {', '.join(map(str, sizes))} turns: one {told}"
+
+
 def rule_of(words):
-    """The short name of the clause of which `wrong_chunks` tells."""
-    name, strict = CLAUSE.search(words).groups()
-    return f"{name}({strict})" if strict else name
+    """The short names of the clauses of which `wrong_chunks` tells."""
+    return ", ".join(dict.fromkeys(f"{name}({strict})" if strict else name for name, strict in CLAUSE.findall(words)))
 
 
 def wrong_chunks(table, log):
-    """In words, the first taskloop whose turns went to other tasks than its clause says; None without one."""
-    turns = dict(map(tuple, log.turns))
+    """In words, the taskloops whose turns went to other tasks than their clauses say, the first one of each kind of
+    clause; None without one."""
+    turns, found = dict(map(tuple, log.turns)), {}
     for taskloop in table.taskloops if turns else ():
         sizes = sizes_of(taskloop, turns)
-        name, number, strict = clause_of(taskloop.clause)
-        told = (wrong_number if name == "num_tasks" else wrong_grains)(sizes, number, strict) if sizes else ""
+        told = wrong_in(table, taskloop, sizes) if sizes else ""
         if told:
-            return f"the taskloop with `{taskloop.clause}` whose first turn is {table.name_of(taskloop.turns[0])} " \
-                   f"has tasks of {', '.join(map(str, sizes))} turns: one {told}"
-    return None
+            found.setdefault(rule_of(told), told)
+    return "; ".join(found.values()) or None

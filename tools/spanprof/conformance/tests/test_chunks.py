@@ -53,6 +53,11 @@ class Logs(unittest.TestCase):
         self.assertTrue(words.endswith("has tasks of 1, 2 turns: one has 1 turns and not 2"), words)
         self.assertEqual(rule_of(words), "grainsize(strict)")
 
+    def test_each_kind_of_clause_is_told_once(self):
+        words = told(f"{UP} {UP} {UP.replace('strict:', '')}", *[(turn, 1) for turn in (1, 3, 5)],
+                     *[(turn, 7) for turn in (7, 9, 11)], (13, 13), (15, 15), (17, 17))
+        self.assertEqual(rule_of(words), "grainsize(strict), grainsize")
+
     def test_a_loop_that_counts_down(self):
         self.assertIsNone(told(DOWN, (7, 7), (5, 7), (3, 7), (1, 1)))
         self.assertIn("first turn is segment 7", told(DOWN, (7, 7), (5, 5), (3, 5), (1, 5)))
