@@ -16,7 +16,7 @@ from spanprof.conformance.discarding import completed, record_of
 from spanprof.conformance.explain import explain
 from spanprof.conformance.facts import facts_of, tested
 from spanprof.conformance.journal import Journal
-from spanprof.conformance.judge import Missing, Refused
+from spanprof.conformance.judge import Missing
 from spanprof.conformance.launch import read_logs
 from spanprof.conformance.long_campaign import run_campaign
 from spanprof.conformance.mutants import build_mutants, mutants_of, mutated
@@ -30,6 +30,7 @@ from spanprof.conformance.shards import merged
 from spanprof.conformance.text import text_of
 from spanprof.conformance.toolchain import BuildFailed
 from spanprof.conformance.variants import in_variant
+from spanprof.errors import Fault
 
 
 def command_run(options, folder):
@@ -176,7 +177,7 @@ def command_bisect(options, folder):
         (case,) = cases_of(pathlib.Path(options.file).stem, body, [options.tasks], options.unit)
         conditions = plan_of(options, bench).conditions(case)[0]
         found = sample(lambda at: built_tally(bench, case, at), conditions, options.runs, options.fails)
-    except (BuildFailed, Missing, Refused) as reason:
+    except (Fault, OSError) as reason:  # any other status than 0 and 125 would tell git that the version is bad
         print(reason, file=sys.stderr)
         return UNTESTABLE
     print(found.told(options.fails))
