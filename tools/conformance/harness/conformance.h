@@ -23,8 +23,10 @@ extern int conformance_in_region; /* 0 where tasks are created outside of any re
 /* The modifier of `grainsize` and `num_tasks`, which clang knows from 15 on. */
 #if defined __clang__ && __clang_major__ < 15
 #define STRICT
+#define KNOWS_STRICT 0
 #else
 #define STRICT strict:
+#define KNOWS_STRICT 1
 #endif
 
 /* The length of an array that a task has as its own. gcc copies one whose length it does not know by a function, which
@@ -46,7 +48,9 @@ extern int conformance_in_region; /* 0 where tasks are created outside of any re
 
 void segment_start(unsigned segment); /* first in each segment's code */
 void segment_finish(void);            /* last in each segment's code */
-void expect(int is_right);            /* of a value that the runtime made */
+/* First in each turn of a taskloop: OWN is the number of its task, at first 0. */
+void taskloop_turn(unsigned *own, unsigned segment);
+void expect(int is_right); /* of a value that the runtime made */
 void segment_pass(unsigned segment);  /* a whole segment without code of its own */
 void segment_pass_on_host(unsigned segment); /* the same in a target region, where threads have other numbers */
 void team_begins(void);               /* first in each thread of a region */

@@ -6,6 +6,7 @@ import shutil
 import zlib
 from dataclasses import dataclass, field, replace
 
+from spanprof.conformance.chunks import wrong_chunks
 from spanprof.conformance.coverage import Coverage
 from spanprof.conformance.discarding import completed, record_of, without_discarded
 from spanprof.conformance.emit_c import c_text
@@ -110,22 +111,26 @@ class Examined:
         return c_text(self.case.body, self.table, self.record.preds)
 
     def judged(self, log, constrained):
-        """The verdict of spanprof, and on what it accepts whether tied tasks stayed on their threads, whether tasks
-        that exclude one another ran one at a time and, where the runtime was not told otherwise, whether threads began
-        tied tasks only where they may."""
+        """The verdict of spanprof, and on what it accepts whether tasks of taskloops had the turns that they should.
+        Where the events have an order: whether tied tasks stayed on their threads, whether tasks that exclude one
+        another ran one at a time and, where the runtime was not told otherwise, whether threads began tied tasks only
+        where they may."""
         verdict = self.judge.verdict(self.text, record_of(self.record, self.table, log), log)
-        if not verdict.accepted or log.unlogged:
+        if not verdict.accepted:
             return verdict
-        tests = {"moved": moved, "overlapping": overlapping}
-        if constrained:
-            tests["unconstrained"] = unconstrained
-        told = {kind: test(self.table, without_discarded(log)) for kind, test in tests.items()}
+        told = {"chunks": wrong_chunks(self.table, log)}
+        if not log.unlogged:
+            tests = {"moved": moved, "overlapping": overlapping}
+            if constrained:
+                tests["unconstrained"] = unconstrained
+            told.update((kind, test(self.table, without_discarded(log))) for kind, test in tests.items())
         return next((Verdict(kind, words) for kind, words in told.items() if words), verdict)
 
     def verdict(self, log, conditions):
         """The verdict on a log, and what it tried. Equal logs get equal answers, so each is looked at once."""
         constrained = conditions.setting != "unconstrained"
-        key = (conditions.threads, constrained, log.end, log.detail, log.unlogged, tuple(log.events))
+        key = (conditions.threads, constrained, log.end, log.detail, log.unlogged, tuple(log.events),
+               tuple(map(tuple, log.turns)))
         if key not in self.known:
             verdict = self.judged(log, constrained)
             ordered = verdict.accepted and not log.unlogged and not log.discarded

@@ -16,7 +16,7 @@ from spanprof.conformance.explain import explain
 from spanprof.conformance.facts import facts_of, of_mutants, tested
 from spanprof.conformance.generate import seeds_in_turn
 from spanprof.conformance.journal import Journal
-from spanprof.conformance.judge import Missing, Refused
+from spanprof.conformance.judge import Missing
 from spanprof.conformance.launch import read_logs
 from spanprof.conformance.long_campaign import run_campaign
 from spanprof.conformance.mutant_campaigns import Campaigns
@@ -32,6 +32,7 @@ from spanprof.conformance.sparing import SparingBench
 from spanprof.conformance.text import text_of
 from spanprof.conformance.toolchain import BuildFailed
 from spanprof.conformance.variants import in_variant
+from spanprof.errors import Fault
 
 
 def command_run(options, folder):
@@ -51,10 +52,16 @@ def command_run(options, folder):
         if options.shard.of > 1:
             keep_part(options, what, results)
     found = shrink_failures(options, bench, results)
-    sources = list(gcov.rows(gcov.reached(options.gcov))) if options.gcov else []
+    sources = reached_sources(options) if options.gcov else []
     waits = list(delays.tables_of(measured_delays(options, bench, []))) if options.delays else []
     publish(options.report, Report(facts_of(what, results), bench.toolchain.kinds, results, found, sources, waits))
     return 1 if results.groups else 0
+
+
+def reached_sources(options):
+    """What was reached of the runtime's sources."""
+    others = gcov.reached(options.gcov_beside) if options.gcov_beside else None
+    return list(gcov.rows(gcov.reached(options.gcov), others))
 
 
 def run_once(options, bench, plan):
@@ -176,7 +183,7 @@ def command_bisect(options, folder):
         (case,) = cases_of(pathlib.Path(options.file).stem, body, [options.tasks], options.unit)
         conditions = plan_of(options, bench).conditions(case)[0]
         found = sample(lambda at: built_tally(bench, case, at), conditions, options.runs, options.fails)
-    except (BuildFailed, Missing, Refused) as reason:
+    except (Fault, OSError) as reason:  # any other status than 0 and 125 would tell git that the version is bad
         print(reason, file=sys.stderr)
         return UNTESTABLE
     print(found.told(options.fails))

@@ -131,13 +131,15 @@ class Emitter:
                          f"segment_pass({self.segment(first - 1)} + {stride}u * turn);")
         name = self.new_sum(indent) if clause == " reduction" else ""
         words = f"{clause}(+: {name})" if name else clause
-        copied = self.copy(task, indent)
-        self.pragma(f"taskloop{written_chunks(chunks, node)}{words}{self.clauses(task)}{copied}")
+        copied, own = self.copy(task, indent), self.own_turn(task, chunks, indent)
+        self.pragma(f"taskloop{written_chunks(chunks, node)}{words}{self.clauses(task)}{copied}{own}")
         self.put(indent, head_of_taskloop(node))
         self.strides.append((node, stride))
+        if own:
+            self.put(indent + 1, f"{is_known(chunks)}taskloop_turn(&own_turn, {self.segment(self.next)});")
         self.task_body(task, indent + 1, name, copied)
         self.strides.pop()
-        self.put(indent, "}" + " }" * bool(copied))
+        self.put(indent, "}" + " }" * (bool(copied) + bool(own)))
         if name:
             self.put(indent, f"expect({name} == {node.turns}); }}")
         self.next = first + stride * node.turns - (1 if nogroup else 0)
@@ -174,6 +176,14 @@ class Emitter:
             return ""
         self.put(indent, f"{{ unsigned copied[COPIED_LENGTH]; copied[0] = {self.tasks}u;")
         return " firstprivate(copied)"
+
+    def own_turn(self, task, chunks, indent):
+        """The clause of a taskloop whose tasks each tell by which turn they begin; before it, what each has for that.
+        A task that may be merged has no data of its own."""
+        if chunks in ("", "any") or "mergeable" in task.clauses:
+            return ""
+        self.put(indent, "{ unsigned own_turn = 0;")
+        return " firstprivate(own_turn)"
 
     def target(self, node, indent):
         """A task as one of `target nowait`, where the runtime makes tasks of these for the host. Outside of a region
@@ -249,6 +259,11 @@ class Emitter:
     def depend(self, node):
         """The `depend` clauses of a task."""
         return clauses(node, self.locations.of)
+
+
+def is_known(chunks):
+    """Before what holds of `strict` alone: the compiler has to know it."""
+    return "if (KNOWS_STRICT) " if "strict" in chunks else ""
 
 
 def roles_of(table):

@@ -7,6 +7,7 @@ HEADS = ("for (unsigned long long {v} = {first}; {v} <= {last}ull * conformance_
          "for (int {v} = {last}; {v} >= {first}; {v}--) {{",
          "for (unsigned long long {v} = {last}ull * conformance_yes; {v} >= {first}; {v}--) {{",
          INT)
+DOWN = (1, 2)  # the places of those that count down
 
 
 def filled(head, loop):
@@ -17,10 +18,19 @@ def head_of(loop):
     return filled(INT, loop)
 
 
+def head_in_turn(loop):
+    """The place of a taskloop's head. A number without a sign is never less than 0, so none counts down to 0."""
+    place = (loop.first + loop.turns) % len(HEADS)
+    return place if loop.first > 0 or "unsigned" not in HEADS[place] else HEADS.index(INT)
+
+
 def head_of_taskloop(loop):
-    """A number without a sign is never less than 0, so none counts down to 0."""
-    head = HEADS[(loop.first + loop.turns) % len(HEADS)]
-    return filled(head if loop.first > 0 or "unsigned" not in head else INT, loop)
+    return filled(HEADS[head_in_turn(loop)], loop)
+
+
+def counts_down(loop):
+    """Whether a taskloop in C begins with the last turn of the text's loop."""
+    return head_in_turn(loop) in DOWN
 
 
 def written_chunks(chunks, loop):

@@ -1,6 +1,7 @@
 """Says in words what a failed run broke."""
 from dataclasses import dataclass
 
+from spanprof.conformance.chunks import rule_of
 from spanprof.conformance.reader import read_program
 from spanprof.conformance.segments import Table, conflict
 from spanprof.conformance.standing import Standing, without_places
@@ -36,6 +37,8 @@ def explain(text, verdict, log, threads=0):
         return refused(Table(read_program(text)), verdict.detail, log)
     if verdict.kind in ("hung", "incomplete", "crashed"):
         return stopped(Table(read_program(text)), verdict, log, threads)
+    if verdict.kind == "chunks":
+        return Explanation(rule_of(verdict.detail), verdict.detail)
     if log and log.unlogged and verdict.kind == "refused":
         return Explanation("twice", verdict.detail)
     return Explanation(verdict.detail if verdict.kind == "refused" else verdict.kind, verdict.detail)

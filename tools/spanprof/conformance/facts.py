@@ -4,6 +4,15 @@ import os
 from spanprof.conformance.campaign import directed_cases
 from spanprof.conformance.settings import SETTINGS
 
+# How the variables begin by which whoever calls tells runtimes and sanitizers something.
+OF_RUNTIMES = ("OMP_", "KMP_", "GOMP_", "LIBOMP", "MALLOC_", "ASAN_", "TSAN_", "UBSAN_")
+
+
+def told_runtimes(environment):
+    """The variables that hold in all settings, where these do not say otherwise."""
+    told = [f"{name}={value}" for name, value in sorted(environment.items()) if name.startswith(OF_RUNTIMES)]
+    return f"`{' '.join(told)}`" if told else ""
+
 
 def tested(options, bench, settings):
     """What is tested, and how: the same whenever a campaign goes on."""
@@ -13,6 +22,7 @@ def tested(options, bench, settings):
              "threads": ", ".join(map(str, options.threads)),
              "runs each": str(options.runs),
              "seed": str(options.seed),
+             "environment": told_runtimes(bench.environment),
              **{f"setting {name}": SETTINGS[name].told() for name in settings},
              "tasks": ", ".join(options.tasks),
              "mutant": options.mutate,

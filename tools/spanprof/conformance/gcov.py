@@ -54,8 +54,28 @@ def reached(folder):
     return found
 
 
-def rows(found):
-    """A row for each file: its lines and branches that were reached, those with the most lines first."""
+def rows(found, others=None):
+    """A row for each file: its lines and branches that were reached, those with the most lines first; and where it is
+    known what other tests have reached, the lines that they have not."""
     for name, file in sorted(found.items(), key=lambda pair: (-len(pair[1].lines), pair[0])):
-        yield (name, *(f"{some} of {all_there}" + (f" ({100 * some // all_there} %)" if all_there else "")
-                       for some, all_there in file.shares()))
+        shares = [f"{some} of {all_there}" + (f" ({100 * some // all_there} %)" if all_there else "")
+                  for some, all_there in file.shares()]
+        yield name, *shares, *([] if others is None else [told(alone(file, others.get(name)))])
+
+
+def alone(file, other):
+    """The lines of a file that were reached here and not by others."""
+    there = other.lines if other else {}
+    return [number for number, count in sorted(file.lines.items()) if count and not there.get(number)]
+
+
+def told(numbers):
+    """How many lines these are, and which, with whole ranges as one."""
+    ranges = []
+    for number in numbers:
+        if ranges and ranges[-1][1] == number - 1:
+            ranges[-1][1] = number
+        else:
+            ranges.append([number, number])
+    words = ", ".join(f"{first}-{last}" if last > first else str(first) for first, last in ranges)
+    return f"{len(numbers)}: {words}" if words else "0"

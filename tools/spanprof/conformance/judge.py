@@ -103,12 +103,12 @@ class Judge:
 
 def unordered_verdict(record, log):
     """The verdict on a run of which only values and counts are known, and no order."""
-    if log.end != "done":
-        return Verdict(log.end, log.detail)
     counted = collections.Counter(log.events)
     repeated = sorted(event for event, count in counted.items() if count > 1)
     if repeated:
         return Verdict("refused", f"{counted[repeated[0]]} times `{repeated[0]}`")
+    if log.end != "done":
+        return Verdict(log.end, log.detail)
     ended = sum(event.startswith("finish ") for event in counted)
     if ended < record.segments:
         return Verdict("incomplete", f"finished {ended} of {record.segments} segments")

@@ -18,6 +18,7 @@ class Log:
     stacks: list = field(default_factory=list)  # of a run that hung, as a debugger's lines
     moments: list = field(default_factory=list)  # of the events, in nanoseconds, where the run was timed
     discarded: list = field(default_factory=list)  # segments of tasks that were discarded, whose events were added
+    turns: list = field(default_factory=list)  # of taskloops: the first segment of one, and of the first of its task
 
 
 @dataclass(frozen=True)
@@ -35,6 +36,7 @@ class Conditions:
 
 
 LONGEST = 11  # times as long as a run may log nothing: more than harness/watch.c gives it
+SANITIZED = "SUMMARY: "
 ENDS = {"done": "done", "hung": "hung", "signal": "crashed"}
 
 
@@ -56,6 +58,8 @@ def read_logs(text):
             logs[-1].end, logs[-1].detail = ENDS[word], rest
         elif word == "stack" and logs:
             logs[-1].stacks.append(rest)
+        elif word == "turn" and logs:
+            logs[-1].turns.append([int(number) for number in rest.split()])
         elif word in ("start", "finish", "overflow") and logs:
             event, moment = cut_moment(line)
             logs[-1].events.append(event)
@@ -100,9 +104,15 @@ def run_to_end(program, conditions, environment):
 
 
 def breakdown(signal, status, complaints):
-    """How a program broke down: its signal or status, and the first line that it complained with."""
+    """How a program broke down: its signal or status, and the line that says most of its complaint."""
     if status is None:
         return ""
     how = f"signal {signal or -status}" if signal or status < 0 else f"status {status}"
-    first = complaints.strip().split("\n")[0][:200]
-    return f"{how}: {first}" if first else how
+    line = complaint_of(complaints)
+    return f"{how}: {line}" if line else how
+
+
+def complaint_of(complaints):
+    """The first line with words, or the last word of a sanitizer."""
+    lines = [line.strip()[:200] for line in complaints.split("\n") if any(map(str.isalpha, line))]
+    return next((line for line in lines if line.startswith(SANITIZED)), lines[0] if lines else "")

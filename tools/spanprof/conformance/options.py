@@ -141,6 +141,8 @@ def add_failure_options(name, parser):
             help="after the test, tell how long ready segments of the directed programs wait, as `delays` does")
         add("--gcov", default="", metavar="FOLDER",
             help="where the runtime was built with --coverage: tell which of its lines were reached")
+        add("--gcov-beside", default="", metavar="FOLDER",
+            help="a copy of that folder after other tests: tell which lines they have not reached")
         add("--no-directed", dest="directed", action="store_false", help="leave out the directed part")
         add("--without", type=some_of(CONSTRUCTS), default=[], metavar="CONSTRUCT,..",
             help=f"constructs that random programs do not have: {', '.join(CONSTRUCTS)}")

@@ -9,7 +9,7 @@ else held the segment back while somebody was free to start it / how often it th
 which it waited, on another thread. Without the rule, runs of the second kind could have been refused; those of the
 third nearly were. An undeferred task mostly runs on the thread that waits for it; then the third number stays 0."""
 
-SOURCE_HEADS = ("file", "lines", "ways out of branches")
+SOURCE_HEADS = ("file", "lines", "ways out of branches", "lines that other tests have not reached")
 
 
 @dataclass
@@ -58,7 +58,8 @@ def markdown(report, stem):
     lines += ["## How hard each rule was tried", "", *COVERAGE_WORDS.split("\n"), "", *coverage_lines(report), ""]
     lines += ["## By setting and schedule", "", *tables.conditions(results), ""]
     if report.sources:
-        lines += ["## Reached of the runtime's sources", "", *tables.table(SOURCE_HEADS, report.sources), ""]
+        heads = SOURCE_HEADS[:len(report.sources[0])]
+        lines += ["## Reached of the runtime's sources", "", *tables.table(heads, report.sources), ""]
     if report.delays:
         lines += ["## Delayed time, and waits of ready segments", "", *report.delays]
     if results.expected:

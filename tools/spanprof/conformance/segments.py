@@ -5,6 +5,8 @@ has tried, so it follows the table of docs/MODEL.md pair by pair and not the kep
 """
 from dataclasses import dataclass, field
 
+from spanprof.conformance.chunks import Taskloop
+from spanprof.conformance.emit_loops import counts_down
 from spanprof.conformance.forms import chunks_of, form_of, is_cancelled, is_detached, is_of_regions, kind_in_c
 from spanprof.conformance.program import Group, Loop, Wait, Work
 from spanprof.conformance.text import head_of
@@ -56,7 +58,7 @@ class Table:
     """All segments of a program: the task, the cost and the cut before each."""
 
     def __init__(self, body):
-        self.task_of, self.cost, self.cut, self.tasks = [], [], [], []
+        self.task_of, self.cost, self.cut, self.tasks, self.taskloops = [], [], [], [], []
         self.regions = is_of_regions(body)
         self.cancellers = []  # of the group that is walked through
         root = self.begin(None, -1, "", (), "the root", False)
@@ -85,7 +87,7 @@ class Table:
             elif isinstance(node, Group):
                 before = len(task.children)
                 self.group(node, task, loops)
-                self.chunk(node, task.children[before:])
+                self.chunk(node, node.body[0] if node.body else None, task, task.children[before:])
                 for child in task.children[before:]:
                     child.implicit = self.regions and task.parent is None
                 inside = [t for child in task.children[before:] for t in child.family()]
@@ -94,7 +96,7 @@ class Table:
                 before = len(task.children)
                 for turn in range(node.first, node.last + 1):
                     self.walk(node.body, task, {**loops, node.var: turn})
-                self.chunk(node, task.children[before:])
+                self.chunk(node, node, task, task.children[before:])
             else:
                 self.task(node, task, loops)
 
@@ -107,11 +109,15 @@ class Table:
             self.cancellers += [child for child in task.children[before:] if child.cancels]
         self.cancellers = around
 
-    @staticmethod
-    def chunk(node, tasks):
-        """Turns that one task of a taskloop runs: while it waits in one of them, it may run what is below another."""
-        for task in tasks if chunks_of(node) else ():
-            task.tied = False
+    def chunk(self, node, loop, parent, turns):
+        """The turns of what may be a taskloop. Where one task runs several, it may run what is below one of them while
+        it waits in another."""
+        clause = chunks_of(node)
+        if clause not in ("", "any") and not parent.final_inside:
+            firsts = [turn.segments[0] for turn in turns]
+            self.taskloops.append(Taskloop(clause, tuple(firsts[::-1] if counts_down(loop) else firsts)))
+        for turn in turns if clause else ():
+            turn.tied = False
 
     def task(self, node, parent, loops):
         items = tuple((i.kind, i.name if i.index is None else f"{i.name}[{i.index.value(loops)}]") for i in node.items)

@@ -9,6 +9,7 @@ import unittest
 from unittest import mock
 
 from spanprof.conformance import commands
+from spanprof.conformance.expected import WrongLine
 from spanprof.conformance.judge import Judge, Missing, Verdict
 from spanprof.conformance.publish import publish
 from spanprof.conformance.tests.helpers import failure_of
@@ -76,6 +77,15 @@ class Judging(Quiet):
     def test_log_without_runs(self):
         with self.assertRaisesRegex(Missing, "no line `run NUMBER`"):
             self.judged("hello\n")
+
+
+class Bisecting(Quiet):
+    def test_what_cannot_be_tried_is_neither_good_nor_bad(self):
+        for reason in (Missing("no program"), FileNotFoundError("no compiler"), WrongLine("no line")):
+            with mock.patch.object(commands, "open_bench", mock.Mock(side_effect=reason)), \
+                    contextlib.redirect_stderr(io.StringIO()) as complained:
+                self.assertEqual(commands.command_bisect(None, self.folder), 125)
+            self.assertIn(str(reason), complained.getvalue())
 
 
 class Listing(Quiet):

@@ -75,7 +75,8 @@ class Emission(unittest.TestCase):
             return next(line for line in lines if "taskloop" in line)
 
         self.assertEqual(clause("any"), "#pragma omp taskloop nogroup")
-        self.assertEqual(clause("grainsize(strict:2)"), "#pragma omp taskloop grainsize(STRICT 2) nogroup")
+        self.assertEqual(clause("grainsize(strict:2)"),
+                         "#pragma omp taskloop grainsize(STRICT 2) nogroup firstprivate(own_turn)")
 
     def test_copied(self):
         lines = lines_of("task { } task { #: copied\n work 1 }")

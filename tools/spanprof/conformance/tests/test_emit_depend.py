@@ -60,9 +60,24 @@ class Detached(unittest.TestCase):
 
 class Chunks(unittest.TestCase):
     def test_clauses_of_taskloops(self):
-        self.assertIn("taskloop grainsize(2)",
+        self.assertIn("taskloop grainsize(2) firstprivate(own_turn)",
                       pragmas_of("taskgroup { #: taskloop grainsize(2)\n for i 0 4 { task { } } }"))
-        self.assertIn("taskloop num_tasks(2) nogroup", pragmas_of("for i 0 4 { #: taskloop num_tasks(2)\n task { } }"))
+        self.assertIn("taskloop num_tasks(2) nogroup firstprivate(own_turn)",
+                      pragmas_of("for i 0 4 { #: taskloop num_tasks(2)\n task { } }"))
+
+    def test_each_turn_tells_of_which_task_it_is(self):
+        lines = lines_of("for i 0 4 { #: taskloop num_tasks(2)\n task { } }")
+        begin = lines.index("{ unsigned own_turn = 0;")
+        self.assertEqual(lines[begin + 3:begin + 7],
+                         ["taskloop_turn(&own_turn, 1u + 2u * (unsigned)(v_i - 0));",
+                          "segment_start(1u + 2u * (unsigned)(v_i - 0));", "segment_finish();", "} }"])
+        strict = lines_of("for i 0 4 { #: taskloop num_tasks(strict:2)\n task { } }")
+        self.assertIn("if (KNOWS_STRICT) taskloop_turn(&own_turn, 1u + 2u * (unsigned)(v_i - 0));", strict)
+
+    def test_where_no_turn_tells(self):
+        for form, task in (("", "task { }"), (" any", "task { }"), (" num_tasks(2)", "task { #: mergeable\n }")):
+            lines = lines_of(f"for i 0 4 {{ #: taskloop{form}\n {task} }}")
+            self.assertNotIn("own_turn", " ".join(lines))
 
     def test_where_the_body_does_not_allow_them(self):
         self.assertEqual(pragmas_of("for i 0 4 { #: taskloop num_tasks(2)\n taskwait }"), ["taskwait"])

@@ -2,7 +2,7 @@
 import types
 import unittest
 
-from spanprof.conformance.facts import facts_of, tested
+from spanprof.conformance.facts import facts_of, tested, told_runtimes
 from spanprof.conformance.results import Results
 from spanprof.conformance.shards import Shard
 
@@ -38,6 +38,11 @@ class Facts(unittest.TestCase):
         found = facts(without=["loop"])
         self.assertEqual(found["left out of random programs"], "loop")
         self.assertIn("depend_two_sets", found["left out, as the compiler lacks a kind of item"])
+
+    def test_variables_of_the_caller(self):
+        self.assertEqual(told_runtimes({"PATH": "/bin", "OMP_DYNAMIC": "true", "KMP_USE_YIELD": "2"}),
+                         "`KMP_USE_YIELD=2 OMP_DYNAMIC=true`")
+        self.assertEqual(told_runtimes({"PATH": "/bin"}), "")
 
     def test_mutant(self):
         self.assertEqual(facts(mutate="hang")["mutant"], "hang")

@@ -27,6 +27,17 @@ class Reaching(unittest.TestCase):
         self.assertEqual(self.rows(), [("task.c", "2 of 3 (66 %)", "2 of 2 (100 %)"),
                                        ("bar.c", "0 of 1 (0 %)", "0 of 0")])
 
+    def test_lines_that_other_tests_have_not_reached(self):
+        with mock.patch.object(gcov, "documents", lambda folder: DOCUMENTS):
+            found = gcov.reached("folder")
+        others = {"task.c": gcov.Reached({1: 7, 2: 1, 3: 0}, {})}
+        self.assertEqual([row[3] for row in gcov.rows(found, others)], ["1: 3", "0"])
+        self.assertEqual([row[3] for row in gcov.rows(found, {})], ["2: 1, 3", "0"])
+
+    def test_lines_in_ranges(self):
+        self.assertEqual(gcov.told([3, 5, 6, 7, 9, 10]), "6: 3, 5-7, 9-10")
+        self.assertEqual(gcov.told([]), "0")
+
     def test_a_runtime_without_counts(self):
         with tempfile.TemporaryDirectory() as folder:
             with self.assertRaisesRegex(Missing, "--coverage"):

@@ -88,6 +88,7 @@ class Judging(unittest.TestCase):
         self.assertEqual(self.unordered(whole[:-1]).detail, "finished 3 of 4 segments")
         self.assertEqual(self.unordered([*whole, "start 0 2"]).detail, "2 times `start 0 2`")
         self.assertEqual(self.unordered(whole[:3], "asleep", "hung"), Verdict("hung", "asleep"))
+        self.assertEqual(self.unordered([*whole, "start 0 2"], "busy", "hung").kind, "refused")
 
 
 class Finding(unittest.TestCase):

@@ -36,6 +36,10 @@ class Reading(unittest.TestCase):
         log, = read_logs("run 3 plain\nstart 0 0 1700\nfinish 0 0 1900\ndone 17\n")
         self.assertEqual((log.events, log.moments), (["start 0 0", "finish 0 0"], [1700, 1900]))
 
+    def test_turns_of_taskloops(self):
+        log, = read_logs("run 3 plain\nstart 0 0\nfinish 0 0\nturn 1 1\nturn 3 1\ndone 17\n")
+        self.assertEqual((log.events, log.turns), (["start 0 0", "finish 0 0"], [[1, 1], [3, 1]]))
+
     def test_runs_without_an_order(self):
         log, = read_logs("run 3 late unlogged\nstart 0 0\nfinish 0 0\ndone 17\n")
         self.assertEqual((log.schedule, log.unlogged, log.end), ("late", True, "done"))
@@ -68,6 +72,11 @@ class Commands(unittest.TestCase):
         self.assertEqual(breakdown("", -6, ""), "signal 6")
         self.assertEqual(breakdown("", 4, ""), "status 4")
         self.assertEqual(breakdown("", None, "oh"), "")
+
+    def test_complaints_of_sanitizers(self):
+        self.assertEqual(breakdown("", 1, "=====\n==7==ERROR: at 0x1\nSUMMARY: AddressSanitizer: x task.c:3 in f\n"),
+                         "status 1: SUMMARY: AddressSanitizer: x task.c:3 in f")
+        self.assertEqual(breakdown("", 66, "=====\nWARNING: some race\n"), "status 66: WARNING: some race")
 
 
 class Launching(unittest.TestCase):
