@@ -3,7 +3,7 @@
 # against the sources, and the unit tests of the scripts and tools. It needs neither the program nor a compiler, and half
 # a minute. It prints a line for each, and what a check printed where it failed; the status is 0 where none did.
 set -uo pipefail
-cd "$(dirname "$0")/.."
+cd "$(dirname "$0")/.." || exit 1
 failed=0
 
 # passes NAME WORD..: runs the words, which have to end with status 0.
@@ -18,6 +18,11 @@ passes() {
     fi
 }
 
+# installed WORD..: the words pass, or the command is missing, whose package has its name.
+installed() {
+    if command -v "$1" > /dev/null; then passes "$1" "$@"; else echo "skipped $1: it is missing (package $1)"; fi
+}
+
 # tested FOLDER TOP: the unit tests of a folder, which import from TOP.
 tested() { passes "$1" python3 -B -m unittest discover -q -s "$1" -t "$2"; }
 
@@ -25,19 +30,17 @@ for script in definitions proof_map; do
     passes "$script.py" python3 -B "checks/sources/$script.py" --check
 done
 for script in crate_picture version signatures places clauses believed_lines left_edits repeated_lines sentences \
-    speed_numbers waiting/lines style; do
+    speed_numbers waiting/lines style imports; do
     passes "$script.py" python3 -B "checks/sources/$script.py"
 done
-if command -v pyflakes3 > /dev/null; then
-    passes pyflakes3 pyflakes3 tools checks bench examples
-else
-    echo "skipped pyflakes3: it is missing (package pyflakes3)"
-fi
-if command -v pycodestyle > /dev/null; then  # E402 is an import below sys.path, and style.py looks at long lines
-    passes pycodestyle pycodestyle --ignore=E126,E402,E501,W291,W503,W504 tools checks bench examples
-else
-    echo "skipped pycodestyle: it is missing (package pycodestyle)"
-fi
+installed pyflakes3 tools checks bench examples
+# E402 is an import below sys.path, and style.py looks at long lines.
+installed pycodestyle --ignore=E126,E402,E501,W291,W503,W504 tools checks bench examples
+# What nothing but tests uses, apart from names that Python, argparse or a table of methods calls.
+installed vulture --exclude '*/tests/*,*test_*.py' tools checks bench examples \
+    --ignore-names 'write_*,dont_write_bytecode,__getattr__,namespace,option_string,only_first'
+# shellcheck disable=SC2046
+installed shellcheck -S warning demo .ci/run $(git ls-files '*.sh')
 passes cpp_format.sh checks/sources/cpp_format.sh
 for test in checks/*/test_*.py checks/sources/waiting/test_*.py checks/agree/large_recordings/test_*.py bench/test_*.py \
     bench/recording/test_*.py; do

@@ -5,6 +5,7 @@
 #
 #     tools/live_module.sh [FOLDER]      out/library without it
 set -euo pipefail
+case ${1:-} in -h | --help) sed -n '2,/^set/{/^set/!s/^# \{0,1\}//p}' "$0"; exit ;; esac
 fail() { echo "$0: $1" >&2; exit 1; }
 top=$(cd "$(dirname "$0")/.." && pwd) out=$(realpath -m "${1:-$top/out/library}")
 for tool in rt wasm-ld wasm-opt wasm-dis; do command -v $tool > /dev/null || fail "there is no $tool"; done

@@ -96,7 +96,7 @@ def draw_case(seed):
 # ---- the two programs
 
 def run(words, document):
-    told = subprocess.run([str(word) for word in words], input=document.encode(), capture_output=True, timeout=60,
+    told = subprocess.run([str(word) for word in words], input=document.encode(), capture_output=True, timeout=600,
                           check=False)
     return told.returncode, told.stdout.decode()
 

@@ -1,10 +1,11 @@
 #!/usr/bin/env python3
-"""Finds long sentences and long lines in the documents.
+"""Finds long sentences and long lines in the documents, and too many words in all of them.
 
     checks/sources/sentences.py [FILE ..]
 The files are all documents (*.md) of the repository if none is named. A sentence has at most 35 words, and a line at
 most 120 columns. Blocks of code are left out, headings too; a row of a table may be of any width, and each of its
-cells is text of its own. A word is what stands between blanks, in code too; a link counts by its text.
+cells is text of its own. A word is what stands between blanks, in code too; a link counts by its text. README.md,
+CONTRIBUTING.md and docs/ have at most 25,000 words, blocks of code included.
 """
 import pathlib
 import re
@@ -13,6 +14,7 @@ import sys
 TOP = pathlib.Path(__file__).resolve().parents[2]
 MOST_WORDS = 35
 MOST_COLUMNS = 120
+MOST_IN_ALL = 25000
 FENCE = re.compile(r"\s*(```|~~~)")
 HEADING = re.compile(r"#+ ")
 ITEM = re.compile(r"\A\s*(?:[-*+]|\d+\.) +")
@@ -97,8 +99,16 @@ def documents():
             yield path
 
 
+def words_in_all():
+    read = [TOP / "README.md", TOP / "CONTRIBUTING.md", *(TOP / "docs").glob("*.md")]
+    return sum(len(path.read_text(encoding="utf-8").split()) for path in read)
+
+
 def main(names):
     wrong = 0
+    if not names and words_in_all() > MOST_IN_ALL:
+        print("README.md, CONTRIBUTING.md and docs/ have %d words, and %d at most" % (words_in_all(), MOST_IN_ALL))
+        wrong += 1
     for path in [pathlib.Path(name).resolve() for name in names] or documents():
         shown = path.relative_to(TOP) if TOP in path.parents else path
         for number, what, where in faults(path.read_text(encoding="utf-8")):

@@ -1,6 +1,7 @@
 #!/usr/bin/env bash
 # Records the programs of docs/TUNING.md on four threads by the processor's clock, with the newest LLVM that is here: of
-# several recordings of each the one with the least work; those with a remark are taken only where there are no others.
+# several recordings of each the one whose region ended soonest, or with the least work where these are compared; those
+# with a remark are taken only where there are no others.
 # Texts go to FOLDER as NAME.tasks, runs as NAME.replay, and what spanprof-record printed, where the page shows it, as
 # NAME.said.
 #
@@ -37,14 +38,16 @@ record() {
     fi
 }
 
-weight_of() { # TEXT: the sum of its costs, of any number of tasks; far more where it has a remark
-    awk '$1 == "work" { sum += $2 } /^# remark:/ { sum += 1e14 } END { printf "%d", sum }' "$1"
+# weight_of LEAST TEXT: its region's time, or the sum of its costs (work); far more where it has a remark.
+weight_of() {
+    awk -v least="$1" '/^# elapsed:/ && least == "time" { sum += $3 } $1 == "work" && least == "work" { sum += $2 }
+        /^# remark:/ { sum += 1e14 } END { printf "%d", sum }' "$2"
 }
 
-keep() { # NAME: the recording, if it weighs less than the one that is kept
+keep() { # NAME WHAT: the recording, if it weighs less than the one that is kept
     local text weight
     text=$(echo out*.tasks)
-    weight=$(weight_of "$text")
+    weight=$(weight_of "$2" "$text")
     if [ "$weight" -lt "$least" ]; then
         least=$weight
         cp "$text" "$kept/$1${text#out}"
@@ -54,26 +57,26 @@ keep() { # NAME: the recording, if it weighs less than the one that is kept
     rm -rf out.*
 }
 
-while read -r name times how unit program words; do
+while read -r name times what how unit program words; do
     [ $# = 0 ] || [[ " $* " = *" $name "* ]] || continue
     "clang-$llvm" -O2 -g -fopenmp "$top/examples/openmp/$program.c" -o "$program" -lm "${llvm_flags[@]}"
     least=$((10 ** 18))
     for ((i = 0; i < times; i++)); do
         # shellcheck disable=SC2086
         record "$how" "$unit" "./$program" $words
-        keep "$name"
+        keep "$name" "$what"
     done
-    echo "$name: $((least % 10 ** 14)) $unit of work, the least of $times recordings, LLVM $llvm"
+    echo "$name: $((least % 10 ** 14)) $unit of $what, the least of $times recordings, LLVM $llvm"
 done <<'PROGRAMS'
-merge_sort 16 said us merge_sort
-merge_sort_split 16 - us merge_sort_split
-wavefront 16 - us wavefront
-wavefront_overlapped 16 - us wavefront_overlapped
-fibonacci_14 60 - ns fibonacci 27 14
-fibonacci_16 60 - ns fibonacci 27 16
-fibonacci_18 60 - ns fibonacci 27 18
-fibonacci_20 60 - ns fibonacci 27 20
-fibonacci_22 60 - ns fibonacci 27 22
-cholesky 60 none us cholesky 4
-fibonacci_30 8 said ns fibonacci 30 12
+merge_sort 16 time said us merge_sort
+merge_sort_split 16 time - us merge_sort_split
+wavefront 16 time - us wavefront
+wavefront_overlapped 16 time - us wavefront_overlapped
+fibonacci_14 60 work - ns fibonacci 27 14
+fibonacci_16 60 work - ns fibonacci 27 16
+fibonacci_18 60 work - ns fibonacci 27 18
+fibonacci_20 60 work - ns fibonacci 27 20
+fibonacci_22 60 work - ns fibonacci 27 22
+cholesky 60 work none us cholesky 4
+fibonacci_30 8 time said ns fibonacci 30 12
 PROGRAMS

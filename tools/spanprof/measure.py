@@ -5,7 +5,7 @@ import tempfile
 from spanprof.answers import named_numbers
 from spanprof.errors import Fault
 from spanprof.folders import places_of, words_for
-from spanprof.refusal import of_event, without_text
+from spanprof.refusal import in_file, of_event
 
 PLACES = places_of("spanprof_large")
 LIMITS = {
@@ -42,6 +42,11 @@ def replay(program, path):
         raise Fault("spanprof_large replay: %s%s" % (answer, "; " + event if event else ""))
 
 
+def asked(program, text):
+    """What the program prints of a text, whatever its exit status."""
+    return subprocess.run(program, input=text, capture_output=True, text=True, errors="replace", check=False).stdout
+
+
 def measure(program, path):
     """Tasks, segments, work and span of the text in a file."""
     try:
@@ -51,6 +56,6 @@ def measure(program, path):
         raise Fault("spanprof_large: %s" % wrong) from wrong
     if done.returncode:
         answer = done.stdout.strip() or "it ended with status %d" % done.returncode
-        more = without_text(path, answer, LIMITS)
+        more = in_file(path, answer, lambda shorter: asked(program, shorter), LIMITS)
         raise Fault("%s\nspanprof_large: %s" % (more, answer) if more else "spanprof_large: %s" % answer)
     return named_numbers(done.stdout)

@@ -4,6 +4,7 @@ spanprof tells the line of a fault and its kind. The token is found by asking it
 for the same fault as soon as the wrong token stands in it.
 """
 import difflib
+import os
 import re
 from itertools import dropwhile, islice
 
@@ -14,6 +15,7 @@ DIVIDER = re.compile(r"---\r?\n?")
 AT_EVENT = re.compile(r"error: event (\d+): (\w+)(?: (\d+))?")
 CLOSEST = 0.6       # how alike a word has to be to one that is meant
 LONGEST_SHOWN = 100
+MOST_ASKED = 1 << 22    # bytes of a text in which the wrong token is looked for
 KINDS = {
     "TooLong": "the text has too many bytes: 4,194,304 at most, and 1,048,576 outside blanks and comments",
     "BadHeader": "a text begins with `omptasks 1`, or `omptasks 2` where it has loops",
@@ -101,10 +103,10 @@ def picture(line, number, token):
     return ["%s%s" % (head, shown), " " * (len(head) - 2) + "| " + " " * (begin - left) + mark]
 
 
-def at_line(name, text, answer, ask):
+def at_line(name, text, answer, ask, kinds):
     number, kind = AT_LINE.match(answer).groups()
     lines, number = text.split("\n"), int(number)
-    words = KINDS.get(kind, "")
+    words = kinds.get(kind, "")
     if not 1 <= number <= len(lines):
         return "%s: %s" % (name, words or answer)
     token = open_brace(lines, number) if kind == "Unclosed" else wrong_token(lines, number, answer, ask)
@@ -140,15 +142,18 @@ def unknown_segment(command, segments):
         wrong[0] if wrong else "of this number", segments - 1)
 
 
-def without_text(path, answer, limits):
-    """The same of a file that is not held in memory: its line, without the token. `limits` has words for some kinds."""
+def in_file(path, answer, ask, limits):
+    """The same of a text in a file; of one that is too large to be asked about, its line without the token. `ask(text)`
+    is what spanprof_large prints, and `limits` has words for some kinds."""
     found = AT_LINE.match(answer)
     if not found:
         return ""
-    number, kind = int(found[1]), found[2]
+    number, kind, kinds = int(found[1]), found[2], {**KINDS, **limits}
     with open(path, encoding="utf-8", errors="replace", newline="\n") as file:
+        if os.path.getsize(path) <= MOST_ASKED:
+            return at_line(path, file.read(), answer, ask, kinds)
         line = next(islice(file, number - 1, number), "").rstrip("\r\n")
-    words = limits.get(kind, KINDS.get(kind, ""))
+    words = kinds.get(kind, "")
     return "\n".join(["%s:%d: %s: %s" % (path, number, kind, words)] + picture(line, number, None))
 
 
@@ -165,7 +170,7 @@ def explained(name, command, text, answer, ask):
     """The words for people. `ask(words, text)` is what spanprof prints, whatever its exit status."""
     answer = answer.strip()
     if AT_LINE.match(answer):
-        return at_line(name, text.partition("\n---")[0], answer, lambda shorter: ask(["span"], shorter))
+        return at_line(name, text.partition("\n---")[0], answer, lambda shorter: ask(["span"], shorter), KINDS)
     if AT_EVENT.match(answer):
         return "%s: %s" % (name, of_event(text.split("\n"), answer))
     more = of_whole(command, text, answer, ask)

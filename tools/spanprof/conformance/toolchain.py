@@ -34,6 +34,10 @@ int main(void) {
 """
 
 
+class NoCompiler(Fault):
+    """The compiler cannot be started."""
+
+
 class BuildFailed(Fault):
     """What the compiler said."""
 
@@ -52,7 +56,11 @@ class Toolchain:
         self.harness = [self.object_of(source) for source in sorted(HARNESS.glob("*.c"))]
 
     def compile(self, words):
-        done = subprocess.run([*self.cc, *self.flags, *map(str, words)], capture_output=True, text=True, check=False)
+        command = [*self.cc, *self.flags, *map(str, words)]
+        try:
+            done = subprocess.run(command, capture_output=True, text=True, check=False)
+        except OSError as wrong:
+            raise NoCompiler("--cc %s: %s" % (self.cc[0], wrong.strerror)) from wrong
         if done.returncode:
             raise BuildFailed(done.stderr.strip()[:2000])
 

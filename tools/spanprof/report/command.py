@@ -18,7 +18,7 @@ from spanprof.report.speedscope import speedscope_text
 from spanprof.report.summary_json import summary_json
 from spanprof.report.trace_events import trace_text
 from spanprof.report.view import View
-from spanprof.report.what_if import UnknownPlace, all_at_once, read_factors
+from spanprof.report.what_if import all_at_once, read_factors
 from spanprof.version import Version
 
 DESCRIPTION = "Writes one page (HTML that needs no other file and no network) on a program text of spanprof."
@@ -126,8 +126,8 @@ def write_the_rest(chosen, progress):
     views = views_of(chosen, progress)
     try:
         factors = read_factors(chosen.factor, views[0].places)
-    except UnknownPlace as unknown:
-        raise Fault("--factor %s" % unknown) from unknown
+    except Fault as wrong:
+        raise Fault("--factor %s" % wrong) from wrong
     if factors and not chosen.output:
         print_factors(views[0], factors)
     if chosen.json:

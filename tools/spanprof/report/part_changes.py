@@ -20,8 +20,10 @@ def command(view, request, threads):
 
 
 def change_cell(view, number, trial):
-    """In words, and the line to run."""
-    name, line = "change-%d" % number, command(view, trial.request, view.tried.trials.threads[0])
+    """In words, and the command, which is broken between its options."""
+    name, threads = "change-%d" % number, view.tried.trials.threads[0]
+    first, *options = command(view, trial.request, threads).split(" --")
+    line = join([first, *[tag("span", "--" + option, class_="option") for option in options]], " ")
     copy = tag("button", "copy", type="button", data_copy=name)
     return tag("span", tag("span", in_words(trial.request), class_="place"), tag("code", line, id=name), copy,
                class_="where change")

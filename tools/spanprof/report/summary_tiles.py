@@ -39,7 +39,7 @@ def work_tile(view):
 def span_tile(view):
     answers, against = view.answers, against_span(view.answers.head)
     words = "a longest chain of the text; " + against if against else "it ends no sooner on any number of threads"
-    return tile("Span", view.figures.time(answers.span, "span span", PROVED),
+    return tile("Span", view.figures.time(answers.span, "span span", PROVED, None if against else "down"),
                 [view.cost_kind] if against else [view.cost_kind, PROVED], words, spread(view, "span"),
                 moved(view, "span"))
 

@@ -1,5 +1,7 @@
 """Other costs for the segments of a place, and what spanprof's `whatif` makes of them."""
 from spanprof.client import at_once
+from spanprof.errors import Fault
+from spanprof.whatif.requests import find
 
 FACTORS = (0.5, 0.0)
 MOST_PLACES = 30
@@ -54,25 +56,19 @@ class Trials:
         return best if best and self.halved_end(best) < answers.curve[answers.threads]["end"] else None
 
 
-class UnknownPlace(Exception):
-    """A factor names a place that the program has not, or no factor."""
-
-
 def read_factors(words, places):
     """`PLACE=0.3` each; a place is named whole, or by a part that no other has."""
-    out = []
+    names, out = [place.name for place in places], []
     for word in words:
         name, _, value = word.rpartition("=")
-        found = [place for place in places if place.name == name] or [p for p in places if name and name in p.name]
-        if len(found) != 1:
-            raise UnknownPlace("%s: %s place of this name" % (word, "more than one" if found else "no"))
+        found = places[names.index(find(name, names, "place"))]
         try:
             factor = float(value)
         except ValueError as wrong:
-            raise UnknownPlace("%s: the factor is not a number" % word) from wrong
+            raise Fault("%s: the factor is not a number" % word) from wrong
         if not 0 <= factor <= 1e6:
-            raise UnknownPlace("%s: a factor is from 0 to 1,000,000" % word)
-        out.append((found[0], factor))
+            raise Fault("%s: a factor is from 0 to 1,000,000" % word)
+        out.append((found, factor))
     return out
 
 

@@ -1,8 +1,10 @@
 """Tests of refusal.py, with a stand-in for spanprof that refuses one token."""
 import tempfile
 import unittest
+from unittest import mock
 
-from spanprof.refusal import AT_LINE, explained, meant, open_brace, picture, tokens, without_text
+from spanprof import refusal
+from spanprof.refusal import AT_LINE, explained, in_file, meant, open_brace, picture, tokens
 
 TEXT = "omptasks 1\nwork 5  # tasks here\ntask { tasks { } work 3\n}\n"
 
@@ -75,13 +77,27 @@ class OfMore(unittest.TestCase):
 
 
 class OfAFile(unittest.TestCase):
-    def test_its_line_and_other_limits(self):
-        with tempfile.NamedTemporaryFile("w", suffix=".tasks") as file:
-            file.write(TEXT)
-            file.flush()
-            self.assertEqual(without_text(file.name, "error: line 3: TooDeep", {"TooDeep": "deep"}).split("\n"), [
-                file.name + ":3: TooDeep: deep", "    3 | task { tasks { } work 3", "      | ^"])
-            self.assertEqual(without_text(file.name, "error: out of memory", {}), "")
+    def setUp(self):
+        self.file = tempfile.NamedTemporaryFile("w", suffix=".tasks")
+        self.addCleanup(self.file.close)
+        self.file.write(TEXT)
+        self.file.flush()
+
+    def told(self, answer, wrong=None):
+        ask = refusing(wrong, answer.rpartition(" ")[2])
+        return in_file(self.file.name, answer, lambda text: ask((), text), {"TooDeep": "deep"}).split("\n")
+
+    def test_its_token_and_other_limits(self):
+        self.assertEqual(self.told("error: line 3: BadWord", "tasks"), [
+            self.file.name + ":3: BadWord: `tasks` cannot stand here; did you mean `task`?",
+            "    3 | task { tasks { } work 3", "      |        ^~~~~"])
+        self.assertEqual(self.told("error: line 3: TooDeep", "task")[0], self.file.name + ":3: TooDeep: deep")
+        self.assertEqual(self.told("error: out of memory"), [""])
+
+    def test_a_large_one_is_not_read_whole(self):
+        with mock.patch.object(refusal, "MOST_ASKED", 10):
+            self.assertEqual(self.told("error: line 3: BadWord", "tasks"), [
+                self.file.name + ":3: BadWord: this cannot stand here", "    3 | task { tasks { } work 3", "      | ^"])
 
 
 class Parts(unittest.TestCase):

@@ -9,7 +9,6 @@ MOST_DEPTHS = 6
 NEIGHBOURS = 4
 HALF = "0.5"
 KINDS = ("factor", "drop-wait", "drop-depend", "drop-name", "split", "task", "join", "cutoff")
-FEWER_TASKS = ("join", "cutoff")
 
 
 class Candidates(NamedTuple):

@@ -3,7 +3,7 @@ import pathlib
 import tempfile
 import unittest
 
-from spanprof.conformance.toolchain import HARNESS, BuildFailed, Toolchain
+from spanprof.conformance.toolchain import HARNESS, BuildFailed, NoCompiler, Toolchain
 
 # Writes its words to a file, and the file that it is to make; refuses `inoutset`, and all there is if told so.
 COMPILER = """#!/bin/sh
@@ -33,6 +33,10 @@ class Toolchains(unittest.TestCase):
 
     def test_kinds_that_the_compiler_knows(self):
         self.assertEqual(self.toolchain().kinds, {"in", "out", "inout"})
+
+    def test_a_compiler_that_is_not_there(self):
+        with self.assertRaisesRegex(NoCompiler, "^--cc no-such-cc: No such file or directory$"):
+            Toolchain("no-such-cc -O2", [], self.folder)
 
     def test_the_harness_is_compiled_once(self):
         toolchain = self.toolchain()

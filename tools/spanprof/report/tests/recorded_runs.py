@@ -2,7 +2,7 @@
 import os
 import tempfile
 
-from spanprof.report.tests.worked import path
+from spanprof.report.tests.worked_files import path
 
 
 def refusal(name, change):

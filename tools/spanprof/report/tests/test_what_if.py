@@ -1,8 +1,9 @@
 import unittest
 
+from spanprof.errors import Fault
 from spanprof.report.places import Place
 from spanprof.report.tests import worked
-from spanprof.report.what_if import Trials, UnknownPlace, all_at_once, changed, read_factors
+from spanprof.report.what_if import Trials, all_at_once, changed, read_factors
 
 PLACES = [Place("task at a.c:3"), Place("after creating a task at a.c:3"), Place("the beginning")]
 
@@ -13,9 +14,10 @@ class Factors(unittest.TestCase):
 
     def test_refusals(self):
         for word, told in (("a.c:3=1", "more than one place"), ("b.c=1", "no place of this name"),
+                           ("task at a.c:4=1", "no place of this name; there are: .*task at a.c:3"),
                            ("begin=x", "not a number"), ("begin=-1", "from 0 to 1,000,000"),
                            ("begin=nan", "from 0 to"), ("begin", "no place")):
-            with self.assertRaisesRegex(UnknownPlace, told):
+            with self.assertRaisesRegex(Fault, told):
                 read_factors([word], PLACES)
 
 

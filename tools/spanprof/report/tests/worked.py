@@ -10,13 +10,9 @@ import sys
 from unittest import mock
 
 from spanprof.errors import Fault
+from spanprof.report.tests.worked_files import FOLDER, path
 
-FOLDER = os.path.join(os.path.dirname(os.path.abspath(__file__)), "worked")
-KEPT = os.path.join(FOLDER, "answers.json")
-
-
-def path(name):
-    return os.path.join(FOLDER, name)
+KEPT = path("answers.json")
 
 
 def key(words, text):
