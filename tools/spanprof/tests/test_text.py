@@ -24,8 +24,9 @@ class Reading(unittest.TestCase):
 
     def test_code_of_a_regions_threads(self):
         """A group of such tasks stands for a barrier, and not for a `taskgroup` of the program."""
-        phase = "taskgroup {%s\n task {  # one of the region's threads\n  work 1\n  task {  # a.c:9\n  }\n }\n work 2\n}\n"
-        found = list(read("omptasks 1\n" + phase % "" + "work 3\n" + phase % "  # a.c:5" + "work 4\ntaskgroup {\n}\n"))
+        phase = "taskgroup {%s\n task {  # one of the region's threads\n  work 1\n }\n work 2\n}\n"
+        last = "work 4\ntaskgroup {\n}\n"
+        found = list(read("omptasks 1\n" + phase % "" + "work 3\n" + phase % "  # a.c:5" + last))
         self.assertEqual([one.name for one in found if one.kind == "work"], [
             "code of one of the region's threads", "starting one of the region's threads",
             "after the barrier of the region", "code of one of the region's threads",
