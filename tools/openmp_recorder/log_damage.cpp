@@ -37,7 +37,8 @@ bool has_known_words(const Head &head) {
 }
 
 bool has_times(const Head &head) {
-  if (!is_wall(head.first.wall) || !is_wall(head.time_of_day) || !is_wall(head.program_start)) return false;
+  if (!is_wall(head.first.wall) || !is_wall(head.time_of_day)) return false;
+  if (head.program_start > latest_wall || head.program_start < -latest_wall) return false;
   if (head.in_a_record < 0 || head.in_a_record > most_in_a_record) return false;
   if (head.end_processor < 0 || head.end_processor >= longest_time) return false;
   for (const Pair &later : {head.second, head.end, head.stop})
@@ -68,10 +69,13 @@ void RecordsLookedAt::look_at_times(uint64_t ticks, int64_t processor) {
   last_processor = processor;
 }
 
+bool RecordsLookedAt::is_length(int64_t time) const {
+  return time <= longest_time && time >= -static_cast<int64_t>(back);
+}
+
 // No thread stands still for longer than it runs.
-void RecordsLookedAt::add_up(uint64_t stands_still) {
-  constexpr auto most = static_cast<uint64_t>(longest_time);
-  if (stands_still > most || (stood_still += stands_still) > most)
+void RecordsLookedAt::add_up(int64_t stands_still) {
+  if (!is_length(stands_still) || (stood_still += stands_still) > longest_time)
     throw DamagedLog("the recorder took longer than the run");
 }
 
@@ -80,7 +84,7 @@ void RecordsLookedAt::look_at(const log_form::RawRecord &record, int64_t process
   if (told > Told::DividedEnd) throw DamagedLog("it is of no kind");
   if (told == Told::Items) return;  // an address is in the place of the time
   look_at_times(record.at, processor);
-  if (told == Told::StoodStill) add_up(wide);
-  if (told == Told::Passed && wide > static_cast<uint64_t>(longest_time))
+  if (told == Told::StoodStill) add_up(static_cast<int64_t>(wide));
+  if (told == Told::Passed && !is_length(static_cast<int64_t>(wide)))
     throw DamagedLog("more processor time passed than the run has");
 }

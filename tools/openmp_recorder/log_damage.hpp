@@ -28,7 +28,8 @@ class RecordsLookedAt {
   uint64_t first, last, back;  // ticks: of the log, of the record before, and how far one may be before the other
   bool by_processor;
   int64_t last_processor = 0;
-  uint64_t stood_still = 0;
+  int64_t stood_still = 0;
+  bool is_length(int64_t time) const;  // of a part of the run
   void look_at_times(uint64_t ticks, int64_t processor);
-  void add_up(uint64_t stands_still);
+  void add_up(int64_t stands_still);
 };

@@ -20,6 +20,10 @@ def program_line(program):
         [(place.outermost, "in " + place_words(place)) for place in program.places]
     told = sorted((part for part in parts if part[0] >= LEAST * program.elapsed), key=lambda part: -part[0])
     words = ["%.1f %% %s" % (100 * part / program.elapsed, where) for part, where in told[:MOST_TOLD]]
+    inside = max((place for place in program.places if place.is_inside), key=lambda place: place.total("code"),
+                 default=None)
+    if inside:
+        words.append("inside others %s" % place_words(inside))
     if sum(part for part, _ in parts) >= (1 + LEAST) * program.elapsed:
         words.append("together more than all of it, since regions of several threads ran at once")
     return "%s: %s (measured)" % (lasting(program.elapsed), "; ".join(words))
