@@ -1,6 +1,6 @@
 #include "log_damage.hpp"
 
-#include <cmath>
+#include <algorithm>
 
 namespace {
 using log_form::Head;
@@ -9,6 +9,7 @@ using log_form::Pair;
 constexpr double least_tick = 0.01, most_tick = 1000;  // nanoseconds
 constexpr int64_t most_in_a_record = 1000000;
 constexpr double may_go_back = 1e6;  // nanoseconds, where processors' counters differ
+constexpr uint64_t most_ticks = uint64_t{1} << log_form::short_ticks;
 constexpr int64_t latest_wall = int64_t{1} << 61;
 
 bool is_wall(int64_t time) { return time >= 0 && time < latest_wall; }
@@ -17,7 +18,7 @@ bool is_wall(int64_t time) { return time >= 0 && time < latest_wall; }
 bool follows(const Pair &later, const Pair &first) {
   if (!later.wall && !later.ticks) return true;
   return is_wall(later.wall) && later.wall >= first.wall && later.wall - first.wall < longest_time &&
-         later.ticks >= first.ticks && later.ticks - first.ticks < static_cast<uint64_t>(longest_time);
+         later.ticks >= first.ticks && later.ticks - first.ticks < most_ticks;
 }
 
 double tick_of(const Pair &later, const Pair &first) {
@@ -56,11 +57,11 @@ RecordsLookedAt::RecordsLookedAt(const Head &head)
     : first(head.first.ticks), last(first), by_processor(head.by_processor) {
   double tick = head.counter == log_form::Counter::TimeStamp ? tick_of(head.second, head.first) : 1;
   back = static_cast<uint64_t>(may_go_back / tick);
+  most = std::min(most_ticks, static_cast<uint64_t>(static_cast<double>(longest_time) / tick));
 }
 
 void RecordsLookedAt::look_at_times(uint64_t ticks, int64_t processor) {
-  if (ticks + back < first || ticks > first + static_cast<uint64_t>(longest_time))
-    throw DamagedLog("its time is none of this run");
+  if (ticks + back < first || ticks > first + most) throw DamagedLog("its time is none of this run");
   if (ticks + back < last) throw DamagedLog("its time is before that of the record before it");
   last = ticks;
   if (!by_processor) return;

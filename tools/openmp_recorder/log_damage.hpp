@@ -13,7 +13,7 @@ class DamagedLog : public std::runtime_error {
   explicit DamagedLog(const std::string &what) : std::runtime_error(what) {}
 };
 
-constexpr int64_t longest_time = int64_t{1} << 56;  // two years of nanoseconds; a short record holds no more ticks
+constexpr int64_t longest_time = int64_t{1} << 53;  // nanoseconds, a hundred days
 
 void look_at_head(const log_form::Head &head);
 
@@ -25,7 +25,8 @@ class RecordsLookedAt {
   void look_at(const log_form::RawRecord &record, int64_t processor, uint64_t wide);
 
  private:
-  uint64_t first, last, back;  // ticks: of the log, of the record before, and how far one may be before the other
+  uint64_t first, last;  // ticks: of the log, and of the record before
+  uint64_t most, back;  // ticks: of a run, and how far a record may be before the one before it
   bool by_processor;
   int64_t last_processor = 0;
   int64_t stood_still = 0;
