@@ -20,7 +20,25 @@ def words_of(text):
             yield word, comment.strip()
 
 
+PART = "one of the region's threads"
+
+
+def of_regions(words):
+    """The words of a text, where a group that begins with the code of a region's thread is said to be its barrier."""
+    words = list(words)
+    for i, (word, comment) in enumerate(words):
+        following = words[i + 1:i + 3]
+        if word == "{" and words[i - 1][0] == "taskgroup" and [one[0] for one in following] == ["task", "{"] \
+                and following[1][1].startswith(PART):
+            comment = "the barrier of the region" + (" at " + comment if comment else "")
+        yield word, comment
+
+
 def after(what, comment):
+    if comment.startswith("the barrier"):
+        return "after " + comment
+    if comment.startswith(PART) and what == "creating a task":
+        return "starting " + comment
     if comment:
         return "after %s at %s" % (what, comment)
     return "after " + what if what == "creating a task" else "after a " + what
@@ -28,14 +46,15 @@ def after(what, comment):
 
 def places_of(text):
     """Of each segment the name of its place: segments are numbered in the order in which the text begins them."""
-    names, blocks, words = ["the beginning"], [], words_of(text)
+    names, blocks, words = ["the beginning"], [], of_regions(words_of(text))
     for kind, comment in words:
         if kind in AFTER:
             while (found := next(words))[0] != "{":
                 pass
             blocks.append((kind, found[1]))
             if kind == "task":
-                names.append("task at " + found[1] if found[1] else "a task")
+                begin = "code of " if found[1].startswith(PART) else "task at "
+                names.append(begin + found[1] if found[1] else "a task")
         elif kind == "}":
             kind, comment = blocks.pop()
             names.append(after(AFTER[kind], comment))

@@ -30,6 +30,13 @@ class Plain(unittest.TestCase):
         self.assertEqual(places_of("omptasks 1 taskwait task { }"), ["the beginning", "after a taskwait", "a task",
                                                                      "after creating a task"])
 
+    def test_code_of_a_regions_threads(self):
+        part = "taskgroup {%s\n task {  # one of the region's threads\n }\n}\n"
+        self.assertEqual(places_of("omptasks 1\n" + part % "" + part % "  # a.c:5")[1:], [
+            "code of one of the region's threads", "starting one of the region's threads",
+            "after the barrier of the region", "code of one of the region's threads",
+            "starting one of the region's threads", "after the barrier of the region at a.c:5"])
+
     def test_sums(self):
         costs, _, chain = rows_of(TOLD)
         self.assertEqual(sums_by_place(TEXT, costs, chain)[-2:],

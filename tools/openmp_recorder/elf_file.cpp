@@ -2,13 +2,26 @@
 
 #include <algorithm>
 #include <cstring>
+#include <filesystem>
 #include <fstream>
 #include <iterator>
 
 namespace {
 std::string whole(const std::string &path) {
+  std::error_code wrong;
+  if (!std::filesystem::is_regular_file(path, wrong)) return {};
   std::ifstream in(path, std::ios::binary);
   return {std::istreambuf_iterator<char>(in), {}};
+}
+
+// The last option of its kind counts: `GNU C17 12.2.0 -g -O2 -fopenmp`.
+bool optimises(std::string_view producer) {
+  constexpr std::string_view option = " -O";
+  size_t at = producer.rfind(option);
+  if (producer.substr(0, 4) != "GNU " || at == std::string_view::npos) return false;
+  std::string_view level = producer.substr(at + option.size());
+  level = level.substr(0, level.find(' '));
+  return level != "0" && level != "g";
 }
 }  // namespace
 
@@ -66,6 +79,16 @@ std::string_view ElfFile::import_at(uint64_t address) const {
   auto found = imports.find(address);
   return found == imports.end() || found->second >= symbols.size() ? std::string_view()
                                                                    : name_of(symbols[found->second]);
+}
+
+bool ElfFile::is_optimised_by_gcc() const {
+  constexpr std::string_view option = " -fopenmp";
+  const std::string_view all = file;
+  for (size_t at = all.find(option); at != std::string_view::npos; at = all.find(option, at + 1)) {
+    size_t begin = all.rfind('\0', at) + 1;
+    if (optimises(all.substr(begin, all.find('\0', at) - begin))) return true;
+  }
+  return false;
 }
 
 std::string_view ElfFile::bytes_at(uint64_t address, uint64_t count) const {

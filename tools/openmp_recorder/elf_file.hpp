@@ -20,6 +20,7 @@ class ElfFile {
   bool defines(std::string_view name) const;
   std::string_view import_at(uint64_t address) const;  // the function of another module whose address is put there
   std::string_view bytes_at(uint64_t address, uint64_t count) const;  // less where the file has less
+  bool is_optimised_by_gcc() const;  // OpenMP's constructs in it, or some of them, as its debug information tells
 
  private:
   std::string file;

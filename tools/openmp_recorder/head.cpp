@@ -143,7 +143,7 @@ void Head::differing(const char *name, const Differing &seen, int64_t work) {
 void Head::times(const Region &region, const Recording &recording) {
   int64_t elapsed = region.time.end - region.time.begin;
   line("elapsed", in_units(elapsed));
-  int64_t others = recording.time.in_regions - (region.time.is_outermost ? elapsed : 0);
+  int64_t others = recording.time.in_regions - elapsed;  // another one runs around a region that is inside
   if (recording.whole) {
     line("in serial code", in_units(recording.whole->serial));
     line("in loops", in_units(recording.whole->in_loops));

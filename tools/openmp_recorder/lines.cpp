@@ -16,6 +16,20 @@ std::set<std::string> lines_of(const std::set<const void *> &codes, const Places
     if (std::string line = places.at(code); !line.empty()) lines.insert(line);
   return lines;
 }
+
+bool is_of_gcc(const void *code, const Places &places) {
+  const ModuleOfRun *module = places.modules() ? places.modules()->of(code) : nullptr;
+  return module && module->is_optimised_by_gcc();
+}
+
+// What gcc calls of the runtime in optimised code has the line of a statement before the construct, as often as not.
+void remark_lines_of_gcc(Region &region, const Constructs &all, const Places &places) {
+  Seen seen;
+  for (const auto *codes : {&all.tasks, &all.waits})
+    for (const void *code : *codes)
+      if (is_of_gcc(code, places)) seen.add(code);
+  if (seen.times) region.remarks[Remark::LinesOfGcc] = seen;
+}
 }  // namespace
 
 void Constructs::add(const Region &part) {
@@ -42,4 +56,5 @@ void remark_lines(Region &region, const Places &places) {
   for (const void *code : all.tasks) look_at(code, false);
   for (const void *code : all.waits) look_at(code, true);
   if (seen.times) region.remarks[Remark::LineOfAnother] = seen;
+  else remark_lines_of_gcc(region, all, places);
 }

@@ -5,6 +5,11 @@
 #include <fstream>
 #include <sstream>
 
+bool ModuleOfRun::is_optimised_by_gcc() const {
+  if (!of_gcc) of_gcc = file && file->is_optimised_by_gcc();
+  return *of_gcc;
+}
+
 void ModulesOfRun::read(const std::string &list, const std::string &program) {
   std::ifstream lines(list);
   for (std::string line; std::getline(lines, line);) add(line, program);

@@ -12,7 +12,9 @@ struct ModuleOfRun {
   bool is_runtime;
   std::string path;
   std::shared_ptr<ElfFile> file;
+  mutable std::optional<bool> of_gcc;  // once that was asked
   bool has(uint64_t address) const { return first <= address && address < end; }
+  bool is_optimised_by_gcc() const;
 };
 
 class ModulesOfRun {

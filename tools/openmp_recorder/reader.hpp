@@ -80,6 +80,7 @@ class Reader {
   std::vector<uint32_t> &current() { return worker().current; }
   Task *running();
   static void remark(Region *region, Remark what, const void *code) { region->remarks[what].add(code); }
+  [[noreturn]] void refuse(const char *why) const;  // what the runtime never tells
 
   // run.cpp: tasks, and what runs
   Task *fresh(Region *region);

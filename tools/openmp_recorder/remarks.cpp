@@ -41,6 +41,7 @@ constexpr RemarkLine lines[] = {
     {Remark::Slept, "slept", Low, Low},
     {Remark::RoundedDown, "rounded down", Low, Either, uncounted},
     {Remark::RoundedUp, "rounded up", High, Either, uncounted},
+    {Remark::LinesOfGcc, "lines of gcc", Not, Not},
 };
 static_assert(std::size(lines) == all_remarks, "one line for each");
 

@@ -39,10 +39,11 @@ enum class Remark : uint8_t {
   Preempted,
   Slept,
   RoundedDown,
-  RoundedUp
+  RoundedUp,
+  LinesOfGcc
 };
 
-constexpr std::size_t all_remarks = static_cast<std::size_t>(Remark::RoundedUp) + 1;
+constexpr std::size_t all_remarks = static_cast<std::size_t>(Remark::LinesOfGcc) + 1;
 
 // A number of the text beside what it would be of the program that is recorded.
 enum class Moved : uint8_t { Not, Low, High, Either };

@@ -35,20 +35,27 @@ std::string symbol(const void *code, const ModuleOfRun &module) {
   snprintf(text, sizeof text, "+0x%zx", static_cast<size_t>(found ? found->offset : in_file(code, module)));
   return (found ? std::string(found->name) : base_name(module.path)) + text;
 }
-// What a compiler makes of a construct's code: `main.omp_outlined`, `main._omp_fn.0`.
+// What a compiler makes of a construct's code: `main.omp_outlined`, `main._omp_fn.0`, `f(int) [clone .omp_outlined]`.
 std::string without_endings(std::string name) {
-  for (const char *ending : {".omp_outlined", "._omp_fn", ".omp_task_entry"})
+  for (const char *ending : {" [clone ", ".omp_outlined", "._omp_fn", ".omp_task_entry"})
     if (size_t at = name.find(ending); at != std::string::npos) name.resize(at);
   return name;
 }
 
-// The next line, without what is said beside it.
 bool next_line(FILE *answers, std::string &line) {
   char text[4096];
-  if (!fgets(text, sizeof text, answers)) return false;
-  line.assign(text, strcspn(text, "\n"));
-  return true;
+  line.clear();
+  while (fgets(text, sizeof text, answers)) {
+    line += text;
+    if (line.back() != '\n') continue;
+    line.pop_back();
+    return true;
+  }
+  return !line.empty();
 }
+
+// Without what is said beside it.
+std::string place_of(const std::string &answer) { return answer.substr(0, answer.find(" (discriminator ")); }
 
 bool is_address(const std::string &line) { return !line.compare(0, 2, "0x"); }
 }  // namespace
@@ -77,7 +84,7 @@ void Places::ask(const ModuleOfRun &module, const std::vector<const void *> &cod
   for (size_t i = 0; i < codes.size() && more && is_address(line); i++) {
     std::vector<Frame> frames;
     while ((more = next_line(answers, line)) && !is_address(line) && next_line(answers, at))
-      frames.push_back({without_endings(line), at.substr(0, at.find(' '))});
+      frames.push_back({without_endings(line), place_of(at)});
     take(codes[i], std::move(frames));
   }
   pclose(answers);

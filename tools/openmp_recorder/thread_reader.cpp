@@ -1,5 +1,6 @@
 #include "thread_reader.hpp"
 
+#include <algorithm>
 #include <cstring>
 
 namespace {
@@ -26,7 +27,8 @@ ThreadReader::ThreadReader(const std::string &path, unsigned worker, const log_f
       first_ticks(head.first.ticks),
       in_a_record(head.in_a_record),
       time(head),
-      buffer(block_bytes) {
+      buffer(block_bytes),
+      looked_at(head) {
   if (!file || fseek(file.get(), 0, SEEK_END)) return;
   left = static_cast<uint64_t>(ftell(file.get())) / block_bytes * block_bytes;
   rewind(file.get());
@@ -36,8 +38,17 @@ ThreadReader::ThreadReader(const std::string &path, unsigned worker, const log_f
     last.reset();
 }
 
-// The next block, where there is one.
+void ThreadReader::refuse(const std::string &why) const {
+  std::string name = log_form::thread_file + std::to_string(log.worker) + (is_full ? "" : log_form::last_block);
+  uint64_t byte = is_full ? before + at : at;
+  throw DamagedLog(name.substr(1) + " is damaged at byte " + std::to_string(byte) + ": " + why);
+}
+
+// The next block, where there is one. One that is full has records up to its end.
 bool ThreadReader::fill() {
+  if (is_full && at < block_bytes - log_form::kept_free) refuse("records are missing");
+  before += is_full ? block_bytes : 0;
+  is_full = left;
   std::unique_ptr<FILE, Close> &from = left ? file : last;
   at = filled = 0;
   if (!from) return false;
@@ -54,6 +65,7 @@ size_t ThreadReader::read_here() {
   if (room < sizeof shorter) return 0;
   std::memcpy(&shorter, buffer.data() + at, sizeof shorter);
   if (shorter.word & log_form::short_bit) {
+    if (by_processor) refuse("it is shorter than this clock's");
     uint64_t ticks = shorter.word & ((uint64_t{1} << log_form::short_ticks) - 1);
     auto detail = static_cast<unsigned>((shorter.word & ~log_form::short_bit) >> log_form::short_ticks);
     raw.record = {first_ticks + ticks, shorter.task, shorter.other,
@@ -65,10 +77,22 @@ size_t ThreadReader::read_here() {
   return raw.told() == Told::Nothing ? 0 : bytes;
 }
 
+void ThreadReader::look_at(size_t bytes) {
+  try {
+    bool is_short = bytes == sizeof(log_form::ShortRecord);
+    looked_at.look_at(raw.record, raw.processor, is_short ? 0 : raw.wide());
+  } catch (const DamagedLog &damage) {
+    refuse(damage.what());
+  }
+}
+
 // One record; none where the thread has written no more.
 bool ThreadReader::read() {
   for (;;) {
-    if (size_t bytes = read_here()) return at += bytes;
+    if (size_t bytes = read_here()) {
+      look_at(bytes);
+      return at += bytes;
+    }
     if (!fill()) return false;
   }
 }
@@ -83,8 +107,12 @@ void ThreadReader::read_items(uint64_t count) {
   }
 }
 
+bool ThreadReader::is_in_a_region() const {
+  return std::any_of(teams.begin(), teams.end(), [](const Team &team) { return !team.is_initial; });
+}
+
 void ThreadReader::begin_region() {
-  bool is_outermost = !(raw.detail() & is_runtimes) && regions.size() < 2;
+  bool is_outermost = !(raw.detail() & is_runtimes) && !is_in_a_region();
   log.regions.push_back(
       {raw.record.other, is_outermost, time.wall(raw.record.at), 0, by_processor ? -raw.processor : 0});
 }
@@ -106,7 +134,7 @@ void ThreadReader::use_lock() {
   switch (raw.told()) {
     case Told::LockAsked: return log.locks.ask(static_cast<int>(raw.detail()), name, raw.place(), now);
     case Told::LockGot: log.stood_still += now.own - log.locks.get(name, now, told); break;
-    default: log.locks.leave(name, regions.empty() ? 0 : regions.back(), now.own, told);
+    default: log.locks.leave(name, teams.empty() ? 0 : teams.back().region, now.own, told);
   }
   log.stood_still += in_a_record;
 }
@@ -126,9 +154,9 @@ bool ThreadReader::take() {
       return true;
     case Told::ParallelBegin: begin_region(); return true;
     case Told::ParallelEnd: end_region(); return true;
-    case Told::ImplicitBegin: regions.push_back(raw.record.other); return true;
+    case Told::ImplicitBegin: teams.push_back({raw.record.other, (raw.detail() & is_initial) != 0}); return true;
     case Told::ImplicitEnd:
-      if (!regions.empty()) regions.pop_back();
+      if (!teams.empty()) teams.pop_back();
       return true;
     default: return true;
   }

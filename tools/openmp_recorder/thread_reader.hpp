@@ -5,6 +5,7 @@
 #include <string>
 #include <vector>
 
+#include "log_damage.hpp"
 #include "log_reader.hpp"
 
 class ThreadReader : public Records {
@@ -33,17 +34,27 @@ class ThreadReader : public Records {
   std::vector<char> buffer;
   size_t at = 0, filled = 0;
   uint64_t left = 0;  // bytes of `file`
+  uint64_t before = 0;  // bytes of it before the block that is read
+  bool is_full = false;  // the block that is read
+  RecordsLookedAt looked_at;
   size_t told = 0;  // records so far that say what runs
-  std::vector<uint32_t> regions;  // of these tasks
+  struct Team {
+    uint32_t region;
+    bool is_initial;  // the code outside of regions
+  };
+  std::vector<Team> teams;  // that the thread is in, innermost last
   Raw raw{};
   Record record{};
 
   bool fill();
   bool read();
   size_t read_here();
+  void look_at(size_t bytes);
+  [[noreturn]] void refuse(const std::string &why) const;
   void read_items(uint64_t count);
   int64_t cost_clock() const { return by_processor ? raw.processor : time.wall(raw.record.at); }
   bool take();
+  bool is_in_a_region() const;
   void begin_region();
   void end_region();
   void use_lock();

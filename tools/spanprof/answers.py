@@ -7,11 +7,10 @@ from spanprof import client
 from spanprof.c_calls import MOST_THREADS
 from spanprof.changed_text import with_costs, without_costs
 from spanprof.head import read_head
-from spanprof.text import has_loops
+from spanprof.text import OF_A_THREAD, has_loops
 
 THREADS_WITHOUT_RECORDING = 4
 LONGEST_CURVE = 64
-OF_A_THREAD = "one of the region's threads"     # as the recorder names a task that stands for a thread's own code
 
 
 @dataclass

@@ -73,7 +73,7 @@ def outside_regions(head):
     whole = outside + others + head.elapsed
     share = outside / whole if whole else 0
     return share >= MOST and Cause(
-        "outside", "%s of the program's time passed outside of regions, where one thread runs (measured)" %
+        "outside", "%s of the program's time passed outside of regions, where no team runs (measured)" %
         percent(share), instead="none in this text: what runs outside of regions is not in it")
 
 
@@ -99,7 +99,8 @@ def off_the_processor(answers, account):
     return share >= MUCH and Cause(
         "machine", "the machine: for %s of the threads' time they were off the processor in the midst of code "
                    "(measured)" % percent(share),
-        instead="none of the program: record it on a machine with less to do, or with --clock cpu",
+        instead="none of the program: record it on a machine with less to do" +
+                ", or with --clock cpu" * (answers.head.clock == "wall"),
         later=after_that(answers))
 
 
@@ -117,7 +118,8 @@ def is_small(answers):
 def most_of_it(parts, words):
     """The place to which most of an idle time is laid, where it is known."""
     place, part = next(iter(parts.items()), ("", 0))
-    return ", %s of it %s" % (percent(part / sum(parts.values())), words % place) if part else ""
+    code = "the code " + place if place.startswith("after ") else place
+    return ", %s of it %s" % (percent(part / sum(parts.values())), words % code) if part else ""
 
 
 def of_idle_threads(answers, shares, account):

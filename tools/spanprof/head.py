@@ -10,6 +10,7 @@ from spanprof.remarks import Remark, read_remark, seen
 NANOSECONDS = {"ns": 1, "us": 1000, "ms": 1000000}
 DIVISION = ("outside regions", "in other regions", "in serial code", "in loops", "in parts without tasks", "in tasks")
 COSTS = DIVISION[2:]  # of the text; the others are wall time of the program
+UNREAD = "line of the head that is not read, as it is damaged: "
 OLDER = "the head is that of an older version of the recorder, and is not read: convert the log again, or record again"
 
 
@@ -19,9 +20,11 @@ def counted(number, what):
 
 class Lock(str):
     """Words on a lock of OpenMP, or on several together. `waiting` is how long threads waited, in the text's unit."""
-    def __new__(cls, name, times, inside, waiting):
-        out = super().__new__(cls, "%s: %s, %d inside, %d waiting" % (name, counted(times, "time"), inside, waiting))
-        out.name, out.waiting, out.told = name, waiting, (name, times, inside, waiting)
+    def __new__(cls, name, times, inside, waiting, unit=""):
+        each = " x " + unit if unit[:1].isdigit() else " " + unit if unit else ""
+        out = super().__new__(cls, "%s: %s, %d%s inside, %d%s waiting" % (
+            name, counted(times, "time"), inside, each, waiting, each))
+        out.name, out.waiting, out.told = name, waiting, (name, times, inside, waiting, unit)
         return out
 
     def __getnewargs__(self):
@@ -93,73 +96,107 @@ def head_text(path):
         return "".join(takewhile(lambda line: line.startswith("#"), file))
 
 
+def number(told):
+    """A count, or a time in the text's unit."""
+    if isinstance(told, bool) or not isinstance(told, int) or not 0 <= told < 2 ** 63:
+        raise TypeError("no number")
+    return told
+
+
+def words(told):
+    if not isinstance(told, str):
+        raise TypeError("no words")
+    return told
+
+
+def truth(told):
+    if not isinstance(told, bool):
+        raise TypeError("neither true nor false")
+    return told
+
+
 def read_recorded(head, told):
-    for name in ("program", "date", "threads", "clock", "unit"):
-        setattr(head, name, told.get(name, getattr(head, name)))
+    threads = number(told["threads"]) if told.get("threads") else head.threads
+    texts = {name: words(told.get(name, getattr(head, name))) for name in ("program", "date", "clock", "unit")}
+    head.threads = threads
+    for name, value in texts.items():
+        setattr(head, name, value)
 
 
 def read_region(head, told):
-    head.region, head.number = told.get("at", ""), "%d of %d" % (told["number"], told["of"])
+    head.region, head.number = words(told.get("at", "")), "%d of %d" % (number(told["number"]), number(told["of"]))
 
 
 def read_whole(head, told):
     """Also in words: how loops are written, which on other threads would be cut otherwise."""
-    head.whole, head.pieces = counted(told["regions"], "region"), told.get("pieces", 0)
-    if head.pieces:
-        head.whole += ", %s in %s; a chunk of k turns is k equal pieces" % (
-            counted(told["loops"], "loop"), counted(head.pieces, "piece"))
+    whole, pieces = counted(number(told["regions"]), "region"), number(told.get("pieces", 0))
+    if pieces:
+        whole += ", %s in %s; a chunk of k turns is k equal pieces" % (
+            counted(number(told["loops"]), "loop"), counted(pieces, "piece"))
     if "together below" in told:
-        head.whole += ", together where they are shorter than %d ns" % told["together below"]
+        whole += ", together where they are shorter than %d ns" % number(told["together below"])
+    head.whole, head.pieces = whole, pieces
 
 
 def read_coverage(head, told):
-    head.covered, head.thread_time = told["text"], told["program"]
-    head.covers_at_most = told.get("at most", False)
+    head.covered, head.thread_time, head.covers_at_most = \
+        number(told["text"]), number(told["program"]), truth(told.get("at most", False))
 
 
 def read_divided(head, told):
-    if told["what"] == "code":
-        head.beside = told["beside"]
+    if words(told["what"]) == "code":
+        head.beside = number(told["beside"])
     else:
         head.divided.append("%s, %s" % (told["what"], seen(told)))
 
 
 def read_runs(head, told):
-    head.runs, head.is_median = told["runs"], told["median"]
+    head.runs, head.is_median = number(told["runs"]), truth(told["median"])
 
 
 def read_place(head, told):
-    words = "in " + told["in"] + "".join(", inlined into %(in)s at %(at)s" % one for one in told.get("inlined", []))
-    head.functions.setdefault(told["at"], words)
+    function = "in " + words(told["in"]) + "".join(", inlined into %s at %s" % (words(one["in"]), words(one["at"]))
+                                                   for one in told.get("inlined", []))
+    head.functions.setdefault(words(told["at"]), function)
 
 
 def read_lock(head, told):
     """One, or several others together."""
-    name = "%d others together" % told["others"] if "others" in told else \
-        told["kind"] + (" at " + told["at"] if "at" in told else "")
-    head.locks.append(Lock(name, told["times"], told["inside"], told["waiting"]))
+    name = "%d others together" % number(told["others"]) if "others" in told else \
+        words(told["kind"]) + (" at " + words(told["at"]) if "at" in told else "")
+    head.locks.append(Lock(name, *(number(told[part]) for part in ("times", "inside", "waiting")), head.unit))
 
 
-def kept(field_name, kind=int):
-    def read(head, told):
-        if not isinstance(told, kind):
-            raise TypeError(field_name)
-        setattr(head, field_name, told)
-    return read
+def kept(field_name):
+    return lambda head, told: setattr(head, field_name, number(told))
+
+
+def kept_numbers(field_name, names):
+    """Of several names a number each."""
+    return lambda head, told: setattr(head, field_name, {name: number(told[name]) for name in names})
 
 
 def spread_of(what):
-    return lambda head, told: head.spread.update({what: (told["least"], told["median"], told["most"])})
+    return lambda head, told: head.spread.update(
+        {what: tuple(number(told[part]) for part in ("least", "median", "most"))})
 
 
 def part_of_time(name):
-    return lambda head, told: head.division.update({name: told})
+    return lambda head, told: head.division.update({name: number(told)})
+
+
+def read_not_covered(head, told):
+    head.not_covered = {words(name): number(value) for name, value in told.items()}
+
+
+DIFFER = ("affected", "work", "by", "times")
 
 
 LINES = {
     "recorded": read_recorded, "region": read_region, "whole program": read_whole, "covers": read_coverage,
-    "not covered": kept("not_covered", dict), "divided": read_divided, "clock reading": kept("clock_reading"),
-    "clocks differ": kept("clocks_differ", dict), "slept": kept("slept", dict), "untimed": kept("untimed"),
+    "not covered": read_not_covered, "divided": read_divided, "clock reading": kept("clock_reading"),
+    "clocks differ": kept_numbers("clocks_differ", DIFFER), "slept": kept_numbers("slept", DIFFER),
+    "untimed": kept("untimed"),
     "elapsed": kept("elapsed"), "most held lock": kept("most_held"), "span without folds": kept("unfolded_span"),
     "lock": read_lock, "place": read_place,
     "runs": read_runs, "work of the runs": spread_of("work"), "span of the runs": spread_of("span"),
@@ -167,9 +204,9 @@ LINES = {
 }
 
 
-def read_line(head, words):
+def read_line(head, line):
     """A name and JSON. Other lines are comments of somebody's own."""
-    name, _, value = words.partition(": ")
+    name, _, value = line.partition(": ")
     if name == "remark":
         head.remarks.append(read_remark(value))
     if name not in LINES:
@@ -177,14 +214,14 @@ def read_line(head, words):
     try:
         LINES[name](head, json.loads(value))
     except (ValueError, KeyError, TypeError, AttributeError):
-        if name == "recorded":
-            head.remarks.append(read_remark(OLDER))
+        if name == "recorded" or head.is_measured:     # else it is somebody's own
+            head.remarks.append(read_remark(OLDER if name == "recorded" else UNREAD + name))
 
 
 def read_head(text):
     head = Head()
-    for words in comments(text):
-        read_line(head, words)
+    for line in comments(text):
+        read_line(head, line)
     return head
 
 

@@ -34,6 +34,15 @@ class Region(NamedTuple):
         return self.threads * self.elapsed
 
 
+def union(stretches):
+    """How long all of them are, what several have counted once."""
+    covered, length = 0, 0
+    for begin, end in sorted(stretches):
+        length += max(0, end - max(begin, covered))
+        covered = max(covered, end)
+    return length
+
+
 @dataclass
 class Place:
     """All regions that began at one place, in the order of time."""
@@ -50,13 +59,17 @@ class Place:
 
     @property
     def outermost(self):
-        """What elapsed in those that were met inside no other."""
-        return sum(region.elapsed for region in self.regions if not region.inside)
+        """What elapsed with one of those that were met inside no other, or several at once of several threads."""
+        return union((region.begin, region.end) for region in self.regions if not region.inside)
 
     @property
     def median(self):
         """What the median one of them took."""
         return median_low(region.elapsed for region in self.regions)
+
+    @property
+    def longest(self):
+        return max(region.elapsed for region in self.regions)
 
     @property
     def shown(self):

@@ -41,6 +41,8 @@ WORDS = {
     "line of another": ("construct at the line of another, since the compiler kept none of its own",
                         "work and span are right, places are not: compile with -g -Og, or by clang with "
                         "-fno-optimize-sibling-calls"),
+    "lines of gcc": ("construct in code that gcc has optimised, whose line may be that of a statement before it",
+                     "work and span are right, places may not be: compile with -g -Og, or by clang"),
     "preempted": ("off the processor in the midst of code, where the wall clock goes on", ""),
     "slept": ("asleep or waiting in the midst of code, where the processor's clock stands still", ""),
     "rounded down": OF_ROUNDING,
@@ -74,8 +76,10 @@ def seen(told):
 
 def remark_of(told):
     """Of an object of JSON."""
-    what, more = WORDS.get(told["remark"], (told["remark"], ""))
+    what, more = WORDS.get(told["remark"], (told["remark"] + "", ""))
     work, span = told.get("work", ""), told.get("span", "")
+    if not {work, span} <= {"", *DIRECTIONS}:
+        raise ValueError("no direction")
     effect = ", ".join(filter(None, (effect_of(work, span), told.get("more", more))))
     out = Remark(told.get("words", what) + (", " + seen(told) if "times" in told else "")
                  + (": " + effect if effect else ""))

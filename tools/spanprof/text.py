@@ -13,6 +13,8 @@ HEADER = "omptasks"
 BLOCKS = ("task", "taskgroup")
 MOST_KNOWN = 100000     # lines whose marks are kept
 LONGEST_KNOWN = 1000    # bytes of such a line
+OF_A_THREAD = "one of the region's threads"     # as the recorder names a task that stands for a thread's own code
+BARRIER = "barrier of the region"   # a group of such tasks, in whose end their threads meet; in the program it is none
 TOKEN = re.compile(r"[A-Za-z0-9_]+|[^\sA-Za-z0-9_]")
 DEPEND = re.compile(r"depend\((\w+):([^)]*)\)")
 UNDEFERRED = re.compile(r"if\(0+\)")
@@ -29,12 +31,16 @@ class Segment:
 
     def place(self):
         """Where its code stands: the construct that it follows, or the task that it begins."""
+        if self.after == "creating a task" and self.after_place.startswith(OF_A_THREAD):
+            return "starting " + self.after_place
+        if self.after_place.startswith(BARRIER):
+            return "after the " + self.after_place
         if self.after:
             after = "after " + self.after if self.after_place or " " in self.after else "after a " + self.after
             return after + " at " + self.after_place if self.after_place else after
         if self.task == 0:
             return "the beginning"
-        return "task at %s" % self.task_place if self.task_place else "a task"
+        return named("task", self.task_place)
 
 
 def lines_of(text):
@@ -73,6 +79,8 @@ class Statement(NamedTuple):
 
 
 def named(kind, comment):
+    if comment.startswith((OF_A_THREAD, BARRIER)):
+        return ("code of " if kind == "task" else "the ") + comment
     return "%s at %s" % (kind, comment) if comment else "a " + kind
 
 
@@ -148,9 +156,28 @@ def whole_marks(line):
     return None if words else found
 
 
+def of_barriers(found):
+    """The marks, where a group of the code of a region's threads has a comment that says so."""
+    group = None
+    for one in found:
+        if group:
+            is_barrier = one[0] == "task" and one[2].startswith(OF_A_THREAD) and not group[2].startswith(BARRIER)
+            yield (*group[:2], BARRIER + (" at " + group[2]) * bool(group[2])) if is_barrier else group
+        group = one if one[0] == "taskgroup" else None
+        if not group:
+            yield one
+    if group:
+        yield group
+
+
 def marks(lines: Iterable[str]) -> Iterator[Tuple[str, str, str]]:
     """Of each statement of a text that spanprof has taken its word, what stands between that and its body, and the
-    comment of its line. Most lines of a recording stand there many times, and are read once."""
+    comment of its line."""
+    return of_barriers(marks_as_written(lines))
+
+
+def marks_as_written(lines):
+    """Most lines of a recording stand there many times, and are read once."""
     known, words = {}, []
     for line in lines:
         code = line.strip()

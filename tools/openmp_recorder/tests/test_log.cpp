@@ -7,6 +7,7 @@
 #include <stdexcept>
 
 #include "../elf_file.hpp"
+#include "../log_damage.hpp"
 #include "../log_reader.hpp"
 #include "../run_files.hpp"
 #include "check.hpp"
@@ -207,6 +208,86 @@ TEST(what_is_no_log_is_refused) {
   later.head.version = 3;
   EXPECT(why(other), "no log of the recorder");
   EXPECT(why(later), "version 3 of the log, and this is for version 2");
+}
+
+// Why it is refused; empty where it is not.
+std::string refusal(MadeLog &log) {
+  try {
+    log.records();
+  } catch (const DamagedLog &damage) {
+    return damage.what();
+  }
+  return "";
+}
+
+TEST(what_no_recorder_writes_is_refused) {
+  auto why = [](std::vector<RawRecord> records) {
+    MadeLog log;
+    log.head.first.ticks = 5000000;
+    log.last(std::move(records));
+    return refusal(log);
+  };
+  constexpr uint64_t now = 9000000;
+  EXPECT(why({raw(now, Told::Schedule), raw(now - 10, Told::Schedule)}), "");
+  EXPECT(why({raw(now, Told::Schedule), raw(now - 2000000, Told::Schedule)}),
+         "thread.0.last is damaged at byte 24: its time is before that of the record before it");
+  EXPECT(why({raw(1000000, Told::Schedule)}), "thread.0.last is damaged at byte 0: its time is none of this run");
+  EXPECT(why({raw(uint64_t{1} << 60, Told::Schedule)}),
+         "thread.0.last is damaged at byte 0: its time is none of this run");
+  EXPECT(why({raw(now, static_cast<Told>(99))}), "thread.0.last is damaged at byte 0: it is of no kind");
+  EXPECT(why({raw(now, Told::StoodStill, 0, UINT32_MAX)}),
+         "thread.0.last is damaged at byte 0: the recorder took longer than the run");
+}
+
+TEST(a_full_block_without_all_its_records_is_refused) {
+  MadeLog log;
+  std::vector<RawRecord> first = schedules(1, in_block), second = schedules(in_block, in_block);
+  second[7] = raw(0, Told::Nothing);
+  first.insert(first.end(), second.begin(), second.end());
+  log.full(first);
+  log.last({});
+  EXPECT(refusal(log),
+         "thread.0 is damaged at byte " + std::to_string((in_block + 7) * sizeof(RawRecord)) + ": records are missing");
+}
+
+TEST(a_head_of_impossible_times_is_refused) {
+  auto why = [](void (*damage)(Head &)) {
+    MadeLog log;
+    damage(log.head);
+    log.last({});
+    return refusal(log);
+  };
+  EXPECT(why([](Head &) {}), "");
+  EXPECT(why([](Head &head) { head.first.wall = -1; }), "its head is damaged");
+  EXPECT(why([](Head &head) { head.in_a_record = INT64_MAX; }), "its head is damaged");
+  EXPECT(why([](Head &head) { head.record_bytes = 7; }), "its head is damaged");
+  EXPECT(why([](Head &head) { head.end = {1, INT64_MAX}; }), "its head is damaged");
+  EXPECT(why([](Head &head) { head.how_ended = static_cast<log_form::HowEnded>(9); }), "its head is damaged");
+}
+
+TEST(threads_without_files) {
+  MadeLog log;
+  log.last({raw(10, Told::Schedule, 1, 2)});
+  if (system(("cp " + log.folder + "/thread.0.last " + log.folder + "/thread.2.last").c_str())) std::perror("cp");
+  LogFolder folder = log.open();
+  EXPECT(folder.threads.size(), 3u);
+  EXPECT(folder.threads[1]->next() == nullptr, true);
+  EXPECT(folder.threads[2]->next() != nullptr, true);
+  if (system(("touch " + log.folder + "/thread.1").c_str())) std::perror("touch");
+  EXPECT(refusal(log), "thread.1.last is missing");
+}
+
+TEST(a_region_in_a_thread_of_a_team_is_inside) {
+  MadeLog log;
+  log.last({raw(10, Told::ImplicitBegin, 5, 1, 4), raw(20, Told::ParallelBegin, 5, 2, 99),
+            raw(30, Told::ImplicitBegin, 6, 2, 2), raw(40, Told::ImplicitEnd, 6, 2), raw(50, Told::ParallelEnd, 0, 2),
+            raw(60, Told::ImplicitEnd, 5, 1), raw(70, Told::ImplicitBegin, 7, 0, 1, is_initial),
+            raw(80, Told::ParallelBegin, 7, 3, 99)});
+  LogFolder folder = log.open();
+  while (folder.threads.at(0)->next()) {
+  }
+  EXPECT(folder.threads.at(0)->log.regions.at(0).is_outermost, false);
+  EXPECT(folder.threads.at(0)->log.regions.at(1).is_outermost, true);
 }
 
 TEST(a_file_tells_its_symbols) {

@@ -9,7 +9,6 @@ import time
 from collections import defaultdict
 
 from spanprof import client
-from spanprof.answers import OF_A_THREAD
 from spanprof.built import Product, find_or_build
 from spanprof.errors import Fault
 from spanprof.folders import builds_in
@@ -20,6 +19,7 @@ from spanprof.record.convert import convert, converter
 from spanprof.record.recorder import recorder_library
 from spanprof.record.run import environment, without_recorder
 from spanprof.record.runtime import llvm_runtime
+from spanprof.text import OF_A_THREAD
 
 RECORDERS = builds_in("openmp_recorder")
 CALIBRATION = Product("calibrate", "the program for --calibrate", "clang-19 libomp-19-dev make")

@@ -3,13 +3,15 @@ from spanprof.account_words import lasting
 
 MOST_TOLD = 3
 LEAST = 0.01    # of the program's time, from which on a place is told
+UNLIKE = 2      # times the median, from which on the longest is told
 
 
 def place_words(place):
     name = "the region at " + place.name if not place.name.startswith("a region") else place.name
     if len(place.regions) == 1:
         return name
-    return "%s, %d times, the median %s" % (name, len(place.regions), lasting(place.median))
+    longest = ", the longest %s" % lasting(place.longest) if place.longest >= UNLIKE * place.median else ""
+    return "%s, %d times, the median %s%s" % (name, len(place.regions), lasting(place.median), longest)
 
 
 def program_line(program):
@@ -18,4 +20,10 @@ def program_line(program):
         [(place.outermost, "in " + place_words(place)) for place in program.places]
     told = sorted((part for part in parts if part[0] >= LEAST * program.elapsed), key=lambda part: -part[0])
     words = ["%.1f %% %s" % (100 * part / program.elapsed, where) for part, where in told[:MOST_TOLD]]
+    inside = max((place for place in program.places if place.is_inside), key=lambda place: place.total("code"),
+                 default=None)
+    if inside:
+        words.append("inside others %s" % place_words(inside))
+    if sum(part for part, _ in parts) >= (1 + LEAST) * program.elapsed:
+        words.append("together more than all of it, since regions of several threads ran at once")
     return "%s: %s (measured)" % (lasting(program.elapsed), "; ".join(words))

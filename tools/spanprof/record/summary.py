@@ -71,7 +71,7 @@ def proved_of_text(head):
 def with_spread(number, name, head):
     """A sum of the text, and beside it the least and the most of several runs."""
     words, spread = costs(number, head, name == "span"), head.spread.get(name)
-    if not spread:
+    if not spread or not head.runs:
         return words
     return "%s (%s to %s in %d runs)" % (words, costs(spread[0], head), costs(spread[-1], head), head.runs)
 

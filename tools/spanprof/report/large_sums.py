@@ -3,10 +3,9 @@ from array import array
 from dataclasses import dataclass, field
 from typing import Dict
 
-from spanprof.answers import OF_A_THREAD
 from spanprof.errors import Fault
 from spanprof.report.places import TaskPlace
-from spanprof.text import Naming, marks, open_text
+from spanprof.text import OF_A_THREAD, Naming, marks, open_text
 
 
 @dataclass

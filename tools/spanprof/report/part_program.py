@@ -8,7 +8,7 @@ from spanprof.report.view import COLOURS
 
 BINS, HIGH = 600, 34
 MOST_TOLD = 2
-OUTSIDE = "outside of regions, where one thread runs"
+OUTSIDE = "outside of regions, where no team runs"
 HOW = "From left to right in the order of time. A column is as high as the share of its time that passed in regions, " \
       "and has their colours; what is blank passed outside of them."
 HEADS = ("part of the program", "times", "elapsed in all", "of the program's time", "the median one", "threads",

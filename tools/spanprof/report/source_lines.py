@@ -8,7 +8,8 @@ from typing import NamedTuple, Optional
 
 WHERE = re.compile(r"([^\s:/]+):(\d+)(?:,.*)?$")
 STRING = re.compile(r'"(?:\\.|[^"\\])*"|\'(?:\\.|[^\'\\])*\'|//.*|/\*.*?\*/')
-WITH_A_STATEMENT = ("task at ", "after creating a task at ", "after taskgroup at ")
+WITH_A_STATEMENT = ("task at ", "after creating a task at ", "after taskgroup at ",
+                    "after the barrier of the region at ")
 LONGEST = 2000      # lines of a statement
 
 

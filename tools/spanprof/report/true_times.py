@@ -44,10 +44,16 @@ def scale_beside(answers):
     return told if is_of(answers, told) else None
 
 
+def number(value):
+    if isinstance(value, bool) or not isinstance(value, (int, float)) or not 0 < value < 1e9:
+        raise TypeError("no number")
+    return value
+
+
 def points_in(told) -> List[Point]:
     """None where it has another form."""
     try:
-        return [Point(*(row[name] for name in NAMES)) for row in told["threads"]] if told else []
+        return [Point(*(number(row[name]) for name in NAMES)) for row in told["threads"]] if told else []
     except (KeyError, TypeError):
         return []
 

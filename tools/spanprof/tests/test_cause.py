@@ -66,7 +66,7 @@ class BeforeTheAccount(unittest.TestCase):
         made = answers()
         made.head.division = {"outside regions": 60, "in other regions": 10}
         found = cause(made, account(10, 0, 90))
-        self.assertEqual(found.words, "55 % of the program's time passed outside of regions, where one thread runs "
+        self.assertEqual(found.words, "55 % of the program's time passed outside of regions, where no team runs "
                                       "(measured)")
 
     def test_a_lock(self):

@@ -63,7 +63,7 @@ class Heads(unittest.TestCase):
         self.assertEqual(head.division, {"outside regions": 20, "in other regions": 30, "in parts without tasks": 4,
                                          "in tasks": 3000})
         self.assertEqual(said(TEXT), ["remark: dependence on all memory, left out, 12 times at sort.c:40: span too low",
-                                      "lock critical at sort.c:9: 32 times, 77 inside, 5 waiting"])
+                                      "lock critical at sort.c:9: 32 times, 77 x 250 ns inside, 5 x 250 ns waiting"])
 
     def test_what_it_says_of_the_program(self):
         head = read_head(OF_THE_PROGRAM)
@@ -85,6 +85,18 @@ class Heads(unittest.TestCase):
         self.assertEqual(deepcopy(head).locks[0].waiting, 3)
         head = read_head('# runs: {"runs": 7, "median": false}\n')
         self.assertEqual((head.runs, head.is_median), (7, False))
+
+    def test_damaged_lines(self):
+        for line in ('elapsed: "x"', "elapsed: -1", "elapsed: true", "untimed: 3.5", 'covers: {"text": 5}',
+                     'clocks differ: {"affected": 5, "work": 9, "by": "x", "times": 1}', "in tasks: null",
+                     'runs: {"runs": 3, "median": "yes"}', 'place: {"at": 5, "in": "f"}', "region: []"):
+            head = read_head(TEXT.replace("omptasks", "# %s\nomptasks" % line))
+            self.assertEqual(head.remarks[1:], ["line of the head that is not read, as it is damaged: " +
+                                                line.split(":")[0]])
+            self.assertEqual((head.remarks[1].work, head.remarks[1].span), ("either", "either"))
+        self.assertEqual(read_head("# runs: every day\nomptasks 1\n").remarks, [])     # somebody's own
+        odd = read_head('# remark: {"remark": "held lock", "span": "sideways"}\n').remarks
+        self.assertEqual((odd[0].work, odd[0].span), ("either", "either"))
 
     def test_nothing_said_of_the_program(self):
         head = read_head(TEXT)

@@ -22,6 +22,20 @@ class Reading(unittest.TestCase):
             ("taskgroup", "taskgroup at sort.c:7"), ("task", "task at sort.c:8"), ("end", "task"),
             ("task", "task at sort.c:8")])
 
+    def test_code_of_a_regions_threads(self):
+        """A group of such tasks stands for a barrier, and not for a `taskgroup` of the program."""
+        phase = "taskgroup {%s\n task {  # one of the region's threads\n  work 1\n }\n work 2\n}\n"
+        last = "work 4\ntaskgroup {\n}\n"
+        found = list(read("omptasks 1\n" + phase % "" + "work 3\n" + phase % "  # a.c:5" + last))
+        self.assertEqual([one.name for one in found if one.kind == "work"], [
+            "code of one of the region's threads", "starting one of the region's threads",
+            "after the barrier of the region", "code of one of the region's threads",
+            "starting one of the region's threads", "after the barrier of the region at a.c:5"])
+        self.assertEqual([one.name for one in found if one.kind == "taskgroup"], [
+            "the barrier of the region", "the barrier of the region at a.c:5", "a taskgroup"])
+        again = list(read("".join(text_lines(found, 1))))
+        self.assertEqual(list(again), found)
+
     def test_without_comments(self):
         names = [one.name for one in read("omptasks 1 task { work 1 } taskwait work 2 taskgroup { } work 3")]
         self.assertEqual(names, ["a task", "a task", "", "a taskwait", "after a taskwait", "a taskgroup", "",

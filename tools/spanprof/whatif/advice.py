@@ -20,8 +20,8 @@ ROW = "%9s %9s %9s  %s"
 
 
 def with_article(wait):
-    """A wait whose place is not told has one in its name."""
-    return wait if wait.startswith("a ") else "the " + wait
+    """A wait whose place is not told has one in its name, and so has a barrier."""
+    return wait if wait.startswith(("a ", "the ")) else "the " + wait
 
 
 def in_words(request):

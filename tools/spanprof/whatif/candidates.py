@@ -8,6 +8,7 @@ MOST_NAMES = 12     # of depend items; more are seldom names that somebody knows
 MOST_DEPTHS = 6
 NEIGHBOURS = 4
 HALF = "0.5"
+NO_TASK = ("task at", "a task", "after creating", "code of one", "starting one")    # is made of such code
 KINDS = ("factor", "drop-wait", "drop-depend", "drop-name", "split", "task", "join", "cutoff")
 
 
@@ -32,7 +33,7 @@ def candidates(seen, parts, kinds=KINDS, most=MOST_PLACES):
              "drop-wait": first(seen.waits, most, "waits", left_out),
              "drop-depend": first(seen.dependent, most, "places of tasks with depend items", left_out),
              "split": ["%s=%d" % (place, parts) for place in code],
-             "task": [place for place in code if not place.startswith(("task at", "a task", "after creating"))],
+             "task": [place for place in code if not place.startswith(NO_TASK)],
              "join": ["%s=%d" % (place, NEIGHBOURS) for place in first(seen.tasks, most, "places of tasks", left_out)],
              "cutoff": [str(depth) for depth in range(1, min(seen.depth, MOST_DEPTHS + 1))],
              "drop-name": list(seen.items)}

@@ -58,10 +58,10 @@ class Lines(unittest.TestCase):
 
     def test_remarks_locks_and_news(self):
         folded = remark_of({"remark": "folded", "span": "high"})
-        head = Head(remarks=[folded], locks=[Lock("critical at a.c:3", 2, 5, 0)], elapsed=None)
+        head = Head(remarks=[folded], locks=[Lock("critical at a.c:3", 2, 5, 0, "us")], elapsed=None)
         lines = summary(Answers(head=head), news=["mine.2 is not written"])
         self.assertEqual(lines[-3:], ["remarks       folded task: span too high, which is an upper bound",
-                                      "              lock critical at a.c:3: 2 times, 5 inside, 0 waiting",
+                                      "              lock critical at a.c:3: 2 times, 5 us inside, 0 us waiting",
                                       "              mine.2 is not written"])
         self.assertIn("elapsed       not told", lines)
 

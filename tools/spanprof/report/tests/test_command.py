@@ -49,7 +49,7 @@ class Command(unittest.TestCase):
         with contextlib.redirect_stdout(told):
             main([worked.path("mesh.tasks"), "--factor", "task at mesh.c:8=0.5"])
         self.assertEqual(told.getvalue(), "remark: mutexinoutset, 2 times at mesh.c:10: span too low, and too high in "
-                         "the text .inout.tasks\nlock critical at mesh.c:9: 3 times, 2 inside, 1 waiting\n"
+                         "the text .inout.tasks\nlock critical at mesh.c:9: 3 times, 2 us inside, 1 us waiting\n"
                          "1 segment changed\nwork 35\nspan 25\nwas 31\n")
 
     def copied(self, name="mesh"):

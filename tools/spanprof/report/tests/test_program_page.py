@@ -77,7 +77,7 @@ class Pages(unittest.TestCase):
     def test_the_program_comes_first_and_says_where_its_time_went(self):
         words = re.sub("<[^>]+>", "", self.page())
         self.assertIn("Of 200 µs the program spent 40.0 % in the region at split.c:6, 2 times, 30.0 % outside of "
-                      "regions, where one thread runs, 20.0 % in the region at mesh.c:6", words)
+                      "regions, where no team runs, 20.0 % in the region at mesh.c:6", words)
         self.assertLess(words.index("The whole program"), words.index("Summary"))
         self.assertIn("the median in code: number 1 of 2", words)
 

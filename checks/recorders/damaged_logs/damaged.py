@@ -1,0 +1,114 @@
+#!/usr/bin/env python3
+"""Damages logs at random, and converts what is left: damaged.py CONVERTER [COUNT]; damaged_logs.sh calls it.
+
+Each must be refused with a word of it, or become texts that spanprof takes; with no crash, within SECONDS of processor
+time and MEGABYTES of memory. RECORDER names the recorder's library, LLVM its version, SEED the damage, KEEP a folder
+for the logs on which the converter failed. Status 1: something was wrong.
+"""
+import json
+import os
+import random
+import resource
+import shutil
+import subprocess
+import sys
+import tempfile
+
+from damage import damage
+
+HERE = os.path.dirname(os.path.abspath(__file__))
+sys.path.append(os.path.join(os.path.dirname(HERE), "..", "llvm"))
+sys.path.append(os.path.join(HERE, "..", "..", "..", "tools"))
+from recording import RECORDER, Wrong, build  # noqa: E402
+from spanprof import client  # noqa: E402
+from spanprof.errors import Fault  # noqa: E402
+
+SECONDS, MEGABYTES = 30, 1500
+WAYS = ({"SPANPROF_TIMES": "1"}, {"SPANPROF_WHOLE": "1", "SPANPROF_TIMES": "1"}, {"SPANPROF_ONLINE": "1"})
+CHECKED = {"ASAN_OPTIONS": "detect_leaks=0:hard_rss_limit_mb=%d:allocator_may_return_null=0" % MEGABYTES,
+           "UBSAN_OPTIONS": "print_stacktrace=1"}
+
+
+def record(program, out, clock):
+    variables = dict(os.environ, OMP_NUM_THREADS="3", OMP_CANCELLATION="true", OMP_TOOL_LIBRARIES=RECORDER,
+                     SPANPROF_OUT=out, SPANPROF_QUIET="1", SPANPROF_CLOCK=clock)
+    subprocess.run([program], env=variables, stdout=subprocess.DEVNULL, check=True)
+
+
+def limit():
+    resource.setrlimit(resource.RLIMIT_CPU, (SECONDS, SECONDS))
+    resource.setrlimit(resource.RLIMIT_CORE, (0, 0))
+
+
+def convert(converter, log, way):
+    """What it told, and its status; raises where it failed."""
+    done = subprocess.run([converter, log], env=dict(os.environ, SPANPROF_LINES="0", **CHECKED, **way),
+                          capture_output=True, preexec_fn=limit, check=False)
+    try:
+        told = [json.loads(line) for line in done.stdout.decode("utf-8", "surrogateescape").splitlines()]
+    except ValueError as wrong:
+        raise Wrong("what it tells is no JSON: %s" % done.stdout[-300:]) from wrong
+    if done.returncode not in (0, 1) or done.stderr or \
+            (done.returncode == 1) != any(one["told"] == "fault" for one in told):
+        raise Wrong("status %d of %s, and no fault: %s" % (done.returncode, way, done.stderr.decode(errors="replace")))
+    return told
+
+
+def judge(folder, told):
+    """Raises where spanprof refuses a text."""
+    for one in told:
+        try:
+            if one["told"] == "text" and ".large." not in one["file"]:
+                client.read(os.path.join(folder, one["file"]))
+        except Fault as fault:
+            raise Wrong(str(fault)) from fault
+
+
+def try_log(converter, log, folder):
+    """How many of the ways it was refused."""
+    refused = 0
+    for way in WAYS:
+        told = convert(converter, log, way)
+        refused += any(one["told"] == "fault" for one in told)
+        judge(folder, told)
+    return refused
+
+
+def try_damage(converter, whole, seed, keep):
+    """How many of the ways the damaged copy was refused."""
+    with tempfile.TemporaryDirectory() as folder:
+        log = os.path.join(folder, "damaged.log")
+        shutil.copytree(whole, log)
+        how = damage(log, random.Random(seed))
+        try:
+            return try_log(converter, log, folder)
+        except Wrong as fault:
+            if keep:
+                shutil.copytree(log, os.path.join(keep, "%s.log" % seed))
+            print("WRONG %s, %s: %s" % (seed, how, fault), flush=True)
+            return None
+
+
+def try_all(converter, count, seed, keep):
+    with tempfile.TemporaryDirectory() as folder:
+        program, wholes = build(os.path.join(HERE, "program.c"), folder), []
+        for clock in ("wall", "cpu"):
+            record(program, os.path.join(folder, clock), clock)
+            wholes.append(os.path.join(folder, clock + ".log"))
+        found = [try_damage(converter, wholes[i % len(wholes)], "%s.%d" % (seed, i), keep) for i in range(count)]
+    wrong = found.count(None)
+    refused = sum(bool(one) for one in found)
+    print("%d damaged logs in %d ways each: %d refused, %d converted, %d wrong" % (
+        count, len(WAYS), refused, count - refused - wrong, wrong))
+    return wrong
+
+
+def main(words):
+    seed = os.environ.get("SEED") or str(random.SystemRandom().randrange(10 ** 9))
+    print("SEED=%s" % seed, flush=True)
+    return bool(try_all(os.path.abspath(words[0]), int(words[1]) if len(words) > 1 else 300, seed,
+                        os.environ.get("KEEP")))
+
+
+if __name__ == "__main__":
+    sys.exit(main(sys.argv[1:]))
