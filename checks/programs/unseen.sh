@@ -1,18 +1,19 @@
 #!/usr/bin/env bash
-# Runs programs that nothing was fitted to (checks/programs/predictions/unseen) on four threads, and judges what is
-# predicted of them: a table, how far it was off, how many intervals had the true time, and whether the machine was
-# quiet. It has to do nothing else. Build spanprof first.
+# Runs programs that nothing was fitted to (checks/programs/predictions/unseen), and judges what is predicted of their
+# times on four threads: from recordings on four, from those on one and two, and after a change. It prints a table, how
+# far predictions were off, how many intervals had the true time, and whether the machine was quiet, as it has to be
+# while `turns` run. Build spanprof first.
 #
-#     checks/programs/unseen.sh predictions [FOLDER [TURNS [RECORDINGS]]]     their times, from recordings on four threads,
-#                                                                             and from those on one and two
-#     checks/programs/unseen.sh whatifs [FOLDER [TURNS [RECORDINGS]]]         after a change, from recordings before it
-#     checks/programs/unseen.sh judge FOLDER                                  once more what a folder has kept
-# Without TURNS there are 24, and in eight of them the programs are recorded too. That takes some minutes.
-# Variables: SPANPROF (crates/spanprof/out/spanprof), LLVM (16), LLVM_FOLDERS (checks/llvm/versions.py), SPANPROF_MACHINE
-# (a model of this machine; without it that is measured first, in half a minute).
+#     checks/programs/unseen.sh all [FOLDER [TURNS]]      all of the following, in a folder that is made
+#     checks/programs/unseen.sh build FOLDER              compiles them, before and after their changes
+#     checks/programs/unseen.sh turns FOLDER [TURNS]      so many turns more (12), each a quarter of a minute
+#     checks/programs/unseen.sh texts FOLDER              makes texts of the recordings
+#     checks/programs/unseen.sh judge FOLDER              judges by all that the folder has
+# Variables: SPANPROF (crates/spanprof/out/spanprof), LLVM (16), LLVM_FOLDERS (checks/llvm/versions.py),
+# SPANPROF_MACHINE (a model of this machine; without it `build` measures that first, in half a minute).
 set -euo pipefail
 top=$(cd "$(dirname "$0")/../.." && pwd)
-kind=${1:-predictions}
+step=${1:-all}
 folder=$(realpath -m "${2:-$(mktemp -d)}")
 cd "$top"
 # shellcheck source=checks/needs.sh
@@ -20,6 +21,6 @@ cd "$top"
 needs_spanprof
 export LLVM=${LLVM:-16}
 needs_llvm
-[ "$kind" = judge ] || make -s -C tools/openmp_recorder LLVM="$LLVM"
+case $step in all | build) make -s -C tools/openmp_recorder LLVM="$LLVM" ;; esac
 echo "$folder keeps what is measured"
-exec python3 -B checks/programs/predictions/measure_unseen.py "$kind" "$folder" "${@:3}"
+exec python3 -B checks/programs/predictions/measure_unseen.py "$step" "$folder" "${@:3}"

@@ -1,20 +1,25 @@
 #!/usr/bin/env python3
-"""Measures the programs that nothing was fitted to, in turns, and judges what is predicted of them.
+"""Measures programs that nothing was fitted to, in turns that a folder gathers, and judges what is predicted of them.
 
-    measure_unseen.py predictions FOLDER [TURNS [RECORDINGS]]     times on 4 threads, from recordings on 4, and on 1, 2
-    measure_unseen.py whatifs FOLDER [TURNS [RECORDINGS]]         times after a change, from recordings before it
-    measure_unseen.py judge FOLDER                                once more what a folder has
-The folder is made, and keeps everything: the programs, turns.csv, watched.csv, the logs and their texts. The runtime's
-costs are those of SPANPROF_MACHINE, or measured first, for which SPANPROF has to be there.
+    measure_unseen.py build FOLDER              compiles them, before and after their changes, and measures the machine
+    measure_unseen.py turns FOLDER [TURNS]      so many turns more
+    measure_unseen.py texts FOLDER              makes texts of the recordings that have none yet
+    measure_unseen.py judge FOLDER              judges by all turns of the folder
+    measure_unseen.py all FOLDER [TURNS]        one after the other
+A turn runs each program on 1 to 4 threads, before and after its change, and records it before the change on 1, 2 and 4.
+The folder keeps everything: the programs, turns.csv, watched.csv, the logs and their texts. The runtime's costs are
+those of SPANPROF_MACHINE, or measured first, for which SPANPROF has to be there. A turn that is cut short does not
+count. Only `turns` needs the machine for itself.
 """
 import csv
 import os
 import pathlib
+import signal
 import subprocess
 import sys
 from concurrent.futures import ThreadPoolExecutor
 
-from quiet import Watch
+from quiet import Watch, going_first
 from runs import TOP, build_clock, compiled, convert, record_all, region_time
 from unseen import UNSEEN
 
@@ -23,10 +28,11 @@ sys.path.insert(0, str(TOP / "checks" / "llvm"))
 from versions import asked
 
 VERSION = os.environ.get("LLVM", "16")
-TURNS, RECORDINGS, THREADS = 24, 8, 4
-PREDICTIONS, WHATIFS = "predictions", "whatifs"
-VERSIONS = {PREDICTIONS: ("before",), WHATIFS: ("before", "after")}
-RECORDED = {PREDICTIONS: (4, 1, 2), WHATIFS: (4,)}
+TURNS, THREADS, RECORDED = 12, (4, 3, 2, 1), (4, 2, 1)
+BEFORE, AFTER = VERSIONS = ("before", "after")
+TIMES, WATCHED = "turns.csv", "watched.csv"
+NAMES = {TIMES: ("program", "version", "threads", "turn", "nanoseconds", "gave_way"),
+         WATCHED: ("turn", "stolen", "others", "load")}
 
 
 def llvm():
@@ -38,14 +44,6 @@ def llvm():
 
 def program_of(folder, one, version):
     return folder / version / one.name
-
-
-def build(folder, kind):
-    build_clock(folder)
-    words = llvm().compiler()
-    todo = [(one, version) for one in UNSEEN for version in VERSIONS[kind]]
-    with ThreadPoolExecutor(len(os.sched_getaffinity(0))) as pool:
-        list(pool.map(lambda pair: compiled(words, *pair, program_of(folder, *pair), ["-lm"]), todo))
 
 
 def calibrate(folder):
@@ -60,51 +58,77 @@ def calibrate(folder):
     (folder / "model").write_text(known)
 
 
-def is_recorded(turn, turns, recordings):
-    """So many of the turns, evenly."""
-    return turn * recordings // turns > (turn - 1) * recordings // turns
+def build(folder):
+    folder.mkdir(parents=True, exist_ok=True)
+    build_clock(folder)
+    words = llvm().compiler()
+    todo = [(one, version) for one in UNSEEN for version in VERSIONS]
+    with ThreadPoolExecutor(len(os.sched_getaffinity(0))) as pool:
+        list(pool.map(lambda pair: compiled(words, *pair, program_of(folder, *pair), ["-lm"]), todo))
+    calibrate(folder)
 
 
-def turn_of(folder, kind, turn, with_recordings, out):
-    for one in UNSEEN:
-        for version in VERSIONS[kind]:
-            out.writerow([one.name, version, turn, *region_time(folder, program_of(folder, one, version), THREADS)])
-    if with_recordings:
-        record_all(folder, [(program_of(folder, one, "before"), "%s.%d.%d" % (one.name, threads, turn), threads)
-                            for one in UNSEEN for threads in RECORDED[kind]])
+def rows(path):
+    with open(path, encoding="utf-8", newline="") as file:
+        yield from csv.DictReader(file)
 
 
-def measure(folder, kind, turns, recordings):
-    with open(folder / "turns.csv", "w", encoding="utf-8", newline="") as times, \
-            open(folder / "watched.csv", "w", encoding="utf-8", newline="") as watched:
-        out, seen = csv.writer(times, lineterminator="\n"), csv.writer(watched, lineterminator="\n")
-        out.writerow(["program", "version", "turn", "nanoseconds", "gave_way"])
-        seen.writerow(["turn", "stolen", "others", "load"])
-        for turn in range(1, turns + 1):
+def next_turn(folder):
+    """Behind each that has begun."""
+    begun = (int(row["turn"]) for name in NAMES if (folder / name).exists() for row in rows(folder / name))
+    return max(begun, default=0) + 1
+
+
+def add(folder, name, several):
+    """To a table, which has its names in the first line."""
+    is_new = not (folder / name).exists()
+    with open(folder / name, "a", encoding="utf-8", newline="") as file:
+        out = csv.writer(file, lineterminator="\n")
+        out.writerows([NAMES[name]] * is_new + several)
+
+
+def turn_of(folder, turn):
+    """All runs, and then all recordings."""
+    found = [(one.name, version, threads, turn, *region_time(folder, program_of(folder, one, version), threads))
+             for one in UNSEEN for version in VERSIONS for threads in THREADS]
+    record_all(folder, [(program_of(folder, one, BEFORE), "%s.%d.%d" % (one.name, threads, turn), threads)
+                        for one in UNSEEN for threads in RECORDED])
+    return found
+
+
+def measure(folder, turns=TURNS):
+    signal.signal(signal.SIGTERM, lambda *_: sys.exit("the last turn is cut short, and does not count"))
+    first = next_turn(folder)
+    with going_first():
+        for turn in range(first, first + turns):
             watch = Watch()
-            turn_of(folder, kind, turn, is_recorded(turn, turns, recordings), out)
-            seen.writerow([turn, *watch.used()])
-            times.flush()
-            watched.flush()
-            print("turn %d of %d" % (turn, turns), file=sys.stderr, flush=True)
+            found = turn_of(folder, turn)
+            add(folder, WATCHED, [(turn, *watch.used())])
+            add(folder, TIMES, found)
+            print("turn %d of %d" % (turn, first + turns - 1), file=sys.stderr, flush=True)
 
 
 def texts(folder):
+    todo = [log for log in sorted(folder.glob("*.log")) if not log.with_suffix(".tasks").exists()]
     with ThreadPoolExecutor(len(os.sched_getaffinity(0))) as pool:
-        list(pool.map(convert, sorted(folder.glob("*.log"))))
+        list(pool.map(convert, todo))
+
+
+def judge(folder):
+    from judge_unseen import judge as judge_all     # what it imports takes a while
+    return judge_all(folder)
+
+
+STEPS = {"build": build, "turns": measure, "texts": texts, "judge": judge}
 
 
 def main(words):
-    kind, folder = words[0], pathlib.Path(words[1]).resolve()
-    if kind in VERSIONS:
-        numbers = [int(word) for word in words[2:]]
-        folder.mkdir(parents=True, exist_ok=True)
-        calibrate(folder)
-        build(folder, kind)
-        measure(folder, kind, *numbers, *(TURNS, RECORDINGS)[len(numbers):])
-        texts(folder)
-    from judge_unseen import judge     # what it imports takes a while
-    return judge(folder)
+    step, folder, turns = words[0], pathlib.Path(words[1]).resolve(), [int(word) for word in words[2:]]
+    status = 0
+    for name, call in STEPS.items():
+        if step in (name, "all"):
+            status = call(folder, *turns if name == "turns" else ()) or 0
+    return status
 
 
 if __name__ == "__main__":

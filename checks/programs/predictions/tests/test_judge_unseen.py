@@ -8,12 +8,12 @@ from unittest import mock
 
 import judge_unseen
 from changes import MADE
-from judge_unseen import (AFTER, BEFORE, FEWER, RECORDED, Measured, cell, counted, judge, judged, kinds, line,
+from judge_unseen import (AFTER, BEFORE, KINDS, TOGETHER, Measured, cell, counted, judge, judged, line, medians,
                           read_measured, table, true_times)
 from judging import Judged
-from measured import HERE
 from quiet import Used
-from unseen import UNSEEN
+from runs import TOP
+from unseen import FORMERLY, UNSEEN, unseen
 
 from spanprof.predict.machine import Machine, write_machine
 from spanprof.predict.recorded import recorded_as
@@ -31,16 +31,21 @@ QUIET, BUSY = Used(0, 0.01, 1), Used(0.2, 0.1, 9)
 NOTHING = Machine({1: {}}, {})
 
 
+WORDS = unseen("words", ("task", "after taskwait at words.c"))
+FROM_FOUR, FROM_FEWER, CHANGED = KINDS
+
+
 def source_of(one):
-    return (HERE / "unseen" / (one.name + ".c")).read_text(encoding="utf-8")
+    return (TOP / (one.source + ".c")).read_text(encoding="utf-8")
 
 
 def predicted(time, program="a", true=100):
-    return Judged(program, 1, RECORDED, time, time - 5, time + 5, 0.0, true)
+    return Judged(program, 1, FROM_FOUR.case, time, time - 5, time + 5, 0.0, true)
 
 
-def measured(times=(1650, 1600, 1700), versions=(BEFORE,)):
-    found = {("words", version, turn): time for version in versions for turn, time in enumerate(times, 1)}
+def measured(times=(1650, 1600, 1700)):
+    found = {("words", version, threads, turn): time + 1000 * (4 - threads)
+             for version in (BEFORE, AFTER) for threads in (4, 3) for turn, time in enumerate(times, 1)}
     return Measured(found, dict.fromkeys(range(1, len(times) + 1), QUIET),
                     {("words", 4, 2): recorded_as(TEXT, "words.4.2.tasks", 0)})
 
@@ -52,48 +57,54 @@ class Turns(unittest.TestCase):
         self.assertEqual(counted({1: QUIET, 2: BUSY}), {1, 2})
 
     def test_times_of_these_turns(self):
-        self.assertEqual(true_times(measured(), {1, 3}), {("words", BEFORE): [1650, 1700]})
+        times = true_times(measured(), {1, 3}, 4)
+        self.assertEqual(times, {("words", BEFORE): [1650, 1700], ("words", AFTER): [1650, 1700]})
 
 
 class Predictions(unittest.TestCase):
     def test_the_median_of_the_runs_is_true(self):
-        found = list(judged(measured(), {1, 2, 3}, NOTHING, UNSEEN[6], RECORDED, BEFORE))
+        found = list(judged(measured(), {1, 2, 3}, NOTHING, WORDS, FROM_FOUR))
         self.assertEqual([(one.program, one.turn, one.time, one.true) for one in found], [("words", 2, 1600, 1650)])
 
     def test_the_change_is_made_to_the_text(self):
         """What follows the wait is a task, which nothing waits for."""
-        found = list(judged(measured(versions=(BEFORE, AFTER)), {1, 2, 3}, NOTHING, UNSEEN[6], RECORDED, AFTER))
-        self.assertEqual([one.time for one in found], [1600])
+        self.assertEqual([one.time for one in judged(measured(), {1, 2, 3}, NOTHING, WORDS, CHANGED)], [1600])
 
     def test_a_recording_that_is_missing(self):
-        self.assertEqual(list(judged(measured(), {1, 2, 3}, NOTHING, UNSEEN[6], FEWER, BEFORE)), [])
+        self.assertEqual(list(judged(measured(), {1, 2, 3}, NOTHING, WORDS, FROM_FEWER)), [])
 
-    def test_what_a_folder_is_of(self):
-        self.assertEqual([(name, is_by_worst) for name, _, _, is_by_worst in kinds(measured())],
-                         [("4 from 4", False), ("4 from 1 and 2", False)])
-        self.assertEqual([(version, is_by_worst) for _, _, version, is_by_worst in
-                          kinds(measured(versions=(BEFORE, AFTER)))], [(BEFORE, False), (AFTER, True)])
+    def test_medians_of_several(self):
+        several = [predicted(time, name) for name in "ab" for time in (90, 103, 99, 120, 101, 200)]
+        self.assertEqual(TOGETHER, 5)
+        self.assertEqual([(one.program, one.time, one.low, one.high) for one in medians(several)],
+                         [("a", 101, 96, 106), ("b", 101, 96, 106)])
 
 
 class Told(unittest.TestCase):
     def test_lines(self):
         near = [predicted(101), predicted(96), predicted(112, "b")]
-        self.assertEqual(line("4 from 4", RECORDED, near[:2], False), (
-            "ok      not fitted to: 4 from 4, 1 programs, 2 recordings: median 2.5 % (5), nine of ten 4.0 % (15), "
+        self.assertEqual(line("4 from 4", FROM_FOUR, near[:2]), (
+            "ok      not fitted to: 4 from 4, 1 programs, 2 predictions: median 2.5 % (5), nine of ten 4.0 % (15), "
             "worst 4.0 %, of the medians of programs 1.5 %, intervals with the truth 2", True))
-        self.assertFalse(line("4 from 4", RECORDED, near, False)[1], "an interval misses the truth")
-        self.assertEqual(line("changed", RECORDED, near, True)[0].partition("worst")[2],
+        self.assertFalse(line("4 from 4", FROM_FOUR, near)[1], "an interval misses the truth")
+        self.assertEqual(line("changed", CHANGED, near)[0].partition("worst")[2],
                          " 12.0 % (20), of the medians of programs 12.0 %, intervals with the truth 2")
 
     def test_nothing_that_was_measured(self):
-        self.assertEqual(line("changed", RECORDED, [], True),
+        self.assertEqual(line("changed", CHANGED, []),
                          ("FAILED  not fitted to: changed: nothing was measured", False))
 
     def test_a_table(self):
-        columns = [("4 from 4", BEFORE, [predicted(101e6, "a", 100e6), predicted(98e6, "a", 100e6)])]
+        columns = [(FROM_FOUR, [predicted(101e6, "a", 100e6), predicted(98e6, "a", 100e6)]), (FROM_FEWER, [])]
         self.assertEqual(list(table(["a"], {("a", BEFORE): [100e6, 99e6, 102e6]}, columns)), [
-            "| Program | True, ms | 4 from 4 |", "|---|---|---|",
-            "| a | 100.00 (99.00 to 102.00) | -0.5 (-2.0 to +1.0) |"])
+            "| Program | True, ms | 4 from 4 | 4 from 1 and 2 |", "|---|---|---|---|",
+            "| a | 100.00 (99.00 to 102.00) | -0.5 (-2.0 to +1.0) | none |"])
+
+    def test_a_table_of_both_versions(self):
+        columns, times = [(FROM_FOUR, []), (CHANGED, [])], {("a", BEFORE): [2e6], ("a", AFTER): [1e6]}
+        self.assertEqual(list(table(["a"], times, columns)), [
+            "| Program | True, ms | 4 from 4 | True, ms | changed, 4 from 4 |", "|---|---|---|---|---|",
+            "| a | 2.00 (2.00 to 2.00) | none | 1.00 (1.00 to 1.00) | none |"])
         self.assertEqual(cell([]), "none")
 
 
@@ -101,7 +112,8 @@ class Folder(unittest.TestCase):
     def test_one_program(self):
         with tempfile.TemporaryDirectory() as name:
             folder = pathlib.Path(name)
-            (folder / "turns.csv").write_text("program,version,turn,nanoseconds,gave_way\nwords,before,1,1650,0\n")
+            (folder / "turns.csv").write_text("program,version,threads,turn,nanoseconds,gave_way\n"
+                                              "words,before,4,1,1650,0\nwords,after,4,1,1650,0\n")
             (folder / "watched.csv").write_text("turn,stolen,others,load\n1,0.0,0.01,0.5\n")
             (folder / "words.4.1.tasks").write_text(TEXT)
             write_machine(NOTHING, str(folder / "machine.json"))
@@ -109,26 +121,26 @@ class Folder(unittest.TestCase):
             (folder / "words.4.1.timed").write_text("")
             self.assertEqual(read_measured(folder).watched, {1: QUIET._replace(load=0.5)})
             out = io.StringIO()
-            with mock.patch.object(judge_unseen, "UNSEEN", UNSEEN[6:7]), contextlib.redirect_stdout(out):
+            with mock.patch.object(judge_unseen, "UNSEEN", (WORDS,)), contextlib.redirect_stdout(out):
                 self.assertEqual(judge(folder), 1)
-        self.assertIn("ok      not fitted to: 4 from 4, 1 programs, 1 recordings: median 3.0 % (5)", out.getvalue())
+        self.assertIn("ok      not fitted to: 4 from 4, 1 programs, 1 predictions: median 3.0 % (5)", out.getvalue())
         self.assertIn("FAILED  not fitted to: 4 from 1 and 2: nothing was measured", out.getvalue())
         self.assertIn("the machine was quiet: 1 of 1 turns", out.getvalue())
 
 
 class Programs(unittest.TestCase):
     def test_none_of_those_that_the_model_was_fitted_to(self):
-        names = [one.name for one in UNSEEN]
+        names = [one.name for one in UNSEEN + FORMERLY]
         self.assertEqual(len(names), len(set(names)))
         self.assertFalse({*names} & {one.name for one in MADE})
 
     def test_sources(self):
-        for one in UNSEEN:
+        for one in UNSEEN + FORMERLY:
             self.assertIn("REWRITTEN", source_of(one))
 
     def test_places(self):
         """Each line that a change names is one of a task or a wait."""
-        for one in UNSEEN:
+        for one in UNSEEN + FORMERLY:
             lines = source_of(one).splitlines()
             for _, word in one.changes:
                 for number in re.findall(r"\.c:(\d+)", word):

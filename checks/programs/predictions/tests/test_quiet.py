@@ -1,7 +1,12 @@
+import contextlib
+import io
+import os
+import pathlib
 import unittest
-from tempfile import NamedTemporaryFile
+from tempfile import NamedTemporaryFile, TemporaryDirectory
+from unittest import mock
 
-from quiet import NAMES, Used, Watch, read_stat, used, verdict
+from quiet import NAMES, Used, Watch, going_first, read_stat, used, verdict
 
 
 def stat(**taken):
@@ -30,6 +35,21 @@ class Quiet(unittest.TestCase):
         found = Watch().used()
         self.assertGreaterEqual(found.stolen, 0)
         self.assertGreaterEqual(found.others, 0)
+
+    def test_going_first(self):
+        with TemporaryDirectory() as folder, mock.patch("os.setpriority") as priority:
+            path = pathlib.Path(folder, "autogroup")
+            path.write_text("/autogroup-18 nice 3\n")
+            with going_first(path):
+                self.assertTrue(path.read_text().startswith("-20"))
+            priority.assert_called_once_with(os.PRIO_PROCESS, 0, -20)
+            self.assertTrue(path.read_text().startswith("3"))
+
+    def test_where_it_is_not_allowed(self):
+        out = io.StringIO()
+        with mock.patch("os.setpriority", side_effect=PermissionError(13, "Permission denied")), \
+                contextlib.redirect_stderr(out), going_first("/none"):
+            self.assertIn("runs do not go before other programs: ", out.getvalue())
 
     def test_a_verdict(self):
         turns = [Used(0.0, 0.01, 1.5), Used(0.01, 0.20, 3.0)]
