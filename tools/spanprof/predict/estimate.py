@@ -1,7 +1,7 @@
 """The program's time on some threads, by a simulation of a runtime's scheduling on the burdened text. It is a model:
 nothing of it is proved. The interval is that which held in nine of ten cases of the programs of one measurement."""
 import statistics
-from dataclasses import dataclass
+from dataclasses import dataclass, replace
 from math import exp, log
 from typing import List
 
@@ -38,21 +38,22 @@ class Estimate:
     by_lock: bool = False
     unmatched: float = 0.0  # of the work, what only the recording on more threads has
     runtime: str = LLVM
+    of: int = 1             # recordings, of which it is the median
 
 
 def base_of(recordings, threads):
-    """The recording on this number of threads, or that on the most; and how code grows from the one before it on."""
+    """The recordings on this number of threads, or those on the most; and how code grows from the ones before on."""
     if threads in recordings:
         return recordings[threads], None
     numbers = sorted(recordings)
     most = recordings[numbers[-1]]
-    if most.threads == 1:
-        raise Fault("%s is of one thread, whose tasks are all undeferred: it tells no time on more" % most.name)
+    if numbers[-1] == 1:
+        raise Fault("%s is of one thread, whose tasks are all undeferred: it tells no time on more" % most[0].name)
     return most, Growth(recordings[numbers[-2]], most) if len(numbers) > 1 else None
 
 
 def outside_on(base, growth, threads):
-    return int(growth.outside(threads)) if growth else base.outside
+    return int(growth.outside(base, threads)) if growth else base.outside
 
 
 def simulated(simulation, program, costs, threads, spent, came=()):
@@ -91,10 +92,9 @@ def runs_of(runtime, base, machine, threads):
     return Simulation, dispatch_on(machine, threads, base), spent, on_threads(base.arrivals, threads)
 
 
-def estimate(recordings, machine, threads, runtime=LLVM):
-    """Of recordings by their number of threads."""
-    base, growth = base_of(recordings, threads)
-    costs = growth.costs(threads) if growth else base.program.costs
+def of_one(base, growth, machine, threads, runtime):
+    """By one recording, and by how code grows."""
+    costs = growth.costs(base.program, threads) if growth else base.program.costs
     grown = log(max(sum(costs), 1) / max(base.work, 1))
     simulation, dispatch, spent, came = runs_of(runtime, base, machine, threads)
     costs = burdened(base.program, costs, dispatch)
@@ -103,3 +103,10 @@ def estimate(recordings, machine, threads, runtime=LLVM):
     time, far = max(end, base.held), width(base, growth, threads, grown)
     return Estimate(base, threads, time, int(time / exp(far)), int(time * exp(far)), costs, outside, dispatch,
                     spent.steal, grown, base.held > end, growth.unmatched if growth else 0.0, runtime)
+
+
+def estimate(recordings, machine, threads, runtime=LLVM):
+    """The median by several recordings. They stand by their number of threads."""
+    bases, growth = base_of(recordings, threads)
+    found = sorted((of_one(base, growth, machine, threads, runtime) for base in bases), key=lambda one: one.time)
+    return replace(found[(len(found) - 1) // 2], of=len(found))

@@ -22,8 +22,8 @@ class Recordings(unittest.TestCase):
             for name in (path, other):
                 with open(name, "w", encoding="utf-8"):
                     pass
-            told = {"threads": [{"recording": "threads1.tasks"}, {"recording": "a.tasks"}, {"recording": "gone.tasks"},
-                                {"recording": None}, {}, 3]}
+            told = {"threads": [{"recordings": ["threads1.tasks", "gone.tasks"]}, {"recordings": ["a.tasks"]},
+                                {"recordings": None}, {}, 3]}
             self.assertEqual(recordings(path, told), [path, other])
             self.assertEqual(recordings(path, None), [path])
             self.assertEqual([recordings(path, other) for other in ({}, {"threads": 3})], [[path], [path]])
