@@ -83,7 +83,7 @@ def changed(made, one):
 
 def judged(name, found, times, machine, runtime):
     true = statistics.median(times)
-    told = [estimate({THREADS: one}, machine, THREADS, runtime).time for one in found]
+    told = [estimate({THREADS: [one]}, machine, THREADS, runtime).time for one in found]
     return Row(name, true, [time / true - 1 for time in told], times)
 
 

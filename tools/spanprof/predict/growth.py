@@ -8,6 +8,7 @@ from math import log2
 
 from spanprof.predict.matching import matched
 
+SHARE = 1.0
 LEAST = 0.01    # of the work: what a place with less has grown by is not told from its spread
 
 
@@ -51,7 +52,8 @@ class Growth:
         if inflation <= 1:
             return 1.0
         steps = doublings(self.fewer, self.more, threads)
-        return max(1 + (1 - 1 / inflation) * steps, 1 / inflation)
+        share = SHARE if steps > 0 else 1
+        return max(1 + share * (1 - 1 / inflation) * steps, 1 / inflation)
 
     def costs(self, program, threads):
         factors = {place: self.factor(place, threads) for place in set(program.places)}
