@@ -45,7 +45,8 @@ def remark(one):
 
 
 def answer(chosen):
-    paths = [path for word in chosen.texts for path in texts(word)]
+    several = [texts(word) for word in chosen.texts]
+    paths = [path for one in several for path in one.paths]
     for path in paths:
         check_files(path, chosen.output, "burdened")
     machine, recordings = read_machine(chosen.machine or machine_file()), by_threads(paths)
@@ -54,7 +55,7 @@ def answer(chosen):
         one = found[-1][0]
         with open(chosen.output, "w", encoding="utf-8") as file:
             file.write(burdened_text(one.base.text, one.costs, remark(one)))
-    told = recordings[max(recordings)], machine, found
+    told = recordings[max(recordings)], machine, found, [note for one in several for note in one.notes]
     print(json.dumps(as_json(*told), indent=2) if chosen.json else "\n".join(lines(*told)))
 
 

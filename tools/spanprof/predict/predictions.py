@@ -36,20 +36,20 @@ def predictions(recordings, machine, numbers=None, runtime=LLVM):
 
 
 def by_the_model(paths, numbers=None):
-    """The recording on the most threads, the model of this machine, and the predictions; None without a model."""
+    """The recordings on the most threads, the model of this machine, and the predictions; None without a model."""
     if not os.path.exists(machine_file()):
         return None
     machine, recordings = read_machine(machine_file()), by_threads(paths)
     return recordings[max(recordings)], machine, predictions(recordings, machine, numbers)
 
 
-def told_of(paths):
+def told_of(chosen):
     """For a summary, lines and JSON. There is nothing without a model of the machine."""
     try:
-        told = by_the_model(paths)
+        told = by_the_model(chosen.paths)
     except Fault as why:
         return ["not told: %s" % why], {"none": str(why)}
-    return (lines(*told), as_json(*told)) if told else ([], None)
+    return (lines(*told, chosen.notes), as_json(*told, chosen.notes)) if told else ([], None)
 
 
 def of_changed(base, text, machine, threads):

@@ -14,6 +14,7 @@ from spanprof.errors import OWN_FAULT, Fault
 from spanprof.folders import PREFIX, TOOLS
 from spanprof.measure import HOW, spanprof_large
 from spanprof.predict.predictions import told_of
+from spanprof.predict.scaled import Chosen, chosen
 from spanprof.record.calibrate import calibrate
 from spanprof.record.console import say, tell
 from spanprof.record.large import answers, head_of, large_summary, unmeasured_summary
@@ -77,7 +78,7 @@ def print_summary(session, found, said, shown=(), scale=None, has_news=True):
         led = lead(answered[first], account)
         show(summary(answered[first], verdict(found[first]), news, others, of_what, lines_of(account, why), led,
                      program))
-        times, told = told_of(scale.paths if scale else [answered[first].path])
+        times, told = told_of(chosen(scale.texts, scale.times) if scale else Chosen([answered[first].path]))
         show(named("predicted", times))
         if session.options.json:
             write_json(session.options.json, led_json(answered[first], account, why, led, scale, told))

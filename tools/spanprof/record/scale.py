@@ -46,11 +46,6 @@ class Scale:
     processors: int = 0     # that this process may use
 
     @property
-    def paths(self):
-        """The region's texts, of all recordings."""
-        return [path for threads in sorted(self.texts) for path in self.texts[threads]]
-
-    @property
     def most(self):
         return max(self.times)
 

@@ -6,7 +6,7 @@ from spanprof.errors import Fault
 from spanprof.predict.machine import machine_file, read_machine
 from spanprof.predict.predictions import by_the_model, of_changed
 from spanprof.predict.recorded import recorded
-from spanprof.predict.scaled import recordings_of
+from spanprof.predict.scaled import chosen_of
 from spanprof.text import statements, text_lines
 from spanprof.whatif.requests import applied, changes
 from spanprof.whatif.survey import survey
@@ -22,9 +22,8 @@ class Predicted(NamedTuple):
 
 
 def recordings(path, told):
-    """The text, and the other recordings that were made with it."""
-    others = recordings_of(told, os.path.dirname(path)) if told else []
-    return [path] + [other for other in others if not os.path.samefile(other, path)]
+    """Those that were made with the text, or it alone."""
+    return chosen_of(told, os.path.dirname(path)).paths or [path]
 
 
 def predicted(answers, told):

@@ -11,6 +11,7 @@ from spanprof.errors import Fault
 from spanprof.predict import command, predictions
 from spanprof.predict.machine import Machine, Measured, write_machine
 from spanprof.predict.recorded import outside_of, recorded
+from spanprof.predict.scaled import Chosen
 from spanprof.remarks import in_words
 
 HEAD = '# recorded: {"program": "a", "threads": %d, "clock": "wall", "unit": "us"}\n' \
@@ -118,9 +119,13 @@ class Command(InAFolder):
     def test_a_scale(self):
         self.write("a.tasks", TEXT % 2)
         self.write("b.tasks", TEXT % 1)
-        told = {"threads": [{"recordings": ["b.tasks", "gone.tasks", 3]}, {"recordings": ["a.tasks"]}, {}, 3]}
-        first = self.answer(self.write("a.scale.json", json.dumps(told))).splitlines()[0]
+        told = {"threads": [{"threads": 1, "recordings": ["b.tasks", "gone.tasks", 3], "times": [30000]},
+                            {"threads": 2, "recordings": ["a.tasks"], "times": [9000, 20000, 21000]}, {}, 3]}
+        first, *_, note, last = self.answer(self.write("a.scale.json", json.dumps(told))).splitlines()
         self.assertIn("a.tasks, region at a.c:9, recorded on 2 threads", first)
+        self.assertEqual(note, "1 of 1 recordings on 2 threads took 50 % longer than the unrecorded runs, or more: the "
+                               "times may be told too long")
+        self.assertIn("not proved", last)
         for wrong, why in (("{", "is none of spanprof-record --scale"), ("{}", "names no recording that is there"),
                            ('{"threads": 3}', "names no recording"), ("[]", "names no recording")):
             with self.assertRaisesRegex(Fault, "b.scale.json.* " + why):
@@ -149,13 +154,13 @@ class Command(InAFolder):
         path = self.write("a.tasks", TEXT % 2)
         with mock.patch.dict(os.environ, SPANPROF_MACHINE=self.machine), \
                 mock.patch("spanprof.client.ask", return_value="segments 9\nwork 40800\nspan 10200\n"):
-            lines, told = predictions.told_of([path])
+            lines, told = predictions.told_of(Chosen([path]))
             self.assertEqual((len(lines), len(told["predicted"])), (4, 2))
-            lines, told = predictions.told_of([self.write("b.tasks", TEXT % 1)])
+            lines, told = predictions.told_of(Chosen([self.write("b.tasks", TEXT % 1)]))
             self.assertRegex(lines[0], "^not told: b.tasks is of one thread")
             self.assertIn("b.tasks", told["none"])
         with mock.patch.dict(os.environ, SPANPROF_MACHINE=self.machine + ".none"):
-            self.assertEqual((predictions.told_of([path]), predictions.changed_told(path, str, 2)),
+            self.assertEqual((predictions.told_of(Chosen([path])), predictions.changed_told(path, str, 2)),
                              (([], None), ([], None)))
 
     def test_of_a_changed_text(self):
