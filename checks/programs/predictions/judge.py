@@ -10,7 +10,7 @@ import os
 import sys
 from concurrent.futures import ProcessPoolExecutor
 
-from judging import Case, Judged, held, summary, widths
+from judging import Case, held, of_estimate, summary, widths
 from measured import HERE, LATER, recordings, true_times
 
 from spanprof.predict.estimate import estimate
@@ -26,8 +26,7 @@ SETS = {"23 programs": HERE, "14 later ones": LATER}
 def told(case, by_threads, program, turn, machine, true):
     """Of lists of recordings by threads."""
     one = estimate({threads: by_threads[threads] for threads in case.of}, machine, case.threads)
-    fewest = min(len(by_threads[threads]) for threads in case.of)
-    return Judged(program, turn, case, one.time, one.low, one.high, one.grown, true, fewest, one.apart)
+    return of_estimate(one, program, turn, case, true, min(len(by_threads[threads]) for threads in case.of))
 
 
 def judge(words):
@@ -61,7 +60,7 @@ def line(case, of_case, name):
     median, nine, worst, covered = summary(of_case)
     is_met = median <= case.median and nine <= case.nine_of_ten
     return is_met, "%s, %s: median %.1f %% (%.0f), nine of ten %.1f %% (%.0f), worst %.1f %%, covered %d of %d" % (
-        name, case.name, 100 * median, 100 * case.median, 100 * nine, 100 * case.nine_of_ten, 100 * worst, covered,
+        name, case.name, *(100 * number for number in (median, case.median, nine, case.nine_of_ten, worst)), covered,
         len(of_case))
 
 
@@ -81,9 +80,9 @@ def main(words):
         print("\n".join(table(every)))
     given, count = widths(every), held(every)
     all_lines = [one for name, found in judged.items() for one in lines(found, name)]
-    all_lines += [(given == WIDTHS, "widths of all: %s" % given),
-                  (count >= COVERED * len(every), "intervals with the truth, as wide as other programs give: %d of %d" % (
-                      count, len(every)))]
+    all_lines += [(all(WIDTHS[kind] == one for kind, one in given.items()), "widths of all: %s" % given),
+                  (count >= COVERED * len(every),
+                   "intervals with the truth, as wide as other programs give: %d of %d" % (count, len(every)))]
     for is_met, words_of in all_lines:
         print("%s  %s" % ("ok    " if is_met else "FAILED", words_of))
     return 0 if all(is_met for is_met, _ in all_lines) else 1

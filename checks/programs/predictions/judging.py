@@ -7,7 +7,7 @@ from typing import Tuple
 from measured import HERE   # with it the tools are found
 
 from spanprof.predict.estimate import kind_of
-from spanprof.predict.interval import OF_GROWTH, OF_SPREAD, SEVERAL, Width
+from spanprof.predict.interval import CHANGED, OF_GROWTH, OF_SPREAD, SEVERAL, Width
 
 assert HERE
 
@@ -19,11 +19,12 @@ class Case:
     threads: int
     median: float
     nine_of_ten: float
+    is_changed: bool = False
 
     @property
     def kind(self):
         """That of the interval's width."""
-        return kind_of(self.of, self.threads)
+        return CHANGED if self.is_changed else kind_of(self.of, self.threads)
 
     @property
     def name(self):
@@ -64,6 +65,10 @@ class Judged:
     @property
     def is_covered(self):
         return self.low <= self.true <= self.high
+
+
+def of_estimate(one, program, turn, case, true, recordings):
+    return Judged(program, turn, case, one.time, one.low, one.high, one.grown, true, recordings, one.apart)
 
 
 def quantile(numbers, share):

@@ -9,7 +9,7 @@ from spanprof.errors import Fault
 from spanprof.predict.burden import burdened
 from spanprof.predict.gnu import GnuSimulation
 from spanprof.predict.growth import Growth
-from spanprof.predict.interval import ALONE, AS_RECORDED, ON_OTHERS, spread, width
+from spanprof.predict.interval import ALONE, AS_RECORDED, CHANGED, ON_OTHERS, spread, width
 from spanprof.predict.policy import Simulation, Spent
 from spanprof.predict.recorded import Recorded
 from spanprof.predict.times import on_threads
@@ -67,9 +67,9 @@ def spent_on(machine, threads, base=None):
     return Spent(0 if is_told else steal, max(wake_up - creation - steal, 0))
 
 
-def kind_of(recordings, threads):
-    """Of a prediction, by which its interval is wide."""
-    return AS_RECORDED if threads in recordings else ON_OTHERS if len(recordings) > 1 else ALONE
+def kind_of(of, threads):
+    """Of a prediction by recordings on these numbers of threads, by which its interval is wide."""
+    return AS_RECORDED if threads in of else ON_OTHERS if len(of) > 1 else ALONE
 
 
 def dispatch_on(machine, threads, base=None):
@@ -108,6 +108,7 @@ def estimate(recordings, machine, threads, runtime=LLVM):
     found = sorted((of_one(base, growth, machine, threads, runtime, runs) for base in bases), key=lambda one: one.time)
     middle, fewest = found[(len(found) - 1) // 2], min(map(len, recordings.values())) if growth else len(found)
     apart = spread([one.time for one in found])
-    far = width(kind_of(recordings, threads), fewest, apart, middle.grown)
+    kind = CHANGED if middle.base.is_changed else kind_of(recordings, threads)
+    far = width(kind, fewest, apart, middle.grown)
     return replace(middle, low=int(middle.time / exp(far)), high=int(middle.time * exp(far)), of=len(found),
                    apart=apart)

@@ -14,10 +14,11 @@ class Width(NamedTuple):
     by_several: float
 
 
-AS_RECORDED, ON_OTHERS, ALONE = "as recorded", "on others", "alone"
+AS_RECORDED, ON_OTHERS, ALONE, CHANGED = "as recorded", "on others", "alone", "changed"
 WIDTHS = {AS_RECORDED: Width(0.11, 0.04),   # on as many threads as were recorded
           ON_OTHERS: Width(0.15, 0.08),     # on another number, where recordings tell how code grows
-          ALONE: Width(0.29, 0.25)}         # on another number, by recordings on one
+          ALONE: Width(0.29, 0.25),         # on another number, by recordings on one
+          CHANGED: Width(0.20, 0.20)}       # of a changed text
 
 
 def spread(times):

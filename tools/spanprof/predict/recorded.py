@@ -30,6 +30,7 @@ class Recorded:
     arrivals: Tuple[int, ...] = ()  # of the threads, after the code has begun
     dispatch: Optional[int] = None  # what it took to begin a task, where the times tell it
     preempted: int = 0      # what other programs took
+    is_changed: bool = False    # the text is that of a changed program
 
     @property
     def work(self):
@@ -93,7 +94,7 @@ def with_text(base, text):
     """The same recording with a changed text in its unit: the times around its code stay."""
     program = read_program(text)
     program.costs = [cost * base.head.nanoseconds for cost in program.costs]
-    return replace(base, program=program, text=text)
+    return replace(base, program=program, text=text, is_changed=text != base.text)
 
 
 def take_times(one, timed):

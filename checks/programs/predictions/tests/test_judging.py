@@ -43,8 +43,8 @@ class Widths(unittest.TestCase):
 
     def test_by_the_other_programs(self):
         """That of the first two is as wide as the last gives, and that of the last as the first two."""
-        several = [one for times in ((100, 108, "a"), (100, 103, "a"), (100, 105, "b"))
-                   for one in (judged(*times[:2], program=times[2]), judged(*times[:2], program=times[2], recordings=3))]
+        several = [judged(100, true, program=program, recordings=recordings)
+                   for true, program in ((108, "a"), (103, "a"), (105, "b")) for recordings in (1, 3)]
         self.assertEqual(held(several), 4)
 
 

@@ -110,8 +110,9 @@ class Command(InAFolder):
         self.assertEqual(text.count("work 10200\n"), 4)
 
     def test_several_of_one_number(self):
-        paths = [self.write(name, (TEXT % 2).replace("work 10", work).replace("30", elapsed)) for name, work, elapsed in (
-            ("a.tasks", "work 30", "70"), ("b.tasks", "work 11", "32"), ("c.tasks", "work 10", "30"))]
+        several = ("a.tasks", "work 30", "70"), ("b.tasks", "work 11", "32"), ("c.tasks", "work 10", "30")
+        paths = [self.write(name, (TEXT % 2).replace("work 10", work).replace("30", elapsed))
+                 for name, work, elapsed in several]
         first, two, *_ = self.answer(*paths).splitlines()
         self.assertIn("a.tasks, region at a.c:9, recorded 3 times on 2 threads in 30.0 us to 70.0 us: with", first)
         self.assertRegex(two, "^on 2 threads: 2[23].. us predicted .*; the median by 3 recordings")
