@@ -1,4 +1,4 @@
-"""How code gets dearer with more threads, by place: each doubling of their number adds as much as the last one did.
+"""How code gets dearer with more threads, by place: each doubling of their number adds a share of what the last one did.
 
 Of recordings on a and on b threads, of which the medians count; on one thread every task is undeferred, and the code of
 its creation is cheaper.
@@ -8,7 +8,7 @@ from math import log2
 
 from spanprof.predict.matching import matched
 
-SHARE = 1.0
+SHARE = 0.75    # fitted to the programs of checks/programs/predictions: from 0.05 to 2.3 of what the last one added
 LEAST = 0.01    # of the work: what a place with less has grown by is not told from its spread
 
 
@@ -52,8 +52,8 @@ class Growth:
         if inflation <= 1:
             return 1.0
         steps = doublings(self.fewer, self.more, threads)
-        share = SHARE if steps > 0 else 1
-        return max(1 + share * (1 - 1 / inflation) * steps, 1 / inflation)
+        added = (1 - 1 / inflation) * (SHARE * steps if steps > 0 else steps)
+        return max(1 + added, 1 / inflation)
 
     def costs(self, program, threads):
         factors = {place: self.factor(place, threads) for place in set(program.places)}

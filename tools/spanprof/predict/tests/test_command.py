@@ -93,7 +93,7 @@ class Command(InAFolder):
         self.assertEqual((told["text"], told["unit"]), ("two.tasks", "ns"))
         untimed, grown = told["predicted"][0]["notes"]
         self.assertTrue(untimed.startswith("without what passes outside of the region's code"))
-        self.assertEqual(grown, "with +17 % of work, as it grew on the threads that were recorded")
+        self.assertEqual(grown, "with +12 % of work, as it grew on the threads that were recorded")
 
     def test_what_is_not_matched_is_told(self):
         one = self.write("one.tasks", (TEXT % 1).replace("# a.c:1", "# other.c:1"))

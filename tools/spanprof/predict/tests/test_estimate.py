@@ -59,10 +59,10 @@ class Estimates(unittest.TestCase):
     def test_growth(self):
         dearer = TASKS.replace("1000", "1200")
         found = estimate({1: [recording(1, outside=10)], 2: [recording(2, dearer, outside=20)]}, machine(), 4)
-        self.assertEqual(found.time, 2 * 1400 + 30)
-        self.assertAlmostEqual(exp(found.grown), 1400 / 1200)
+        self.assertEqual(found.time, 2 * 1350 + 30)
+        self.assertAlmostEqual(exp(found.grown), 1350 / 1200)
         far = width(ON_OTHERS, 1, 0, found.grown)
-        self.assertEqual((found.low, found.high), (int(2830 / exp(far)), int(2830 * exp(far))))
+        self.assertEqual((found.low, found.high), (int(2730 / exp(far)), int(2730 * exp(far))))
 
     def test_a_recording_on_that_number_is_taken(self):
         found = estimate({1: [recording(1)], 2: [recording(2, TASKS.replace("1000", "1200"))]}, machine(), 2)

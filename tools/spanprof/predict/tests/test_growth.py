@@ -1,7 +1,7 @@
 import unittest
 from math import log2
 
-from spanprof.predict.growth import Growth, doublings
+from spanprof.predict.growth import SHARE, Growth, doublings
 from spanprof.predict.matching import Names, matched
 from spanprof.predict.program import read_program
 from spanprof.predict.recorded import Recorded
@@ -45,11 +45,11 @@ class Growing(unittest.TestCase):
         self.assertEqual((doublings(1, 2, 4), doublings(1, 2, 2), doublings(2, 4, 16)), (1, 0, 2))
         self.assertAlmostEqual(doublings(1, 2, 3), log2(1.5))
 
-    def test_each_doubling_adds_the_same(self):
+    def test_each_doubling_adds_a_share(self):
         found = growth()
         self.assertEqual([round(150 * found.factor("task at a.c:1", threads)) for threads in (1, 2, 4, 8)],
-                         [100, 150, 200, 250])
-        self.assertEqual(found.costs(read_program(MORE), 4), [0, 300, 0, 200, 0, 1])
+                         [100, 150, round(150 + 50 * SHARE), round(150 + 100 * SHARE)])
+        self.assertEqual(found.costs(read_program(MORE), 4), [0, 300, 0, round(150 + 50 * SHARE), 0, 1])
         self.assertEqual((found.inflation("task at a.c:1"), found.inflation("elsewhere")), (1.5, 1.0))
 
     def test_the_medians_of_several_count(self):
