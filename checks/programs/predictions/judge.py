@@ -11,7 +11,7 @@ import sys
 from concurrent.futures import ProcessPoolExecutor
 
 from judging import Case, held, of_estimate, summary, widths
-from measured import HERE, LATER, recordings, true_times
+from measured import HERE, LATER, recordings, texts, true_times
 
 from spanprof.predict.estimate import estimate
 from spanprof.predict.interval import WIDTHS
@@ -31,19 +31,18 @@ def told(case, by_threads, program, turn, machine, true):
 
 def judge(words):
     """Of one program: by each recording, and by all of them, of turn 0."""
-    program, by_turn, true, machine = words
-    turns = sorted(by_turn)
-    both = {threads: [by_turn[turn][threads] for turn in turns] for threads in by_turn[turns[0]]}
-    several = {turn: {threads: [one] for threads, one in by_turn[turn].items()} for turn in turns}
+    program, texts_of, true, machine = words
+    by_turn = dict(sorted(recordings(texts_of).items()))
+    several = {turn: {threads: [one] for threads, one in found.items()} for turn, found in by_turn.items()}
+    all_of = {threads: [found[threads] for found in by_turn.values()] for threads in next(iter(by_turn.values()))}
     return [told(case, found, program, turn, machine, true[program, case.threads])
-            for case in CASES for turn, found in {**several, 0: both}.items()]
+            for case in CASES for turn, found in {**several, 0: all_of}.items()]
 
 
 def judged_in(folder, pool):
-    machine, true, by_program = read_machine(folder / "machine.json"), true_times(folder), {}
-    for (program, turn), by_threads in sorted(recordings(folder).items()):
-        by_program.setdefault(program, {})[turn] = by_threads
-    return [one for found in pool.map(judge, [(*pair, true, machine) for pair in by_program.items()]) for one in found]
+    machine, true = read_machine(folder / "machine.json"), true_times(folder)
+    todo = [(program, texts_of, true, machine) for program, texts_of in texts(folder).items()]
+    return [one for found in pool.map(judge, todo) for one in found]
 
 
 def table(judged):

@@ -10,6 +10,7 @@ from spanprof.predict.estimate import kind_of
 from spanprof.predict.interval import CHANGED, OF_GROWTH, OF_SPREAD, SEVERAL, Width
 
 assert HERE
+FITTED = 0.95   # of the cases are within the widths that are fitted; told is nine of ten, since days differ
 
 
 @dataclass(frozen=True)
@@ -76,7 +77,7 @@ def quantile(numbers, share):
     return sorted(numbers)[max(math.ceil(share * len(numbers)), 1) - 1]
 
 
-def conformal(numbers, share=0.9):
+def conformal(numbers, share=FITTED):
     """The width within which another one lies with this chance, as far as they are alike."""
     ordered = sorted(numbers)
     return ordered[min(math.ceil(share * (len(ordered) + 1)), len(ordered)) - 1]

@@ -28,19 +28,27 @@ def true_times(folder=HERE, version="before"):
         for row in rows(folder / "true_times.csv") if row.get("version", "before") == version}
 
 
-def recorded_in(texts, row):
+def read(text, row):
     """The recording of a row, with what its times tell."""
-    name = "%s.%s.%s.tasks" % (row["program"], row["threads"], row["round"])
-    one = recorded_as(texts.extractfile(name).read().decode("utf-8"), name, int(row["outside"]))
+    one = recorded_as(text, "%s.%s.%s.tasks" % (row["program"], row["threads"], row["round"]), int(row["outside"]))
     one.arrivals = tuple(map(int, row.get("arrivals", "").split()))
     one.dispatch = int(row["dispatch"]) if row.get("dispatch") else None
     return one
 
 
-def recordings(folder=HERE):
-    """By program and round, and then by threads."""
+def texts(folder=HERE):
+    """By program, pairs of the text and the row of each recording."""
     found = {}
-    with tarfile.open(folder / "recordings.tar.xz") as texts:
+    with tarfile.open(folder / "recordings.tar.xz") as kept:
         for row in rows(folder / "outside.csv"):
-            found.setdefault((row["program"], int(row["round"])), {})[int(row["threads"])] = recorded_in(texts, row)
+            name = "%s.%s.%s.tasks" % (row["program"], row["threads"], row["round"])
+            found.setdefault(row["program"], []).append((kept.extractfile(name).read().decode("utf-8"), row))
+    return found
+
+
+def recordings(several):
+    """Of pairs as above, by round and then by threads."""
+    found = {}
+    for text, row in several:
+        found.setdefault(int(row["round"]), {})[int(row["threads"])] = read(text, row)
     return found

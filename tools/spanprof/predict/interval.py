@@ -1,5 +1,6 @@
-"""How far the truth may be from a prediction, as logarithms: what held in nine of ten cases of the programs that it is
-fitted to (checks/programs/predictions). The truth is the median time of several runs."""
+"""How far the truth may be from a prediction, as logarithms: what held in 19 of 20 cases of the programs that it is
+fitted to (checks/programs/predictions), so that it holds in nine of ten of others. The truth is the median time of
+several runs."""
 from math import log
 from typing import NamedTuple
 
@@ -15,9 +16,9 @@ class Width(NamedTuple):
 
 
 AS_RECORDED, ON_OTHERS, ALONE, CHANGED = "as recorded", "on others", "alone", "changed"
-WIDTHS = {AS_RECORDED: Width(0.11, 0.04),   # on as many threads as were recorded
-          ON_OTHERS: Width(0.15, 0.08),     # on another number, where recordings tell how code grows
-          ALONE: Width(0.29, 0.25),         # on another number, by recordings on one
+WIDTHS = {AS_RECORDED: Width(0.11, 0.08),   # on as many threads as were recorded
+          ON_OTHERS: Width(0.11, 0.09),     # on another number, where recordings tell how code grows
+          ALONE: Width(0.23, 0.28),         # on another number, by recordings on one
           CHANGED: Width(0.20, 0.20)}       # of a changed text
 
 
