@@ -50,6 +50,7 @@ class Head:
     clock_reading: Optional[int] = None  # in nanoseconds
     clocks_differ: Dict[str, int] = field(default_factory=dict)  # affected, work, by, times
     slept: Dict[str, int] = field(default_factory=dict)          # the same of code that slept, by the wall clock
+    preempted: Dict[int, int] = field(default_factory=dict)      # by segment, what other programs took in it
     untimed: int = 0                   # of segments, before they were left in their midst
     most_held: Optional[int] = None    # inside one lock, one thread at a time
     unfolded_span: Optional[int] = None     # of a folded text, as the recorder adds it up
@@ -140,6 +141,10 @@ def read_lock(head, told):
     head.locks.append(Lock(name, told["times"], told["inside"], told["waiting"]))
 
 
+def read_preempted(head, told):
+    head.preempted = {int(segment): int(off) for segment, off in told}
+
+
 def kept(field_name, kind=int):
     def read(head, told):
         if not isinstance(told, kind):
@@ -160,6 +165,7 @@ LINES = {
     "recorded": read_recorded, "region": read_region, "whole program": read_whole, "covers": read_coverage,
     "not covered": kept("not_covered", dict), "divided": read_divided, "clock reading": kept("clock_reading"),
     "clocks differ": kept("clocks_differ", dict), "slept": kept("slept", dict), "untimed": kept("untimed"),
+    "preempted": read_preempted,
     "elapsed": kept("elapsed"), "most held lock": kept("most_held"), "span without folds": kept("unfolded_span"),
     "lock": read_lock, "place": read_place,
     "runs": read_runs, "work of the runs": spread_of("work"), "span of the runs": spread_of("span"),

@@ -84,7 +84,7 @@ def true_times(measured, turns, threads):
 
 
 def told(case, by_threads, program, turn, machine, true):
-    one = estimate({threads: by_threads[threads] for threads in case.of}, machine, case.threads)
+    one = estimate({threads: [by_threads[threads]] for threads in case.of}, machine, case.threads)
     return Judged(program, turn, case, one.time, one.low, one.high, one.grown, true)
 
 
