@@ -1,5 +1,5 @@
-"""Judges predictions of programs that nothing was fitted to, by a folder that measure_unseen.py has left: by single
-recordings, and by five of each kind together."""
+"""Judges predictions of programs that nothing was fitted to, by a folder that measure_unseen.py or kept_unseen.py has
+left: by single recordings, and by five of each kind together."""
 import csv
 import os
 import statistics
@@ -9,6 +9,8 @@ from typing import Dict, List, NamedTuple, Tuple
 
 from judge_changes import changed
 from judging import Case, Judged, of_estimate, summary
+from measured import recordings as recordings_by_round
+from measured import texts
 from quiet import Used, verdict
 from unseen import UNSEEN
 
@@ -44,6 +46,13 @@ class Measured(NamedTuple):
     times: Dict[Tuple[str, str, int, int], int]
     watched: Dict[int, Used]
     recordings: Dict[Tuple[str, int, int], object]
+
+    @property
+    def turns(self):
+        """The quiet ones; all where these are too few, or none was watched."""
+        quiet = {turn for turn, used in self.watched.items() if used.is_quiet}
+        return quiet if len(quiet) >= FEWEST else set(self.watched) or {
+            key[-1] for key in (*self.times, *self.recordings)}
 
 
 class Task(NamedTuple):
@@ -81,10 +90,20 @@ def read_measured(folder):
     return Measured(times, watched, recordings)
 
 
-def counted(watched):
-    """The quiet turns; all where these are too few."""
-    quiet = {turn for turn, used in watched.items() if used.is_quiet}
-    return quiet if len(quiet) >= FEWEST else set(watched)
+def read_kept(folder):
+    """The same of what is kept of its quiet turns."""
+    times = {(row["program"], row["version"], int(row["threads"]), int(name[3:])): round(1000 * float(taken))
+             for row in rows(folder / "true_times.csv") for name, taken in row.items() if name[3:].isdigit() and taken}
+    recordings = {(program, threads, turn): one for program, several in texts(folder).items()
+                  for turn, found in recordings_by_round(several).items() for threads, one in found.items()}
+    return Measured(times, {}, recordings)
+
+
+def read_folder(folder):
+    """What was measured, and the model of the machine."""
+    if (folder / "turns.csv").exists():
+        return read_measured(folder), read_machine((folder / "model").read_text())
+    return read_kept(folder), read_machine(folder / "machine.json")
 
 
 def true_times(measured, turns, on=THREADS):
@@ -199,13 +218,14 @@ def table(names, times, columns: List[Tuple[Kind, List[Judged]]]):
 
 def judge(folder):
     """Prints a table and lines for each kind; the status is 0 where all is as near as it has to be."""
-    measured, machine = read_measured(folder), read_machine((folder / "model").read_text())
-    turns = counted(measured.watched)
+    measured, machine = read_folder(folder)
+    turns = measured.turns
     found = judge_all(tasks(measured, machine, turns))
     for together in (1, TOGETHER):
         columns = [(kind, found[kind, together]) for kind in KINDS]
         print("\n".join(table([made.name for made in UNSEEN], true_times(measured, turns), columns)))
     told = [line(kind, several, together) for (kind, together), several in found.items()]
     print("\n".join(words for words, _ in told))
-    print("%s; the times are those of %d turns" % (verdict(list(measured.watched.values())), len(turns)))
+    if measured.watched:
+        print("%s; the times are those of %d turns" % (verdict(list(measured.watched.values())), len(turns)))
     return 0 if all(is_met for _, is_met in told) else 1

@@ -1,6 +1,6 @@
 """Makes of a folder that measure_unseen.py has left what is kept of it here, for the model to be fitted to.
 
-    kept_unseen.py FOLDER NAME FIRST LAST       of these turns, in the folder NAME of this one
+    kept_unseen.py FOLDER NAME [FIRST LAST]     of these turns, or of the quiet ones, in the folder NAME of this one
 It then has true_times.csv, with the runs' times in microseconds, the recordings, in outside.csv what their times tell,
 and the model of the machine.
 """
@@ -10,7 +10,7 @@ import shutil
 import sys
 import tarfile
 
-from judge_unseen import read_recording
+from judge_unseen import read_measured, read_recording
 from measured import HERE
 
 
@@ -58,7 +58,8 @@ def keep(found, out):
 
 
 def main(words):
-    folder, out, turns = pathlib.Path(words[0]), HERE / words[1], range(int(words[2]), int(words[3]) + 1)
+    folder, out = pathlib.Path(words[0]), HERE / words[1]
+    turns = range(int(words[2]), int(words[3]) + 1) if words[2:] else read_measured(folder).turns
     out.mkdir(exist_ok=True)
     times = times_of(folder, turns)
     most = max(map(len, times.values()))

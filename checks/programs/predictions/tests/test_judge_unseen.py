@@ -7,8 +7,9 @@ import unittest
 from unittest import mock
 
 import judge_unseen
+import kept_unseen
 from changes import MADE
-from judge_unseen import (AFTER, BEFORE, KINDS, Measured, Task, cell, counted, judge, judge_all, judged, line,
+from judge_unseen import (AFTER, BEFORE, KINDS, Measured, Task, cell, judge, judge_all, judged, line,
                           read_measured, recordings_of, table, tasks, true_times, without_slow)
 from judging import Judged
 from quiet import Used
@@ -63,8 +64,9 @@ def task(kind=FROM_FOUR, together=1):
 class Turns(unittest.TestCase):
     def test_quiet_ones_alone(self):
         watched = dict(enumerate([QUIET] * 5 + [BUSY], 1))
-        self.assertEqual(counted(watched), {1, 2, 3, 4, 5})
-        self.assertEqual(counted({1: QUIET, 2: BUSY}), {1, 2})
+        self.assertEqual(Measured({}, watched, {}).turns, {1, 2, 3, 4, 5})
+        self.assertEqual(Measured({}, {1: QUIET, 2: BUSY}, {}).turns, {1, 2})
+        self.assertEqual(measured()._replace(watched={}).turns, {1, 2, 3})
 
     def test_times_of_these_turns(self):
         times = true_times(measured(), {1, 3})
@@ -140,24 +142,40 @@ class Told(unittest.TestCase):
 
 
 class Folder(unittest.TestCase):
-    def test_one_program(self):
-        with tempfile.TemporaryDirectory() as name:
-            folder = pathlib.Path(name)
-            (folder / "turns.csv").write_text("program,version,threads,turn,nanoseconds,gave_way\n"
-                                              "words,before,4,1,1650,0\nwords,after,4,1,1650,0\n")
-            (folder / "watched.csv").write_text("turn,stolen,others,load\n1,0.0,0.01,0.5\n")
-            (folder / "words.4.1.tasks").write_text(TEXT)
-            write_machine(NOTHING, str(folder / "machine.json"))
-            (folder / "model").write_text(str(folder / "machine.json"))
-            (folder / "words.4.1.timed").write_text("")
-            self.assertEqual(read_measured(folder).watched, {1: QUIET._replace(load=0.5)})
-            out = io.StringIO()
-            with mock.patch.object(judge_unseen, "UNSEEN", (WORDS,)), contextlib.redirect_stdout(out):
-                self.assertEqual(judge(folder), 1)
-        self.assertIn("ok      not fitted to: 4 from 4, one recording, 1 programs, 1 predictions: median 3.0 %",
+    def setUp(self):
+        made = tempfile.TemporaryDirectory()
+        self.addCleanup(made.cleanup)
+        self.folder = pathlib.Path(made.name)
+        self.measure(self.folder)
+
+    def measure(self, folder):
+        """One program in one turn."""
+        (folder / "turns.csv").write_text("program,version,threads,turn,nanoseconds,gave_way\n"
+                                          "words,before,4,1,1600,0\nwords,after,4,1,1600,0\n"
+                                          "words,before,2,1,2650,0\nwords,before,1,1,3650,0\n")
+        (folder / "watched.csv").write_text("turn,stolen,others,load\n1,0.0,0.01,0.5\n")
+        (folder / "words.4.1.tasks").write_text(TEXT)
+        write_machine(NOTHING, str(folder / "machine.json"))
+        (folder / "model").write_text(str(folder / "machine.json"))
+        (folder / "words.4.1.timed").write_text("")
+
+    def judge(self, folder):
+        out = io.StringIO()
+        with mock.patch.object(judge_unseen, "UNSEEN", (WORDS,)), contextlib.redirect_stdout(out):
+            self.assertEqual(judge(folder), 1)
+        self.assertIn("ok      not fitted to: 4 from 4, one recording, 1 programs, 1 predictions: median 0.0 %",
                       out.getvalue())
         self.assertIn("FAILED  not fitted to: 4 from 1 and 2, one recording: nothing was measured", out.getvalue())
-        self.assertIn("the machine was quiet: 1 of 1 turns", out.getvalue())
+        return out.getvalue()
+
+    def test_one_program(self):
+        self.assertEqual(read_measured(self.folder).watched, {1: QUIET._replace(load=0.5)})
+        self.assertIn("the machine was quiet: 1 of 1 turns", self.judge(self.folder))
+
+    def test_what_is_kept_of_it(self):
+        with tempfile.TemporaryDirectory() as name, mock.patch.object(kept_unseen, "HERE", pathlib.Path(name)):
+            kept_unseen.main([str(self.folder), "kept"])
+            self.assertNotIn("machine", self.judge(pathlib.Path(name, "kept")))
 
 
 class Programs(unittest.TestCase):
