@@ -4,11 +4,8 @@
 #include <map>
 
 namespace {
-// Of the segment in the text; none where it is not there by itself.
 uint32_t number_of(const Event &event, const Region &region) {
-  const Task &t = *event.task;
-  bool is_written = !event.taken_back && t.first_number != none && event.segment <= t.segment;
-  return is_written ? region.numbers[t.first_number + event.segment] : none;
+  return event.taken_back ? none : number_in_text(*event.task, event.segment, region);
 }
 
 // The pieces of a chunk, one after the other; between them its part makes the next one, at once.

@@ -3,6 +3,7 @@
 #include <omp-tools.h>
 
 #include <algorithm>
+#include <map>
 #include <set>
 #include <vector>
 
@@ -13,6 +14,7 @@
 namespace {
 constexpr size_t most_locks = 10;
 constexpr int64_t least_difference = 50000;  // of the clocks, that is told
+constexpr size_t most_preempted = 1000;  // segments, of which that is told
 
 std::string kind_name(int kind) {
   switch (kind) {
@@ -34,6 +36,7 @@ class Head {
   void covered_of_whole(const WholeProgram &program, const ThreadTime &threads);
   void divided(const Region &region);
   void clocks(const Region &region);
+  void preempted(const Region &region);
   void times(const Region &region, const Recording &recording);
   void locks(const Region &region);
   void remarks(const Region &region);
@@ -140,6 +143,23 @@ void Head::differing(const char *name, const Differing &seen, int64_t work) {
                  .put("times", seen.at.times));
 }
 
+// By segments of the text, which have their numbers by now; of the large ones those that took the most.
+void Head::preempted(const Region &region) {
+  std::map<uint32_t, int64_t> by_segment;
+  for (const Preempted &one : region.preempted)
+    if (uint32_t number = number_in_text(*one.task, one.segment, region); number != none) by_segment[number] += one.off;
+  std::vector<std::pair<int64_t, uint32_t>> found;
+  for (auto [segment, off] : by_segment)
+    if (in_units(off)) found.push_back({in_units(off), segment});
+  if (found.empty()) return;
+  std::sort(found.rbegin(), found.rend());
+  if (found.size() > most_preempted) found.resize(most_preempted);
+  std::string told;
+  for (auto [off, segment] : found)
+    told += (told.empty() ? "[" : ", [") + std::to_string(segment) + ", " + std::to_string(off) + "]";
+  words += "# preempted: [" + told + "]\n";
+}
+
 void Head::times(const Region &region, const Recording &recording) {
   int64_t elapsed = region.time.end - region.time.begin;
   line("elapsed", in_units(elapsed));
@@ -232,6 +252,7 @@ std::string head_of(const Region &region, const Recording &recording, const Opti
   else head.covered(region, recording.threads);
   head.divided(region);
   head.clocks(region);
+  head.preempted(region);
   head.times(region, recording);
   head.locks(region);
   head.remarks(region);

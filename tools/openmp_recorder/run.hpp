@@ -30,6 +30,13 @@ struct Differing {
   }
 };
 
+// Other programs had the processor of the thread for so long, while it ran a segment, counted within its task.
+struct Preempted {
+  const Task *task;
+  unsigned segment;
+  int64_t off;
+};
+
 // Where a region was met inside another one's task.
 struct Met {
   Region *region = nullptr;
@@ -114,6 +121,7 @@ struct Region {
   int64_t in_own_regions = 0;  // of the cost: what passed while a task was in a region of its own
   Differing differing;
   Differing asleep;  // by the wall clock: code in which the thread gave its processor up
+  std::vector<Preempted> preempted;  // by the wall clock, where its clocks differ; not of the whole program
   int64_t untimed = 0;  // the wall clock in segments that were left in their midst, until they were
   std::map<Divided, Seen> divided;  // of the thread that met the most
   std::vector<uint32_t> numbers;  // of the segments in the text, task by task; none where one is part of a later one
@@ -127,6 +135,11 @@ struct Region {
   std::shared_ptr<Stretches> before;  // of the whole program: what of its text comes before, and was let go
   uint32_t opened = 0;  // segments of the text, with those of pieces
 };
+
+// Of a task's segment in the text that was written; none where it is not there by itself.
+inline uint32_t number_in_text(const Task &t, unsigned segment, const Region &region) {
+  return t.first_number != none && segment <= t.segment ? region.numbers[t.first_number + segment] : none;
+}
 
 // The region whose text has the tasks of this one.
 inline Region &home(Region &region) { return region.whole ? *region.whole : region; }

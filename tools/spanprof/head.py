@@ -53,6 +53,7 @@ class Head:
     clock_reading: Optional[int] = None  # in nanoseconds
     clocks_differ: Dict[str, int] = field(default_factory=dict)  # affected, work, by, times
     slept: Dict[str, int] = field(default_factory=dict)          # the same of code that slept, by the wall clock
+    preempted: Dict[int, int] = field(default_factory=dict)      # by segment, what other programs took in it
     untimed: int = 0                   # of segments, before they were left in their midst
     most_held: Optional[int] = None    # inside one lock, one thread at a time
     unfolded_span: Optional[int] = None     # of a folded text, as the recorder adds it up
@@ -176,6 +177,10 @@ def kept_numbers(field_name, names):
     return lambda head, told: setattr(head, field_name, {name: number(told[name]) for name in names})
 
 
+def read_preempted(head, told):
+    head.preempted = {number(segment): number(off) for segment, off in told}
+
+
 def spread_of(what):
     return lambda head, told: head.spread.update(
         {what: tuple(number(told[part]) for part in ("least", "median", "most"))})
@@ -196,7 +201,7 @@ LINES = {
     "recorded": read_recorded, "region": read_region, "whole program": read_whole, "covers": read_coverage,
     "not covered": read_not_covered, "divided": read_divided, "clock reading": kept("clock_reading"),
     "clocks differ": kept_numbers("clocks_differ", DIFFER), "slept": kept_numbers("slept", DIFFER),
-    "untimed": kept("untimed"),
+    "untimed": kept("untimed"), "preempted": read_preempted,
     "elapsed": kept("elapsed"), "most held lock": kept("most_held"), "span without folds": kept("unfolded_span"),
     "lock": read_lock, "place": read_place,
     "runs": read_runs, "work of the runs": spread_of("work"), "span of the runs": spread_of("span"),

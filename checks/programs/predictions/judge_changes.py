@@ -13,12 +13,13 @@ from dataclasses import replace
 from typing import List, NamedTuple
 
 from changes import GRAIN, MADE, SAME_CODE
-from judging import quantile
+from judging import Case, Judged, held, of_estimate, summary, widths
 from measured import HERE
 
 from comparing import largest
 from spanprof.head import comments, read_head
 from spanprof.predict.estimate import GNU, LLVM, estimate
+from spanprof.predict.interval import CHANGED, WIDTHS
 from spanprof.predict.machine import read_machine
 from spanprof.predict.recorded import recorded_as
 from spanprof.text import statements, text_lines
@@ -27,14 +28,16 @@ from spanprof.whatif.requests import Request, applied, changes
 from spanprof.whatif.survey import survey
 
 THREADS = 4
-MEDIAN, NINE_OF_TEN = 0.05, 0.20
+BEFORE, AFTER = Case((THREADS,), THREADS, 0.05, 0.20), Case((THREADS,), THREADS, 0.05, 0.20, True)
+COVERED = 0.9
 
 
 class Row(NamedTuple):
-    """Errors of the predictions from each recording, and times in nanoseconds."""
+    """Predictions by each recording, and by all of them; and times in nanoseconds."""
     name: str
     true: float
-    errors: List[float]
+    judged: List[Judged]
+    by_all: Judged
     times: List[float]      # of the true runs
 
 
@@ -78,44 +81,57 @@ def changed(made, one):
     head = ["# %s\n" % line for line in comments(one.text) if line.startswith(("recorded: ", "region: "))]
     text = "".join([*head, *text_lines(applied(statements(lines), asked), 1)])
     around = {name: getattr(one, name) for name in ("outside", "held", "is_timed", "arrivals", "dispatch")}
-    return replace(recorded_as(text, one.name), **around)
+    return replace(recorded_as(text, one.name), is_changed=True, **around)
 
 
-def judged(name, found, times, machine, runtime):
-    true = statistics.median(times)
-    told = [estimate({THREADS: one}, machine, THREADS, runtime).time for one in found]
-    return Row(name, true, [time / true - 1 for time in told], times)
+def judged(name, found, times, machine, runtime, case):
+    """By each recording, and by all of them together."""
+    true, several = statistics.median(times), {turn: [one] for turn, one in enumerate(found, 1)}
+    told = [of_estimate(estimate({THREADS: of}, machine, THREADS, runtime), name, turn, case, true, len(of))
+            for turn, of in {**several, 0: found}.items()]
+    return Row(name, true, [one for one in told if one.turn], told[-1], times)
 
 
 def of_changes(found, true, machine):
     """Before each change, and after it."""
     for made in MADE:
-        before = found[made.name]
-        yield judged(made.name, before, true[made.name, "before", "llvm"], machine, LLVM), judged(
-            made.name, [changed(made, one) for one in before], true[made.name, "after", "llvm"], machine, LLVM)
+        before, after = found[made.name], [changed(made, one) for one in found[made.name]]
+        yield tuple(judged(made.name, of, true[made.name, version, "llvm"], machine, LLVM, case)
+                    for of, version, case in ((before, "before", BEFORE), (after, "after", AFTER)))
 
 
 def of_gcc(found, true, machine):
     """With gcc's runtime, by the simulation of it and by that of LLVM's, from recordings of clang's program."""
     for name in SAME_CODE:
-        yield tuple(judged(name, found[name], true[name, "before", "gcc"], machine, runtime) for runtime in (GNU, LLVM))
+        yield tuple(judged(name, found[name], true[name, "before", "gcc"], machine, runtime, BEFORE)
+                    for runtime in (GNU, LLVM))
 
 
-def errors_of(several):
-    return [abs(error) for row in several for error in row.errors]
+def line(what, several, case):
+    median, nine, worst, covered = summary(several)
+    is_met = median <= case.median and nine <= case.nine_of_ten
+    return is_met, "%s: median %.1f %% (%.0f), nine of ten %.1f %% (%.0f), worst %.1f %%, covered %d of %d" % (
+        what, *(100 * number for number in (median, case.median, nine, case.nine_of_ten, worst)), covered, len(several))
 
 
-def line(what, several, median, nine):
-    errors = errors_of(several)
-    middle, most = statistics.median(errors), quantile(errors, 0.9)
-    return middle <= median and most <= nine, "%s, %d recordings: median %.1f %% (%.0f), nine of ten %.1f %% (%.0f), " \
-        "worst %.1f %%" % (what, len(errors), 100 * middle, 100 * median, 100 * most, 100 * nine, 100 * max(errors))
+def lines(what, rows_of, case):
+    """By single recordings, and by all of each program."""
+    yield line(what + ", one recording", [one for row in rows_of for one in row.judged], case)
+    yield line(what + ", all recordings", [row.by_all for row in rows_of], case)
+
+
+def width_lines(several):
+    """Of changed programs the width has to be what they give, and as other programs give it to hold in nine of ten."""
+    given, count = widths(several)[CHANGED], held(several)
+    yield WIDTHS[CHANGED] == given, "width of all: %s" % (given,)
+    yield count >= COVERED * len(several), "intervals with the truth, as wide as other programs give: %d of %d" % (
+        count, len(several))
 
 
 def table(pairs):
     def told(row):
         return "%8.3f (%7.3f to %7.3f)  %s" % (row.true / 1e6, min(row.times) / 1e6, max(row.times) / 1e6,
-                                               " ".join("%+6.1f" % (100 * one) for one in row.errors))
+                                               " ".join("%+6.1f" % (100 * one.error) for one in row.judged))
     for first, second in pairs:
         yield "%-11s %s | %s" % (first.name, told(first), told(second))
 
@@ -125,9 +141,10 @@ def main(words):
     pairs, of_gnu = list(of_changes(found, true, machine)), list(of_gcc(found, true, machine))
     if words == ["--table"]:
         print("\n".join([*table(pairs), *table(of_gnu)]))
-    told = [line("before the changes", [first for first, _ in pairs], MEDIAN, NINE_OF_TEN),
-            line("changed", [second for _, second in pairs], MEDIAN, NINE_OF_TEN),
-            line("with gcc's runtime", [first for first, _ in of_gnu], MEDIAN, NINE_OF_TEN)]
+    before, after, gnu = [first for first, _ in pairs], [second for _, second in pairs], [first for first, _ in of_gnu]
+    told = [*lines("before the changes", before, BEFORE), *lines("changed", after, AFTER),
+            *width_lines([one for row in after for one in (*row.judged, row.by_all)]),
+            *lines("with gcc's runtime", gnu, BEFORE)]
     for is_met, words_of in told:
         print("%s  %s" % ("ok    " if is_met else "FAILED", words_of))
     return 0 if all(is_met for is_met, _ in told) else 1

@@ -1,24 +1,27 @@
-"""Judges predictions of programs that nothing was fitted to, by a folder that measure_unseen.py has left."""
+"""Judges predictions of programs that nothing was fitted to, by a folder that measure_unseen.py or kept_unseen.py has
+left: by single recordings, and by five of each kind together."""
 import csv
+import os
 import statistics
 from collections import defaultdict
-from dataclasses import replace
+from concurrent.futures import ProcessPoolExecutor
 from typing import Dict, List, NamedTuple, Tuple
 
 from judge_changes import changed
-from judging import Case, Judged, summary
+from judging import Case, Judged, of_estimate, summary
+from measured import recordings as recordings_by_round
+from measured import texts
 from quiet import Used, verdict
 from unseen import UNSEEN
 
 from spanprof.predict.estimate import estimate
 from spanprof.predict.machine import read_machine
 from spanprof.predict.recorded import lines_after_the_divider, recorded_as, take_times
+from spanprof.predict.scaled import SLOW
 
-RECORDED = Case((4,), 4, 0.05, 0.15)
-FEWER = Case((1, 2), 4, 0.08, 0.20)
 COVERED, WORST = 0.9, 0.20
 FEWEST = 5      # quiet turns, of which alone the times are taken
-TOGETHER = 5    # recordings, of whose predictions the median is judged too
+TOGETHER = 5    # recordings on each number of threads
 BEFORE, AFTER = "before", "after"
 
 
@@ -26,15 +29,15 @@ class Kind(NamedTuple):
     """What is judged: after the change the worst counts, and not nine of ten."""
     name: str
     case: Case
-    version: str
 
     @property
-    def by_worst(self):
-        return self.version == AFTER
+    def version(self):
+        return AFTER if self.case.is_changed else BEFORE
 
 
-KINDS = (Kind("4 from 4", RECORDED, BEFORE), Kind("4 from 1 and 2", FEWER, BEFORE),
-         Kind("changed, 4 from 4", RECORDED, AFTER))
+KINDS = (Kind("4 from 4", Case((4,), 4, 0.05, 0.15)), Kind("4 from 1 and 2", Case((1, 2), 4, 0.08, 0.20)),
+         Kind("changed, 4 from 4", Case((4,), 4, 0.05, 0.20, True)))
+THREADS = 4     # of the times that are predicted
 
 
 class Measured(NamedTuple):
@@ -43,6 +46,25 @@ class Measured(NamedTuple):
     times: Dict[Tuple[str, str, int, int], int]
     watched: Dict[int, Used]
     recordings: Dict[Tuple[str, int, int], object]
+
+    @property
+    def turns(self):
+        """The quiet ones; all where these are too few, or none was watched."""
+        quiet = {turn for turn, used in self.watched.items() if used.is_quiet}
+        return quiet if len(quiet) >= FEWEST else set(self.watched) or {
+            key[-1] for key in (*self.times, *self.recordings)}
+
+
+class Task(NamedTuple):
+    """What is predicted of one program: its recordings by threads, in the order of their turns, the unrecorded runs by
+    threads, and its true times."""
+    made: object
+    kind: Kind
+    recordings: Dict[int, List[object]]
+    unrecorded: Dict[int, List[int]]
+    times: List[int]
+    machine: object
+    together: int
 
 
 def rows(path):
@@ -68,67 +90,99 @@ def read_measured(folder):
     return Measured(times, watched, recordings)
 
 
-def counted(watched):
-    """The quiet turns; all where these are too few."""
-    quiet = {turn for turn, used in watched.items() if used.is_quiet}
-    return quiet if len(quiet) >= FEWEST else set(watched)
+def read_kept(folder):
+    """The same of what is kept of its quiet turns."""
+    times = {(row["program"], row["version"], int(row["threads"]), int(name[3:])): round(1000 * float(taken))
+             for row in rows(folder / "true_times.csv") for name, taken in row.items() if name[3:].isdigit() and taken}
+    recordings = {(program, threads, turn): one for program, several in texts(folder).items()
+                  for turn, found in recordings_by_round(several).items() for threads, one in found.items()}
+    return Measured(times, {}, recordings)
 
 
-def true_times(measured, turns, threads):
-    """The runs on so many threads in these turns, by program and version."""
+def read_folder(folder):
+    """What was measured, and the model of the machine."""
+    if (folder / "turns.csv").exists():
+        return read_measured(folder), read_machine((folder / "model").read_text())
+    return read_kept(folder), read_machine(folder / "machine.json")
+
+
+def true_times(measured, turns, on=THREADS):
+    """The runs in these turns on so many threads, by program and version."""
     found = defaultdict(list)
-    for (program, version, on, turn), taken in sorted(measured.times.items()):
-        if turn in turns and on == threads:
+    for (program, version, threads, turn), taken in sorted(measured.times.items()):
+        if turn in turns and threads == on:
             found[program, version].append(taken)
     return found
 
 
-def told(case, by_threads, program, turn, machine, true):
-    one = estimate({threads: by_threads[threads] for threads in case.of}, machine, case.threads)
-    return Judged(program, turn, case, one.time, one.low, one.high, one.grown, true)
+def recordings_of(measured, turns, program, case):
+    """By threads, of those turns in which it was recorded on all that the case needs."""
+    found = [[measured.recordings.get((program, threads, turn)) for threads in case.of] for turn in sorted(turns)]
+    complete = [several for several in found if None not in several]
+    return dict(zip(case.of, map(list, zip(*complete)))) if complete else {}
 
 
-def judged(measured, turns, machine, made, kind):
-    """Of each recording in these turns."""
-    case, times = kind.case, true_times(measured, turns, kind.case.threads)
-    for turn in sorted(turns):
-        found = {threads: measured.recordings.get((made.name, threads, turn)) for threads in case.of}
-        if None not in found.values():
-            if kind.version == AFTER:
-                found = {threads: changed(made, one) for threads, one in found.items()}
-            yield told(case, found, made.name, turn, machine, statistics.median(times[made.name, kind.version]))
+def without_slow(several, unrecorded):
+    """Of several recordings on one number of threads those that spanprof-predict takes, where it knows how long the
+    unrecorded runs took."""
+    fast = [one for one in several if one.elapsed <= SLOW * statistics.median(unrecorded)]
+    return fast if len(several) > 1 and fast else several
 
 
-def medians(several):
-    """Of the predictions of each program by its first recordings, its next ones, and so on; what is left over at the
-    end does not count."""
-    by_program = defaultdict(list)
-    for one in several:
-        by_program[one.program].append(one)
-    for found in by_program.values():
-        for last in range(TOGETHER, len(found) + 1, TOGETHER):
-            group = found[last - TOGETHER:last]
-            yield replace(group[0], **{name: statistics.median(getattr(one, name) for one in group)
-                                       for name in ("time", "low", "high", "grown")})
+def judged(task):
+    """By the first recordings of a program, by its next ones, and so on; what is left over at the end does not count.
+    """
+    case, true = task.kind.case, statistics.median(task.times)
+    count = min(map(len, task.recordings.values()), default=0)
+    for first in range(0, count - task.together + 1, task.together):
+        of = {threads: without_slow(found[first:first + task.together], task.unrecorded[threads])
+              for threads, found in task.recordings.items()}
+        if case.is_changed:
+            of = {threads: [changed(task.made, one) for one in found] for threads, found in of.items()}
+        one = estimate(of, task.machine, case.threads)
+        yield of_estimate(one, task.made.name, first + 1, case, true, min(map(len, of.values())))
+
+
+def judged_list(task):
+    return list(judged(task))
+
+
+def tasks(measured, machine, turns):
+    """Of each kind, by single recordings and by several."""
+    on = {threads: true_times(measured, turns, threads) for threads in (1, 2, THREADS)}
+
+    def of_one(made, kind, together):
+        return Task(made, kind, recordings_of(measured, turns, made.name, kind.case),
+                    {threads: times[made.name, BEFORE] for threads, times in on.items()},
+                    on[THREADS][made.name, kind.version], machine, together)
+    return {(kind, together): [of_one(made, kind, together) for made in UNSEEN]
+            for together in (1, TOGETHER) for kind in KINDS}
+
+
+def judge_all(of_kinds):
+    with ProcessPoolExecutor(len(os.sched_getaffinity(0))) as pool:
+        waiting = {key: [pool.submit(judged_list, task) for task in several] for key, several in of_kinds.items()}
+        return {key: [one for future in futures for one in future.result()] for key, futures in waiting.items()}
 
 
 def worst_program(of_case):
-    """The greatest error of a program, of which the median of its recordings' counts."""
+    """The greatest error of a program, of which the median of its predictions counts."""
     errors = defaultdict(list)
     for one in of_case:
         errors[one.program].append(one.error)
     return max(abs(statistics.median(found)) for found in errors.values())
 
 
-def line(name, kind, of_case):
+def line(kind, of_case, together=1):
     """In words, and whether it is as near as it has to be."""
+    case = kind.case
+    name = "%s, %s" % (kind.name, "one recording" if together == 1 else "%d recordings" % together)
     if not of_case:
         return "FAILED  not fitted to: %s: nothing was measured" % name, False
-    case, by_worst = kind.case, kind.by_worst
     median, nine, worst, covered = summary(of_case)
-    is_met = median <= case.median and (worst <= WORST if by_worst else nine <= case.nine_of_ten) and \
-        covered >= COVERED * len(of_case)
-    goals = ("", " (%.0f)" % (100 * WORST)) if by_worst else (" (%.0f)" % (100 * case.nine_of_ten), "")
+    is_near = worst <= WORST if case.is_changed else nine <= case.nine_of_ten
+    is_met = median <= case.median and is_near and covered >= COVERED * len(of_case)
+    goals = ("", " (%.0f)" % (100 * WORST)) if case.is_changed else (" (%.0f)" % (100 * case.nine_of_ten), "")
     words = "%s  not fitted to: %s, %d programs, %d predictions: median %.1f %% (%.0f), nine of ten %.1f %%%s, worst " \
         "%.1f %%%s, of the medians of programs %.1f %%, intervals with the truth %d" % (
             "ok    " if is_met else "FAILED", name, len({one.program for one in of_case}), len(of_case), 100 * median,
@@ -138,7 +192,7 @@ def line(name, kind, of_case):
 
 
 def cell(several):
-    """Errors of the recordings of a program: the median, and from which to which."""
+    """Errors of the predictions of a program: the median, and from which to which."""
     errors = sorted(100 * one.error for one in several)
     return "%+.1f (%+.1f to %+.1f)" % (statistics.median(errors), errors[0], errors[-1]) if errors else "none"
 
@@ -163,15 +217,15 @@ def table(names, times, columns: List[Tuple[Kind, List[Judged]]]):
 
 
 def judge(folder):
-    """Prints the table and lines for each kind; the status is 0 where all is as near as it has to be."""
-    measured, machine = read_measured(folder), read_machine((folder / "model").read_text())
-    turns = counted(measured.watched)
-    columns = [(kind, [one for made in UNSEEN for one in judged(measured, turns, machine, made, kind)])
-               for kind in KINDS]
-    single = [line(kind.name, kind, found) for kind, found in columns]
-    several = [line("%s, the median of %d recordings" % (kind.name, TOGETHER), kind, list(medians(found)))
-               for kind, found in columns]
-    print("\n".join(table([made.name for made in UNSEEN], true_times(measured, turns, RECORDED.threads), columns)))
-    print("\n".join(words for words, _ in single + several))
-    print("%s; the times are those of %d turns" % (verdict(list(measured.watched.values())), len(turns)))
-    return 0 if all(is_met for _, is_met in single + several) else 1
+    """Prints a table and lines for each kind; the status is 0 where all is as near as it has to be."""
+    measured, machine = read_folder(folder)
+    turns = measured.turns
+    found = judge_all(tasks(measured, machine, turns))
+    for together in (1, TOGETHER):
+        columns = [(kind, found[kind, together]) for kind in KINDS]
+        print("\n".join(table([made.name for made in UNSEEN], true_times(measured, turns), columns)))
+    told = [line(kind, several, together) for (kind, together), several in found.items()]
+    print("\n".join(words for words, _ in told))
+    if measured.watched:
+        print("%s; the times are those of %d turns" % (verdict(list(measured.watched.values())), len(turns)))
+    return 0 if all(is_met for _, is_met in told) else 1

@@ -125,6 +125,9 @@ TEST(code_off_the_processor_counts_for_its_region) {
     EXPECT(differing.off, counts ? 600 : 0);
     EXPECT(differing.slightly, 0);
     EXPECT(run.regions.begin()->second->asleep.off, counts ? 0 : 600);
+    const std::vector<Preempted> &preempted = run.regions.begin()->second->preempted;
+    EXPECT(preempted.size(), counts ? 1u : 0u);
+    if (counts) EXPECT(preempted[0].off, 600);
   }
 }
 

@@ -149,6 +149,17 @@ TEST(the_head_tells_the_functions_of_places) {
               R"(# place: {"at": "sort.c:9", "in": "merge", "inlined": [{"in": "sort", "at": "sort.c:30"}]})");
 }
 
+// By the numbers of the segments in the text, the most first; of what is not in it nothing is told.
+TEST(the_head_tells_what_other_programs_took) {
+  Run run = two_tasks();
+  Region &region = only_region(run);
+  const Task *root = region.root, *task = &region.tasks.back();
+  region.preempted = {{root, 0, 100}, {task, 0, 300}, {root, 0, 50}, {task, 9, 400}};
+  EXPECT(head_of(region, {}, Options(), Places()).find("preempted"), std::string::npos);  // no text is written
+  program_text(region, {1, false, false, true}, Places());
+  EXPECT_PART(head_of(region, {}, Options(), Places()), "# preempted: [[1, 300], [0, 150]]\n");
+}
+
 TEST(the_head_tells_the_recording) {
   Run run = two_parts();
   Region &region = only_region(run);

@@ -7,14 +7,16 @@ from spanprof.predict.burden import burdened_text
 from spanprof.predict.estimate import LLVM, RUNTIMES
 from spanprof.predict.machine import machine_file, read_machine
 from spanprof.predict.predictions import by_threads, predictions
+from spanprof.predict.scaled import texts
 from spanprof.predict.words import as_json, burden_words, lines
 from spanprof.remarks import in_json
 from spanprof.version import Version
 
 DESCRIPTION = """Tells how long the recorded region would take on some threads, and from which to which time, by a model
-of the runtime's scheduling. Several texts are recordings of one program on different numbers of threads: from these it takes
-how code gets dearer."""
-AFTER = """What the runtime takes for a task is that of this machine, which spanprof-record measures once.
+of the runtime's scheduling. Several texts are recordings of one program: of those on one number of threads the median is told,
+and from different numbers it takes how code gets dearer."""
+AFTER = """What the runtime takes for a task is that of this machine, which spanprof-record measures once. MINE.scale.json,
+which spanprof-record --scale writes, stands for its recordings.
 Exit status 1: a file is missing, or a text tells no time; 2: wrong words."""
 MOST_THREADS = 1024
 
@@ -43,15 +45,17 @@ def remark(one):
 
 
 def answer(chosen):
-    for path in chosen.texts:
+    several = [texts(word) for word in chosen.texts]
+    paths = [path for one in several for path in one.paths]
+    for path in paths:
         check_files(path, chosen.output, "burdened")
-    machine, recordings = read_machine(chosen.machine or machine_file()), by_threads(chosen.texts)
+    machine, recordings = read_machine(chosen.machine or machine_file()), by_threads(paths)
     found = predictions(recordings, machine, chosen.threads, chosen.runtime)
     if chosen.output:
         one = found[-1][0]
         with open(chosen.output, "w", encoding="utf-8") as file:
             file.write(burdened_text(one.base.text, one.costs, remark(one)))
-    told = recordings[max(recordings)], machine, found
+    told = recordings[max(recordings)], machine, found, [note for one in several for note in one.notes]
     print(json.dumps(as_json(*told), indent=2) if chosen.json else "\n".join(lines(*told)))
 
 

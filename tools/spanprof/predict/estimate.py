@@ -1,7 +1,7 @@
 """The program's time on some threads, by a simulation of a runtime's scheduling on the burdened text. It is a model:
-nothing of it is proved. The interval is that which held in nine of ten cases of the programs of one measurement."""
+nothing of it is proved."""
 import statistics
-from dataclasses import dataclass
+from dataclasses import dataclass, replace
 from math import exp, log
 from typing import List
 
@@ -9,17 +9,13 @@ from spanprof.errors import Fault
 from spanprof.predict.burden import burdened
 from spanprof.predict.gnu import GnuSimulation
 from spanprof.predict.growth import Growth
+from spanprof.predict.interval import ALONE, AS_RECORDED, CHANGED, ON_OTHERS, spread, width
 from spanprof.predict.policy import Simulation, Spent
 from spanprof.predict.recorded import Recorded
 from spanprof.predict.times import on_threads
 
 RUNTIMES = LLVM, GNU = "llvm", "gnu"
 RUNS = 3            # simulations, which differ in whom a thread steals from
-# How far the truth may be from a prediction, as logarithms: fitted to half the programs of checks/programs/predictions.
-AS_RECORDED = 0.08  # on as many threads as were recorded
-ON_OTHERS = 0.07    # on another number, where two recordings tell how code grows
-OF_GROWTH = 0.5     # and more for what was added by that, by its logarithm
-ALONE = 0.29        # on another number, of one recording
 
 
 @dataclass
@@ -38,27 +34,29 @@ class Estimate:
     by_lock: bool = False
     unmatched: float = 0.0  # of the work, what only the recording on more threads has
     runtime: str = LLVM
+    of: int = 1             # recordings, of which it is the median
+    apart: float = 0.0      # how far their predictions are
 
 
 def base_of(recordings, threads):
-    """The recording on this number of threads, or that on the most; and how code grows from the one before it on."""
+    """The recordings on this number of threads, or those on the most; and how code grows from the ones before on."""
     if threads in recordings:
         return recordings[threads], None
     numbers = sorted(recordings)
     most = recordings[numbers[-1]]
-    if most.threads == 1:
-        raise Fault("%s is of one thread, whose tasks are all undeferred: it tells no time on more" % most.name)
+    if numbers[-1] == 1:
+        raise Fault("%s is of one thread, whose tasks are all undeferred: it tells no time on more" % most[0].name)
     return most, Growth(recordings[numbers[-2]], most) if len(numbers) > 1 else None
 
 
 def outside_on(base, growth, threads):
-    return int(growth.outside(threads)) if growth else base.outside
+    return int(growth.outside(base, threads)) if growth else base.outside
 
 
-def simulated(simulation, program, costs, threads, spent, came=()):
+def simulated(simulation, program, costs, threads, spent, came=(), runs=RUNS):
     """The median end of some runs."""
     return statistics.median_low(
-        simulation(program, costs, threads, spent, seed, came).run().end for seed in range(RUNS))
+        simulation(program, costs, threads, spent, seed, came).run().end for seed in range(runs))
 
 
 def spent_on(machine, threads, base=None):
@@ -69,10 +67,9 @@ def spent_on(machine, threads, base=None):
     return Spent(0 if is_told else steal, max(wake_up - creation - steal, 0))
 
 
-def width(base, growth, threads, grown):
-    if base.threads == threads:
-        return AS_RECORDED
-    return ON_OTHERS + OF_GROWTH * abs(grown) if growth else ALONE
+def kind_of(of, threads):
+    """Of a prediction by recordings on these numbers of threads, by which its interval is wide."""
+    return AS_RECORDED if threads in of else ON_OTHERS if len(of) > 1 else ALONE
 
 
 def dispatch_on(machine, threads, base=None):
@@ -88,18 +85,30 @@ def runs_of(runtime, base, machine, threads):
     spent = spent_on(machine, threads, base)
     if runtime == GNU:
         return GnuSimulation, 0, Spent(0, spent.wake), ()
-    return Simulation, dispatch_on(machine, threads, base), spent, on_threads(base.arrivals, threads)
+    return Simulation, dispatch_on(machine, threads, base), spent, on_threads(base.arrivals, base.threads, threads)
 
 
-def estimate(recordings, machine, threads, runtime=LLVM):
-    """Of recordings by their number of threads."""
-    base, growth = base_of(recordings, threads)
-    costs = growth.costs(threads) if growth else base.program.costs
+def of_one(base, growth, machine, threads, runtime, runs=RUNS):
+    """By one recording, and by how code grows; without an interval."""
+    costs = growth.costs(base.program, threads) if growth else base.program.costs
     grown = log(max(sum(costs), 1) / max(base.work, 1))
     simulation, dispatch, spent, came = runs_of(runtime, base, machine, threads)
     costs = burdened(base.program, costs, dispatch)
     outside = outside_on(base, growth, threads)
-    end = simulated(simulation, base.program, costs, threads, spent, came) + outside
-    time, far = max(end, base.held), width(base, growth, threads, grown)
-    return Estimate(base, threads, time, int(time / exp(far)), int(time * exp(far)), costs, outside, dispatch,
-                    spent.steal, grown, base.held > end, growth.unmatched if growth else 0.0, runtime)
+    end = simulated(simulation, base.program, costs, threads, spent, came, runs) + outside
+    time = max(end, base.held)
+    return Estimate(base, threads, time, time, time, costs, outside, dispatch, spent.steal, grown, base.held > end,
+                    growth.unmatched if growth else 0.0, runtime)
+
+
+def estimate(recordings, machine, threads, runtime=LLVM):
+    """The median by several recordings, which stand in lists by their number of threads."""
+    bases, growth = base_of(recordings, threads)
+    runs = -(-RUNS // len(bases))
+    found = sorted((of_one(base, growth, machine, threads, runtime, runs) for base in bases), key=lambda one: one.time)
+    middle, fewest = found[(len(found) - 1) // 2], min(map(len, recordings.values())) if growth else len(found)
+    apart = spread([one.time for one in found])
+    kind = CHANGED if middle.base.is_changed else kind_of(recordings, threads)
+    far = width(kind, fewest, apart, middle.grown)
+    return replace(middle, low=int(middle.time / exp(far)), high=int(middle.time * exp(far)), of=len(found),
+                   apart=apart)

@@ -1,11 +1,14 @@
-"""How code gets dearer with more threads, by place: each doubling of their number adds as much as the last one did.
+"""How code gets dearer with more threads, by place: each doubling of their number adds a share of what the last one did.
 
-Of recordings on a and on b threads; on one thread every task is undeferred, and the code of its creation is cheaper.
+Of recordings on a and on b threads, of which the medians count; on one thread every task is undeferred, and the code of
+its creation is cheaper.
 """
+import statistics
 from math import log2
 
 from spanprof.predict.matching import matched
 
+SHARE = 0.75    # fitted to the programs of checks/programs/predictions: from 0.05 to 2.3 of what the last one added
 LEAST = 0.01    # of the work: what a place with less has grown by is not told from its spread
 
 
@@ -14,34 +17,48 @@ def doublings(fewer, more, threads):
     return log2(threads / more) / log2(more / fewer)
 
 
-class Growth:
-    def __init__(self, fewer, more):
-        self.fewer, self.more = fewer, more
-        self.matched = matched(fewer.program, more.program)
+def pairs(first, second):
+    """Each recording of the longer list with one of the other."""
+    return [(first[i % len(first)], second[i % len(second)]) for i in range(max(len(first), len(second)))]
 
-    @property
-    def unmatched(self):
-        """The share of the work on more threads that the recording on fewer does not have."""
-        return self.matched.only_second / max(self.more.work, 1)
+
+def medians(several):
+    """By place, of costs by place."""
+    places = {place for one in several for place in one}
+    return {place: statistics.median(one.get(place, 0) for one in several) for place in places}
+
+
+class Growth:
+    """Of recordings on fewer and on more threads, several of each."""
+
+    def __init__(self, fewer, more):
+        self.fewer, self.more = fewer[0].threads, more[0].threads
+        found = [matched(one.program, other.program) for one, other in pairs(fewer, more)]
+        self.first, self.second = medians([one.first for one in found]), medians([one.second for one in found])
+        self.work = statistics.median(one.work for one in fewer)
+        self.unmatched = statistics.median(
+            one.only_second / max(sum(one.second.values()) + one.only_second, 1) for one in found)
+        self.added = statistics.median(one.outside for one in more) - statistics.median(one.outside for one in fewer)
 
     def inflation(self, place):
-        """Of the code that both have: cost on more threads over that on fewer."""
-        return self.matched.inflation(place)
+        """Of the code that both have: cost on more threads over that on fewer; 1 where fewer tell nothing."""
+        before = self.first.get(place, 0)
+        return self.second.get(place, 0) / before if before else 1.0
 
     def factor(self, place, threads):
         """By what a cost on `more` threads is multiplied for another number of them."""
-        is_heavy = self.matched.first.get(place, 0) >= LEAST * self.fewer.work
+        is_heavy = self.first.get(place, 0) >= LEAST * self.work
         inflation = self.inflation(place) if is_heavy else 1.0
         if inflation <= 1:
             return 1.0
-        steps = doublings(self.fewer.threads, self.more.threads, threads)
-        return max(1 + (1 - 1 / inflation) * steps, 1 / inflation)
+        steps = doublings(self.fewer, self.more, threads)
+        added = (1 - 1 / inflation) * (SHARE * steps if steps > 0 else steps)
+        return max(1 + added, 1 / inflation)
 
-    def costs(self, threads):
-        factors = {place: self.factor(place, threads) for place in set(self.more.program.places)}
-        return [round(cost * factors[place]) for cost, place in zip(self.more.program.costs, self.more.program.places)]
+    def costs(self, program, threads):
+        factors = {place: self.factor(place, threads) for place in set(program.places)}
+        return [round(cost * factors[place]) for cost, place in zip(program.costs, program.places)]
 
-    def outside(self, threads):
+    def outside(self, one, threads):
         """The threads of a region are made one after the other where it is the first one."""
-        added = self.more.outside - self.fewer.outside
-        return self.more.outside + max(added, 0) * doublings(self.fewer.threads, self.more.threads, threads)
+        return one.outside + max(self.added, 0) * doublings(self.fewer, self.more, threads)

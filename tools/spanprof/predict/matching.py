@@ -43,11 +43,6 @@ class Matched:
     only_first: int = 0
     only_second: int = 0
 
-    def inflation(self, place):
-        """How many times as dear the code at a place is in the second; 1 where the first tells nothing."""
-        before = self.first.get(place, 0)
-        return self.second.get(place, 0) / before if before else 1.0
-
 
 def matched(first, second):
     """Two programs' costs side by side."""

@@ -14,12 +14,9 @@ from spanprof.predict.words import as_json, changed_json, changed_words, lines
 def by_threads(paths):
     """The recordings of one region by their numbers of threads."""
     found = {}
-    for path in paths:
-        one = recorded(path)
-        if one.threads in found:
-            raise Fault("%s and %s are both of %d threads" % (found[one.threads].name, one.name, one.threads))
-        found[one.threads] = one
-    places = {one.head.region for one in found.values()}
+    for one in map(recorded, paths):
+        found.setdefault(one.threads, []).append(one)
+    places = {one.head.region for several in found.values() for one in several}
     if len(places) > 1:
         raise Fault("the texts are not of one region, but of those at %s" % " and ".join(sorted(places)))
     return found
@@ -39,40 +36,40 @@ def predictions(recordings, machine, numbers=None, runtime=LLVM):
 
 
 def by_the_model(paths, numbers=None):
-    """The recording on the most threads, the model of this machine, and the predictions; None without a model."""
+    """The recordings on the most threads, the model of this machine, and the predictions; None without a model."""
     if not os.path.exists(machine_file()):
         return None
     machine, recordings = read_machine(machine_file()), by_threads(paths)
     return recordings[max(recordings)], machine, predictions(recordings, machine, numbers)
 
 
-def told_of(paths):
+def told_of(chosen):
     """For a summary, lines and JSON. There is nothing without a model of the machine."""
     try:
-        told = by_the_model(paths)
+        told = by_the_model(chosen.paths)
     except Fault as why:
         return ["not told: %s" % why], {"none": str(why)}
-    return (lines(*told), as_json(*told)) if told else ([], None)
+    return (lines(*told, chosen.notes), as_json(*told, chosen.notes)) if told else ([], None)
 
 
 def of_changed(base, text, machine, threads):
     """Of a recording with a changed text: an estimate and its least end."""
-    found = estimate({base.threads: with_text(base, text)}, machine, threads)
+    found = estimate({base.threads: [with_text(base, text)]}, machine, threads)
     return found, least_end(text, found.costs, threads)
 
 
-def of_both(path, changed, threads):
-    """Pairs as above of a recording's text and of the changed one in another file; None without a model."""
+def of_both(path, change, threads):
+    """Pairs as above of a recording's text, and of what `change` makes of it; None without a model."""
     if not os.path.exists(machine_file()):
         return None
     machine, base = read_machine(machine_file()), recorded(path)
-    return [of_changed(base, text, machine, threads) for text in (base.text, client.read(changed))]
+    return [of_changed(base, text, machine, threads) for text in (base.text, change(base.text))]
 
 
-def changed_told(path, changed, threads):
+def changed_told(path, change, threads):
     """The same in a line and as JSON, or why no time is told; none as above."""
     try:
-        both = of_both(path, changed, threads)
+        both = of_both(path, change, threads)
     except Fault as why:
         return ["no time is predicted: %s" % why], {"none": str(why)}
     return ([changed_words(threads, *both)], changed_json(threads, *both)) if both else ([], None)

@@ -7,15 +7,17 @@ from spanprof import client
 from spanprof.account import timed_beside
 from spanprof.claims import is_divided, is_folded
 from spanprof.errors import Fault
-from spanprof.head import Head, read_head
+from spanprof.head import Head, comments, read_head
+from spanprof.predict.burden import with_costs
 from spanprof.predict.program import Program, read_program
 from spanprof.predict.times import rows_of, times_of
-from spanprof.text import DIVIDER, has_loops
+from spanprof.text import DIVIDER, has_loops, segments_of, statements, text_lines
 
 
 @dataclass
 class Recorded:
-    """`outside` is the region's time before its code begins and after it has ended."""
+    """`outside` is the region's time before its code begins and after it has ended. Program and text are without the
+    time that other programs took meanwhile."""
     program: Program
     threads: int
     elapsed: int = 0
@@ -27,6 +29,8 @@ class Recorded:
     is_timed: bool = True
     arrivals: Tuple[int, ...] = ()  # of the threads, after the code has begun
     dispatch: Optional[int] = None  # what it took to begin a task, where the times tell it
+    preempted: int = 0      # what other programs took
+    is_changed: bool = False    # the text is that of a changed program
 
     @property
     def work(self):
@@ -61,23 +65,36 @@ def why_not(head, text):
     return "its code is divided among its threads" if is_divided(head) else ""
 
 
+def without_preempted(text, head):
+    """The text without what other programs took of its segments, and how much that was."""
+    costs, taken = [one.cost for one in segments_of(text)], 0
+    for segment, off in head.preempted.items():
+        if segment < len(costs):
+            taken += min(off, costs[segment])
+            costs[segment] -= min(off, costs[segment])
+    lines = ["# %s\n" % line for line in comments(text) if not line.startswith("preempted: ")]
+    return "".join([*lines, *text_lines(with_costs(statements(text.split("\n")), costs), 1)]), taken
+
+
 def recorded_as(text, name, outside=None):
     """A text that spanprof has taken; without `outside` it has no times."""
     head = read_head(text)
     why = why_not(head, text)
     if why:
         raise Fault("%s: no time is predicted: %s" % (name, why))
+    text, taken = without_preempted(text, head) if head.preempted else (text, 0)
     program = read_program(text)
     program.costs = [cost * head.nanoseconds for cost in program.costs]
     return Recorded(program, head.threads, (head.elapsed or 0) * head.nanoseconds, outside or 0,
-                    (head.most_held or 0) * head.nanoseconds, os.path.basename(name), head, text, outside is not None)
+                    (head.most_held or 0) * head.nanoseconds, os.path.basename(name), head, text, outside is not None,
+                    preempted=taken * head.nanoseconds)
 
 
 def with_text(base, text):
     """The same recording with a changed text in its unit: the times around its code stay."""
     program = read_program(text)
     program.costs = [cost * base.head.nanoseconds for cost in program.costs]
-    return replace(base, program=program, text=text)
+    return replace(base, program=program, text=text, is_changed=text != base.text)
 
 
 def take_times(one, timed):

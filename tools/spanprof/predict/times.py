@@ -7,6 +7,7 @@ from spanprof.predict.program import CREATE
 
 MOST_GAP = 20000    # nanoseconds: what is longer is another program's turn, and nothing of the runtime
 LEAST_GAPS = 10
+MOST_STEP = 100000  # from one thread's coming to the next one's, on another number of threads than were recorded
 
 
 def rows_of(timed):
@@ -81,9 +82,12 @@ def times_of(program, rows):
     return Times(program, rows) if len({row[0] for row in rows}) == len(program.costs) else None
 
 
-def on_threads(found, threads):
-    """Arrivals of another number of threads: more of them come as far apart as these."""
+def on_threads(found, recorded, threads):
+    """Arrivals on some threads, of a recording on so many. On another number they come one after the other: that one
+    waited for milliseconds until the system gave it a processor was so on that number, or by chance."""
     if len(found) < 2:
         return ()
     step = found[-1] // (len(found) - 1)
+    if threads != recorded:
+        return tuple(min(step, MOST_STEP) * i for i in range(threads))
     return tuple(found[:threads]) + tuple(found[-1] + step * i for i in range(1, threads - len(found) + 1))

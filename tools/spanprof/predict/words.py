@@ -11,6 +11,7 @@ AT_LEAST = "at least (proved, of the burdened text)"
 OF_GNU = "predicted: by a model of gcc's scheduling, not proved; tried on eight programs on 4 threads, recorded with " \
     "LLVM's runtime; the intervals are those of LLVM's model"
 UNMATCHED = 0.05    # of the work, from which on it is told
+PREEMPTED = 0.01    # likewise
 
 
 def in_us(nanoseconds):
@@ -46,6 +47,10 @@ def with_least(one, least):
 
 
 def notes_on(one):
+    if one.of > 1:
+        yield "the median by %d recordings" % one.of
+    if one.base.preempted >= PREEMPTED * one.base.work:
+        yield "without %s that other programs took meanwhile" % lasting(one.base.preempted)
     if not one.base.is_timed:
         yield "without what passes outside of the region's code, since the times of the recording are not there"
     if one.by_lock:
@@ -62,13 +67,21 @@ def line(one, least):
     return "; ".join([words, *notes_on(one)])
 
 
-def lines(base, machine, found):
-    """`found` has pairs of an estimate and its least end."""
-    took = " in %s" % lasting(base.elapsed) if base.elapsed else ""
-    runtime = found[0][0].runtime if found else LLVM
-    first = "%s, region at %s, recorded on %d threads%s: with %s" % (
-        base.name, base.head.region, base.threads, took, runtime_words(base, machine, runtime))
-    return [first, *(line(one, least) for one, least in found), model(found)]
+def recorded_words(several):
+    """Of the recordings on one number of threads."""
+    first, took = several[0], sorted(one.elapsed for one in several if one.elapsed)
+    of = "recorded on %d threads" % first.threads if len(several) == 1 else \
+        "recorded %d times on %d threads" % (len(several), first.threads)
+    times = " in " + " to ".join(lasting(time) for time in sorted({took[0], took[-1]})) if took else ""
+    return "%s, region at %s, %s%s" % (first.name, first.head.region, of, times)
+
+
+def lines(several, machine, found, notes=()):
+    """Of the recordings on the most threads; `found` has pairs of an estimate and its least end. The notes are on what
+    was left out."""
+    base, runtime = (found[0][0].base, found[0][0].runtime) if found else (several[0], LLVM)
+    first = "%s: with %s" % (recorded_words(several), runtime_words(base, machine, runtime))
+    return [first, *(line(one, least) for one, least in found), *notes, model(found)]
 
 
 def changed_words(threads, before, after):
@@ -87,7 +100,8 @@ def changed_json(threads, before, after):
             "changed text": time_json(*after)}
 
 
-def as_json(base, machine, found):
-    return {"text": base.name, "region": base.head.region, "unit": "ns", "model": model(found), "predicted": [
-        {**time_json(one, least), "runtime": one.runtime, "dispatch": one.dispatch, "steal": one.steal,
-         "notes": list(notes_on(one))} for one, least in found]}
+def as_json(several, machine, found, notes=()):
+    return {"text": several[0].name, "region": several[0].head.region, "unit": "ns", "model": model(found),
+            "notes": list(notes), "predicted": [
+        {**time_json(one, least), "recordings": one.of, "runtime": one.runtime, "dispatch": one.dispatch,
+         "steal": one.steal, "notes": list(notes_on(one))} for one, least in found]}

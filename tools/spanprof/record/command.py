@@ -14,12 +14,15 @@ from spanprof.errors import OWN_FAULT, Fault
 from spanprof.folders import PREFIX, TOOLS
 from spanprof.measure import HOW, spanprof_large
 from spanprof.predict.predictions import told_of
+from spanprof.predict.scaled import Chosen, chosen
 from spanprof.record.calibrate import calibrate
 from spanprof.record.console import say, tell
+from spanprof.record.files import stem_of
 from spanprof.record.large import answers, head_of, large_summary, unmeasured_summary
 from spanprof.record.online import online_summary
 from spanprof.record.options import parse
 from spanprof.record.ranks import are_ranks
+from spanprof.record.repeat import names
 from spanprof.record.run import end_as, signal_name
 from spanprof.record.scale import record_scale
 from spanprof.record.scale_words import scale_json, scale_lines
@@ -59,6 +62,15 @@ def other_regions(found, answered, first, program):
     return lines + ["%d more texts of these places" % alike] * bool(alike)
 
 
+def texts_to_predict(session, recording, scale):
+    """Of several runs all texts of the region."""
+    if scale:
+        return chosen(scale.texts, scale.times)
+    runs = session.options.runs
+    several = [stem_of(name, recording.number) + ".tasks" for name in names(session.out, runs)] if runs > 1 else []
+    return Chosen(list(filter(os.path.exists, several)) or [recording.text])
+
+
 def print_summary(session, found, said, shown=(), scale=None, has_news=True):
     """Of one region, which is answered; the others in a line each. The news stand where nothing was told before."""
     tell("reading " + ", ".join(os.path.basename(recording.text) for recording in found))
@@ -77,7 +89,7 @@ def print_summary(session, found, said, shown=(), scale=None, has_news=True):
         led = lead(answered[first], account)
         show(summary(answered[first], verdict(found[first]), news, others, of_what, lines_of(account, why), led,
                      program))
-        times, told = told_of(scale.paths if scale else [answered[first].path])
+        times, told = told_of(texts_to_predict(session, found[first], scale))
         show(named("predicted", times))
         if session.options.json:
             write_json(session.options.json, led_json(answered[first], account, why, led, scale, told))

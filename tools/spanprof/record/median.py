@@ -21,6 +21,7 @@ from spanprof.version import answer
 HEADER = "omptasks 1"
 OF_NO_RUN = "work and span are of no single run"
 OF_ONE_RUN = ("recorded", "region", "remark", "covers", "not covered")  # lines whose numbers have no median by itself
+OF_SEGMENTS = ("preempted",)    # of the costs of one run: their medians are without it
 KINDS = (int, dict, list)   # of what a line tells that has numbers
 
 
@@ -125,7 +126,7 @@ def median_line(lines):
 def with_names(head):
     """The lines of a head, each with a name by which it is known in other heads: its words and how often they came."""
     met = Counter()
-    for line in head:
+    for line in (line for line in head if name_of(line) not in OF_SEGMENTS):
         words = without_numbers(line)
         met[words] += 1
         yield (words, met[words]), line

@@ -74,7 +74,7 @@ def parser():
         help="run it N times, and take the median of each segment's costs")
     add("--scale", type=numbers_of_threads, metavar="1,P,..",
         help="tell the true speed-up: run it N times (5 without --runs) unrecorded on each of these numbers of "
-        "threads, and record it once on each; and of the last what keeps it from more, as a sum")
+        "threads, and then N times recorded; and of the last what keeps it from more, as a sum")
     add("--calibrate", action="store_true",
         help="without a program: measure what the runtime takes for tasks on this machine, for spanprof-predict")
     add("--whole", action="store_true", help="the whole program as one text: serial code, regions, chunks of loops")

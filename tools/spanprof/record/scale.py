@@ -1,16 +1,16 @@
-"""The program's true times: unrecorded runs on several numbers of threads, in turns, and a recording on each number."""
+"""The program's true times: unrecorded runs on several numbers of threads, in turns, and recordings on each number."""
 import os
 import re
 import statistics
 import time
 from collections import Counter
 from dataclasses import dataclass, field
-from typing import Dict, List, Optional
+from typing import Dict, List, NamedTuple, Optional
 
 from spanprof.account import Account, account_beside
 from spanprof.answers import Answers
 from spanprof.errors import Fault
-from spanprof.head import Head
+from spanprof.head import Head, head_text, read_head
 from spanprof.record.console import say, tell
 from spanprof.record.files import recordings, remove_old
 from spanprof.record.run import rewind, run, signal_name, without_recorder
@@ -41,13 +41,9 @@ class Scale:
     runs: int
     times: Dict[int, List[int]]
     regions: Dict[int, Region] = field(default_factory=dict)    # the heaviest one of the run on the most threads
+    texts: Dict[int, List[str]] = field(default_factory=dict)   # of that one in all recordings
     library: str = ""       # the runtime that the runs were given, where it is not what the program is linked with
     processors: int = 0     # that this process may use
-
-    @property
-    def paths(self):
-        """The region's texts."""
-        return [region.path for region in self.regions.values()]
 
     @property
     def most(self):
@@ -98,34 +94,54 @@ def unrecorded(session, numbers, runs):
 
 
 def make_folder(out):
-    """Where the recordings on fewer threads go."""
+    """Where the recordings go beside the one that the summary is of."""
     folder = out + ".scale"
     try:
         os.makedirs(folder, exist_ok=True)
         for stem in {name.partition(".")[0] for name in os.listdir(folder)}:
-            if re.fullmatch(r"threads\d+", stem):
+            if re.fullmatch(r"threads\d+(-\d+)?", stem):
                 remove_old(os.path.join(folder, stem))
     except OSError as wrong:
         raise Fault("%s: %s" % (wrong.filename, wrong.strerror)) from wrong
     return folder
 
 
-def prepare(session, threads):
+def prepare(session, threads, turn):
     """The next run is recorded on so many threads."""
-    tell("recorded run " + on_threads(threads))
+    tell("recorded run %d of %d %s" % (turn, session.options.runs, on_threads(threads)))
     rewind()
     session.options.threads = threads
 
 
+def name_of(folder, threads, turn):
+    """The first name of a recording's files."""
+    return os.path.join(folder, "threads%d" % threads + ("-%d" % turn if turn > 1 else ""))
+
+
 def record_each(session, numbers):
-    """The first name of the recording on each of these numbers of threads."""
-    folder, names = make_folder(session.out), {}
-    for threads in numbers:
-        prepare(session, threads)
-        names[threads] = os.path.join(folder, "threads%d" % threads)
-        status, _ = session.run(names[threads])
-        if status:
-            raise Failed(status, "the recorded run " + on_threads(threads))
+    """The recordings on each of these numbers of threads, in turns as the unrecorded runs: their threads, first names,
+    and variables. The last one on the most threads is left: that is the one with a summary.
+
+    No text is made in between. Runs follow one another here as the unrecorded ones do, since behind a pause of the
+    processors they are slow more often."""
+    folder, logs, runs = make_folder(session.out), [], session.options.runs
+    for turn in range(1, runs + 1):
+        for threads in numbers if turn < runs else numbers[:-1]:
+            prepare(session, threads, turn)
+            name = name_of(folder, threads, turn)
+            status, variables = session.leave_log(name)
+            if status:
+                raise Failed(status, "recorded run %d of %d %s" % (turn, runs, on_threads(threads)))
+            logs.append((threads, name, variables))
+    return logs
+
+
+def convert_each(session, logs):
+    """The first names of the recordings by threads."""
+    names = {}
+    for threads, name, variables in logs:
+        session.convert(name, variables)
+        names.setdefault(threads, []).append(name)
     return names
 
 
@@ -146,11 +162,21 @@ def heaviest(answered):
     return max(answered, key=lambda one: one.work, default=None)
 
 
-def same_region(answered, region):
+def same_region(several, region):
     """That of another recording: by its place and number, or by its place where one alone is there."""
-    alike = [one for one in answered if (one.head.region, one.head.number) == region.is_at]
-    there = [one for one in answered if one.head.region == region.head.region]
+    alike = [one for one in several if (one.head.region, one.head.number) == region.is_at]
+    there = [one for one in several if one.head.region == region.head.region]
     return (alike or (there if len(there) == 1 else []) or [None])[0]
+
+
+class Text(NamedTuple):
+    head: Head
+    path: str
+
+
+def texts_of(name):
+    """Of a recording, those that are within the limits of the ten commands."""
+    return [Text(read_head(head_text(one.text)), one.text) for one in recordings(name) if not one.is_large]
 
 
 def answers_of(found):
@@ -159,16 +185,19 @@ def answers_of(found):
 
 
 def regions_of(names, found, most):
-    """The heaviest region of the recording on the most threads, and the same one of the others."""
+    """The heaviest region of the recording on the most threads, and the same one of the first on each other number; and
+    its texts of all recordings."""
     first = heaviest(answers_of(found))
     if first is None:
-        return {}
-    out = {most: region_of(first)}
-    for threads, name in names.items():
-        same = same_region(answers_of(recordings(name)), out[most])
-        if same is not None:
-            out[threads] = region_of(same)
-    return out
+        return {}, {}
+    regions, texts = {most: region_of(first)}, {most: [first.path]}
+    for threads, several in names.items():
+        same = [same_region(texts_of(name), regions[most]) for name in several]
+        paths = [one.path for one in same if one is not None]
+        if paths:
+            texts[threads] = texts.get(threads, []) + paths
+            regions.setdefault(threads, region_of(Answers(paths[0])))
+    return regions, texts
 
 
 def record_scale(session):
@@ -177,15 +206,16 @@ def record_scale(session):
     numbers, runs = session.options.scale, session.options.runs
     try:
         times = unrecorded(session, numbers, runs)
-        names = record_each(session, numbers[:-1])
+        logs = record_each(session, numbers)
     except Failed as failed:
         say(str(failed))
         return failed.status, [], None, None
-    prepare(session, numbers[-1])
+    prepare(session, numbers[-1], runs)
     status, found, said = session.record_once()
     if status:
-        say(str(Failed(status, "the recorded run " + on_threads(numbers[-1]))))
+        say(str(Failed(status, "recorded run %d of %d %s" % (runs, runs, on_threads(numbers[-1])))))
         return status, found, said, None
-    scale = Scale(runs, times, regions_of(names, found, numbers[-1]), os.path.basename(session.preload),
+    regions, texts = regions_of(convert_each(session, logs), found, numbers[-1])
+    scale = Scale(runs, times, regions, texts, os.path.basename(session.preload),
                   len(os.sched_getaffinity(0)))
     return status, found, said, scale

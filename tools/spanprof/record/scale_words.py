@@ -79,10 +79,11 @@ def gap_json(scale):
                     "measured": "of the recorded runs"}}
 
 
-def recording(scale, threads):
-    """Where the region's text on so many threads lies, from the folder of that on the most; None without one."""
-    paths = [scale.regions[number].path if number in scale.regions else "" for number in (threads, scale.most)]
-    return os.path.relpath(paths[0], os.path.dirname(paths[1]) or ".") if all(paths) else None
+def recordings(scale, threads):
+    """Where the region's texts on so many threads lie, from the folder of that with the summary."""
+    most = scale.regions.get(scale.most)
+    folder = os.path.dirname(most.path) if most else ""
+    return [os.path.relpath(path, folder or ".") for path in scale.texts.get(threads, [])]
 
 
 def row_json(scale, threads):
@@ -92,7 +93,7 @@ def row_json(scale, threads):
     return {"threads": threads, "times": times, "median": scale.median(threads), "least": min(times),
             "greatest": max(times), "speed-up": scale.speed_up(threads), "speed-up from": low, "speed-up to": high,
             "region elapsed": region.head.elapsed * region.head.nanoseconds if recorded else None,
-            "recording": recording(scale, threads)}
+            "recordings": recordings(scale, threads)}
 
 
 def scale_json(scale):

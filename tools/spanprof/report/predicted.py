@@ -6,10 +6,10 @@ from spanprof.errors import Fault
 from spanprof.predict.machine import machine_file, read_machine
 from spanprof.predict.predictions import by_the_model, of_changed
 from spanprof.predict.recorded import recorded
-from spanprof.text import text_lines
+from spanprof.predict.scaled import chosen_of
+from spanprof.text import statements, text_lines
 from spanprof.whatif.requests import applied, changes
 from spanprof.whatif.survey import survey
-from spanprof.whatif.texts import Text, version_of
 
 MOST_CHANGES = 8    # of which a time is predicted; a simulation of thousands of tasks takes a second
 
@@ -22,11 +22,8 @@ class Predicted(NamedTuple):
 
 
 def recordings(path, told):
-    """The text, and those on other numbers of threads that were measured with it."""
-    rows = told.get("threads") if told else []
-    others = [row.get("recording") for row in rows if isinstance(row, dict)] if isinstance(rows, list) else []
-    paths = [os.path.join(os.path.dirname(path), other) for other in others if isinstance(other, str)]
-    return [path] + [other for other in paths if os.path.exists(other) and not os.path.samefile(other, path)]
+    """Those that were made with the text, or it alone."""
+    return chosen_of(told, os.path.dirname(path)).paths or [path]
 
 
 def predicted(answers, told):
@@ -47,7 +44,7 @@ def changed_text(stream, request, surveyed):
 def of_changes(answers, tried):
     """Pairs as above of the first changes that bring something, by their requests."""
     machine, base = read_machine(machine_file()), recorded(answers.path)
-    stream = list(Text(answers.path, version_of(answers.path)).statements())
+    stream = list(statements(base.text.splitlines()))
     surveyed, threads = (survey(stream), tried.costs), tried.trials.threads[0]
     return {trial.request: of_changed(base, changed_text(stream, trial.request, surveyed), machine, threads)
             for trial in tried.trials.sooner[:MOST_CHANGES]}

@@ -32,6 +32,7 @@ OF_THE_PROGRAM = """\
 # clock reading: 217
 # clocks differ: {"affected": 424000, "work": 424576, "by": 384500, "times": 85}
 # slept: {"affected": 300, "work": 424576, "by": 200, "times": 2}
+# preempted: [[7, 384000], [2, 500]]
 # untimed: 77
 # runs: {"runs": 7, "median": true}
 # work of the runs: {"least": 34000, "median": 34770, "most": 36010}
@@ -73,6 +74,7 @@ class Heads(unittest.TestCase):
         self.assertEqual((head.beside, head.clock_reading, head.most_held, head.runs), (715, 217, 64482, 7))
         self.assertEqual(head.clocks_differ, {"affected": 424000, "work": 424576, "by": 384500, "times": 85})
         self.assertEqual((head.slept["by"], head.slept["times"], head.untimed), (200, 2, 77))
+        self.assertEqual(head.preempted, {7: 384000, 2: 500})
         self.assertEqual(head.spread, {"work": (34000, 34770, 36010), "span": (2125, 2157, 8484)})
         self.assertTrue(head.is_median)
 

@@ -10,6 +10,7 @@ from spanprof.cause import cause
 from spanprof.command import Console, check_files, count, end_with
 from spanprof.errors import Fault
 from spanprof.predict.predictions import changed_told
+from spanprof.text import statements, text_lines
 from spanprof.version import Version
 from spanprof.whatif import advice
 from spanprof.whatif.creating import costs_for
@@ -67,19 +68,28 @@ def parse(words):
     return chosen
 
 
+def changed(text, made):
+    """A text of version 1 with changes."""
+    return "".join(text_lines(applied(statements(text.splitlines()), made), 1))
+
+
 def compare(chosen, text, before, path):
     """Writes the changed text to a file, and prints what is told of both."""
     threads = list(before.on)
     seen = survey(text.statements())
     costs = costs_for(text.head, seen, chosen.creating, chosen.least)
-    made = changes(chosen.requests, seen, costs)
+
+    def asked():
+        return changes(chosen.requests, seen, costs)
+    made = asked()
     write(path, text, applied(text.statements(), made), made)
     idle = [one for one in made if not one.count]
     if idle:
         raise Fault("nothing is changed by it: %s" % idle[0].words())
     after = measure(path, threads)
     told = list(notes(chosen.requests, made, costs, text.head, threads))
-    times, predicted = changed_told(chosen.text, path, threads[0]) if text.head.is_measured else ([], None)
+    times, predicted = changed_told(chosen.text, lambda before: changed(before, asked()), threads[0]) \
+        if text.head.is_measured else ([], None)
     print(as_json(told, before, after, predicted) if chosen.json else
           "\n".join([*told, *lines(before, after, text.head.unit), *times]))
 

@@ -10,7 +10,7 @@ from spanprof.text import has_loops, statements, text_lines
 ENCODING = {"encoding": "utf-8", "errors": "replace", "newline": "\n"}
 LINES_OF_A_HEAD = 1000
 OF_THE_RUN = ("covers", "not covered", "elapsed", "outside regions", "in other regions", "in parts without tasks",
-              "in tasks", "clocks differ", "runs", "work of the runs", "span of the runs")
+              "in tasks", "clocks differ", "preempted", "runs", "work of the runs", "span of the runs")
 
 
 class Text:

@@ -2,7 +2,8 @@ import unittest
 from typing import NamedTuple
 
 from changes import MADE, SAME_CODE
-from judge_changes import Row, changed, line, requests, table
+from judge_changes import AFTER, Row, changed, lines, requests, table
+from judging import Judged
 
 from spanprof.predict.recorded import recorded_as
 from spanprof.text import statements
@@ -44,16 +45,23 @@ class Changed(unittest.TestCase):
         self.assertLessEqual(set(SAME_CODE), set(names))
 
 
+def row(name, true, errors, times):
+    told = [Judged(name, turn, AFTER, true * (1 + error), 0.9 * true, 1.1 * true, 0.0, true)
+            for turn, error in enumerate(errors, 1)]
+    return Row(name, true, told, told[0], times)
+
+
 class Told(unittest.TestCase):
-    def test_a_line(self):
-        rows = [Row("a", 100, [0.02, -0.04], [99, 101]), Row("b", 100, [0.3], [100])]
-        is_met, words = line("changed", rows, 0.05, 0.20)
-        self.assertFalse(is_met)
-        self.assertEqual(words, "changed, 3 recordings: median 4.0 % (5), nine of ten 30.0 % (20), worst 30.0 %")
-        self.assertTrue(line("changed", rows[:1], 0.05, 0.20)[0])
+    def test_lines(self):
+        rows = [row("a", 100, [0.02, -0.04], [99, 101]), row("b", 100, [0.3], [100])]
+        (is_met, words), (is_met_by_all, _) = lines("changed", rows, AFTER)
+        self.assertFalse(is_met or is_met_by_all)
+        self.assertEqual(words, "changed, one recording: median 4.0 % (5), nine of ten 30.0 % (20), worst 30.0 %, "
+                                "covered 3 of 3")
+        self.assertEqual([is_met for is_met, _ in lines("changed", rows[:1], AFTER)], [True, True])
 
     def test_a_row(self):
-        one = Row("a", 1e6, [0.02], [0.9e6, 1.1e6])
+        one = row("a", 1e6, [0.02], [0.9e6, 1.1e6])
         self.assertEqual(list(table([(one, one)])), [
             "a              1.000 (  0.900 to   1.100)    +2.0 |    1.000 (  0.900 to   1.100)    +2.0"])
 

@@ -7,9 +7,10 @@ import unittest
 from unittest import mock
 
 import judge_unseen
+import kept_unseen
 from changes import MADE
-from judge_unseen import (AFTER, BEFORE, KINDS, TOGETHER, Measured, cell, counted, judge, judged, line, medians,
-                          read_measured, table, true_times)
+from judge_unseen import (AFTER, BEFORE, KINDS, Measured, Task, cell, judge, judge_all, judged, line,
+                          read_measured, recordings_of, table, tasks, true_times, without_slow)
 from judging import Judged
 from quiet import Used
 from runs import TOP
@@ -43,56 +44,88 @@ def predicted(time, program="a", true=100):
     return Judged(program, 1, FROM_FOUR.case, time, time - 5, time + 5, 0.0, true)
 
 
-def measured(times=(1650, 1600, 1700)):
+def recorded(work):
+    return recorded_as(TEXT.replace("work 1000", "work %d" % work), "words.4.1.tasks", 0)
+
+
+def measured(times=(1650, 1600, 1700), works=(1000, 1200, 1100)):
     found = {("words", version, threads, turn): time + 1000 * (4 - threads)
              for version in (BEFORE, AFTER) for threads in (4, 3) for turn, time in enumerate(times, 1)}
     return Measured(found, dict.fromkeys(range(1, len(times) + 1), QUIET),
-                    {("words", 4, 2): recorded_as(TEXT, "words.4.2.tasks", 0)})
+                    {("words", 4, turn): recorded(work) for turn, work in enumerate(works, 1)})
+
+
+def task(kind=FROM_FOUR, together=1):
+    found = measured()
+    times = [1650, 1600, 1700]
+    return Task(WORDS, kind, recordings_of(found, {1, 2, 3}, "words", kind.case), {4: times}, times, NOTHING, together)
 
 
 class Turns(unittest.TestCase):
     def test_quiet_ones_alone(self):
         watched = dict(enumerate([QUIET] * 5 + [BUSY], 1))
-        self.assertEqual(counted(watched), {1, 2, 3, 4, 5})
-        self.assertEqual(counted({1: QUIET, 2: BUSY}), {1, 2})
+        self.assertEqual(Measured({}, watched, {}).turns, {1, 2, 3, 4, 5})
+        self.assertEqual(Measured({}, {1: QUIET, 2: BUSY}, {}).turns, {1, 2})
+        self.assertEqual(measured()._replace(watched={}).turns, {1, 2, 3})
 
     def test_times_of_these_turns(self):
-        times = true_times(measured(), {1, 3}, 4)
+        times = true_times(measured(), {1, 3})
         self.assertEqual(times, {("words", BEFORE): [1650, 1700], ("words", AFTER): [1650, 1700]})
+
+    def test_recordings_of_these_turns(self):
+        found = recordings_of(measured(), {1, 3}, "words", FROM_FOUR.case)
+        self.assertEqual([one.work for one in found[4]], [1600, 1700])
+        self.assertEqual(recordings_of(measured(), {1, 3}, "words", FROM_FEWER.case), {})
 
 
 class Predictions(unittest.TestCase):
-    def test_the_median_of_the_runs_is_true(self):
-        found = list(judged(measured(), {1, 2, 3}, NOTHING, WORDS, FROM_FOUR))
-        self.assertEqual([(one.program, one.turn, one.time, one.true) for one in found], [("words", 2, 1600, 1650)])
+    def test_single_recordings(self):
+        """The median of the runs is true."""
+        self.assertEqual([(one.program, one.time, one.true, one.recordings) for one in judged(task())],
+                         [("words", 1600, 1650, 1), ("words", 1800, 1650, 1), ("words", 1700, 1650, 1)])
+
+    def test_several(self):
+        """What is left over does not count."""
+        self.assertEqual([(one.time, one.recordings) for one in judged(task(together=3))], [(1700, 3)])
+        self.assertEqual([one.time for one in judged(task(together=2))], [1600])
+        self.assertEqual(list(judged(task(together=4))), [])
+
+    def test_those_that_took_far_longer_are_left_out(self):
+        several = [recorded(work) for work in (1000, 1200, 1100)]
+        for one, elapsed in zip(several, (1600, 1890, 2000)):
+            one.elapsed = elapsed
+        self.assertEqual(without_slow(several, [1650, 1600, 1700]), several[:2])
+        self.assertEqual(without_slow(several[2:], [1650]), several[2:])
+        self.assertEqual(without_slow(several, [1000]), several)
 
     def test_the_change_is_made_to_the_text(self):
         """What follows the wait is a task, which nothing waits for."""
-        self.assertEqual([one.time for one in judged(measured(), {1, 2, 3}, NOTHING, WORDS, CHANGED)], [1600])
+        self.assertEqual([one.time for one in judged(task(CHANGED, together=3))], [1700])
 
-    def test_a_recording_that_is_missing(self):
-        self.assertEqual(list(judged(measured(), {1, 2, 3}, NOTHING, WORDS, FROM_FEWER)), [])
+    def test_recordings_that_are_missing(self):
+        self.assertEqual(list(judged(task(FROM_FEWER))), [])
 
-    def test_medians_of_several(self):
-        several = [predicted(time, name) for name in "ab" for time in (90, 103, 99, 120, 101, 200)]
-        self.assertEqual(TOGETHER, 5)
-        self.assertEqual([(one.program, one.time, one.low, one.high) for one in medians(several)],
-                         [("a", 101, 96, 106), ("b", 101, 96, 106)])
+    def test_all_kinds(self):
+        with mock.patch.object(judge_unseen, "UNSEEN", (WORDS,)):
+            found = judge_all(tasks(measured(), NOTHING, {1, 2, 3}))
+        self.assertEqual([(kind.name, together, len(several)) for (kind, together), several in found.items()], [
+            ("4 from 4", 1, 3), ("4 from 1 and 2", 1, 0), ("changed, 4 from 4", 1, 3),
+            ("4 from 4", 5, 0), ("4 from 1 and 2", 5, 0), ("changed, 4 from 4", 5, 0)])
 
 
 class Told(unittest.TestCase):
     def test_lines(self):
         near = [predicted(101), predicted(96), predicted(112, "b")]
-        self.assertEqual(line("4 from 4", FROM_FOUR, near[:2]), (
-            "ok      not fitted to: 4 from 4, 1 programs, 2 predictions: median 2.5 % (5), nine of ten 4.0 % (15), "
-            "worst 4.0 %, of the medians of programs 1.5 %, intervals with the truth 2", True))
-        self.assertFalse(line("4 from 4", FROM_FOUR, near)[1], "an interval misses the truth")
-        self.assertEqual(line("changed", CHANGED, near)[0].partition("worst")[2],
+        self.assertEqual(line(FROM_FOUR, near[:2]), (
+            "ok      not fitted to: 4 from 4, one recording, 1 programs, 2 predictions: median 2.5 % (5), "
+            "nine of ten 4.0 % (15), worst 4.0 %, of the medians of programs 1.5 %, intervals with the truth 2", True))
+        self.assertFalse(line(FROM_FOUR, near)[1], "an interval misses the truth")
+        self.assertEqual(line(CHANGED, near, 5)[0].partition("worst")[2],
                          " 12.0 % (20), of the medians of programs 12.0 %, intervals with the truth 2")
 
     def test_nothing_that_was_measured(self):
-        self.assertEqual(line("changed", CHANGED, []),
-                         ("FAILED  not fitted to: changed: nothing was measured", False))
+        self.assertEqual(line(CHANGED, [], 5), (
+            "FAILED  not fitted to: changed, 4 from 4, 5 recordings: nothing was measured", False))
 
     def test_a_table(self):
         columns = [(FROM_FOUR, [predicted(101e6, "a", 100e6), predicted(98e6, "a", 100e6)]), (FROM_FEWER, [])]
@@ -109,23 +142,40 @@ class Told(unittest.TestCase):
 
 
 class Folder(unittest.TestCase):
+    def setUp(self):
+        made = tempfile.TemporaryDirectory()
+        self.addCleanup(made.cleanup)
+        self.folder = pathlib.Path(made.name)
+        self.measure(self.folder)
+
+    def measure(self, folder):
+        """One program in one turn."""
+        (folder / "turns.csv").write_text("program,version,threads,turn,nanoseconds,gave_way\n"
+                                          "words,before,4,1,1600,0\nwords,after,4,1,1600,0\n"
+                                          "words,before,2,1,2650,0\nwords,before,1,1,3650,0\n")
+        (folder / "watched.csv").write_text("turn,stolen,others,load\n1,0.0,0.01,0.5\n")
+        (folder / "words.4.1.tasks").write_text(TEXT)
+        write_machine(NOTHING, str(folder / "machine.json"))
+        (folder / "model").write_text(str(folder / "machine.json"))
+        (folder / "words.4.1.timed").write_text("")
+
+    def judge(self, folder):
+        out = io.StringIO()
+        with mock.patch.object(judge_unseen, "UNSEEN", (WORDS,)), contextlib.redirect_stdout(out):
+            self.assertEqual(judge(folder), 1)
+        self.assertIn("ok      not fitted to: 4 from 4, one recording, 1 programs, 1 predictions: median 0.0 %",
+                      out.getvalue())
+        self.assertIn("FAILED  not fitted to: 4 from 1 and 2, one recording: nothing was measured", out.getvalue())
+        return out.getvalue()
+
     def test_one_program(self):
-        with tempfile.TemporaryDirectory() as name:
-            folder = pathlib.Path(name)
-            (folder / "turns.csv").write_text("program,version,threads,turn,nanoseconds,gave_way\n"
-                                              "words,before,4,1,1650,0\nwords,after,4,1,1650,0\n")
-            (folder / "watched.csv").write_text("turn,stolen,others,load\n1,0.0,0.01,0.5\n")
-            (folder / "words.4.1.tasks").write_text(TEXT)
-            write_machine(NOTHING, str(folder / "machine.json"))
-            (folder / "model").write_text(str(folder / "machine.json"))
-            (folder / "words.4.1.timed").write_text("")
-            self.assertEqual(read_measured(folder).watched, {1: QUIET._replace(load=0.5)})
-            out = io.StringIO()
-            with mock.patch.object(judge_unseen, "UNSEEN", (WORDS,)), contextlib.redirect_stdout(out):
-                self.assertEqual(judge(folder), 1)
-        self.assertIn("ok      not fitted to: 4 from 4, 1 programs, 1 predictions: median 3.0 % (5)", out.getvalue())
-        self.assertIn("FAILED  not fitted to: 4 from 1 and 2: nothing was measured", out.getvalue())
-        self.assertIn("the machine was quiet: 1 of 1 turns", out.getvalue())
+        self.assertEqual(read_measured(self.folder).watched, {1: QUIET._replace(load=0.5)})
+        self.assertIn("the machine was quiet: 1 of 1 turns", self.judge(self.folder))
+
+    def test_what_is_kept_of_it(self):
+        with tempfile.TemporaryDirectory() as name, mock.patch.object(kept_unseen, "HERE", pathlib.Path(name)):
+            kept_unseen.main([str(self.folder), "kept"])
+            self.assertNotIn("machine", self.judge(pathlib.Path(name, "kept")))
 
 
 class Programs(unittest.TestCase):

@@ -11,6 +11,7 @@ from spanprof.errors import Fault
 from spanprof.predict import command, predictions
 from spanprof.predict.machine import Machine, Measured, write_machine
 from spanprof.predict.recorded import outside_of, recorded
+from spanprof.predict.scaled import Chosen
 from spanprof.remarks import in_words
 
 HEAD = '# recorded: {"program": "a", "threads": %d, "clock": "wall", "unit": "us"}\n' \
@@ -92,7 +93,7 @@ class Command(InAFolder):
         self.assertEqual((told["text"], told["unit"]), ("two.tasks", "ns"))
         untimed, grown = told["predicted"][0]["notes"]
         self.assertTrue(untimed.startswith("without what passes outside of the region's code"))
-        self.assertEqual(grown, "with +17 % of work, as it grew on the threads that were recorded")
+        self.assertEqual(grown, "with +12 % of work, as it grew on the threads that were recorded")
 
     def test_what_is_not_matched_is_told(self):
         one = self.write("one.tasks", (TEXT % 1).replace("# a.c:1", "# other.c:1"))
@@ -108,10 +109,35 @@ class Command(InAFolder):
         self.assertIn("# remark: a burdened text, with 0.200 us a dispatch for 4 threads: ", in_words(text))
         self.assertEqual(text.count("work 10200\n"), 4)
 
-    def test_two_of_one_number(self):
-        paths = [self.write(name, TEXT % 2) for name in ("a.tasks", "b.tasks")]
-        with self.assertRaisesRegex(Fault, "a.tasks and b.tasks are both of 2 threads"):
-            self.answer(*paths)
+    def test_several_of_one_number(self):
+        several = ("a.tasks", "work 30", "70"), ("b.tasks", "work 11", "32"), ("c.tasks", "work 10", "30")
+        paths = [self.write(name, (TEXT % 2).replace("work 10", work).replace("30", elapsed))
+                 for name, work, elapsed in several]
+        first, two, *_ = self.answer(*paths).splitlines()
+        self.assertIn("a.tasks, region at a.c:9, recorded 3 times on 2 threads in 30.0 us to 70.0 us: with", first)
+        self.assertRegex(two, "^on 2 threads: 2[23].. us predicted .*; the median by 3 recordings")
+
+    def test_a_scale(self):
+        self.write("a.tasks", TEXT % 2)
+        self.write("b.tasks", TEXT % 1)
+        told = {"threads": [{"threads": 1, "recordings": ["b.tasks", "gone.tasks", 3], "times": [30000]},
+                            {"threads": 2, "recordings": ["a.tasks"], "times": [9000, 20000, 21000]}, {}, 3]}
+        first, *_, note, last = self.answer(self.write("a.scale.json", json.dumps(told))).splitlines()
+        self.assertIn("a.tasks, region at a.c:9, recorded on 2 threads", first)
+        self.assertEqual(note, "1 of 1 recordings on 2 threads took 50 % longer than the unrecorded runs, or more: the "
+                               "times may be told too long")
+        self.assertIn("not proved", last)
+        for wrong, why in (("{", "is none of spanprof-record --scale"), ("{}", "names no recording that is there"),
+                           ('{"threads": 3}', "names no recording"), ("[]", "names no recording")):
+            with self.assertRaisesRegex(Fault, "b.scale.json.* " + why):
+                self.answer(self.write("b.scale.json", wrong))
+        with self.assertRaisesRegex(Fault, "none.scale.json: No such file"):
+            self.answer(os.path.join(self.folder, "none.scale.json"))
+
+    def test_without_what_other_programs_took(self):
+        text = ("# preempted: [[1, 7], [9, 3]]\n" + TEXT % 2).replace("work 10", "work 17", 1)
+        two = self.answer(self.write("a.tasks", text)).splitlines()[1]
+        self.assertRegex(two, "^on 2 threads: 2.* us predicted .*; without 7.00 us that other programs took meanwhile")
 
     def test_two_regions(self):
         paths = [self.write("a.tasks", TEXT % 2), self.write("b.tasks", TEXT.replace("a.c:9", "b.c:7") % 1)]
@@ -129,18 +155,22 @@ class Command(InAFolder):
         path = self.write("a.tasks", TEXT % 2)
         with mock.patch.dict(os.environ, SPANPROF_MACHINE=self.machine), \
                 mock.patch("spanprof.client.ask", return_value="segments 9\nwork 40800\nspan 10200\n"):
-            lines, told = predictions.told_of([path])
+            lines, told = predictions.told_of(Chosen([path]))
             self.assertEqual((len(lines), len(told["predicted"])), (4, 2))
-            lines, told = predictions.told_of([self.write("b.tasks", TEXT % 1)])
+            lines, told = predictions.told_of(Chosen([self.write("b.tasks", TEXT % 1)]))
             self.assertRegex(lines[0], "^not told: b.tasks is of one thread")
             self.assertIn("b.tasks", told["none"])
         with mock.patch.dict(os.environ, SPANPROF_MACHINE=self.machine + ".none"):
-            self.assertEqual((predictions.told_of([path]), predictions.changed_told(path, path, 2)),
+            self.assertEqual((predictions.told_of(Chosen([path])), predictions.changed_told(path, str, 2)),
                              (([], None), ([], None)))
 
     def test_of_a_changed_text(self):
         self.write("a.timed", TEXT % 2 + "---\ntimes 2 0 40000\n0 0 300 39000\n")
-        path, changed = self.write("a.tasks", TEXT % 2), self.write("b.tasks", "omptasks 1\nwork 40\n")
+        path = self.write("a.tasks", TEXT % 2)
+
+        def changed(before):
+            self.assertEqual(before, TEXT % 2)
+            return "omptasks 1\nwork 40\n"
         with mock.patch.dict(os.environ, SPANPROF_MACHINE=self.machine), \
                 mock.patch("spanprof.client.ask", return_value="segments 9\nwork 40800\nspan 10200\n"):
             (line,), told = predictions.changed_told(path, changed, 2)

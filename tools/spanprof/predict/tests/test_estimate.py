@@ -6,6 +6,7 @@ from spanprof.predict import estimate as estimating
 from spanprof.predict.burden import burdened, burdened_text
 from spanprof.predict.estimate import estimate
 from spanprof.predict.gnu import LOCK
+from spanprof.predict.interval import ALONE, AS_RECORDED, ON_OTHERS, width
 from spanprof.predict.machine import Machine, Measured
 from spanprof.predict.program import read_program
 from spanprof.predict.recorded import Recorded
@@ -38,49 +39,56 @@ class Burdens(unittest.TestCase):
 
 class Estimates(unittest.TestCase):
     def test_as_recorded(self):
-        found = estimate({4: recording(4, outside=100)}, machine(dispatch=50), 4)
+        found = estimate({4: [recording(4, outside=100)]}, machine(dispatch=50), 4)
         self.assertEqual((found.time, found.grown, found.by_lock), (2 * 1050 + 100, 0, False))
-        self.assertAlmostEqual(log(found.high / found.low), 2 * estimating.AS_RECORDED, places=2)
+        self.assertAlmostEqual(log(found.high / found.low), 2 * width(AS_RECORDED, 1, 0, 0), places=2)
+
+    def test_the_median_of_several(self):
+        several = [recording(4, TASKS.replace("1000", cost)) for cost in ("1000", "1700", "1010")]
+        found = estimate({4: several}, machine(dispatch=50), 4)
+        self.assertEqual((found.time, found.of, found.base), (2 * 1060, 3, several[2]))
+        self.assertAlmostEqual(found.apart, log(1750 / 1050))
+        self.assertAlmostEqual(log(found.high / found.low), 2 * width(AS_RECORDED, 3, found.apart, 0), places=2)
 
     def test_on_others(self):
-        self.assertEqual(estimate({4: recording(4)}, machine(dispatch=50), 2).time, 4 * 1050)
-        found = estimate({4: recording(4)}, machine(dispatch=50), 1)
+        self.assertEqual(estimate({4: [recording(4)]}, machine(dispatch=50), 2).time, 4 * 1050)
+        found = estimate({4: [recording(4)]}, machine(dispatch=50), 1)
         self.assertEqual(found.time, 8000)  # no dispatch
-        self.assertAlmostEqual(log(found.high / found.low), 2 * estimating.ALONE, places=3)
+        self.assertAlmostEqual(log(found.high / found.low), 2 * width(ALONE, 1, 0, 0), places=3)
 
     def test_growth(self):
         dearer = TASKS.replace("1000", "1200")
-        found = estimate({1: recording(1, outside=10), 2: recording(2, dearer, outside=20)}, machine(), 4)
-        self.assertEqual(found.time, 2 * 1400 + 30)
-        self.assertAlmostEqual(exp(found.grown), 1400 / 1200)
-        far = estimating.ON_OTHERS + estimating.OF_GROWTH * found.grown
-        self.assertEqual((found.low, found.high), (int(2830 / exp(far)), int(2830 * exp(far))))
+        found = estimate({1: [recording(1, outside=10)], 2: [recording(2, dearer, outside=20)]}, machine(), 4)
+        self.assertEqual(found.time, 2 * 1350 + 30)
+        self.assertAlmostEqual(exp(found.grown), 1350 / 1200)
+        far = width(ON_OTHERS, 1, 0, found.grown)
+        self.assertEqual((found.low, found.high), (int(2730 / exp(far)), int(2730 * exp(far))))
 
     def test_a_recording_on_that_number_is_taken(self):
-        found = estimate({1: recording(1), 2: recording(2, TASKS.replace("1000", "1200"))}, machine(), 2)
+        found = estimate({1: [recording(1)], 2: [recording(2, TASKS.replace("1000", "1200"))]}, machine(), 2)
         self.assertEqual((found.time, found.grown), (4800, 0))
 
     def test_one_thread_tells_nothing_of_more(self):
-        self.assertEqual(estimate({1: recording(1)}, machine(dispatch=50), 1).time, 8000)
+        self.assertEqual(estimate({1: [recording(1)]}, machine(dispatch=50), 1).time, 8000)
         with self.assertRaisesRegex(Fault, "a.tasks is of one thread"):
-            estimate({1: recording(1, name="a.tasks")}, machine(), 2)
+            estimate({1: [recording(1, name="a.tasks")]}, machine(), 2)
 
     def test_what_the_times_of_a_recording_tell(self):
         """A dispatch that it tells has its steals in it; the second of two threads comes when two tasks are over."""
         one = recording(2, dispatch=100, arrivals=(0, 2200))
-        found = estimate({2: one}, machine(dispatch=50, steal=400), 2)
+        found = estimate({2: [one]}, machine(dispatch=50, steal=400), 2)
         self.assertEqual((found.dispatch, found.steal, found.time), (100, 0, 5 * 1100))
-        self.assertEqual(estimate({2: one}, machine(dispatch=50), 1).dispatch, 0)
+        self.assertEqual(estimate({2: [one]}, machine(dispatch=50), 1).dispatch, 0)
 
     def test_gccs_runtime(self):
         """Each of eight tasks waits for the lock; the times of LLVM's runtime do not count."""
         one = recording(2, dispatch=100, arrivals=(0, 2200))
-        found = estimate({2: one}, machine(dispatch=50, steal=400), 2, estimating.GNU)
+        found = estimate({2: [one]}, machine(dispatch=50, steal=400), 2, estimating.GNU)
         self.assertEqual((found.runtime, found.dispatch), (estimating.GNU, 0))
         self.assertEqual(found.time, 4 * 1000 + 5 * LOCK)
 
     def test_a_lock(self):
-        found = estimate({2: recording(2, held=3000)}, machine(), 4)
+        found = estimate({2: [recording(2, held=3000)]}, machine(), 4)
         self.assertEqual((found.time, found.by_lock), (3000, True))
 
     def test_a_wake_up_is_measured_with_creation_and_steal(self):

@@ -35,9 +35,14 @@ class Threads(unittest.TestCase):
         self.assertIsNone(times((0, 0, 0, 1)))
 
     def test_other_numbers(self):
-        self.assertEqual(on_threads((0, 100, 300), 2), (0, 100))
-        self.assertEqual(on_threads((0, 100, 300), 5), (0, 100, 300, 450, 600))
-        self.assertEqual(on_threads((), 4), ())
+        self.assertEqual(on_threads((0, 100, 300), 3, 3), (0, 100, 300))
+        self.assertEqual(on_threads((0, 100, 300), 5, 5), (0, 100, 300, 450, 600))   # two of them began nothing
+        self.assertEqual([on_threads((0, 100, 300), 3, threads) for threads in (2, 4)], [(0, 150), (0, 150, 300, 450)])
+        self.assertEqual(on_threads((), 4, 4), ())
+
+    def test_that_one_came_late_holds_for_no_other_number(self):
+        self.assertEqual(on_threads((0, 3000000), 2, 2), (0, 3000000))
+        self.assertEqual(on_threads((0, 3000000), 2, 4), (0, 100000, 200000, 300000))
 
 
 class Dispatches(unittest.TestCase):

@@ -70,6 +70,10 @@ class Medians(unittest.TestCase):
         text = self.text(*[recording("a", 1, 5, 4, line % one) for one in ((1, 9), (5, 8), (3, 7))])
         self.assertIn(line % (3, 8), text)
 
+    def test_what_was_taken_of_segments_of_one_run_is_left_out(self):
+        text = self.text(*[recording("a", 1, 5, 4, line) for line in ("# preempted: [[1, 7]]\n", "# mine: 2\n")])
+        self.assertNotIn("preempted", text)
+
     def test_lines_without_numbers(self):
         text = self.text(*[recording("a", 1, 5, 4, "# mine: said 3 times\n# hm\n") for _ in range(2)])
         self.assertIn("# mine: said 3 times\n# hm\n", text)

@@ -95,16 +95,18 @@ class Recorded(unittest.TestCase):
         self.addCleanup(kept.cleanup)
         self.out = os.path.join(kept.name, "mine")
 
-    def record(self, *statuses):
+    def record(self, *statuses, runs=1):
         left, told, threads = iter(statuses), io.StringIO(), []
-        options = argparse.Namespace(scale=[1, 2, 4], runs=1, threads=None)
+        options = argparse.Namespace(scale=[1, 2, 4], runs=runs, threads=None)
         made = mock.Mock(out=self.out, preload="/lib/libomp.so.5", options=options)
 
         def run(*_):
+            self.assertFalse(made.convert.called)
             threads.append(options.threads)
-            return next(left), Told(True, [])
-        made.run.side_effect = run
+            return next(left), {"OMP_NUM_THREADS": options.threads}
+        made.leave_log.side_effect = run
         made.record_once.side_effect = lambda: (run()[0], [], Told(True, []))
+        self.made = made
         with mock.patch("spanprof.record.scale.unrecorded", return_value={1: [9], 2: [5], 4: [3]}), \
                 contextlib.redirect_stderr(told):
             return scale.record_scale(made), told.getvalue(), threads
@@ -114,16 +116,25 @@ class Recorded(unittest.TestCase):
         self.assertEqual((status, found, told, threads), (0, [], "", [1, 2, 4]))
         self.assertEqual((scaled.speed_up(4), scaled.regions, scaled.library), (3, {}, "libomp.so.5"))
 
+    def test_in_turns(self):
+        (status, *_), told, threads = self.record(*[0] * 6, runs=2)
+        self.assertEqual((status, told, threads), (0, "", [1, 2, 4] * 2))
+        self.assertEqual([(os.path.basename(call.args[0]), call.args[1]["OMP_NUM_THREADS"])
+                          for call in self.made.convert.call_args_list],
+                         [("threads1", 1), ("threads2", 2), ("threads4", 4), ("threads1-2", 1), ("threads2-2", 2)])
+        self.assertEqual([os.path.basename(scale.name_of("mine.scale", 4, turn)) for turn in (1, 2)],
+                         ["threads4", "threads4-2"])
+
     def test_a_run_that_fails(self):
         for statuses, on in (((0, 3), 2), ((0, 0, 3), 4)):
             (status, _, _, scaled), told, _ = self.record(*statuses)
             self.assertEqual((status, scaled), (3, None))
-            self.assertEqual(told, "spanprof-record: the recorded run on %d threads ended with status 3: "
+            self.assertEqual(told, "spanprof-record: recorded run 1 of 1 on %d threads ended with status 3: "
                                    "no speed-up is told\n" % on)
 
     def test_texts_of_before_go(self):
         folder = scale.make_folder(self.out)
-        for name in ("threads8.tasks", "threads8.2.timed", "mine.c"):
+        for name in ("threads8.tasks", "threads8-2.tasks", "threads8.2.timed", "mine.c"):
             with open(os.path.join(folder, name), "w", encoding="utf-8"):
                 pass
         scale.make_folder(self.out)
@@ -247,12 +258,12 @@ class Words(unittest.TestCase):
         four = told["threads"][1]
         self.assertEqual((four["median"], four["speed-up"], four["speed-up from"], four["speed-up to"]),
                          (50, 2.4, 2, 3))
-        self.assertEqual([row["recording"] for row in told["threads"]], [None, None])
-        found = made_up()
-        for threads, path in ((1, "/tmp/mine.scale/threads1.tasks"), (4, "/tmp/mine.tasks")):
-            found.regions[threads].path = path
-        self.assertEqual([row["recording"] for row in scale_json(found)["threads"]],
-                         ["mine.scale/threads1.tasks", "mine.tasks"])
+        self.assertEqual([row["recordings"] for row in told["threads"]], [[], []])
+        found = made_up(texts={1: ["/tmp/mine.scale/threads1.tasks"],
+                               4: ["/tmp/mine.tasks", "/tmp/mine.scale/threads4.tasks"]})
+        found.regions[4].path = "/tmp/mine.tasks"
+        self.assertEqual([row["recordings"] for row in scale_json(found)["threads"]],
+                         [["mine.scale/threads1.tasks"], ["mine.tasks", "mine.scale/threads4.tasks"]])
         without = scale_json(made_up(regions={}))
         self.assertEqual((without["text"], "gap" in without), (None, False))
         self.assertIn("no such region", without["no gap"])

@@ -119,7 +119,7 @@ def setUpModule():
 class Summaries(unittest.TestCase):
     def test_the_heaviest_region_is_the_one_that_is_told(self):
         by_path = {"a.tasks": Answers(name="a.tasks", work=10, span=5), "b.tasks": Answers(name="b.tasks")}
-        made = mock.Mock(notes=["a note"], rank=None, out="/tmp/mine", options=argparse.Namespace(json=None))
+        made = mock.Mock(notes=["a note"], rank=None, out="/tmp/mine", options=argparse.Namespace(json=None, runs=1))
         told = io.StringIO()
         with mock.patch("spanprof.record.command.Answers", side_effect=by_path.get), contextlib.redirect_stderr(told):
             found = command.print_summary(made, [Recording("a.tasks"), Recording("b.tasks")], Told(True, []))
@@ -132,7 +132,7 @@ class Summaries(unittest.TestCase):
         said = Told(True, [{"told": "remark", "name": "/tmp/mine", "remark": FOLDED}])
         told = io.StringIO()
         with mock.patch("spanprof.record.command.Answers", return_value=answers), contextlib.redirect_stderr(told):
-            made = mock.Mock(notes=[], rank=None, out="/tmp/mine", options=argparse.Namespace(json=None))
+            made = mock.Mock(notes=[], rank=None, out="/tmp/mine", options=argparse.Namespace(json=None, runs=1))
             command.print_summary(made, [Recording("mine.tasks")], said)
         self.assertEqual(told.getvalue().count("folded task"), 1)
 
@@ -144,6 +144,23 @@ class Summaries(unittest.TestCase):
             command.print_summary(made, [Recording("a.tasks"), Recording("b.tasks")], Told(True, []))
         lines = told.getvalue().splitlines()
         self.assertEqual([line.partition(", region")[0] for line in lines], ["a.tasks", "b.tasks", "mine: a note"])
+
+
+class Predicted(unittest.TestCase):
+    def test_of_several_runs_all_texts_of_the_region(self):
+        with tempfile.TemporaryDirectory() as folder:
+            out = os.path.join(folder, "mine")
+            made = mock.Mock(out=out, options=argparse.Namespace(runs=2))
+            one = Recording(out + ".2.tasks", number=2)
+            self.assertEqual(command.texts_to_predict(made, one, None).paths, [one.text])
+            os.mkdir(out + ".runs")
+            paths = [os.path.join(out + ".runs", name) for name in ("run1.2.tasks", "run2.2.tasks")]
+            for path in paths:
+                with open(path, "w", encoding="utf-8"):
+                    pass
+            self.assertEqual(command.texts_to_predict(made, one, None).paths, paths)
+            made.options.runs = 1
+            self.assertEqual(command.texts_to_predict(made, one, None).paths, [one.text])
 
 
 class Large(unittest.TestCase):
@@ -175,7 +192,8 @@ class Large(unittest.TestCase):
 
     def told(self, program, small=(), **places):
         found = list(small) + [Recording(self.out + ".large.tasks", is_large=True)]
-        made = mock.Mock(notes=["a note"], rank=None, out=self.out, options=argparse.Namespace(html=None, json=None))
+        options = argparse.Namespace(html=None, json=None, runs=1)
+        made = mock.Mock(notes=["a note"], rank=None, out=self.out, options=options)
         told = io.StringIO()
         with mock.patch("spanprof.record.command.spanprof_large", return_value=program), \
                 mock.patch("spanprof.account.spanprof_large", return_value=program), \

@@ -265,8 +265,10 @@ class Program(Sums):
     def trial_predicted(self, number, what):
         if ("trial-predicted", number) not in self.kept:
             tried = self.data["tried"]
-            changed = changed_text(self.statements, Request(*tried["requests"][int(number)]), self.surveyed)
-            told = recorded(self.file), changed, read_machine(machine_file()), tried["threads"][0]
+            base = recorded(self.file)
+            before = list(statements(base.text.splitlines()))
+            changed = changed_text(before, Request(*tried["requests"][int(number)]), self.surveyed)
+            told = base, changed, read_machine(machine_file()), tried["threads"][0]
             self.kept["trial-predicted", number] = self.as_told(*of_changed(*told))
         return self.kept["trial-predicted", number][what]
 

@@ -22,11 +22,10 @@ class Recordings(unittest.TestCase):
             for name in (path, other):
                 with open(name, "w", encoding="utf-8"):
                     pass
-            told = {"threads": [{"recording": "threads1.tasks"}, {"recording": "a.tasks"}, {"recording": "gone.tasks"},
-                                {"recording": None}, {}, 3]}
-            self.assertEqual(recordings(path, told), [path, other])
-            self.assertEqual(recordings(path, None), [path])
-            self.assertEqual([recordings(path, other) for other in ({}, {"threads": 3})], [[path], [path]])
+            told = {"threads": [{"threads": 1, "recordings": ["threads1.tasks", "gone.tasks"], "times": [3]},
+                                {"threads": 2, "recordings": ["a.tasks"]}, {"recordings": None}, {}, 3]}
+            self.assertEqual(recordings(path, told), [other, path])
+            self.assertEqual([recordings(path, other) for other in (None, {}, {"threads": 3})], [[path]] * 3)
 
 
 class OfARecording(unittest.TestCase):

@@ -1,0 +1,78 @@
+"""What `spanprof-record --scale` has left: recordings on some numbers of threads, and the times of unrecorded runs."""
+import json
+import os
+import statistics
+from typing import List, NamedTuple
+
+from spanprof.errors import Fault
+from spanprof.head import head_text, read_head
+
+ENDING = ".scale.json"
+SLOW = 1.15     # of the unrecorded runs' median: a recording that took longer was made in a slow moment
+OF_THE_PROGRAM = ("outside regions", "in other regions")    # beside the region's own time
+
+
+class Chosen(NamedTuple):
+    """The texts that predictions are made of, and what is to be told of the others."""
+    paths: List[str]
+    notes: List[str] = []
+
+
+def program_time(path):
+    """Nanoseconds of the whole program's run that was recorded, as the text's head tells it; None where it does not."""
+    head = read_head(head_text(path))
+    if not head.elapsed or not head.nanoseconds:
+        return None
+    return (head.elapsed + sum(head.division.get(name, 0) for name in OF_THE_PROGRAM)) * head.nanoseconds
+
+
+def longer(path, unrecorded):
+    """How many times as long as the unrecorded runs' median it took."""
+    return (program_time(path) or 0) / max(statistics.median(unrecorded), 1) if unrecorded else 0
+
+
+def chosen_on(threads, paths, unrecorded):
+    """Of the recordings on one number of threads those that did not take far longer than the unrecorded runs."""
+    found = [(path, longer(path, unrecorded)) for path in paths]
+    slow = [ratio for _, ratio in found if ratio > SLOW]
+    if not slow:
+        return Chosen(paths)
+    of = "%d of %d recordings on %d thread%s took %.0f %% longer than the unrecorded runs, or more" % (
+        len(slow), len(paths), threads, "" if threads == 1 else "s", 100 * (min(slow) - 1))
+    if len(slow) == len(paths):
+        return Chosen(paths, [of + ": the times may be told too long"])
+    return Chosen([path for path, ratio in found if ratio <= SLOW], [of + ", and are left out"])
+
+
+def chosen(by_threads, times):
+    """Of texts and unrecorded times by threads."""
+    found = [chosen_on(threads, by_threads[threads], times.get(threads)) for threads in sorted(by_threads)]
+    return Chosen([path for one in found for path in one.paths], [note for one in found for note in one.notes])
+
+
+def chosen_of(told, folder):
+    """Of what the file tells, which lies in the folder; of the texts those that are there."""
+    rows = told.get("threads") if isinstance(told, dict) else None
+    by_threads, times = {}, {}
+    for row in rows if isinstance(rows, list) else []:
+        if isinstance(row, dict) and isinstance(row.get("recordings"), list):
+            paths = [os.path.join(folder, one) for one in row["recordings"] if isinstance(one, str)]
+            by_threads[row.get("threads", 0)] = [path for path in paths if os.path.exists(path)]
+            times[row.get("threads", 0)] = row.get("times")
+    return chosen({threads: paths for threads, paths in by_threads.items() if paths}, times)
+
+
+def texts(path):
+    """A text, or those of a scale."""
+    if not path.endswith(ENDING):
+        return Chosen([path])
+    try:
+        with open(path, encoding="utf-8") as file:
+            found = chosen_of(json.load(file), os.path.dirname(path))
+    except OSError as wrong:
+        raise Fault("%s: %s" % (path, wrong.strerror)) from wrong
+    except ValueError as wrong:
+        raise Fault("%s is none of spanprof-record --scale: %s" % (path, wrong)) from wrong
+    if not found.paths:
+        raise Fault("%s names no recording that is there" % path)
+    return found
