@@ -39,7 +39,7 @@ for script in definitions proof_map; do
     passes "$script.py" python3 -B "checks/sources/$script.py" --check
 done
 for script in crate_picture version signatures places clauses believed_lines left_edits repeated_lines sentences \
-    speed_numbers waiting/lines style imports; do
+    links speed_numbers waiting/lines style imports; do
     passes "$script.py" python3 -B "checks/sources/$script.py"
 done
 installed pyflakes3 tools checks bench examples
