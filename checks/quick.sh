@@ -1,26 +1,35 @@
 #!/usr/bin/env bash
 # Runs the checks of the documents, of the files of definitions and proofs, of the Python, and of the model of waiting
-# against the sources, and the unit tests of the scripts and tools. It needs neither the program nor a compiler, and half
-# a minute. It prints a line for each, and what a check printed where it failed; the status is 0 where none did.
+# against the sources, and the unit tests of the scripts and tools, as many at once as there are processors. It needs
+# neither the program nor a compiler, and half a minute. It prints a line for each, and what a check printed where it
+# failed; the status is 0 where none did.
 set -uo pipefail
 cd "$(dirname "$0")/.." || exit 1
-failed=0
+count=0
+answers=$(mktemp -d)
+trap 'rm -rf "$answers"' EXIT
 
-# passes NAME WORD..: runs the words, which have to end with status 0.
-passes() {
+# answer NAME WORD..: runs the words, which have to end with status 0.
+answer() {
     local name=$1 told
     shift
     if told=$("$@" 2>&1); then
         case $told in 'skipped: '*) echo "skipped $name: ${told#skipped: }" ;; *) echo "ok      $name" ;; esac
     else
         printf 'FAILED  %s\n%s\n' "$name" "$told"
-        failed=1
     fi
+}
+
+# passes NAME WORD..: begins to run the words, as soon as there is a processor for it.
+passes() {
+    while [ "$(jobs -rp | wc -l)" -ge "$(nproc)" ]; do wait -n; done
+    count=$((count + 1))
+    answer "$@" > "$answers/$count" &
 }
 
 # installed WORD..: the words pass, or the command is missing, whose package has its name.
 installed() {
-    if command -v "$1" > /dev/null; then passes "$1" "$@"; else echo "skipped $1: it is missing (package $1)"; fi
+    if command -v "$1" > /dev/null; then passes "$1" "$@"; else passes "$1" echo "skipped: it is missing (package $1)"; fi
 }
 
 # tested FOLDER TOP: the unit tests of a folder, which import from TOP.
@@ -30,7 +39,7 @@ for script in definitions proof_map; do
     passes "$script.py" python3 -B "checks/sources/$script.py" --check
 done
 for script in crate_picture version signatures places clauses believed_lines left_edits repeated_lines sentences \
-    speed_numbers waiting/lines style imports; do
+    links speed_numbers waiting/lines style imports; do
     passes "$script.py" python3 -B "checks/sources/$script.py"
 done
 installed pyflakes3 tools checks bench examples
@@ -55,4 +64,6 @@ tested tools/spanprof/tests tools
 for folder in record path predict whatif report conformance; do
     tested "tools/spanprof/$folder/tests" tools
 done
-exit "$failed"
+wait
+for ((number = 1; number <= count; number++)); do cat "$answers/$number"; done
+! grep -q '^FAILED  ' "$answers"/*

@@ -11,6 +11,8 @@ import collections
 import random
 import subprocess
 import sys
+from concurrent.futures import ProcessPoolExecutor
+from itertools import repeat
 from pathlib import Path
 
 TOP = Path(__file__).resolve().parents[2]
@@ -203,14 +205,25 @@ def compare_stretched(seed, large, text):
         raise Wrong(f"the stretched run of seed {seed} on {threads}: wanted {wanted}, told {told}\n{text[:500]}")
 
 
-def compare_all_greedy(count, large, spanprof):
-    """Of each text within the limits, and of one text in ten with more tasks."""
-    for seed in range(count // 10):
-        compare_greedy(seed, large, spanprof, any_size.draw(random.Random(seed).random()))
-    for seed in range(count // 100):
-        text = draw_many(random.Random(seed), MOST_TASKS + 1)
-        compare_greedy(seed, large, large, text)
-        compare_stretched(seed, large, text)
+def compare_small(seed, large, spanprof):
+    compare_greedy(seed, large, spanprof, any_size.draw(random.Random(seed).random()))
+
+
+def compare_many(seed, large):
+    text = draw_many(random.Random(seed), MOST_TASKS + 1)
+    compare_greedy(seed, large, large, text)
+    compare_stretched(seed, large, text)
+
+
+def compare_all(count, large, spanprof):
+    """How many runs are refused; also greedy runs of one text in ten, and of one in a hundred with more tasks."""
+    with ProcessPoolExecutor() as pool:
+        greedy = [pool.submit(compare_many, seed, large) for seed in range(count // 100)]
+        greedy += [pool.submit(compare_small, seed, large, spanprof) for seed in range(count // 10)]
+        refused = sum(pool.map(compare_case, range(count), repeat(large), repeat(spanprof)))
+        for one in greedy:
+            one.result()
+    return refused
 
 
 def main(words):
@@ -222,8 +235,7 @@ def main(words):
             print(f"skipped: no program {program}; tools/prove_program.sh {program.name} makes it")
             return 0
     try:
-        refused = sum(compare_case(seed, large, spanprof) for seed in range(count))
-        compare_all_greedy(count, large, spanprof)
+        refused = compare_all(count, large, spanprof)
     except Wrong as wrong:
         print(f"accounts.py: {wrong}", file=sys.stderr)
         return 1

@@ -70,8 +70,8 @@ while read -r name times what how unit program words; do
 done <<'PROGRAMS'
 merge_sort 16 time said us merge_sort
 merge_sort_split 16 time - us merge_sort_split
-wavefront 16 time - us wavefront
-wavefront_overlapped 16 time - us wavefront_overlapped
+wavefront 16 work - us wavefront
+wavefront_overlapped 16 work - us wavefront_overlapped
 fibonacci_14 60 work - ns fibonacci 27 14
 fibonacci_16 60 work - ns fibonacci 27 16
 fibonacci_18 60 work - ns fibonacci 27 18

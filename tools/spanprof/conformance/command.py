@@ -5,6 +5,7 @@
 
 tools/conformance/README.md has all commands and what they mean.
 """
+import os
 import sys
 import tempfile
 
@@ -13,11 +14,21 @@ from spanprof.conformance.options import parse
 from spanprof.errors import Fault
 
 
+def leave_the_rest():
+    """What is still to be printed goes nowhere: `| head` has what it wants."""
+    os.dup2(os.open(os.devnull, os.O_WRONLY), sys.stdout.fileno())
+
+
 def main():
     options = parse(COMMANDS)
     with tempfile.TemporaryDirectory(prefix="conformance-") as folder:
         try:
-            return options.call(options, folder)
+            status = options.call(options, folder)
+            sys.stdout.flush()
+            return status
+        except BrokenPipeError:
+            leave_the_rest()
+            return 2
         except (Fault, OSError) as reason:
             print(f"spanprof-conformance: {reason}", file=sys.stderr)
             return 2

@@ -75,7 +75,7 @@ def which_binds(view):
     if not answers.span or threads == 1 or not speaks_of(answers.head, threads):
         return ""
     share = show.time(answers.work / threads, "span work / count %d" % threads, view.cost_kind)
-    span = show.time(answers.span, "span span", PROVED)
+    span = show.time(answers.span, "span span", PROVED, "down")
     is_span = answers.span * threads >= answers.work
     words = "the span, which only a shorter critical path lowers" if is_span else \
         "the work, which a shorter critical path alone does not lower"

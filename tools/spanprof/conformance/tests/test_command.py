@@ -1,0 +1,33 @@
+"""How the command ends."""
+import contextlib
+import io
+import types
+import unittest
+from unittest import mock
+
+from spanprof.conformance import command
+from spanprof.errors import Fault
+
+
+def ended(fault):
+    """The status, and what is told, where a command ends with this fault."""
+    told = io.StringIO()
+    options = types.SimpleNamespace(call=mock.Mock(side_effect=fault))
+    with mock.patch.object(command, "parse", return_value=options), contextlib.redirect_stderr(told), \
+            mock.patch.object(command, "leave_the_rest") as left:
+        return command.main(), told.getvalue(), left.called
+
+
+class Ends(unittest.TestCase):
+    def test_faults_are_told(self):
+        self.assertEqual(ended(Fault("no such")), (2, "spanprof-conformance: no such\n", False))
+
+    def test_nothing_is_told_of_a_closed_pipe(self):
+        self.assertEqual(ended(BrokenPipeError()), (2, "", True))
+
+    def test_an_interruption(self):
+        self.assertEqual(ended(KeyboardInterrupt()), (130, "", False))
+
+
+if __name__ == "__main__":
+    unittest.main()
