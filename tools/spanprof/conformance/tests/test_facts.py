@@ -35,8 +35,8 @@ class Facts(unittest.TestCase):
             "setting priorities": "priorities count: `OMP_MAX_TASK_PRIORITY=9`", "tasks": "tied"})
 
     def test_of_mutants(self):
-        options = types.SimpleNamespace(threads=(2, 4), runs=3, seed=7, tasks=["tied"], without=[], match="*", timeout=3,
-                                        programs=20, directed=True, seconds=60)
+        options = types.SimpleNamespace(threads=(2, 4), runs=3, seed=7, tasks=["tied"], without=[], match="*",
+                                        timeout=3, programs=20, directed=True, seconds=60)
         found = of_mutants(options, types.SimpleNamespace(toolchain=StubToolchain()), ["free"])
         self.assertEqual((found["threads"], found["random programs"], found["settings"]), ("2, 4", "20", "free"))
         self.assertEqual(len(found["texts of directed programs"]), 64)
