@@ -53,10 +53,9 @@ def outside_on(base, growth, threads):
     return int(growth.outside(base, threads)) if growth else base.outside
 
 
-def simulated(simulation, program, costs, threads, spent, came=(), runs=RUNS):
+def simulated(simulation, program, costs, threads, spent, came, seeds):
     """The median end of some runs."""
-    return statistics.median_low(
-        simulation(program, costs, threads, spent, seed, came).run().end for seed in range(runs))
+    return statistics.median_low(simulation(program, costs, threads, spent, seed, came).run().end for seed in seeds)
 
 
 def spent_on(machine, threads, base=None):
@@ -88,14 +87,14 @@ def runs_of(runtime, base, machine, threads):
     return Simulation, dispatch_on(machine, threads, base), spent, on_threads(base.arrivals, base.threads, threads)
 
 
-def of_one(base, growth, machine, threads, runtime, runs=RUNS):
+def of_one(base, growth, machine, threads, runtime, seeds):
     """By one recording, and by how code grows; without an interval."""
     costs = growth.costs(base.program, threads) if growth else base.program.costs
     grown = log(max(sum(costs), 1) / max(base.work, 1))
     simulation, dispatch, spent, came = runs_of(runtime, base, machine, threads)
     costs = burdened(base.program, costs, dispatch)
     outside = outside_on(base, growth, threads)
-    end = simulated(simulation, base.program, costs, threads, spent, came, runs) + outside
+    end = simulated(simulation, base.program, costs, threads, spent, came, seeds) + outside
     time = max(end, base.held)
     return Estimate(base, threads, time, time, time, costs, outside, dispatch, spent.steal, grown, base.held > end,
                     growth.unmatched if growth else 0.0, runtime)
@@ -105,7 +104,8 @@ def estimate(recordings, machine, threads, runtime=LLVM):
     """The median by several recordings, which stand in lists by their number of threads."""
     bases, growth = base_of(recordings, threads)
     runs = -(-RUNS // len(bases))
-    found = sorted((of_one(base, growth, machine, threads, runtime, runs) for base in bases), key=lambda one: one.time)
+    found = sorted((of_one(base, growth, machine, threads, runtime, range(runs * i, runs * (i + 1)))
+                    for i, base in enumerate(bases)), key=lambda one: one.time)
     middle, fewest = found[(len(found) - 1) // 2], min(map(len, recordings.values())) if growth else len(found)
     apart = spread([one.time for one in found])
     kind = CHANGED if middle.base.is_changed else kind_of(recordings, threads)

@@ -16,10 +16,10 @@ class Width(NamedTuple):
 
 
 AS_RECORDED, ON_OTHERS, ALONE, CHANGED = "as recorded", "on others", "alone", "changed"
-WIDTHS = {AS_RECORDED: Width(0.11, 0.08),   # on as many threads as were recorded
-          ON_OTHERS: Width(0.11, 0.09),     # on another number, where recordings tell how code grows
-          ALONE: Width(0.23, 0.28),         # on another number, by recordings on one
-          CHANGED: Width(0.20, 0.20)}       # of a changed text
+WIDTHS = {AS_RECORDED: Width(0.11, 0.04),   # on as many threads as were recorded
+          ON_OTHERS: Width(0.07, 0.04),     # on another number, where recordings tell how code grows
+          ALONE: Width(0.23, 0.24),         # on another number, by recordings on one
+          CHANGED: Width(0.25, 0.21)}       # of a changed text
 
 
 def spread(times):

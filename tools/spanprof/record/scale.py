@@ -119,29 +119,16 @@ def name_of(folder, threads, turn):
 
 
 def record_each(session, numbers):
-    """The recordings on each of these numbers of threads, in turns as the unrecorded runs: their threads, first names,
-    and variables. The last one on the most threads is left: that is the one with a summary.
-
-    No text is made in between. Runs follow one another here as the unrecorded ones do, since behind a pause of the
-    processors they are slow more often."""
-    folder, logs, runs = make_folder(session.out), [], session.options.runs
+    """The first names of the recordings on each of these numbers of threads, in turns as the unrecorded runs. The last
+    one on the most threads is left: that is the one with a summary."""
+    folder, names, runs = make_folder(session.out), {threads: [] for threads in numbers}, session.options.runs
     for turn in range(1, runs + 1):
         for threads in numbers if turn < runs else numbers[:-1]:
             prepare(session, threads, turn)
-            name = name_of(folder, threads, turn)
-            status, variables = session.leave_log(name)
+            names[threads].append(name_of(folder, threads, turn))
+            status, _ = session.run(names[threads][-1])
             if status:
                 raise Failed(status, "recorded run %d of %d %s" % (turn, runs, on_threads(threads)))
-            logs.append((threads, name, variables))
-    return logs
-
-
-def convert_each(session, logs):
-    """The first names of the recordings by threads."""
-    names = {}
-    for threads, name, variables in logs:
-        session.convert(name, variables)
-        names.setdefault(threads, []).append(name)
     return names
 
 
@@ -206,7 +193,7 @@ def record_scale(session):
     numbers, runs = session.options.scale, session.options.runs
     try:
         times = unrecorded(session, numbers, runs)
-        logs = record_each(session, numbers)
+        names = record_each(session, numbers)
     except Failed as failed:
         say(str(failed))
         return failed.status, [], None, None
@@ -215,7 +202,6 @@ def record_scale(session):
     if status:
         say(str(Failed(status, "recorded run %d of %d %s" % (runs, runs, on_threads(numbers[-1])))))
         return status, found, said, None
-    regions, texts = regions_of(convert_each(session, logs), found, numbers[-1])
-    scale = Scale(runs, times, regions, texts, os.path.basename(session.preload),
+    scale = Scale(runs, times, *regions_of(names, found, numbers[-1]), os.path.basename(session.preload),
                   len(os.sched_getaffinity(0)))
     return status, found, said, scale

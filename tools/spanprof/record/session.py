@@ -66,24 +66,16 @@ class Session:
         self.converter = converter(RECORDERS, tell)
         self.notes = notes_on(self.preload, linked.called, bool(options.runtime))
 
-    def leave_log(self, out, others=None):
-        """One run, with other variables too: how the program ended, and the variables that it had."""
+    def run(self, out, others=None):
+        """One run, with other variables too: how the program ended, and what is told of its logs."""
         remove_old(out)
         asked = dict(os.environ, **others or {})
         if spanprof_large():
             asked["SPANPROF_TIMES"] = "1"
         variables = environment(asked, self.options, self.library, self.preload, out)
-        return run(self.path, self.options.command, variables), variables
-
-    def convert(self, out, variables):
-        """What is told of the logs of a run that had these variables."""
+        status = run(self.path, self.options.command, variables)
         tell("converting " + os.path.basename(out) + ".log")
-        return convert_all(self.converter, out, variables)
-
-    def run(self, out, others=None):
-        """One run, with other variables too: how the program ended, and what is told of its logs."""
-        status, variables = self.leave_log(out, others)
-        return status, self.convert(out, variables)
+        return status, convert_all(self.converter, out, variables)
 
     def record_once(self):
         """The program's end, the recordings, and what was said."""

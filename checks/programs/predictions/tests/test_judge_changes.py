@@ -54,8 +54,9 @@ def row(name, true, errors, times):
 class Told(unittest.TestCase):
     def test_lines(self):
         rows = [row("a", 100, [0.02, -0.04], [99, 101]), row("b", 100, [0.3], [100])]
-        (is_met, words), (is_met_by_all, _) = lines("changed", rows, AFTER)
-        self.assertFalse(is_met or is_met_by_all)
+        (is_met, words), (_, by_all) = lines("changed", rows, AFTER)
+        self.assertFalse(is_met)
+        self.assertIn("all recordings: median 16.0 % (5), nine of ten 30.0 %", by_all)
         self.assertEqual(words, "changed, one recording: median 4.0 % (5), nine of ten 30.0 % (20), worst 30.0 %, "
                                 "covered 3 of 3")
         self.assertEqual([is_met for is_met, _ in lines("changed", rows[:1], AFTER)], [True, True])

@@ -101,12 +101,10 @@ class Recorded(unittest.TestCase):
         made = mock.Mock(out=self.out, preload="/lib/libomp.so.5", options=options)
 
         def run(*_):
-            self.assertFalse(made.convert.called)
             threads.append(options.threads)
-            return next(left), {"OMP_NUM_THREADS": options.threads}
-        made.leave_log.side_effect = run
+            return next(left), Told(True, [])
+        made.run.side_effect = run
         made.record_once.side_effect = lambda: (run()[0], [], Told(True, []))
-        self.made = made
         with mock.patch("spanprof.record.scale.unrecorded", return_value={1: [9], 2: [5], 4: [3]}), \
                 contextlib.redirect_stderr(told):
             return scale.record_scale(made), told.getvalue(), threads
@@ -119,9 +117,6 @@ class Recorded(unittest.TestCase):
     def test_in_turns(self):
         (status, *_), told, threads = self.record(*[0] * 6, runs=2)
         self.assertEqual((status, told, threads), (0, "", [1, 2, 4] * 2))
-        self.assertEqual([(os.path.basename(call.args[0]), call.args[1]["OMP_NUM_THREADS"])
-                          for call in self.made.convert.call_args_list],
-                         [("threads1", 1), ("threads2", 2), ("threads4", 4), ("threads1-2", 1), ("threads2-2", 2)])
         self.assertEqual([os.path.basename(scale.name_of("mine.scale", 4, turn)) for turn in (1, 2)],
                          ["threads4", "threads4-2"])
 
