@@ -27,7 +27,6 @@ extern
 ThreadLog *make_thread_log();  // null where it cannot be made
 bool nothing_recorded();  // in this process
 double nanoseconds_of_tick();
-uint64_t ticks_of_beginning();
 int64_t wall_time_at(uint64_t ticks);
 void count_open_region(int more);
 bool inside_a_region();  // any thread of the program
