@@ -24,23 +24,22 @@ struct RawRecord {
 constexpr uint32_t bytes_by_wall = sizeof(RawRecord), bytes_by_processor = bytes_by_wall + sizeof(int64_t);
 
 // By the wall clock most records are short, from the lowest bit on: `other`, 32 bits; ticks since the thread's record
-// before, 25; what it tells, 6. Their task is the one that the thread is in, as its records before tell.
+// before, 24; what it tells, 7. Their task is the one that the thread is in, as its records before tell.
 using ShortRecord = uint64_t;
 constexpr ShortRecord short_bit = uint64_t{1} << 63;
-constexpr unsigned other_bits = 32, short_ticks = 25, what_bits = 6;
+constexpr unsigned other_bits = 32, short_ticks = 24, what_bits = 7;
 constexpr uint64_t ticks_too_long = uint64_t{1} << short_ticks;
 constexpr ShortRecord make_short(uint64_t ticks, unsigned what, uint32_t other) {
   return short_bit | uint64_t{what} << (other_bits + short_ticks) | ticks << other_bits | other;
 }
 
-// What a short record tells: below 32 that the thread goes to another task, with this status. Else the word is that of
-// the thread's last long record whose word has the same slot.
-constexpr unsigned words_kept = 32;
-constexpr unsigned slot_of(uint64_t word) {
-  constexpr uint64_t odd = 0x9E3779B97F4A7C15;  // 2^64 over the golden ratio
-  return static_cast<unsigned>(word * odd >> 59);
+// What a short record tells: below 64 that the thread goes to another task, with this status. Else it is like the
+// thread's last long record that has this slot, which those have that make a task, or begin or end a wait.
+constexpr unsigned slots = 64;
+constexpr unsigned slot_of(uint64_t code, unsigned kind) {
+  constexpr unsigned apart = 27;  // so that those of one place have slots of their own
+  return static_cast<unsigned>((code >> 2) + kind * apart) % slots;
 }
-constexpr unsigned kept_word(uint64_t word) { return words_kept + slot_of(word); }
 
 constexpr uint32_t block_bytes = 8 * 12288;  // whole pages
 constexpr uint32_t kept_free = 64;  // at the end of a block: the last record that begins before, and what is cleared

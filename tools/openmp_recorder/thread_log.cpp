@@ -76,10 +76,13 @@ class Scratch : public ThreadLog {
     return out;
   }
   std::vector<int64_t> before_short_ones() const {
-    constexpr std::size_t bytes = sizeof(log_form::ShortRecord);
     std::vector<int64_t> out;
-    for (const char *at = room.data() + log_form::bytes_by_wall; at < next; at += bytes)
-      out.push_back(number_at(at) >> log_form::other_bits & (log_form::ticks_too_long - 1));
+    for (const char *at = room.data(); at < next;) {
+      auto first = static_cast<uint64_t>(number_at(at));
+      bool is_short = first & log_form::short_bit;
+      if (is_short) out.push_back(first >> log_form::other_bits & (log_form::ticks_too_long - 1));
+      at += is_short ? sizeof first : log_form::bytes_by_wall;
+    }
     return out;
   }
   static int64_t number_at(const char *place) {
@@ -92,8 +95,8 @@ class Scratch : public ThreadLog {
 }  // namespace
 
 ThreadLog::ThreadLog(unsigned of)
-    : far_ticks(static_cast<uint64_t>(far_apart / nanoseconds_of_tick())),
-      number(of),
+    : number(of),
+      far_ticks(static_cast<uint64_t>(far_apart / nanoseconds_of_tick())),
       near_ticks(static_cast<uint64_t>(chunks_together / nanoseconds_of_tick())),
       both(costs_by_processor) {}
 
@@ -134,16 +137,24 @@ void ThreadLog::put_long(const log_form::RawRecord &told, uint32_t bytes) {
   record->other = told.other;
   record->word = told.word;
   __atomic_store_n(&record->at, told.at, __ATOMIC_RELEASE);
-  words.told(told.word);
+  follow(told);
+}
+
+// What short records that come next leave out.
+void ThreadLog::follow(const log_form::RawRecord &told) {
   Told kind = log_form::told_by(told.word);
-  if (kind != Told::Items) last = told.at;
-  if (tells_its_task(kind)) current = kind == Told::Schedule ? told.other : told.task;
+  if (kind == Told::Items) return;
+  uint64_t passed = told.at - looked;
+  last = told.at;
+  left = std::min(passed < far_ticks ? far_ticks - passed : 0, log_form::ticks_too_long);
+  if (kind == Told::Schedule) current = told.other;
+  if (has_slot(kind)) current = told.task;
 }
 
 Times ThreadLog::times(const Moment &now) const { return {wall_time_at(now.at), now.processor}; }
 
 void ThreadLog::compare_clocks(const Moment &now) {
-  looked = now.at;
+  look(now.at);
   is_slow = is_slow || !costs_by_processor;
   std::optional<Passed> passed = both.at_record(times(now));
   if (!passed) return;
@@ -156,13 +167,13 @@ void ThreadLog::compare_clocks(const Moment &now) {
 
 void ThreadLog::wait_begins(const Moment &now) {
   if (!costs_by_processor && now.at - looked < far_ticks) return;
-  looked = now.at;
+  look(now.at);
   both.wait_begins(times(now));
 }
 
 void ThreadLog::wait_ends(const Moment &now) {
   if (!costs_by_processor && now.at - looked < far_ticks) return;
-  looked = now.at;
+  look(now.at);
   both.wait_ends(times(now));
 }
 

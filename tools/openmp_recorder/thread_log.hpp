@@ -34,19 +34,30 @@ struct OwnNumbers {
 };
 void take_numbers(OwnNumbers &of);  // where none are left; there may be no more
 
-// Words of long records that a short one may stand for. Their places are known to be the program's, as long as no
-// region begins or ends, and need not be looked for on the stack.
-class WordsTold {
+// Long records that short ones may be like, as the runtime told them. Their places are known to be the program's, as
+// long as no region begins or ends, and need not be looked for on the stack.
+class LikeRecords {
  public:
-  bool has(uint64_t word) const { return words[log_form::slot_of(word)] == word; }
-  void add(uint64_t word) { words[log_form::slot_of(word)] = word; }
-  void told(uint64_t word) {  // by a long record, whose place is not known
-    if (!has(word)) words[log_form::slot_of(word)] = 0;
+  LikeRecords() { forget(); }
+  bool has(Told told, const void *code, uint32_t detail) const {
+    const One &one = all[slot(told, code)];
+    return one.code == code && one.detail == detail;
   }
-  void forget() { words = {}; }
+  void add(Told told, const void *code, uint32_t detail) { all[slot(told, code)] = {code, detail}; }
+  void remove(Told told, const void *code) { all[slot(told, code)] = {this, 0}; }
+  void forget() {
+    for (One &one : all) one = {this, 0};  // where no code is
+  }
+  static unsigned slot(Told told, const void *code) {
+    return log_form::slot_of(reinterpret_cast<uint64_t>(code), static_cast<unsigned>(told));
+  }
 
  private:
-  std::array<uint64_t, log_form::words_kept> words{};
+  struct One {
+    const void *code;
+    uint32_t detail;
+  };
+  std::array<One, log_form::slots> all;
 };
 
 class OnlineThread;
@@ -57,13 +68,13 @@ class alignas(64) ThreadLog {
 
  private:
   uint64_t last = 0;  // ticks of the record before
-  uint64_t looked = 0, far_ticks;  // when both clocks were looked at last
+  uint64_t left = 0;  // how many more the next one may have, where it is short
   uint32_t current = nobody;  // the task that the thread is in, as its records tell
 
  public:
   OwnNumbers numbers;
   uint64_t own = 0;  // the innermost of `implicit`; up to here in one line of the cache
-  WordsTold words;
+  LikeRecords like;
 
   explicit ThreadLog(unsigned of);
   const unsigned number;
@@ -100,23 +111,27 @@ class alignas(64) ThreadLog {
   }
   void put_by_wall(uint64_t at, Told told, uint32_t task, uint32_t other, uint64_t code, unsigned detail) {
     if (__builtin_expect(!has_room(), false) && !grow()) return;
-    if (told == Told::Schedule && follows(at, task) && detail < log_form::words_kept) return go_on(at, detail, other);
+    if (told == Told::Schedule && takes_short(at - last, task) && detail < log_form::slots)
+      return go_on(at - last, detail, other);
     put_long({at, task, other, log_form::make_word(code, static_cast<unsigned>(told), detail)},
              log_form::bytes_by_wall);
   }
-  // Whether a short record may be put, and nothing else is to be done.
-  bool takes_short(uint64_t at, uint64_t task) const { return !is_far(at) && has_room() && follows(at, task); }
-  void put_short(uint64_t at, unsigned what, uint32_t other) {
-    auto *record = reinterpret_cast<log_form::ShortRecord *>(next);
-    next += sizeof *record;
-    clear(next);
-    __atomic_store_n(record, log_form::make_short(at - last, what, other), __ATOMIC_RELEASE);
-    last = at;
+  // Whether so many ticks after the record before a short one may be put, and nothing else is to be done.
+  bool takes_short(uint64_t ticks, uint64_t task) const { return ticks < left && has_room() && task == current; }
+  uint64_t ticks_since_last(uint64_t at) const { return at - last; }
+  void put_short(uint64_t ticks, unsigned what, uint32_t other) {
+    char *place = next;
+    clear(place + sizeof(log_form::ShortRecord));
+    next = place + sizeof(log_form::ShortRecord);
+    last += ticks;
+    left -= ticks;
+    __atomic_store_n(reinterpret_cast<uint64_t *>(place), log_form::make_short(ticks, what, other), __ATOMIC_RELEASE);
   }
-  void go_on(uint64_t at, unsigned status, uint32_t other) {
-    put_short(at, status, other);
+  void go_on(uint64_t ticks, unsigned status, uint32_t other) {
     current = other;
+    put_short(ticks, status, other);
   }
+  void put_like(uint64_t ticks, unsigned slot, uint32_t other) { put_short(ticks, log_form::slots + slot, other); }
   bool is_far(uint64_t at) const { return at - looked >= far_ticks; }
   void look_at_clocks(const Moment &now) {
     if (costs_by_processor || is_far(now.at)) compare_clocks(now);
@@ -140,11 +155,14 @@ class alignas(64) ThreadLog {
   // No task has this number: the first record of a block is long, so that no two blocks begin alike.
   static constexpr uint32_t nobody = UINT32_MAX;
   bool has_room() const { return next < end; }
-  bool follows(uint64_t at, uint64_t task) const { return at - last < log_form::ticks_too_long && task == current; }
+
   // The bytes that say that a record is there come last, and before them what follows is cleared.
   void put_long(const log_form::RawRecord &record, uint32_t bytes);
+  void follow(const log_form::RawRecord &record);
+  void look(uint64_t at) { looked = at, left = 0; }
   static void clear(char *place) { __atomic_store_n(reinterpret_cast<uint64_t *>(place), 0, __ATOMIC_RELEASE); }
 
+  uint64_t looked = 0, far_ticks;  // when both clocks were looked at last
   uint64_t near_ticks, chunk_began = 0, joined_turns = 0;
   char *block = nullptr;
   uint64_t written = 0;  // bytes of full blocks

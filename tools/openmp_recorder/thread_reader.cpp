@@ -65,18 +65,21 @@ size_t ThreadReader::read_here() {
 void ThreadReader::read_short(log_form::ShortRecord record) {
   ticks += record >> log_form::other_bits & (log_form::ticks_too_long - 1);
   unsigned what = record >> (log_form::other_bits + log_form::short_ticks) & ((1U << log_form::what_bits) - 1);
-  bool is_kept = what >= log_form::words_kept;
-  uint64_t word = is_kept ? words[what - log_form::words_kept]
-                          : log_form::make_word(0, static_cast<unsigned>(Told::Schedule), what);
+  bool goes_on = what < log_form::slots;
+  uint64_t word =
+      goes_on ? log_form::make_word(0, static_cast<unsigned>(Told::Schedule), what) : words[what - log_form::slots];
   raw.record = {ticks, current, static_cast<uint32_t>(record), word};
-  if (!is_kept) current = raw.record.other;
+  if (goes_on) current = raw.record.other;
 }
 
 // What short records leave out.
 void ThreadReader::keep_long() {
-  words[log_form::slot_of(raw.record.word)] = raw.record.word;
-  if (raw.told() != Told::Items) ticks = raw.record.at;
-  if (tells_its_task(raw.told())) current = raw.told() == Told::Schedule ? raw.record.other : raw.record.task;
+  if (raw.told() == Told::Items) return;
+  ticks = raw.record.at;
+  if (raw.told() == Told::Schedule) current = raw.record.other;
+  if (!has_slot(raw.told())) return;
+  current = raw.record.task;
+  words[log_form::slot_of(raw.code(), static_cast<unsigned>(raw.told()))] = raw.record.word;
 }
 
 // One record; none where the thread has written no more.

@@ -35,7 +35,7 @@ class ThreadReader : public Records {
   uint64_t left = 0;  // bytes of `file`
   size_t told = 0;  // records so far that say what runs
   std::vector<uint32_t> regions;  // of these tasks
-  std::array<uint64_t, log_form::words_kept> words{};  // of long records, by their slots
+  std::array<uint64_t, log_form::slots> words{};  // of long records, by their slots
   uint64_t ticks = 0;  // of the record before
   uint32_t current = 0;  // the task that the thread is in
   Raw raw{};

@@ -29,10 +29,8 @@ enum class Told : uint8_t {
   DividedEnd  // and is done with it
 };
 
-// Whether a thread's short records that follow leave out the task of such a record: the one that it is in, or goes to.
-constexpr bool tells_its_task(Told told) {
-  return told == Told::Schedule || told == Told::Create || told == Told::SyncBegin || told == Told::SyncEnd;
-}
+// Whether short records that follow may be like such a one.
+constexpr bool has_slot(Told told) { return told == Told::Create || told == Told::SyncBegin || told == Told::SyncEnd; }
 
 // Details of a record: of Create what is set of the first four, of ImplicitBegin and ParallelBegin the last two; of
 // Schedule the status, of the others the kind, as OMPT has them.

@@ -121,13 +121,13 @@ TEST(a_short_record_goes_from_the_task_that_the_thread_is_in) {
   EXPECT(found[2].order, 1040u);
 }
 
-TEST(a_short_record_stands_for_the_last_long_one_of_its_slot) {
+TEST(a_short_record_is_like_the_last_long_one_of_its_slot) {
   MadeLog log;
-  RawRecord made = raw(1000, Told::Create, 3, 4, 77, is_untied), items = raw(50, Told::Items, 9, 0, 0, 1);
+  unsigned like = log_form::slots + log_form::slot_of(77, static_cast<unsigned>(Told::Create));
   Block block;
-  block.add(made).add(log_form::make_short(20, log_form::kept_word(made.word), 6));
-  block.add(raw(1030, Told::Dependences, 6, 0, 1)).add(items);
-  block.add(log_form::make_short(9, log_form::kept_word(made.word), 7));
+  block.add(raw(1000, Told::Create, 3, 4, 77, is_untied)).add(log_form::make_short(20, like, 6));
+  block.add(raw(1030, Told::Dependences, 6, 0, 1)).add(raw(50, Told::Items, 9, 0, 0, 1));
+  block.add(log_form::make_short(9, like, 7));
   log.last(block.records());
   std::vector<Record> found = log.records();
   EXPECT(found.size(), 4u);

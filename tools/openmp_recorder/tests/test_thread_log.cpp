@@ -45,11 +45,12 @@ class Appended {
   void append(ThreadLog &log, uint32_t number) {
     Moment now{beginning + 10 * number, static_cast<int64_t>(7 * number)};
     if (number % 3) return log.put(now, Told::Schedule, task_of(number), task_of(number + 1), 0, number % 8);
-    uint64_t word = log_form::make_word(place_of(number), static_cast<unsigned>(Told::Create), 0);
-    if (!costs_by_processor && log.words.has(word) && log.takes_short(now.at, task_of(number)))
-      return log.put_short(now.at, log_form::kept_word(word), number);
+    auto *code = reinterpret_cast<const void *>(place_of(number));
+    uint64_t ticks = log.ticks_since_last(now.at);
+    if (!costs_by_processor && log.like.has(Told::Create, code, 0) && log.takes_short(ticks, task_of(number)))
+      return log.put_like(ticks, LikeRecords::slot(Told::Create, code), number);
     log.put(now, Told::Create, task_of(number), number, place_of(number), 0);
-    log.words.add(word);
+    log.like.add(Told::Create, code, 0);
   }
   uint64_t bytes_in_file() const {
     struct stat told {};
