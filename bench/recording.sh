@@ -1,6 +1,6 @@
 #!/usr/bin/env bash
-# Measures what recording costs a program of OpenMP tasks, on four threads (OMP_NUM_THREADS), and what its log takes to be
-# converted: recording.sh [RUNS].
+# Measures what recording costs a program of OpenMP tasks, on four threads (OMP_NUM_THREADS), and what its log takes to
+# be converted: recording.sh [RUNS [OTHER_RECORDER.so]].
 set -euo pipefail
 # shellcheck source=bench/common.sh
 . "$(dirname "$0")/common.sh"

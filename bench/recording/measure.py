@@ -1,13 +1,17 @@
 #!/usr/bin/env python3
-"""What recording costs: measure.py FOLDER RECORDER CONVERTER [RUNS], with the programs that recording.sh built in the
-folder, the recorder's library and the converter of logs.
+"""What recording costs: measure.py FOLDER RECORDER CONVERTER [RUNS [OTHER]], with the programs that recording.sh built
+in the folder, the recorder's library and the converter of logs. OTHER is the library of another recorder, such as an
+older one.
 
-All of it is processor time, which a machine that does other things tells too. For tasks of 1, 10 and 100 microseconds:
-that of the region without a tool, with a tool that does nothing, and with the recorder by each clock. Then that of the
-tools alone, which `calls` calls as a runtime does, on one thread. For a million tasks the bytes of the log and what the
-converter takes. Each number is the least of RUNS (7), which take turns.
+All of it is processor time, which a machine that does other things tells too. For tasks with 1, 10 and 100
+microseconds of code: that of the region without a tool, with a tool that does nothing, and with the recorder by each
+clock. All threads count, with what the runtime does and how it waits. All take turns, RUNS (40) times. Of the region
+without a tool it is the median; of each other one the median of what it takes more in the same turn, with quartiles,
+and by how much it is longer. Then that of the tools alone, which `calls` calls as a runtime does, on one thread, and
+for a million tasks the bytes of the log and what the converter takes: the least of a few runs.
 """
 import os
+import statistics
 import subprocess
 import sys
 import tempfile
@@ -16,7 +20,9 @@ from dataclasses import dataclass
 SIZES = ((1, 200_000), (10, 40_000), (100, 8_000))  # microseconds of a task, and how many tasks
 MILLION = 1_000_000
 CALLED = 200_000
+FEW = 5
 WAYS = ("without", "a tool that does nothing", "the recorder, wall", "the recorder, cpu")
+OTHER = "the other recorder, wall"
 
 
 @dataclass
@@ -24,11 +30,17 @@ class Built:
     folder: str
     recorder: str
     converter: str
+    other: str = ""
+
+    def ways(self):
+        return WAYS + ((OTHER,) if self.other else ())
 
     def tool(self, way):
         """The library of one of the ways; none without a tool."""
         if way == WAYS[0]:
             return ""
+        if way == OTHER:
+            return self.other
         return self.recorder if way.startswith("the recorder") else os.path.join(self.folder, "nothing.so")
 
     def program(self, name):
@@ -92,13 +104,17 @@ def million_of(built):
         return (size_of(out + ".log") / MILLION, *converted(built, out + ".log"))
 
 
-def least(ways, measure, runs):
-    """The least number of each way; the ways take turns, so that each meets the machine in the same state."""
+def in_turns(ways, measure, runs):
+    """What was measured of each way; the ways take turns, so that each meets the machine in the same state."""
     taken = {way: [] for way in ways}
     for _ in range(runs):
         for way in ways:
             taken[way].append(measure(way))
-    return {way: min(some) for way, some in taken.items()}
+    return taken
+
+
+def least(ways, measure, runs):
+    return {way: min(some) for way, some in in_turns(ways, measure, runs).items()}
 
 
 def row(cells):
@@ -109,27 +125,35 @@ def table(*heads):
     return row(heads) + "\n" + row(["---"] * len(heads))
 
 
+def more(first, other):
+    """Of what was measured in turns: the median of the differences, their quartiles, and the median of the ratios."""
+    apart = [mine - base for mine, base in zip(other, first)]
+    low, middle, high = statistics.quantiles(apart, n=4) if len(apart) > 1 else apart * 3
+    times = statistics.median(mine / base for mine, base in zip(other, first))
+    return "%.2f (%.2f to %.2f), %.2f times" % (middle, low, high, times)
+
+
 def more_row(name, measured):
     """What the first way takes, and how much more each other one does."""
     first, *others = measured.values()
-    return row([name, "%.2f" % first] + ["%.2f" % (other - first) for other in others])
+    return row([name, "%.2f" % statistics.median(first)] + [more(first, other) for other in others])
 
 
 def main():
-    built = Built(*map(os.path.abspath, sys.argv[1:4]))
-    runs = int(sys.argv[4]) if len(sys.argv) > 4 else 7
+    runs = int(sys.argv[4]) if len(sys.argv) > 4 else 40
+    built = Built(*map(os.path.abspath, sys.argv[1:4]), *map(os.path.abspath, sys.argv[5:6]))
     turns = int(numbers([built.program("tasks"), "0"], dict(os.environ))[0])
-    print(table("Processor time, us a task", "Without", *("More with " + way for way in WAYS[1:])))
+    print(table("Processor time, us a task", "Without", *("More with " + way for way in built.ways()[1:])))
     for size, count in SIZES:
-        print(more_row("A task of %d us" % size,
-                       least(WAYS, lambda way, c=count, s=size: region_of(built, way, c, s * turns), runs)), flush=True)
+        measured = in_turns(built.ways(), lambda way, c=count, s=size: region_of(built, way, c, s * turns), runs)
+        print(more_row("%d us of code" % size, measured), flush=True)
     print()
-    alone = least(WAYS[1:], lambda way: calls_of(built, way), runs)
+    alone = least(built.ways()[1:], lambda way: calls_of(built, way), FEW)
     print(table("The tool alone", "Processor time, us a task"))
     for way, taken in alone.items():
         print(row([way, "%.3f" % taken]))
     print()
-    log, spent, memory = map(min, zip(*(million_of(built) for _ in range(runs))))
+    log, spent, memory = map(min, zip(*(million_of(built) for _ in range(FEW))))
     print(table("A million tasks", ""))
     print(row(["bytes of the log a task", "%.0f" % log]))
     print(row(["conversion, s of processor time", "%.2f" % spent]))

@@ -3,7 +3,7 @@ import os
 import tempfile
 import unittest
 
-from measure import WAYS, Built, environment, least, more_row, size_of, table
+from measure import OTHER, WAYS, Built, environment, least, more_row, size_of, table
 
 BUILT = Built("/built", "/r.so", "/convert")
 
@@ -24,8 +24,17 @@ class Measures(unittest.TestCase):
         self.assertEqual([one.get("OMP_TOOL_LIBRARIES") for one in told], [None, "/built/nothing.so", "/r.so", "/r.so"])
         self.assertEqual([one["SPANPROF_CLOCK"] for one in told], ["wall", "wall", "wall", "cpu"])
 
-    def test_rows(self):
-        self.assertEqual(more_row("10 us", {"without": 2.0, "a": 2.25, "b": 3.0}), "| 10 us | 2.00 | 0.25 | 1.00 |")
+    def test_another_recorder_is_one_way_more(self):
+        both = Built("/built", "/r.so", "/convert", "/o.so")
+        self.assertEqual(both.ways(), WAYS + (OTHER,))
+        self.assertEqual(both.tool(OTHER), "/o.so")
+        self.assertEqual(environment("/o.so", OTHER, "o")["SPANPROF_CLOCK"], "wall")
+
+    def test_what_is_more_is_told_turn_by_turn(self):
+        measured = {"without": [2.0, 4.0, 1.0], "a": [2.5, 4.25, 1.5]}
+        self.assertEqual(more_row("10 us", measured), "| 10 us | 2.00 | 0.50 (0.25 to 0.50), 1.25 times |")
+        self.assertEqual(more_row("one", {"without": [2.0], "a": [3.0]}),
+                         "| one | 2.00 | 1.00 (1.00 to 1.00), 1.50 times |")
         self.assertEqual(table("a", "b"), "| a | b |\n| --- | --- |")
 
     def test_the_size_of_a_log(self):

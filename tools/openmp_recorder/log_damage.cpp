@@ -9,7 +9,7 @@ using log_form::Pair;
 constexpr double least_tick = 0.01, most_tick = 1000;  // nanoseconds
 constexpr int64_t most_in_a_record = 1000000;
 constexpr double may_go_back = 1e6;  // nanoseconds, where processors' counters differ
-constexpr uint64_t most_ticks = uint64_t{1} << log_form::short_ticks;
+constexpr uint64_t most_ticks = uint64_t{1} << 60;  // in the longest time there are fewer
 constexpr int64_t latest_wall = int64_t{1} << 61;
 
 bool is_wall(int64_t time) { return time >= 0 && time < latest_wall; }

@@ -5,33 +5,40 @@
 #include <cstdint>
 #include <string>
 
+#include "told.hpp"
+
 namespace log_form {
 constexpr char magic[8] = {'S', 'P', 'A', 'N', 'P', 'L', 'O', 'G'};
-constexpr uint32_t version = 2;
+constexpr uint32_t version = 3;
 constexpr const char *head_file = "/head", *modules_file = "/modules", *thread_file = "/thread.", *last_block = ".last";
 constexpr const char *measured_file = "/online";  // where a run was measured while it went on, in the place of records
 
-// In machine order. Kinds are those of `Told`; what has the kind 0 is not written yet, and the block's records end
-// there. A record by the processor's clock has eight bytes more: that clock of the thread, in nanoseconds.
+// In machine order. Kinds are those of `Told`. Where the first eight bytes are 0 no record is written yet, and the
+// block's records end there. A record by the processor's clock has eight bytes more: that clock of the thread, in
+// nanoseconds.
 struct RawRecord {
-  uint64_t at;  // ticks when the runtime called
+  uint64_t at;  // ticks when the runtime called; the highest bit is 0
   uint32_t task, other;  // numbers of tasks, 0 where there is none; `other` is also a region
   uint64_t word;  // where in the program, 48 bits; the kind, 8; a detail, 8
 };
-static_assert(sizeof(RawRecord) == 24, "one is written for a task that waits for none, and two short ones");
 constexpr uint32_t bytes_by_wall = sizeof(RawRecord), bytes_by_processor = bytes_by_wall + sizeof(int64_t);
 
-// By the wall clock a thread goes from a task to another, which is told most often.
-struct ShortRecord {
-  uint64_t
-      word;  // ticks since the first pair of the head, 56 bits; the detail, 7; the highest bit says that it is short
-  uint32_t task, other;
-};
-constexpr uint64_t short_bit = uint64_t{1} << 63;
-constexpr unsigned short_ticks = 56;
-constexpr uint64_t make_short(uint64_t ticks, unsigned detail) {
-  constexpr unsigned is_short = 1U << (63 - short_ticks);
-  return (ticks & ((uint64_t{1} << short_ticks) - 1)) | uint64_t{detail | is_short} << short_ticks;
+// By the wall clock most records are short, from the lowest bit on: `other`, 32 bits; ticks since the thread's record
+// before, 24; what it tells, 7. Their task is the one that the thread is in, as its records before tell.
+using ShortRecord = uint64_t;
+constexpr ShortRecord short_bit = uint64_t{1} << 63;
+constexpr unsigned other_bits = 32, short_ticks = 24, what_bits = 7;
+constexpr uint64_t ticks_too_long = uint64_t{1} << short_ticks;
+constexpr ShortRecord make_short(uint64_t ticks, unsigned what, uint32_t other) {
+  return short_bit | uint64_t{what} << (other_bits + short_ticks) | ticks << other_bits | other;
+}
+
+// What a short record tells: below 64 that the thread goes to another task, with this status. Else it is like the
+// thread's last long record that has this slot, which those have that make a task, or begin or end a wait.
+constexpr unsigned slots = 64;
+constexpr unsigned slot_of(uint64_t code, unsigned kind) {
+  constexpr unsigned apart = 27;  // so that those of one place have slots of their own
+  return static_cast<unsigned>((code >> 2) + kind * apart) % slots;
 }
 
 constexpr uint32_t block_bytes = 8 * 12288;  // whole pages
@@ -41,6 +48,7 @@ constexpr uint64_t code_bits = 48, code_mask = (uint64_t{1} << code_bits) - 1;
 constexpr uint64_t make_word(uint64_t code, unsigned kind, unsigned detail) {
   return (code & code_mask) | uint64_t{kind} << 48 | uint64_t{detail} << 56;
 }
+constexpr Told told_by(uint64_t word) { return static_cast<Told>(word >> code_bits & 255); }
 
 enum class Counter : uint32_t { ClockGettime, TimeStamp };
 enum class HowEnded : uint32_t { Not, ByRuntime, InsideARegion };  // Not: killed, or it goes on

@@ -111,7 +111,6 @@ __thread ThreadLog *thread_log = nullptr;
 
 const Beginning &this_log() { return beginning; }
 double nanoseconds_of_tick() { return tick; }
-uint64_t ticks_of_beginning() { return first.ticks; }
 
 int64_t wall_time_at(uint64_t ticks) {
   return first.wall + static_cast<int64_t>(static_cast<double>(static_cast<int64_t>(ticks - first.ticks)) * tick);

@@ -26,7 +26,6 @@ extern
     __attribute__((tls_model("initial-exec"))) __thread ThreadLog *thread_log;  // the calling thread's, once it is made
 ThreadLog *make_thread_log();  // null where it cannot be made
 double nanoseconds_of_tick();
-uint64_t ticks_of_beginning();
 int64_t wall_time_at(uint64_t ticks);
 void count_open_region(int more);
 bool inside_a_region();  // any thread of the program

@@ -65,18 +65,30 @@ class Scratch : public ThreadLog {
     end = next + room.size() - log_form::kept_free;
   }
   // Between its records, in ticks or nanoseconds of the processor; where something else was done too, it is more.
-  std::vector<int64_t> apart() const {
-    std::size_t bytes = costs_by_processor ? log_form::bytes_by_processor : sizeof(log_form::ShortRecord);
-    std::vector<int64_t> out;
-    for (const char *at = room.data(); at + bytes < next; at += bytes) out.push_back(time_at(at + bytes) - time_at(at));
-    return out;
-  }
+  std::vector<int64_t> apart() const { return costs_by_processor ? between_long_ones() : before_short_ones(); }
 
  private:
-  static int64_t time_at(const char *record) {
-    int64_t time;
-    std::memcpy(&time, record + (costs_by_processor ? log_form::bytes_by_wall : 0), sizeof time);
-    return time;  // of two short ones the difference is that of their ticks
+  std::vector<int64_t> between_long_ones() const {
+    constexpr std::size_t bytes = log_form::bytes_by_processor;
+    std::vector<int64_t> out;
+    for (const char *at = room.data() + log_form::bytes_by_wall; at + bytes < next; at += bytes)
+      out.push_back(number_at(at + bytes) - number_at(at));
+    return out;
+  }
+  std::vector<int64_t> before_short_ones() const {
+    std::vector<int64_t> out;
+    for (const char *at = room.data(); at < next;) {
+      auto first = static_cast<uint64_t>(number_at(at));
+      bool is_short = first & log_form::short_bit;
+      if (is_short) out.push_back(first >> log_form::other_bits & (log_form::ticks_too_long - 1));
+      at += is_short ? sizeof first : log_form::bytes_by_wall;
+    }
+    return out;
+  }
+  static int64_t number_at(const char *place) {
+    int64_t number;
+    std::memcpy(&number, place, sizeof number);
+    return number;
   }
   std::vector<char> room;
 };
@@ -84,7 +96,6 @@ class Scratch : public ThreadLog {
 
 ThreadLog::ThreadLog(unsigned of)
     : number(of),
-      first_ticks(ticks_of_beginning()),
       far_ticks(static_cast<uint64_t>(far_apart / nanoseconds_of_tick())),
       near_ticks(static_cast<uint64_t>(chunks_together / nanoseconds_of_tick())),
       both(costs_by_processor) {}
@@ -114,13 +125,36 @@ bool ThreadLog::grow() {
   }
   next = block;
   end = block + log_form::block_bytes - log_form::kept_free;
+  current = nobody;
   return true;
+}
+
+void ThreadLog::put_long(const log_form::RawRecord &told, uint32_t bytes) {
+  auto *record = reinterpret_cast<log_form::RawRecord *>(next);
+  next += bytes;
+  clear(next);
+  record->task = told.task;
+  record->other = told.other;
+  record->word = told.word;
+  __atomic_store_n(&record->at, told.at, __ATOMIC_RELEASE);
+  follow(told);
+}
+
+// What short records that come next leave out.
+void ThreadLog::follow(const log_form::RawRecord &told) {
+  Told kind = log_form::told_by(told.word);
+  if (kind == Told::Items) return;
+  uint64_t passed = told.at - looked;
+  last = told.at;
+  left = std::min(passed < far_ticks ? far_ticks - passed : 0, log_form::ticks_too_long);
+  if (kind == Told::Schedule) current = told.other;
+  if (has_slot(kind)) current = told.task;
 }
 
 Times ThreadLog::times(const Moment &now) const { return {wall_time_at(now.at), now.processor}; }
 
 void ThreadLog::compare_clocks(const Moment &now) {
-  looked = now.at;
+  look(now.at);
   is_slow = is_slow || !costs_by_processor;
   std::optional<Passed> passed = both.at_record(times(now));
   if (!passed) return;
@@ -133,13 +167,13 @@ void ThreadLog::compare_clocks(const Moment &now) {
 
 void ThreadLog::wait_begins(const Moment &now) {
   if (!costs_by_processor && now.at - looked < far_ticks) return;
-  looked = now.at;
+  look(now.at);
   both.wait_begins(times(now));
 }
 
 void ThreadLog::wait_ends(const Moment &now) {
   if (!costs_by_processor && now.at - looked < far_ticks) return;
-  looked = now.at;
+  look(now.at);
   both.wait_ends(times(now));
 }
 

@@ -1,6 +1,7 @@
 // What one thread appends to: a block that is mapped from a file, so what was recorded is there however the program
 // ends. A full block goes to the end of another file.
 #pragma once
+#include <array>
 #include <cstdint>
 #include <utility>
 #include <vector>
@@ -33,29 +34,48 @@ struct OwnNumbers {
 };
 void take_numbers(OwnNumbers &of);  // where none are left; there may be no more
 
-// Places of constructs in the program that the thread told lately, which need not be looked for on the stack.
-class KnownPlaces {
+// Long records that short ones may be like, as the runtime told them. Their places are known to be the program's, as
+// long as no region begins or ends, and need not be looked for on the stack.
+class LikeRecords {
  public:
-  KnownPlaces() { forget(); }
-  bool has(const void *code) const { return places[slot(code)] == code; }
-  void add(const void *code) {  // where a record takes all of its bits
-    auto bits = reinterpret_cast<uint64_t>(code);
-    if (bits == (bits & log_form::code_mask)) places[slot(code)] = code;
+  LikeRecords() { forget(); }
+  bool has(Told told, const void *code, uint32_t detail) const {
+    const One &one = all[slot(told, code)];
+    return one.code == code && one.detail == detail;
   }
+  void add(Told told, const void *code, uint32_t detail) { all[slot(told, code)] = {code, detail}; }
+  void remove(Told told, const void *code) { all[slot(told, code)] = {this, 0}; }
   void forget() {
-    for (const void *&place : places) place = this;
+    for (One &one : all) one = {this, 0};  // where no code is
+  }
+  static unsigned slot(Told told, const void *code) {
+    return log_form::slot_of(reinterpret_cast<uint64_t>(code), static_cast<unsigned>(told));
   }
 
  private:
-  static constexpr uintptr_t most = 16;
-  const void *places[most];
-  static uintptr_t slot(const void *code) { return reinterpret_cast<uintptr_t>(code) / 4 % most; }
+  struct One {
+    const void *code;
+    uint32_t detail;
+  };
+  std::array<One, log_form::slots> all;
 };
 
 class OnlineThread;
 
-class ThreadLog {
+class alignas(64) ThreadLog {
+ protected:
+  char *next = nullptr, *end = nullptr;
+
+ private:
+  uint64_t last = 0;  // ticks of the record before
+  uint64_t left = 0;  // how many more the next one may have, where it is short
+  uint32_t current = nobody;  // the task that the thread is in, as its records tell
+
  public:
+  OwnNumbers numbers;
+  uint64_t own = 0;  // the innermost of `implicit`; up to here in one line of the cache
+  LikeRecords like;
+
   explicit ThreadLog(unsigned of);
   const unsigned number;
   std::vector<Implicit> implicit;  // the implicit tasks that the thread is in, innermost last
@@ -63,7 +83,14 @@ class ThreadLog {
   bool is_slow = false;  // more was done than to write records
   OnlineThread *online = nullptr;  // where the run is measured while it goes on: then no record is put
   uint64_t region() const { return implicit.empty() ? 0 : implicit.back().region; }
-  OwnNumbers numbers;
+  void begin_implicit(const Implicit &one) {
+    implicit.push_back(one);
+    own = one.task;
+  }
+  void end_implicit() {
+    if (!implicit.empty()) implicit.pop_back();
+    own = implicit.empty() ? 0 : implicit.back().task;
+  }
   uint32_t new_number() {  // 0 where there are no more
     if (!numbers.are_left()) take_numbers(numbers);
     return numbers.are_left() ? ++numbers.last : 0;
@@ -77,21 +104,35 @@ class ThreadLog {
 
   void put(const Moment &now, Told told, uint32_t task, uint32_t other, uint64_t code, unsigned detail) {
     if (!costs_by_processor) return put_by_wall(now.at, told, task, other, code, detail);
-    if (next >= end && !grow()) return;
+    if (!has_room() && !grow()) return;
     *reinterpret_cast<int64_t *>(next + log_form::bytes_by_wall) = now.processor;
-    put_long(now.at, task, other, log_form::make_word(code, static_cast<unsigned>(told), detail),
+    put_long({now.at, task, other, log_form::make_word(code, static_cast<unsigned>(told), detail)},
              log_form::bytes_by_processor);
   }
   void put_by_wall(uint64_t at, Told told, uint32_t task, uint32_t other, uint64_t code, unsigned detail) {
     if (__builtin_expect(!has_room(), false) && !grow()) return;
-    put_here(at, told, task, other, code, detail);
+    if (told == Told::Schedule && takes_short(at - last, task) && detail < log_form::slots)
+      return go_on(at - last, detail, other);
+    put_long({at, task, other, log_form::make_word(code, static_cast<unsigned>(told), detail)},
+             log_form::bytes_by_wall);
   }
-  void put_here(uint64_t at, Told told, uint32_t task, uint32_t other, uint64_t code, unsigned detail) {
-    if (told == Told::Schedule) return put_short(at, task, other, detail);
-    put_long(at, task, other, log_form::make_word(code, static_cast<unsigned>(told), detail), log_form::bytes_by_wall);
+  // Whether so many ticks after the record before a short one may be put, and nothing else is to be done.
+  bool takes_short(uint64_t ticks, uint64_t task) const { return ticks < left && has_room() && task == current; }
+  uint64_t ticks_since_last(uint64_t at) const { return at - last; }
+  void put_short(uint64_t ticks, unsigned what, uint32_t other) {
+    char *place = next;
+    clear(place + sizeof(log_form::ShortRecord));
+    next = place + sizeof(log_form::ShortRecord);
+    last += ticks;
+    left -= ticks;
+    __atomic_store_n(reinterpret_cast<uint64_t *>(place), log_form::make_short(ticks, what, other), __ATOMIC_RELEASE);
   }
+  void go_on(uint64_t ticks, unsigned status, uint32_t other) {
+    current = other;
+    put_short(ticks, status, other);
+  }
+  void put_like(uint64_t ticks, unsigned slot, uint32_t other) { put_short(ticks, log_form::slots + slot, other); }
   bool is_far(uint64_t at) const { return at - looked >= far_ticks; }
-  bool has_room() const { return next < end; }
   void look_at_clocks(const Moment &now) {
     if (costs_by_processor || is_far(now.at)) compare_clocks(now);
   }
@@ -110,38 +151,18 @@ class ThreadLog {
   void tell_slow(const Moment &began);  // how long until now
   void tell_stood_still(uint64_t took);
 
- protected:
-  char *next = nullptr, *end = nullptr;
-
  private:
-  // The word that says that a record is there comes last, and before it what follows is cleared.
-  void put_short(uint64_t at, uint32_t task, uint32_t other, unsigned detail) {
-    auto *record = reinterpret_cast<log_form::ShortRecord *>(next);
-    next += sizeof *record;
-    clear(next);
-    record->task = task;
-    record->other = other;
-    __atomic_store_n(&record->word, log_form::make_short(at - first_ticks, detail), __ATOMIC_RELEASE);
-  }
-  void put_long(uint64_t at, uint32_t task, uint32_t other, uint64_t word, uint32_t bytes) {
-    auto *record = reinterpret_cast<log_form::RawRecord *>(next);
-    next += bytes;
-    clear(next);
-    record->at = at;
-    record->task = task;
-    record->other = other;
-    __atomic_store_n(&record->word, word, __ATOMIC_RELEASE);
-  }
-  // So that no record of either size is there. A block that is in the file already begins with its first record until
-  // both words are cleared.
-  static void clear(char *place) {
-    auto *record = reinterpret_cast<log_form::RawRecord *>(place);
-    __atomic_store_n(&record->word, 0, __ATOMIC_RELEASE);
-    __atomic_store_n(&record->at, 0, __ATOMIC_RELEASE);
-  }
+  // No task has this number: the first record of a block is long, so that no two blocks begin alike.
+  static constexpr uint32_t nobody = UINT32_MAX;
+  bool has_room() const { return next < end; }
 
-  uint64_t first_ticks;  // of the log
-  uint64_t far_ticks, looked = 0;  // when both clocks were looked at last
+  // The bytes that say that a record is there come last, and before them what follows is cleared.
+  void put_long(const log_form::RawRecord &record, uint32_t bytes);
+  void follow(const log_form::RawRecord &record);
+  void look(uint64_t at) { looked = at, left = 0; }
+  static void clear(char *place) { __atomic_store_n(reinterpret_cast<uint64_t *>(place), 0, __ATOMIC_RELEASE); }
+
+  uint64_t looked = 0, far_ticks;  // when both clocks were looked at last
   uint64_t near_ticks, chunk_began = 0, joined_turns = 0;
   char *block = nullptr;
   uint64_t written = 0;  // bytes of full blocks
@@ -153,9 +174,6 @@ class ThreadLog {
   bool grow();
   bool write_block();
   Times times(const Moment &now) const;
-
- public:
-  KnownPlaces known;  // as long as no region begins or ends; behind what each record needs
 };
 
 uint64_t time_since(const Moment &began);  // on the clock of costs: in ticks, or nanoseconds of the processor

@@ -24,7 +24,6 @@ ThreadReader::ThreadReader(const std::string &path, unsigned worker, const log_f
       file(fopen(path.c_str(), "re")),
       last(fopen((path + log_form::last_block).c_str(), "re")),
       by_processor(head.by_processor),
-      first_ticks(head.first.ticks),
       in_a_record(head.in_a_record),
       time(head),
       buffer(block_bytes),
@@ -33,7 +32,7 @@ ThreadReader::ThreadReader(const std::string &path, unsigned worker, const log_f
   left = static_cast<uint64_t>(ftell(file.get())) / block_bytes * block_bytes;
   rewind(file.get());
   // Killed before the block was cleared that it had written.
-  constexpr size_t bytes = sizeof(log_form::ShortRecord);
+  constexpr size_t bytes = 16;
   if (left && last && first_bytes(file.get(), left - block_bytes, bytes) == first_bytes(last.get(), 0, bytes))
     last.reset();
 }
@@ -60,20 +59,18 @@ bool ThreadReader::fill() {
 
 // The record at this place of the block, and its bytes; 0 where there is none.
 size_t ThreadReader::read_here() {
-  log_form::ShortRecord shorter;
+  log_form::ShortRecord first;
   size_t room = filled - at, bytes = by_processor ? log_form::bytes_by_processor : log_form::bytes_by_wall;
-  if (room < sizeof shorter) return 0;
-  std::memcpy(&shorter, buffer.data() + at, sizeof shorter);
-  if (shorter.word & log_form::short_bit) {
+  if (room < sizeof first) return 0;
+  std::memcpy(&first, buffer.data() + at, sizeof first);
+  if (first & log_form::short_bit) {
     if (by_processor) refuse("it is shorter than this clock's");
-    uint64_t ticks = shorter.word & ((uint64_t{1} << log_form::short_ticks) - 1);
-    auto detail = static_cast<unsigned>((shorter.word & ~log_form::short_bit) >> log_form::short_ticks);
-    raw.record = {first_ticks + ticks, shorter.task, shorter.other,
-                  log_form::make_word(0, static_cast<unsigned>(Told::Schedule), detail)};
-    return sizeof shorter;
+    read_short(first);
+    return sizeof first;
   }
-  if (room < bytes) return 0;
+  if (!first || room < bytes) return 0;
   std::memcpy(&raw, buffer.data() + at, bytes);
+  keep_long();
   return raw.told() == Told::Nothing ? 0 : bytes;
 }
 
@@ -84,6 +81,27 @@ void ThreadReader::look_at(size_t bytes) {
   } catch (const DamagedLog &damage) {
     refuse(damage.what());
   }
+}
+
+void ThreadReader::read_short(log_form::ShortRecord record) {
+  ticks += record >> log_form::other_bits & (log_form::ticks_too_long - 1);
+  unsigned what = record >> (log_form::other_bits + log_form::short_ticks) & ((1U << log_form::what_bits) - 1);
+  bool goes_on = what < log_form::slots;
+  uint64_t word =
+      goes_on ? log_form::make_word(0, static_cast<unsigned>(Told::Schedule), what) : words[what - log_form::slots];
+  if (!word) refuse("no record before it is like it");
+  raw.record = {ticks, current, static_cast<uint32_t>(record), word};
+  if (goes_on) current = raw.record.other;
+}
+
+// What short records leave out.
+void ThreadReader::keep_long() {
+  if (raw.told() == Told::Items) return;
+  ticks = raw.record.at;
+  if (raw.told() == Told::Schedule) current = raw.record.other;
+  if (!has_slot(raw.told())) return;
+  current = raw.record.task;
+  words[log_form::slot_of(raw.code(), static_cast<unsigned>(raw.told()))] = raw.record.word;
 }
 
 // One record; none where the thread has written no more.

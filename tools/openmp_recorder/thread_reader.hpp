@@ -1,5 +1,6 @@
 // The records of one thread of a log. What is no record of the runtime's is added up on the way.
 #pragma once
+#include <array>
 #include <cstdio>
 #include <memory>
 #include <string>
@@ -17,7 +18,7 @@ class ThreadReader : public Records {
   struct Raw {
     log_form::RawRecord record;
     int64_t processor;
-    Told told() const { return static_cast<Told>(record.word >> log_form::code_bits & 255); }
+    Told told() const { return log_form::told_by(record.word); }
     unsigned detail() const { return static_cast<unsigned>(record.word >> (log_form::code_bits + 8)); }
     uint64_t code() const { return record.word & log_form::code_mask; }
     const void *place() const { return reinterpret_cast<const void *>(code()); }
@@ -28,7 +29,6 @@ class ThreadReader : public Records {
   };
   std::unique_ptr<FILE, Close> file, last;  // of whole blocks; of the block that was not full
   bool by_processor;
-  uint64_t first_ticks;
   int64_t in_a_record;
   TickTime time;
   std::vector<char> buffer;
@@ -43,6 +43,9 @@ class ThreadReader : public Records {
     bool is_initial;  // the code outside of regions
   };
   std::vector<Team> teams;  // that the thread is in, innermost last
+  std::array<uint64_t, log_form::slots> words{};  // of long records, by their slots
+  uint64_t ticks = 0;  // of the record before
+  uint32_t current = 0;  // the task that the thread is in
   Raw raw{};
   Record record{};
 
@@ -51,6 +54,8 @@ class ThreadReader : public Records {
   size_t read_here();
   void look_at(size_t bytes);
   [[noreturn]] void refuse(const std::string &why) const;
+  void read_short(log_form::ShortRecord record);
+  void keep_long();
   void read_items(uint64_t count);
   int64_t cost_clock() const { return by_processor ? raw.processor : time.wall(raw.record.at); }
   bool take();

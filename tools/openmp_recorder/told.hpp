@@ -29,6 +29,9 @@ enum class Told : uint8_t {
   DividedEnd  // and is done with it
 };
 
+// Whether short records that follow may be like such a one.
+constexpr bool has_slot(Told told) { return told == Told::Create || told == Told::SyncBegin || told == Told::SyncEnd; }
+
 // Details of a record: of Create what is set of the first four, of ImplicitBegin and ParallelBegin the last two; of
 // Schedule the status, of the others the kind, as OMPT has them.
 enum Detail : uint8_t {

@@ -24,6 +24,7 @@ RawRecord raw(uint64_t at, Told told, uint32_t task = 0, uint32_t other = 0, uin
   return {at, task, other, log_form::make_word(code, static_cast<unsigned>(told), detail)};
 }
 
+// From the reading 1 on: what begins with 0 is no record.
 std::vector<RawRecord> schedules(uint64_t from, size_t count) {
   std::vector<RawRecord> out;
   for (size_t i = 0; i < count; i++) out.push_back(raw(from + i, Told::Schedule, 1, 2));
@@ -103,21 +104,42 @@ class Block {
   }
 };
 
-TEST(short_records_and_long_ones) {
+TEST(a_short_record_goes_from_the_task_that_the_thread_is_in) {
   MadeLog log;
-  log.head.first.ticks = 1000;
   Block block;
-  block.add(ShortRecord{log_form::make_short(10, 7), 1, 2}).add(raw(1020, Told::SyncBegin, 2, 0, 99));
-  block.add(ShortRecord{log_form::make_short(30, 1), 2, 1});
+  block.add(raw(1000, Told::SyncBegin, 3, 0, 99)).add(log_form::make_short(10, 7, 5));
+  block.add(log_form::make_short(30, 1, 3));
   log.last(block.records());
   std::vector<Record> found = log.records();
   EXPECT(found.size(), 3u);
-  EXPECT(found[0].told() == Told::Schedule && found[2].told() == Told::Schedule, true);
-  EXPECT(found[0].order, 1010u);
-  EXPECT(found[0].detail, 7u);
-  EXPECT(found[2].task, 2u);
-  EXPECT(found[2].other, 1u);
-  EXPECT(found[2].order, 1030u);
+  EXPECT(found[1].told() == Told::Schedule && found[2].told() == Told::Schedule, true);
+  EXPECT(found[1].task, 3u);
+  EXPECT(found[1].other, 5u);
+  EXPECT(found[1].order, 1010u);
+  EXPECT(found[1].detail, 7u);
+  EXPECT(found[2].task, 5u);
+  EXPECT(found[2].other, 3u);
+  EXPECT(found[2].order, 1040u);
+}
+
+TEST(a_short_record_is_like_the_last_long_one_of_its_slot) {
+  MadeLog log;
+  unsigned like = log_form::slots + log_form::slot_of(77, static_cast<unsigned>(Told::Create));
+  Block block;
+  block.add(raw(1000, Told::Create, 3, 4, 77, is_untied)).add(log_form::make_short(20, like, 6));
+  block.add(raw(1030, Told::Dependences, 6, 0, 1)).add(raw(50, Told::Items, 9, 0, 0, 1));
+  block.add(log_form::make_short(9, like, 7));
+  log.last(block.records());
+  std::vector<Record> found = log.records();
+  EXPECT(found.size(), 4u);
+  for (size_t i : {size_t{1}, size_t{3}}) {
+    EXPECT(found[i].told() == Told::Create, true);
+    EXPECT(found[i].task, 3u);
+    EXPECT(found[i].other, i == 1 ? 6u : 7u);
+    EXPECT(found[i].order, i == 1 ? 1020u : 1039u);
+    EXPECT(reinterpret_cast<uint64_t>(found[i].place()), 77u);
+    EXPECT(found[i].detail, static_cast<unsigned>(is_untied));
+  }
 }
 
 TEST(a_block_that_is_full_ends_before_its_end) {
@@ -205,9 +227,9 @@ TEST(what_is_no_log_is_refused) {
   };
   MadeLog other, later;
   other.head.magic[0] = 'X';
-  later.head.version = 3;
+  later.head.version = 4;
   EXPECT(why(other), "no log of the recorder");
-  EXPECT(why(later), "version 3 of the log, and this is for version 2");
+  EXPECT(why(later), "version 4 of the log, and this is for version 3");
 }
 
 // Why it is refused; empty where it is not.

@@ -1,6 +1,7 @@
 // What a thread of the program appends is what is read, wherever the program is killed.
 #include "../thread_log.hpp"
 
+#include <sys/stat.h>
 #include <unistd.h>
 
 #include <cstdio>
@@ -19,8 +20,7 @@ Beginning place;
 std::atomic<log_form::Stopped> log_stopped{log_form::Stopped::Not};
 __thread ThreadLog *thread_log = nullptr;
 const Beginning &this_log() { return place; }
-double nanoseconds_of_tick() { return 1; }
-uint64_t ticks_of_beginning() { return beginning; }
+double nanoseconds_of_tick() { return 0.001; }  // so no record is far from when both clocks were looked at
 int64_t wall_time_at(uint64_t ticks) { return static_cast<int64_t>(ticks); }
 void stop_log(log_form::Stopped why) { log_stopped = why; }
 
@@ -40,11 +40,21 @@ class Appended {
     costs_by_processor = false;
     if (system(("rm -r " + place.folder).c_str())) std::perror("rm");
   }
-  // One in three goes from a task to another.
+  // Two in three go from a task to another, and one makes a task: short records, but for the first of a block and those
+  // of another place than before.
   void append(ThreadLog &log, uint32_t number) {
     Moment now{beginning + 10 * number, static_cast<int64_t>(7 * number)};
-    if (number % 3) log.put(now, Told::Schedule, number, number + 1, 0, number % 8);
-    else log.put(now, Told::Create, number, number + 1, number, number % 8);
+    if (number % 3) return log.put(now, Told::Schedule, task_of(number), task_of(number + 1), 0, number % 8);
+    auto *code = reinterpret_cast<const void *>(place_of(number));
+    uint64_t ticks = log.ticks_since_last(now.at);
+    if (!costs_by_processor && log.like.has(Told::Create, code, 0) && log.takes_short(ticks, task_of(number)))
+      return log.put_like(ticks, LikeRecords::slot(Told::Create, code), number);
+    log.put(now, Told::Create, task_of(number), number, place_of(number), 0);
+    log.like.add(Told::Create, code, 0);
+  }
+  uint64_t bytes_in_file() const {
+    struct stat told {};
+    return stat((place.folder + "/thread.0").c_str(), &told) ? 0 : static_cast<uint64_t>(told.st_size);
   }
   // How many records there are; 0 where one is another than was appended.
   uint32_t read() {
@@ -52,9 +62,11 @@ class Appended {
     uint32_t count = 0;
     while (const Record *record = reader.next()) {
       uint64_t ticks = beginning + 10 * count;
-      bool is_right = record->order == ticks && record->task == count && record->other == count + 1 &&
-                      record->detail == count % 8 && record->code == (count % 3 ? 0 : count) &&
-                      record->told() == (count % 3 ? Told::Schedule : Told::Create) &&
+      bool is_made = count % 3 == 0;
+      bool is_right = record->order == ticks && record->task == task_of(count) &&
+                      record->other == (is_made ? count : task_of(count + 1)) &&
+                      record->detail == (is_made ? 0 : count % 8) && record->code == (is_made ? place_of(count) : 0) &&
+                      record->told() == (is_made ? Told::Create : Told::Schedule) &&
                       record->at == static_cast<int64_t>(head.by_processor ? 7 * count : ticks);
       if (!is_right) return 0;
       count++;
@@ -63,6 +75,9 @@ class Appended {
   }
 
  private:
+  // What makes a task is the one that was gone over to last, but for each hundredth.
+  static uint32_t task_of(uint32_t number) { return number % 100 ? 5 + number - (number % 3 == 1) : 3; }
+  static uint64_t place_of(uint32_t number) { return 90 + number / 1000; }
   log_form::Head head{};
 };
 }  // namespace
@@ -76,12 +91,40 @@ TEST(what_is_appended_is_read) {
   }
 }
 
-TEST(after_each_record_all_so_far_are_there) {
+// With how many records the first block was full.
+static uint32_t records_in_a_block() {
   Appended made(false);
   ThreadLog log(0);
-  for (uint32_t i = 0; i < 16000; i++) {
+  uint32_t count = 0;
+  while (!made.bytes_in_file()) made.append(log, count++);
+  return count - 1;
+}
+
+TEST(most_records_take_eight_bytes) { EXPECT(records_in_a_block() > log_form::block_bytes / 8 * 9 / 10, true); }
+
+TEST(after_each_record_all_so_far_are_there) {
+  uint32_t full = records_in_a_block();
+  Appended made(false);
+  ThreadLog log(0);
+  for (uint32_t i = 0; i < full + 600; i++) {
     made.append(log, i);
-    bool is_near_the_end_of_a_block = i % 5260 < 12 || i % 5260 > 5240;  // 56 bytes for each three
+    bool is_near_the_end_of_a_block = i < 120 || (i + 20 > full && i < full + 20);
     if (is_near_the_end_of_a_block) EXPECT(made.read(), i + 1);
   }
+  EXPECT(made.read(), full + 600);
+}
+
+// Both begin with readings of their own, so that a block that was written and not cleared counts once.
+TEST(each_block_begins_with_a_long_record) {
+  Appended made(false);
+  ThreadLog log(0);
+  for (uint32_t i = 0; i < 30000; i++) made.append(log, i);
+  FILE *file = fopen((place.folder + "/thread.0").c_str(), "re");
+  uint64_t first = 0;
+  for (long at = 0; at < static_cast<long>(made.bytes_in_file()); at += log_form::block_bytes) {
+    fseek(file, at, SEEK_SET);
+    EXPECT(fread(&first, sizeof first, 1, file), 1u);
+    EXPECT(first & log_form::short_bit, 0u);
+  }
+  fclose(file);
 }
