@@ -50,8 +50,12 @@ class Place:
 
     @property
     def outermost(self):
-        """What elapsed in those that were met inside no other."""
-        return sum(region.elapsed for region in self.regions if not region.inside)
+        """How long at least one of those ran that were met inside no other."""
+        elapsed = now = 0
+        for region in [one for one in self.regions if not one.inside]:      # in the order of time
+            elapsed += max(0, region.end - max(region.begin, now))
+            now = max(now, region.end)
+        return elapsed
 
     @property
     def median(self):
