@@ -21,6 +21,7 @@ struct Life {
   void (*call)();  // of the recorder, that makes a record
   pid_t process = 0;
   std::atomic<bool> ended{false};
+  int64_t at_end = 0;  // the processor's clock of the thread that ended it
 };
 
 Life *life = nullptr;  // never destroyed: the runtime says goodbye after the destructors of globals have run
@@ -91,8 +92,17 @@ void on_end_by_exit(int, void *) {
   if (life->process == getpid() && inside_a_region()) end_recording();
 }
 
+// Whether the program shut its runtime down, as `omp_pause_resource_all` does, and went on without it.
+bool went_on() {
+  constexpr int64_t shut_down = 5000000;  // nanoseconds: of the end of the process at most
+  return life && life->process == getpid() && life->ended && processor_time() - life->at_end > shut_down;
+}
+
 // The runtime does not call the tool's end where the program ends inside a region.
-__attribute__((destructor)) void end_of_library() { end_of_process(); }
+__attribute__((destructor)) void end_of_library() {
+  if (went_on()) take_end_back();
+  end_of_process();
+}
 }  // namespace
 
 void begin_recording(void (*call)()) {
@@ -122,4 +132,5 @@ void expect_end_by_this_thread() { on_exit(on_end_by_exit, nullptr); }
 void end_recording() {
   if (life->ended.exchange(true)) return;
   end_log(inside_a_region() ? log_form::HowEnded::InsideARegion : log_form::HowEnded::ByRuntime);
+  life->at_end = processor_time();
 }

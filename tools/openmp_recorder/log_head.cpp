@@ -171,8 +171,12 @@ void end_log(log_form::HowEnded how) {
   }
   head->end = read_pair();
   head->end_processor = processor_time();
-  head->end_thread = thread_log ? thread_log->number : 0;
+  head->end_thread = thread_log ? thread_log->number : UINT32_MAX;
   head->how_ended = how;
+}
+
+void take_end_back() {
+  if (head) head->how_ended = log_form::HowEnded::Not;
 }
 
 void count_open_region(int more) { open_regions += more; }

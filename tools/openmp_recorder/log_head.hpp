@@ -17,6 +17,7 @@ struct Beginning {
 void begin_log(const Beginning &how, void (*call)());  // which makes a record, and nothing else
 void set_time_of_beginning(uint64_t took);  // which is no code of the program
 void end_log(log_form::HowEnded how);
+void take_end_back();  // the program goes on, and nothing more is told
 void stop_log(log_form::Stopped why);  // the first reason stays
 void forget_log();  // in the child after a fork
 

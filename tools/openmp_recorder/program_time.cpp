@@ -13,11 +13,23 @@ int64_t in_code(const Run &run) {
   return sum;
 }
 
+bool meets_regions(const Log &own) {
+  if (!own.has_initial_task) return false;
+  return std::any_of(own.regions.begin(), own.regions.end(), [](const RegionTime &one) { return one.is_outermost; });
+}
+
 int64_t processor_time_outside(const Log &own, int64_t now) {
   int64_t inside = 0;
   for (const RegionTime &time : own.regions)
     if (time.is_outermost) inside += time.processor + (time.end ? 0 : now);
   return std::max<int64_t>(now - inside, 0);
+}
+
+int64_t time_outside(const Log &own, int64_t start, int64_t end) {
+  int64_t inside = 0;
+  for (const RegionTime &time : own.regions)
+    if (time.is_outermost) inside += (time.end ? time.end : end) - time.begin;
+  return std::max<int64_t>(end - start - inside, 0);
 }
 
 ProgramTime divide_time(const std::vector<Records *> &threads, int64_t start, int64_t end) {

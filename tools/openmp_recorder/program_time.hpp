@@ -19,8 +19,10 @@ struct ThreadTime {
 
 int64_t in_code(const Region &region);
 int64_t in_code(const Run &run);
+bool meets_regions(const Log &own);  // of the program, outside of all others
 // Processor time of a thread until now, outside of the regions that it met.
 int64_t processor_time_outside(const Log &own, int64_t now);
 
+int64_t time_outside(const Log &own, int64_t start, int64_t end);  // the same by the wall clock
 // From `start` to `end`; regions that overlap count once, and those that are not over count until `end`.
 ProgramTime divide_time(const std::vector<Records *> &threads, int64_t start, int64_t end);

@@ -21,6 +21,7 @@ struct Resumed {
 struct Worker {
   int64_t stood_still = 0;  // its clock, so far
   int64_t worked = 0, compared = 0;  // in code so far, and when both clocks were compared last
+  const Task *outside = nullptr;  // of a whole program: its code outside of regions
   std::vector<uint32_t> current;  // the task that runs, innermost region last
   std::vector<Task *> waits;  // tasks whose wait for dependences it is in, innermost last
   Resumed resumed;
@@ -94,7 +95,7 @@ class Reader {
   void take_up();
   void end_unless_told();
   void end_elsewhere(Task *t);
-  void count_task(Region &region);
+  void count_task(Region &of);
   Task *create(Task *parent, bool undeferred);
   void settle(Task *parent);
   void parallel_begin();
@@ -176,7 +177,7 @@ class Reader {
   void keep_divided();
   void put_chunk_back(ImplicitTask &own);
   void take_chunk_out(ImplicitTask &own, Task &t);
-  void end_root(int64_t end);
+  void end_outside(Task *t, int64_t end);
   void put_hosts_beside();
 
   // turns.cpp: turns of loops that wait for each other

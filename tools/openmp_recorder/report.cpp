@@ -329,11 +329,18 @@ uint64_t most_to_replay(const Options &options) {
 
 WhichParts parts_asked(const Options &options) { return {options.parts, has_folds(options) || options.fold_exact}; }
 
-// Thread-time outside of regions. Where the thread that ended the program met no region, it is not the one whose
-// processor time that is.
-int64_t outside_regions(const Job &job, const ProgramTime &time) {
-  bool by_processor = job.options.processor_clock && job.last && (job.options.whole || job.last->regions.size());
-  return by_processor ? processor_time_outside(*job.last, job.end_processor) : time.outside;
+// Thread-time outside of regions: by the processor's clock of all threads that meet regions, each as far as its time is
+// known, and of the first of a whole program; by the wall clock of that one, or when none is in a region.
+int64_t outside_regions(const Job &job, const Run &run, const ProgramTime &time, int64_t end) {
+  const Log *first = run.whole ? run.whole->first : nullptr;
+  if (!job.options.processor_clock) return first ? time_outside(*first, job.start, end) : time.outside;
+  int64_t sum = 0;
+  for (const Records *thread : job.threads) {
+    const Log &log = thread->log;
+    if ((first && log.worker == first->worker) || meets_regions(log))
+      sum += processor_time_outside(log, &log == job.last ? job.end_processor : log.last);
+  }
+  return sum;
 }
 
 std::vector<Region *> compose_all(Run &run, const Options &options) {
@@ -407,7 +414,7 @@ void report(const Job &job, Ending &ending) {
   Run &run = *read_all(job, ending);
   int64_t end = ending.killed ? ending.last : job.end;
   ProgramTime time = divide_time(job.threads, job.start, end);
-  ThreadTime threads{outside_regions(job, time), in_code(run), !ending.full && !ending.killed};
+  ThreadTime threads{outside_regions(job, run, time, end), in_code(run), !ending.full && !ending.killed};
   if (run.whole) return report_whole(job, run, {job.program, job.date, 0, time, threads}, end);
   std::vector<Region *> with_tasks = compose_all(run, job.options);
   Recording recording{job.program, job.date, with_tasks.size(), time, threads};

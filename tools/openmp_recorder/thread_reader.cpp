@@ -172,7 +172,10 @@ bool ThreadReader::take() {
       return true;
     case Told::ParallelBegin: begin_region(); return true;
     case Told::ParallelEnd: end_region(); return true;
-    case Told::ImplicitBegin: teams.push_back({raw.record.other, (raw.detail() & is_initial) != 0}); return true;
+    case Told::ImplicitBegin:
+      log.has_initial_task |= (raw.detail() & is_initial) != 0;
+      teams.push_back({raw.record.other, (raw.detail() & is_initial) != 0});
+      return true;
     case Told::ImplicitEnd:
       if (!teams.empty()) teams.pop_back();
       return true;
@@ -182,7 +185,7 @@ bool ThreadReader::take() {
 
 const Record &ThreadReader::tell() {
   record.wall = time.wall(raw.record.at);
-  record.at = by_processor ? raw.processor : record.wall;
+  record.at = log.last = by_processor ? raw.processor : record.wall;
   record.order = raw.record.at;
   record.stood_still = log.stood_still - log.told_still;
   log.told_still = log.stood_still;

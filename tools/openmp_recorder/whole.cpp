@@ -22,7 +22,8 @@ Reader::Reader(const HowToRead &chosen) : how(chosen) {
 
 void Reader::begin_root() {
   Task *root = run.whole->root;
-  root->on = log;
+  root->on = run.whole->first = log;
+  worker().outside = root;
   root->running = true;
   root->since = how.start;
   if (run.whole->has_events)
@@ -30,7 +31,8 @@ void Reader::begin_root() {
   run.whole->recorder = worker().stood_still;
 }
 
-// A thread meets the runtime. Of all but the first what is outside of regions does not count: it may be waiting.
+// A thread meets the runtime. Of all but the first what is outside of regions counts by the processor's clock alone: by
+// the wall clock it may be waiting.
 void Reader::initial_begin() {
   if (!run.whole) return;
   Task *t = run.whole->root;
@@ -38,6 +40,9 @@ void Reader::initial_begin() {
     t = fresh(run.whole.get());
     t->part = true;
     hosts.push_back(t);
+    t->on = log;
+    worker().outside = t;
+    t->running = record_clock().of_processor;  // since the thread began
     may_let_go = false;
     if (run.whole->before) run.whole->before->are_in_vain = true;
     give_up_times();
@@ -256,19 +261,18 @@ void Reader::take_chunk_out(ImplicitTask &own, Task &t) {
   own.in_group = false;
 }
 
-// The program ends on the thread that began it, or nobody knows when.
-void Reader::end_root(int64_t end) {
-  Task *root = run.whole->root;
-  if (!root->running) return;
-  turn_to(*root->on);
+// Code outside of regions ends with the program on the thread that ends it, or nobody knows when.
+void Reader::end_outside(Task *t, int64_t end) {
+  if (!t->running) return;
+  turn_to(*t->on);
   now = end - worker().stood_still - (log->stood_still - log->told_still);
   bool is_last = how.last && log->worker == how.last->worker;
   bool is_known = end && (!record_clock().of_processor || is_last);
-  if (is_known) charge(root);
+  if (is_known) charge(t);
   else give_up_times();
   if (run.whole->has_events)
-    run.whole->events.push_back({root, how.end_wall, root->segment, static_cast<uint16_t>(log->worker), false});
-  root->running = false;
+    run.whole->events.push_back({t, how.end_wall, t->segment, static_cast<uint16_t>(log->worker), false});
+  t->running = false;
 }
 
 // When the threads that a program makes itself begin with their regions is not told.

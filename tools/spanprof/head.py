@@ -186,6 +186,11 @@ def spread_of(what):
         {what: tuple(number(told[part]) for part in ("least", "median", "most"))})
 
 
+def part_of_program(head):
+    """What the text is of, in words; empty where it does not say."""
+    return "the whole program" if head.whole else "region at %s" % head.region if head.region else ""
+
+
 def part_of_time(name):
     return lambda head, told: head.division.update({name: number(told)})
 

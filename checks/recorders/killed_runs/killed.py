@@ -22,7 +22,7 @@ from recording import CONVERT, RECORDER, Wrong, build  # noqa: E402
 
 SIGNALS = (signal.SIGKILL, signal.SIGKILL, signal.SIGSEGV, signal.SIGTERM)
 WORDS = ["11", "20000"]  # 4,094 tasks, of which each takes some microseconds
-SECONDS = 120  # for one run
+SECONDS = 1200  # for one run
 
 
 def run(program, out, moment=None, number=signal.SIGKILL):

@@ -106,6 +106,15 @@ TEST(processor_time_outside_of_regions) {
   EXPECT(processor_time_outside(log, processor_time()) <= outside + 1000000, true);
 }
 
+TEST(time_outside_of_the_regions_of_a_thread) {
+  Log log(0);
+  log.regions = {{1, true, 10, 14}, {2, false, 11, 12}, {3, true, 18, 0}};  // of which the last goes on
+  EXPECT(time_outside(log, 5, 20), 9);
+  EXPECT(meets_regions(log), false);  // where it is one of the runtime's
+  log.has_initial_task = true;
+  EXPECT(meets_regions(log), true);
+}
+
 TEST(a_twentieth_is_the_difference_that_counts) {
   EXPECT((Passed{false, 1000, 950}.differ()), false);
   EXPECT((Passed{false, 1000, 949}.differ()), true);

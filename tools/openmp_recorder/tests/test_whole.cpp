@@ -226,6 +226,14 @@ TEST(a_program_that_was_killed_in_a_region_has_what_ran_until_then) {
   EXPECT(text_of(*made.found.whole), "work 100\n" + group(parts(7) + parts(4)));
 }
 
+TEST(tasks_are_those_of_their_region_and_chunks_are_none) {
+  Program made;
+  loop(made, 0, 4, {{2, 3 * us}, {2, 3 * us}});
+  end_region(made.create(0, 1, 3).run(0, 1, 3, 7));
+  Run &run = made.whole();
+  EXPECT(run.regions.at(1)->created - run.regions.at(1)->chunks, 1u);
+}
+
 TEST(a_thread_that_the_program_made_is_beside_the_first) {
   Program made(2);
   end_region(made.after(4), 2);
@@ -235,6 +243,18 @@ TEST(a_thread_that_the_program_made_is_beside_the_first) {
   EXPECT(words.substr(0, 5), "task ");
   EXPECT_PART(words, "  taskgroup {\n    " + part + "      work 6\n    }\n  }\n");
   EXPECT(made.found.whole->remarks[Remark::OtherThread].times, 1u);
+}
+
+TEST(by_the_processors_clock_it_has_its_code_outside_of_regions) {
+  set_record_clock({true, 0});
+  Program made(2);
+  end_region(made.after(4), 2);
+  made.add(1, Told::ImplicitBegin, 9, 0, is_initial).add(1, Told::ParallelBegin, 9, 2);
+  made.add(1, Told::ImplicitBegin, 10, 2, 0, 1).after(6).add(1, Told::ImplicitEnd, 10).add(1, Told::ParallelEnd, 0, 2);
+  made.after(5).add(1, Told::ImplicitEnd, 9, 0, is_initial);
+  std::string words = made.text();
+  set_record_clock({false, 0});
+  EXPECT_PART(words, part + "  work 1004\n  taskgroup {\n    " + part + "      work 6\n    }\n  }\n  work 5\n}\n");
 }
 
 TEST(exact_folds_keep_work_and_span_of_pieces) {

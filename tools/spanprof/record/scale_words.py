@@ -2,6 +2,7 @@
 import os
 
 from spanprof.account_words import lasting
+from spanprof.head import part_of_program
 from spanprof.record.scale_gap import NoGap, gap_of
 from spanprof.record.scale_places import place_lines, places_json
 
@@ -37,7 +38,7 @@ def of_what(scale):
 
 def other_threads(scale):
     """Regions that ran on another number of threads than was asked for."""
-    return ["asked for %d, the region at %s was recorded on %d" % (threads, region.head.region, region.head.threads)
+    return ["asked for %d, but recorded on %d: %s" % (threads, region.head.threads, part_of_program(region.head))
             for threads, region in sorted(scale.regions.items()) if region.head.threads not in (None, threads)]
 
 
@@ -55,8 +56,8 @@ def gap_lines(scale):
     except NoGap as why:
         return ["not told: %s" % why]
     region = scale.regions[scale.most]
-    first = "%d x %s of the recorded run, region at %s, are the sum of (measured)" % (
-        found.threads, lasting(found.elapsed), region.head.region)
+    first = "%d x %s of the recorded run, %s, are the sum of (measured)" % (
+        found.threads, lasting(found.elapsed), part_of_program(region.head))
     rows = aligned([["%.1f %%" % (100 * part / max(found.whole, 1)),
                      ("-" if part < 0 else "") + lasting(abs(part))] for part in found.parts.values()])
     return [first] + ["%s  %s: %s" % (numbers, name, found.what(name))

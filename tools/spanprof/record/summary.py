@@ -6,7 +6,7 @@ says of what, and where the head tells that the text is not the program the line
 from spanprof.claims import (OTHERWISE, against_parallelism, against_span, gain_may_be_less, gain_may_be_more,
                              is_divided, is_of_one_thread, is_partial, least_end, lock_binds, share_covered, tenths,
                              why_not_of_more_threads)
-from spanprof.head import with_function
+from spanprof.head import part_of_program, with_function
 from spanprof.record.program_lines import program_line
 from spanprof.report.figures import rounded_down, rounded_up
 from spanprof.report.places import places
@@ -34,9 +34,8 @@ def costs(number, head, down=False):
 def title(answers):
     head = answers.head
     only = "" if head.covers_at_most else "only "
-    parts = [answers.name, "the whole program" if head.whole else "region at %s" % head.region if head.region else "",
-             only + share_covered(head) if is_partial(head) else "", threads_of(head),
-             "costs in %s%s" % (head.unit, CLOCKS.get(head.clock, ""))]
+    parts = [answers.name, part_of_program(head), only + share_covered(head) if is_partial(head) else "",
+             threads_of(head), "costs in %s%s" % (head.unit, CLOCKS.get(head.clock, ""))]
     return ", ".join(filter(None, parts))
 
 

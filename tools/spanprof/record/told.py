@@ -67,8 +67,8 @@ def too_large(told):
 
 def killed(told):
     where = "inside a region" if told["inside"] else "outside of regions"
-    return "the log ends %s after recording began, %s: the program was ended there without a word to its runtime" % (
-        milliseconds(told["recorded"]), where)
+    return ("the log ends %s after recording began, %s: the program was ended there without a word to its runtime, or "
+            "went on without it" % (milliseconds(told["recorded"]), where))
 
 
 WORDS = {

@@ -84,8 +84,9 @@ def gap_part(view, name=""):
     if not gap:
         return note("What the threads did in all is not told: ", tag("span", why, class_="given"), ".") if why else ""
     show = figures_of(view)
-    words = note("Threads times elapsed time of the recorded run, region at ", tag("span", gap.region, class_="place"),
-                 ", is exactly this sum. As many times as fast as there are threads would be the first row alone. The "
-                 "squares above are of other runs: those of the whole program, without the recorder.")
+    where = ["region at ", tag("span", gap.region, class_="place")] if gap.region else ["the whole program"]
+    words = note("Threads times elapsed time of the recorded run, ", *where, ", is exactly this sum. As many times as "
+                 "fast as there are threads would be the first row alone. The squares above are of other runs: those "
+                 "of the whole program, without the recorder.")
     remarks = tag("ul", *[tag("li", line) for line in gap.remarks], class_="given note") if gap.remarks else ""
     return join([title(gap, name), words, sum_table(show, gap), by_place(view, show, gap), remarks])

@@ -53,6 +53,8 @@ class Tables(unittest.TestCase):
     def test_regions_that_overlap_count_once(self):
         program = read_regions(self.kept(words=TABLE.replace("2,0,300,350", "2,0,250,350")))
         self.assertEqual(program.outside, 350)
+        place = read_regions(self.kept(words=TABLE.replace("3,2,400,500", "3,2,250,620"))).places[0]
+        self.assertEqual(place.outermost, 800)
 
     def test_where_it_lies(self):
         path = self.kept()

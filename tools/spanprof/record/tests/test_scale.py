@@ -234,13 +234,18 @@ class Words(unittest.TestCase):
         self.assertTrue(told[2].endswith("  -"))
         self.assertEqual(told[3], "one unrecorded run on each number: elapsed time of the whole program, "
                                   "on libomp.so.5 (measured)")
-        self.assertEqual(told[5:], ["asked for 1, the region at sort.c:48 was recorded on 4",
+        self.assertEqual(told[5:], ["asked for 1, but recorded on 4: region at sort.c:48",
                                     "on 4 threads they share 2 processors"])
 
     def test_the_gap(self):
         told = gap_lines(made_up())
         self.assertEqual(told[0], "4 x 50 ns of the recorded run, region at sort.c:48, are the sum of (measured)")
         self.assertEqual(told[4], " 9.0 %   18 ns  held up: in code, off the processor, asleep or waiting for locks")
+
+    def test_the_gap_of_a_whole_program(self):
+        found = made_up()
+        found.regions[4].head.whole = "2 regions"
+        self.assertIn("of the recorded run, the whole program, are", gap_lines(found)[0])
 
     def test_the_processors_clock(self):
         found = made_up()

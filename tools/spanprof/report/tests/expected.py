@@ -371,18 +371,23 @@ class WholeProgram(Sums):
     def outside_code(self):
         return int(self.rows[0][7])
 
-    def outside(self):
+    @staticmethod
+    def together(regions):
+        """How long at least one of them ran that is inside no other."""
         inside, end = 0, 0
-        for begin, over, *_, is_inside in sorted(self.regions()):
+        for begin, over, *_, is_inside in sorted(regions):
             inside += 0 if is_inside else max(0, over - max(begin, end))
             end = end if is_inside else max(end, over)
-        return self.elapsed() - inside
+        return inside
+
+    def outside(self):
+        return self.elapsed() - self.together(self.regions())
 
     def place(self, number, what):
         own = self.regions(number)
         lengths = sorted(over - begin for begin, over, *_ in own)
         return {"count": len(own), "median": lengths[(len(own) - 1) // 2],
-                "elapsed": sum(over - begin for begin, over, *_, is_inside in own if not is_inside),
+                "elapsed": self.together(own),
                 "tasks": sum(row[3] for row in own), "loops": sum(row[4] for row in own),
                 "code": sum(row[5] for row in own),
                 "thread-time": sum(row[2] * (row[1] - row[0]) for row in own)}[what]
