@@ -78,6 +78,7 @@ class Reader {
     if (of.worker >= workers.size()) workers.resize(of.worker + 1);
   }
   std::vector<uint32_t> &current() { return worker().current; }
+  Task *current_part();  // of the implicit task that the thread is in
   Task *running();
   static void remark(Region *region, Remark what, const void *code) { region->remarks[what].add(code); }
   [[noreturn]] void refuse(const char *why) const;  // what the runtime never tells
