@@ -99,6 +99,7 @@ class Reader {
   Task *create(Task *parent, bool undeferred);
   void settle(Task *parent);
   void parallel_begin();
+  void look_at_new_part(uint32_t number) const;
   void implicit_begin();
   void leave_region(Met &met);
   void implicit_end();

@@ -33,7 +33,7 @@ void Reader::begin_root() {
 // A thread meets the runtime. Of all but the first what is outside of regions does not count: it may be waiting.
 void Reader::initial_begin() {
   if (!run.whole) return;
-  if (find(r->task)) refuse("an implicit task begins twice");
+  look_at_new_part(r->task);
   Task *t = run.whole->root;
   if (t->on && t->on != log) {
     t = fresh(run.whole.get());
