@@ -65,7 +65,7 @@ void RecordsLookedAt::look_at_times(uint64_t ticks, int64_t processor) {
   if (ticks + back < last) throw DamagedLog("its time is before that of the record before it");
   last = ticks;
   if (!by_processor) return;
-  if (processor < last_processor || processor > longest_time)
+  if (processor < last_processor - static_cast<int64_t>(may_go_back) || processor > longest_time)
     throw DamagedLog("its processor time is before that of the record before it");
   last_processor = processor;
 }
@@ -84,8 +84,8 @@ void RecordsLookedAt::look_at(const log_form::RawRecord &record, int64_t process
   auto told = static_cast<Told>(record.word >> log_form::code_bits & 255);
   if (told > Told::DividedEnd) throw DamagedLog("it is of no kind");
   if (told == Told::Items) return;  // an address is in the place of the time
+  if (told == Told::StoodStill) return add_up(static_cast<int64_t>(wide));  // told at its end, which may be later
   look_at_times(record.at, processor);
-  if (told == Told::StoodStill) add_up(static_cast<int64_t>(wide));
   if (told == Told::Passed && !is_length(static_cast<int64_t>(wide)))
     throw DamagedLog("more processor time passed than the run has");
 }

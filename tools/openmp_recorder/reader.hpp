@@ -79,6 +79,7 @@ class Reader {
     if (of.worker >= workers.size()) workers.resize(of.worker + 1);
   }
   std::vector<uint32_t> &current() { return worker().current; }
+  Task *current_part();  // of the implicit task that the thread is in
   Task *running();
   static void remark(Region *region, Remark what, const void *code) { region->remarks[what].add(code); }
   [[noreturn]] void refuse(const char *why) const;  // what the runtime never tells
@@ -99,6 +100,7 @@ class Reader {
   Task *create(Task *parent, bool undeferred);
   void settle(Task *parent);
   void parallel_begin();
+  void look_at_new_part(uint32_t number) const;
   void implicit_begin();
   void leave_region(Met &met);
   void implicit_end();

@@ -48,7 +48,7 @@ uint32_t Reader::location_of_turn(const Loop &loop) {
 // From the first such record of a loop on. A part that has made tasks, or is in a group, stays as it is.
 bool Reader::has_turns_apart(ImplicitTask &own) {
   if (own.turns) return true;
-  Task *t = find(current().back()), *chunk = own.chunk;
+  Task *t = current_part(), *chunk = own.chunk;
   if (!chunk || chunk->children || t->children > 1 || t->open_groups > 1) return false;
   give_up_times();
   end_chunk(own);
@@ -61,14 +61,14 @@ bool Reader::has_turns_apart(ImplicitTask &own) {
   chunk->parent = nullptr;
   chunk->pieces = 0;
   begin_piece(own, true);
-  Task *piece = find(current().back());
+  Task *piece = current_part();
   if (cost) piece->steps.push_back(Step::work(cost));
   own.turns->since = r->wall - cost;
   return true;
 }
 
 void Reader::begin_piece(ImplicitTask &own, bool of_next_turn) {
-  Task *before = find(current().back());
+  Task *before = current_part();
   end(before);
   before->over = true;
   Task *piece = add_part(current().back(), before->region);
@@ -91,7 +91,7 @@ bool Reader::turn_done() {
   ImplicitTask *own = in_loop();
   if (!own || !has_turns_apart(*own)) return false;
   uint32_t turn = location_of_turn(*own->loop);
-  Task *piece = find(current().back());
+  Task *piece = current_part();
   piece->items.push_back(item_of(turn, ompt_dependence_type_out));
   charge(piece);
   int64_t &shortest = own->turns->waited ? own->loop->inside : own->loop->unwaited;
@@ -106,7 +106,7 @@ bool Reader::turn_awaited() {
   ImplicitTask *own = in_loop();
   if (!own || !has_turns_apart(*own)) return false;
   uint32_t turn = location_of_turn(*own->loop);
-  Task *piece = find(current().back());
+  Task *piece = current_part();
   charge(piece);
   int64_t cost = last_cost(*piece);
   if (own->turns->after_a_wait && cost < at_once && piece->items.size() < most_waited_for) {
@@ -140,7 +140,7 @@ void Reader::order_left() {
 
 // What follows the loop waits for the thread's turns.
 void Reader::end_turns(ImplicitTask &own) {
-  Task *last = find(current().back());
+  Task *last = current_part();
   end(last);
   last->over = true;
   Task *part = add_part(current().back(), last->region);

@@ -3,6 +3,7 @@
 
 #include <algorithm>
 
+#include "log_damage.hpp"
 #include "reader.hpp"
 #include "runtime_ways.hpp"
 
@@ -24,6 +25,7 @@ void Reader::begin_group(Task *t, const void *code) {
 }
 
 void Reader::end_group(Task *t, const void *code) {
+  if (!t->open_groups) throw DamagedLog("a group ends that is not open");
   t->steps.push_back(Step::at(Kind::GroupEnd, code));
   t->segment++;
   t->open_groups--;

@@ -35,6 +35,7 @@ void Reader::begin_root() {
 // the wall clock it may be waiting.
 void Reader::initial_begin() {
   if (!run.whole) return;
+  look_at_new_part(r->task);
   Task *t = run.whole->root;
   if (t->on && t->on != log) {
     t = fresh(run.whole.get());
@@ -182,7 +183,7 @@ void Reader::chunk_begin() {
 }
 
 void Reader::begin_chunk(ImplicitTask &own, uint64_t turns) {
-  Task *t = find(current().back());
+  Task *t = current_part();
   end_chunk(own);
   charge(t);
   if (!std::exchange(own.in_group, true)) begin_group(t, own.loop->code);
@@ -211,7 +212,7 @@ void Reader::end_chunk(ImplicitTask &own) {
 void Reader::divided_end() {
   ImplicitTask *own = in_loop();
   if (!own) return;
-  Task *t = find(current().back());
+  Task *t = current_part();
   if (r->told() == Told::DividedEnd) join_turns(*own);
   end_chunk(*own);
   if (own->in_group) {
@@ -241,7 +242,7 @@ void Reader::keep_divided() {
 
 // Its code is the part's.
 void Reader::put_chunk_back(ImplicitTask &own) {
-  Task *t = find(current().back()), *chunk = own.chunk;
+  Task *t = current_part(), *chunk = own.chunk;
   size_t began = chunk->started;
   end_chunk(own);
   take_chunk_out(own, *t);
@@ -252,6 +253,7 @@ void Reader::put_chunk_back(ImplicitTask &own) {
 
 // Its creation is the part's last step, and so is the group, where it is the first.
 void Reader::take_chunk_out(ImplicitTask &own, Task &t) {
+  if (t.steps.size() < 2 || t.steps.back().kind != Kind::Create) refuse("a chunk is none of its loop");
   t.steps.pop_back();
   t.children--;
   t.segment--;

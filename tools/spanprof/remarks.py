@@ -42,7 +42,7 @@ WORDS = {
                         "work and span are right, places are not: compile with -g -Og, or by clang with "
                         "-fno-optimize-sibling-calls"),
     "lines of gcc": ("construct in code that gcc has optimised, whose line may be that of a statement before it",
-                     "work and span are right, places may not be: compile with -g -Og, or by clang"),
+                     "work and span are right, places may not be: compile with -g -Og"),
     "preempted": ("off the processor in the midst of code, where the wall clock goes on", ""),
     "slept": ("asleep or waiting in the midst of code, where the processor's clock stands still", ""),
     "rounded down": OF_ROUNDING,

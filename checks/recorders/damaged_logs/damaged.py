@@ -95,6 +95,8 @@ def try_all(converter, count, seed, keep):
         for clock in ("wall", "cpu"):
             record(program, os.path.join(folder, clock), clock)
             wholes.append(os.path.join(folder, clock + ".log"))
+            if try_log(converter, wholes[-1], folder):
+                raise Wrong("a log without damage is refused")
         found = [try_damage(converter, wholes[i % len(wholes)], "%s.%d" % (seed, i), keep) for i in range(count)]
     wrong = found.count(None)
     refused = sum(bool(one) for one in found)
@@ -106,8 +108,12 @@ def try_all(converter, count, seed, keep):
 def main(words):
     seed = os.environ.get("SEED") or str(random.SystemRandom().randrange(10 ** 9))
     print("SEED=%s" % seed, flush=True)
-    return bool(try_all(os.path.abspath(words[0]), int(words[1]) if len(words) > 1 else 300, seed,
-                        os.environ.get("KEEP")))
+    try:
+        return bool(try_all(os.path.abspath(words[0]), int(words[1]) if len(words) > 1 else 300, seed,
+                            os.environ.get("KEEP")))
+    except Wrong as fault:
+        print(fault)
+        return 1
 
 
 if __name__ == "__main__":

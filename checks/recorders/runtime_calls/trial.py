@@ -19,6 +19,7 @@ GAPS = {
     "GOMP_teams": "teams are regions of the runtime's", "__kmpc_fork_teams": "teams are regions of the runtime's",
 }
 BAD = ("crash", "wrong", "silent")
+OF_LINES = "lines of gcc"   # a remark on places alone: it explains no other shape
 TOLD = BAD + ("refused", "remarked", "too slow", "too large")
 MOST_BYTES = 5000000  # of a text that is compared
 
@@ -84,7 +85,7 @@ def texts(folder):
     for path in paths(folder):
         with open(path, encoding="utf-8") as file:
             region, said = asked.of_text(file.read())
-        remarks += said
+        remarks += [one for one in said if one.name != OF_LINES]
         if region:
             regions.append(region)
     return sorted(regions), remarks

@@ -319,3 +319,20 @@ TEST(a_file_tells_its_symbols) {
   EXPECT(none.symbol_at(16).has_value(), false);
   EXPECT(none.bytes_at(0, 4).empty(), true);
 }
+
+TEST(what_gcc_optimises) {
+  auto is_told = [](const std::string &producer) {
+    MadeLog log;
+    std::string path = log.folder + "/file", bytes = std::string("x\0", 2) + producer + std::string("\0y", 2);
+    FILE *file = fopen(path.c_str(), "w");
+    fwrite(bytes.data(), 1, bytes.size(), file);
+    fclose(file);
+    return ElfFile(path).is_optimised_by_gcc();
+  };
+  EXPECT(is_told("GNU C17 12.2.0 -march=x86-64 -g -O2 -fopenmp -fasynchronous-unwind-tables"), true);
+  EXPECT(is_told("GNU Fortran2008 12.2.0 -O3 -fopenmp"), true);
+  EXPECT(is_told("GNU C17 12.2.0 -O2 -Og -fopenmp"), false);
+  EXPECT(is_told("GNU C17 12.2.0 -g -fopenmp"), false);
+  EXPECT(is_told("GNU C17 12.2.0 -O2"), false);
+  EXPECT(is_told("clang version 19 -O2 -fopenmp"), false);
+}

@@ -14,7 +14,8 @@ TEST(each_remark_moves_a_number_or_says_that_it_does_not) {
     EXPECT(static_cast<size_t>(line.remark), i);
     EXPECT(names.insert(line.name).second, true);
     bool moves = line.work != Moved::Not || line.span != Moved::Not;
-    EXPECT(moves, line.remark != Remark::FoldedExactly && line.remark != Remark::LineOfAnother);
+    bool tells_of_places = line.remark == Remark::LineOfAnother || line.remark == Remark::LinesOfGcc;
+    EXPECT(moves, line.remark != Remark::FoldedExactly && !tells_of_places);
   }
 }
 
@@ -48,6 +49,6 @@ TEST(the_direction_of_each_remark) {
   moves({Remark::Cancel, Remark::WaitsForTurns}, Either, Either);
   moves({Remark::RoundedDown}, Low, Either);
   moves({Remark::RoundedUp, Remark::BetweenTurns}, High, Either);
-  moves({Remark::FoldedExactly, Remark::LineOfAnother}, Not, Not);
+  moves({Remark::FoldedExactly, Remark::LineOfAnother, Remark::LinesOfGcc}, Not, Not);
   EXPECT(all.size(), all_remarks);
 }

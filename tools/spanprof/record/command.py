@@ -59,7 +59,7 @@ def other_regions(found, answered, first, program):
         [one.number for one in found]
     lines = [other_region(one) for i, one in enumerate(answered) if i != first and found[i].number in shown]
     alike = len(found) - 1 - len(lines)
-    return lines + ["%d more texts of these places" % alike] * bool(alike)
+    return lines + ["%d more text%s of these places" % (alike, "s" * (alike != 1))] * bool(alike)
 
 
 def texts_to_predict(session, recording, scale):
