@@ -176,6 +176,7 @@ void end_log(log_form::HowEnded how) {
   head->how_ended = how;
 }
 
+bool nothing_recorded() { return !is_made; }
 void count_open_region(int more) { open_regions += more; }
 bool inside_a_region() { return open_regions > 0; }
 
