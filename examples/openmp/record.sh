@@ -52,7 +52,7 @@ keep() { # NAME WHAT: the recording, if it weighs less than the one that is kept
         least=$weight
         cp "$text" "$kept/$1${text#out}"
         [ ! -e out.replay ] || cp out.replay "$kept/$1.replay"
-        [ ! -e out.said ] || sed "s/\bout\b\(.large\)\?\.tasks/${1%%_[0-9]*}\1.tasks/" out.said > "$kept/$1.said"
+        [ ! -e out.said ] || sed "s/\bout\.tasks/$1.tasks/" out.said > "$kept/$1.said"
     fi
     rm -rf out.*
 }
@@ -78,5 +78,4 @@ fibonacci_18 60 work - ns fibonacci 27 18
 fibonacci_20 60 work - ns fibonacci 27 20
 fibonacci_22 60 work - ns fibonacci 27 22
 cholesky 60 work none us cholesky 4
-fibonacci_30 8 time said ns fibonacci 30 12
 PROGRAMS
