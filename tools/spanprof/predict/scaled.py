@@ -52,7 +52,7 @@ def chosen(by_threads, times):
 
 
 def tables(told, folder):
-    """The texts that are there and the unrecorded times, by threads, of what the file tells, which lies in the folder."""
+    """The texts that are there and the unrecorded times, by threads, of what a file in the folder tells."""
     rows = told.get("threads") if isinstance(told, dict) else None
     by_threads, times = {}, {}
     for row in rows if isinstance(rows, list) else []:
