@@ -26,7 +26,6 @@ extern std::atomic<log_form::Stopped> log_stopped;
 extern
     __attribute__((tls_model("initial-exec"))) __thread ThreadLog *thread_log;  // the calling thread's, once it is made
 ThreadLog *make_thread_log();  // null where it cannot be made
-bool nothing_recorded();  // in this process
 double nanoseconds_of_tick();
 int64_t wall_time_at(uint64_t ticks);
 void count_open_region(int more);
