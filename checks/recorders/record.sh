@@ -131,9 +131,10 @@ expect_word "a run that fails" 'run 1 of 2 is the last, and there is no median: 
 echo "several runs"
 
 expect "a scale" 0 spanprof-record --scale 1,2 --runs 3 --json scale.json --out scaled -- ./llvm
-[ "$(wc -l < out)" = 40 ] || fail "a scale: not every run reads standard input"
+[ "$(wc -l < out)" = 60 ] || fail "a scale: not every run reads standard input"
 expect_recording scaled
 expect_recording scaled.scale/threads1
+expect_recording scaled.scale/threads2-2
 expect_summary "a scale"
 expect_word "a scale" '3 unrecorded runs on each number, in turns: elapsed time of the whole program'
 grep -q '^true times *threads .*speed-up' err || fail "a scale: no table"

@@ -142,7 +142,10 @@ def read_lock(head, told):
 
 
 def read_preempted(head, told):
-    head.preempted = {int(segment): int(off) for segment, off in told}
+    found = {int(segment): int(off) for segment, off in told}
+    if min((*found, *found.values()), default=0) < 0:
+        raise ValueError("less than nothing")
+    head.preempted = found
 
 
 def kept(field_name, kind=int):

@@ -1,4 +1,4 @@
-"""How code gets dearer with more threads, by place: each doubling of their number adds a share of what the last one did.
+"""How code gets dearer with more threads, by place: each doubling adds a share of what the last one did.
 
 Of recordings on a and on b threads, of which the medians count; on one thread every task is undeferred, and the code of
 its creation is cheaper.

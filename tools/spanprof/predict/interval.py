@@ -1,6 +1,5 @@
 """How far the truth may be from a prediction, as logarithms: what held in 19 of 20 cases of the programs that it is
-fitted to (checks/programs/predictions), so that it holds in nine of ten of others. The truth is the median time of
-several runs."""
+fitted to (checks/programs/predictions). Of others fewer hold. The truth is the median time of several runs."""
 from math import log
 from typing import NamedTuple
 

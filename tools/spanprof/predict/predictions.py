@@ -8,6 +8,7 @@ from spanprof.predict.burden import burdened_text
 from spanprof.predict.estimate import LLVM, estimate
 from spanprof.predict.machine import machine_file, read_machine
 from spanprof.predict.recorded import recorded, with_text
+from spanprof.predict.scaled import together
 from spanprof.predict.words import as_json, changed_json, changed_words, lines
 
 
@@ -52,18 +53,22 @@ def told_of(chosen):
     return (lines(*told, chosen.notes), as_json(*told, chosen.notes)) if told else ([], None)
 
 
-def of_changed(base, text, machine, threads):
-    """Of a recording with a changed text: an estimate and its least end."""
-    found = estimate({base.threads: [with_text(base, text)]}, machine, threads)
-    return found, least_end(text, found.costs, threads)
+def of_changed(bases, change, machine, threads):
+    """Of recordings with changed texts, where `change` makes one of a text: an estimate and its least end."""
+    found = estimate({bases[0].threads: [with_text(base, change(base.text)) for base in bases]}, machine, threads)
+    return found, least_end(found.base.text, found.costs, threads)
+
+
+def unchanged(text):
+    return text
 
 
 def of_both(path, change, threads):
     """Pairs as above of a recording's text, and of what `change` makes of it; None without a model."""
     if not os.path.exists(machine_file()):
         return None
-    machine, base = read_machine(machine_file()), recorded(path)
-    return [of_changed(base, text, machine, threads) for text in (base.text, change(base.text))]
+    machine, bases = read_machine(machine_file()), [recorded(one) for one in together(path)]
+    return [of_changed(bases, one, machine, threads) for one in (unchanged, change)]
 
 
 def changed_told(path, change, threads):

@@ -1,6 +1,7 @@
 """What `spanprof-record --scale` has left: recordings on some numbers of threads, and the times of unrecorded runs."""
 import json
 import os
+import re
 import statistics
 from typing import List, NamedTuple
 
@@ -50,8 +51,8 @@ def chosen(by_threads, times):
     return Chosen([path for one in found for path in one.paths], [note for one in found for note in one.notes])
 
 
-def chosen_of(told, folder):
-    """Of what the file tells, which lies in the folder; of the texts those that are there."""
+def tables(told, folder):
+    """The texts that are there and the unrecorded times, by threads, of what a file in the folder tells."""
     rows = told.get("threads") if isinstance(told, dict) else None
     by_threads, times = {}, {}
     for row in rows if isinstance(rows, list) else []:
@@ -59,7 +60,27 @@ def chosen_of(told, folder):
             paths = [os.path.join(folder, one) for one in row["recordings"] if isinstance(one, str)]
             by_threads[row.get("threads", 0)] = [path for path in paths if os.path.exists(path)]
             times[row.get("threads", 0)] = row.get("times")
-    return chosen({threads: paths for threads, paths in by_threads.items() if paths}, times)
+    return {threads: paths for threads, paths in by_threads.items() if paths}, times
+
+
+def chosen_of(told, folder):
+    """Of all numbers of threads."""
+    return chosen(*tables(told, folder))
+
+
+def together(path):
+    """The text and those that were recorded with it on as many threads, but for slow ones; it alone where there are
+    none."""
+    scale = re.sub(r"\.tasks$", "", path) + ENDING
+    try:
+        with open(scale, encoding="utf-8") as file:
+            by_threads, times = tables(json.load(file), os.path.dirname(path))
+    except (OSError, ValueError):
+        return [path]
+    for threads, paths in by_threads.items():
+        if any(os.path.samefile(path, other) for other in paths):
+            return chosen_on(threads, paths, times.get(threads)).paths
+    return [path]
 
 
 def texts(path):

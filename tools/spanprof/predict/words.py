@@ -5,8 +5,8 @@ from spanprof.account_words import lasting
 from spanprof.predict.estimate import GNU, LLVM
 from spanprof.predict.gnu import LOCK
 
-MODEL = "predicted: by a model of LLVM's scheduling, not proved; on 2 to 4 threads its intervals held in nine of ten " \
-    "cases of 23 programs, and in six of ten of 14 others that nothing was fitted to"
+MODEL = "predicted: by a model of LLVM's scheduling, not proved; its intervals held in three of four cases of 14 " \
+    "programs that nothing was fitted to, on 4 threads, and by five recordings in five of six"
 AT_LEAST = "at least (proved, of the burdened text)"
 OF_GNU = "predicted: by a model of gcc's scheduling, not proved; tried on eight programs on 4 threads, recorded with " \
     "LLVM's runtime; the intervals are those of LLVM's model"

@@ -6,7 +6,7 @@ from spanprof.errors import Fault
 from spanprof.predict.machine import machine_file, read_machine
 from spanprof.predict.predictions import by_the_model, of_changed
 from spanprof.predict.recorded import recorded
-from spanprof.predict.scaled import chosen_of
+from spanprof.predict.scaled import chosen_of, together
 from spanprof.text import statements, text_lines
 from spanprof.whatif.requests import applied, changes
 from spanprof.whatif.survey import survey
@@ -37,14 +37,14 @@ def predicted(answers, told):
     return Predicted(found[2], found[1]) if found else Predicted([])
 
 
-def changed_text(stream, request, surveyed):
-    return "".join(text_lines(applied(stream, changes([request], *surveyed)), 1))
+def change_of(request, surveyed):
+    """What makes the changed text of a text."""
+    return lambda text: "".join(text_lines(applied(statements(text.splitlines()), changes([request], *surveyed)), 1))
 
 
 def of_changes(answers, tried):
     """Pairs as above of the first changes that bring something, by their requests."""
-    machine, base = read_machine(machine_file()), recorded(answers.path)
-    stream = list(statements(base.text.splitlines()))
-    surveyed, threads = (survey(stream), tried.costs), tried.trials.threads[0]
-    return {trial.request: of_changed(base, changed_text(stream, trial.request, surveyed), machine, threads)
+    machine, bases = read_machine(machine_file()), [recorded(path) for path in together(answers.path)]
+    surveyed, threads = (survey(statements(bases[0].text.splitlines())), tried.costs), tried.trials.threads[0]
+    return {trial.request: of_changed(bases, change_of(trial.request, surveyed), machine, threads)
             for trial in tried.trials.sooner[:MOST_CHANGES]}

@@ -78,6 +78,10 @@ class Heads(unittest.TestCase):
         self.assertEqual(head.spread, {"work": (34000, 34770, 36010), "span": (2125, 2157, 8484)})
         self.assertTrue(head.is_median)
 
+    def test_other_forms_of_what_was_taken_tell_nothing(self):
+        for wrong in ("[[1, -2]]", "[[-1, 2]]", "[[1]]", "[1]", "7", "{}", '[["a", 2]]', "[]"):
+            self.assertEqual(read_head("# preempted: %s\n" % wrong).preempted, {})
+
     def test_other_forms(self):
         head = read_head('# covers: {"text": 931, "program": 1000, "at most": true}\n'
                          '# lock: {"others": 7, "times": 1, "inside": 2, "waiting": 3}\n')

@@ -1,8 +1,9 @@
+import json
 import os
 import tempfile
 import unittest
 
-from spanprof.predict.scaled import Chosen, chosen, chosen_of, program_time
+from spanprof.predict.scaled import Chosen, chosen, chosen_of, program_time, together
 
 HEAD = '# recorded: {"program": "a", "threads": 4, "clock": "wall", "unit": "us"}\n# elapsed: %d\n' \
     '# outside regions: 10\n# in other regions: 5\nomptasks 1\n'
@@ -43,6 +44,18 @@ class Recordings(unittest.TestCase):
         rows = [{"threads": 4, "recordings": ["a.tasks", "gone.tasks"]}, {"threads": 2, "recordings": ["gone.tasks"]}]
         self.assertEqual(chosen_of({"threads": rows}, self.folder), Chosen([path]))
         self.assertEqual([chosen_of(told, self.folder) for told in (None, [], {"threads": 3})], [Chosen([])] * 3)
+
+    def test_recorded_together(self):
+        quick, slow, other = self.write("a.tasks", 85), self.write("b.tasks", 115), self.write("c.tasks", 95)
+        self.assertEqual(together(quick), [quick])
+        rows = [{"threads": 1, "recordings": ["c.tasks"]},
+                {"threads": 4, "recordings": ["a.tasks", "b.tasks"], "times": [100000]}]
+        with open(os.path.join(self.folder, "a.scale.json"), "w", encoding="utf-8") as file:
+            json.dump({"threads": rows}, file)
+        self.assertEqual([together(path) for path in (quick, slow, other)], [[quick], [slow], [other]])
+        with open(os.path.join(self.folder, "c.scale.json"), "w", encoding="utf-8") as file:
+            json.dump({"threads": [{"threads": 4, "recordings": ["c.tasks", "a.tasks", "b.tasks"]}]}, file)
+        self.assertEqual(together(other), [other, quick, slow])
 
 
 if __name__ == "__main__":

@@ -12,7 +12,8 @@ from spanprof.head import read_head
 from spanprof.predict.machine import machine_file, read_machine
 from spanprof.predict.predictions import by_the_model, of_changed
 from spanprof.predict.recorded import recorded
-from spanprof.report.predicted import changed_text, recordings
+from spanprof.predict.scaled import together
+from spanprof.report.predicted import change_of, recordings
 from spanprof.text import has_loops, statements, text_lines
 from spanprof.whatif.creating import costs_for
 from spanprof.whatif.requests import Request, applied, changes
@@ -265,10 +266,9 @@ class Program(Sums):
     def trial_predicted(self, number, what):
         if ("trial-predicted", number) not in self.kept:
             tried = self.data["tried"]
-            base = recorded(self.file)
-            before = list(statements(base.text.splitlines()))
-            changed = changed_text(before, Request(*tried["requests"][int(number)]), self.surveyed)
-            told = base, changed, read_machine(machine_file()), tried["threads"][0]
+            bases = [recorded(path) for path in together(self.file)]
+            change = change_of(Request(*tried["requests"][int(number)]), self.surveyed)
+            told = bases, change, read_machine(machine_file()), tried["threads"][0]
             self.kept["trial-predicted", number] = self.as_told(*of_changed(*told))
         return self.kept["trial-predicted", number][what]
 
