@@ -15,8 +15,8 @@ from spanprof.version import Version
 DESCRIPTION = """Tells how long the recorded region would take on some threads, and from which to which time, by a model
 of the runtime's scheduling. Several texts are recordings of one program: of those on one number of threads the median is told,
 and from different numbers it takes how code gets dearer."""
-AFTER = """What the runtime takes for a task is that of this machine, which spanprof-record measures once. MINE.scale.json,
-which spanprof-record --scale writes, stands for its recordings.
+AFTER = """What the runtime takes for a task is that of this machine, which spanprof-record measures once. A
+MINE.scale.json of spanprof-record stands for the recordings that it names.
 Exit status 1: a file is missing, or a text tells no time; 2: wrong words."""
 MOST_THREADS = 1024
 
