@@ -247,6 +247,7 @@ bool fold_exactly(Region &region, int64_t unit, Size &size) {
   region.remarks.merge(made.remarks);
   region.parts.clear();
   region.events.clear();
+  region.preempted.clear();
   return true;
 }
 

@@ -44,4 +44,5 @@ void Reader::let_go(Region &region) {
   region.has_events = false;
   region.locations = Locations();
   region.tasks.clear();
+  region.preempted.clear();
 }

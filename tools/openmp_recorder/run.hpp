@@ -138,7 +138,8 @@ struct Region {
 
 // Of a task's segment in the text that was written; none where it is not there by itself.
 inline uint32_t number_in_text(const Task &t, unsigned segment, const Region &region) {
-  return t.first_number != none && segment <= t.segment ? region.numbers[t.first_number + segment] : none;
+  bool is_there = t.first_number != none && segment <= t.segment && t.first_number + segment < region.numbers.size();
+  return is_there ? region.numbers[t.first_number + segment] : none;
 }
 
 // The region whose text has the tasks of this one.

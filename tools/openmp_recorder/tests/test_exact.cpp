@@ -168,7 +168,9 @@ TEST(a_region_is_folded_until_it_fits) {
   add_row(region, root, std::vector<int64_t>(200000, 40));
   made_up(region);
   Size size = fold(region, {});
+  region.preempted = {{region.root, 0, 9}};  // of a task that goes
   EXPECT(fold_exactly(region, 1, size), true);
+  EXPECT(region.preempted.empty(), true);
   EXPECT(over_the_limits(size, 1).what, "");
   EXPECT(size.tasks > most_tasks / 2, true);
   EXPECT(size.total, region.work);
