@@ -5,12 +5,12 @@ import os
 import statistics
 from collections import defaultdict
 from concurrent.futures import ProcessPoolExecutor
-from typing import Dict, List, NamedTuple, Tuple
+from functools import partial
+from typing import Callable, Dict, List, NamedTuple, Tuple
 
 from judge_changes import changed
 from judging import Case, Judged, of_estimate, summary
-from measured import recordings as recordings_by_round
-from measured import texts
+from measured import read, texts
 from quiet import Used, verdict
 from unseen import UNSEEN
 
@@ -37,15 +37,14 @@ class Kind(NamedTuple):
 
 KINDS = (Kind("4 from 4", Case((4,), 4, 0.05, 0.15)), Kind("4 from 1 and 2", Case((1, 2), 4, 0.08, 0.20)),
          Kind("changed, 4 from 4", Case((4,), 4, 0.05, 0.20, True)))
-THREADS = 4     # of the times that are predicted
 
 
 class Measured(NamedTuple):
-    """Nanoseconds by program and version and threads and turn, what was watched by turn, and recordings by program and
-    threads and turn."""
+    """Nanoseconds by program and version and threads and turn, what was watched by turn, and how recordings are read,
+    by program and threads and turn."""
     times: Dict[Tuple[str, str, int, int], int]
     watched: Dict[int, Used]
-    recordings: Dict[Tuple[str, int, int], object]
+    recordings: Dict[Tuple[str, int, int], Callable]
 
     @property
     def turns(self):
@@ -56,15 +55,12 @@ class Measured(NamedTuple):
 
 
 class Task(NamedTuple):
-    """What is predicted of one program: its recordings by threads, in the order of their turns, the unrecorded runs by
-    threads, and its true times."""
+    """What one program's predictions take: how each recording is read, by threads and turn, unrecorded runs by version
+    and threads, and the model of the machine."""
     made: object
-    kind: Kind
-    recordings: Dict[int, List[object]]
-    unrecorded: Dict[int, List[int]]
-    times: List[int]
+    recordings: Dict[Tuple[int, int], Callable]
+    runs: Dict[Tuple[str, int], List[int]]
     machine: object
-    together: int
 
 
 def rows(path):
@@ -86,7 +82,7 @@ def read_measured(folder):
     recordings = {}
     for path in sorted(folder.glob("*.tasks")):
         program, threads, turn, _ = path.name.split(".")
-        recordings[program, int(threads), int(turn)] = read_recording(path)
+        recordings[program, int(threads), int(turn)] = partial(read_recording, path)
     return Measured(times, watched, recordings)
 
 
@@ -94,8 +90,8 @@ def read_kept(folder):
     """The same of what is kept of its quiet turns."""
     times = {(row["program"], row["version"], int(row["threads"]), int(name[3:])): round(1000 * float(taken))
              for row in rows(folder / "true_times.csv") for name, taken in row.items() if name[3:].isdigit() and taken}
-    recordings = {(program, threads, turn): one for program, several in texts(folder).items()
-                  for turn, found in recordings_by_round(several).items() for threads, one in found.items()}
+    recordings = {(program, int(row["threads"]), int(row["round"])): partial(read, text, row)
+                  for program, several in texts(folder).items() for text, row in several}
     return Measured(times, {}, recordings)
 
 
@@ -106,20 +102,13 @@ def read_folder(folder):
     return read_kept(folder), read_machine(folder / "machine.json")
 
 
-def true_times(measured, turns, on=THREADS):
-    """The runs in these turns on so many threads, by program and version."""
+def runs_of(measured, turns, program):
+    """The unrecorded runs in these turns, by version and threads."""
     found = defaultdict(list)
-    for (program, version, threads, turn), taken in sorted(measured.times.items()):
-        if turn in turns and threads == on:
-            found[program, version].append(taken)
-    return found
-
-
-def recordings_of(measured, turns, program, case):
-    """By threads, of those turns in which it was recorded on all that the case needs."""
-    found = [[measured.recordings.get((program, threads, turn)) for threads in case.of] for turn in sorted(turns)]
-    complete = [several for several in found if None not in several]
-    return dict(zip(case.of, map(list, zip(*complete)))) if complete else {}
+    for (name, version, threads, turn), taken in sorted(measured.times.items()):
+        if name == program and turn in turns:
+            found[version, threads].append(taken)
+    return dict(found)
 
 
 def without_slow(several, unrecorded):
@@ -129,40 +118,49 @@ def without_slow(several, unrecorded):
     return fast if len(several) > 1 and fast else several
 
 
-def judged(task):
-    """By the first recordings of a program, by its next ones, and so on; what is left over at the end does not count.
-    """
-    case, true = task.kind.case, statistics.median(task.times)
-    count = min(map(len, task.recordings.values()), default=0)
-    for first in range(0, count - task.together + 1, task.together):
-        of = {threads: without_slow(found[first:first + task.together], task.unrecorded[threads])
-              for threads, found in task.recordings.items()}
+def in_groups(case, recordings, together):
+    """Lists of recordings by threads: the first ones of a program, the next ones, and so on. What is left over at the
+    end does not count, nor turns in which it was not recorded on all threads of the case."""
+    turns = sorted({turn for _, turn in recordings})
+    complete = [turn for turn in turns if all((threads, turn) in recordings for threads in case.of)]
+    for first in range(0, len(complete) - together + 1, together):
+        yield {threads: [recordings[threads, turn] for turn in complete[first:first + together]] for threads in case.of}
+
+
+def judged(task, recordings, kind, together):
+    """Predictions by so many recordings on each number of threads."""
+    case, true = kind.case, statistics.median(task.runs[kind.version, kind.case.threads])
+    for number, found in enumerate(in_groups(case, recordings, together), 1):
+        of = {threads: without_slow(several, task.runs[BEFORE, threads]) for threads, several in found.items()}
         if case.is_changed:
-            of = {threads: [changed(task.made, one) for one in found] for threads, found in of.items()}
+            of = {threads: [changed(task.made, one) for one in several] for threads, several in of.items()}
         one = estimate(of, task.machine, case.threads)
-        yield of_estimate(one, task.made.name, first + 1, case, true, min(map(len, of.values())))
+        yield of_estimate(one, task.made.name, number, case, true, min(map(len, of.values())))
 
 
-def judged_list(task):
-    return list(judged(task))
-
-
-def tasks(measured, machine, turns):
-    """Of each kind, by single recordings and by several."""
-    on = {threads: true_times(measured, turns, threads) for threads in (1, 2, THREADS)}
-
-    def of_one(made, kind, together):
-        return Task(made, kind, recordings_of(measured, turns, made.name, kind.case),
-                    {threads: times[made.name, BEFORE] for threads, times in on.items()},
-                    on[THREADS][made.name, kind.version], machine, together)
-    return {(kind, together): [of_one(made, kind, together) for made in UNSEEN]
+def judge_program(task):
+    """By kind, by single recordings and by several."""
+    recordings = {key: read_one() for key, read_one in task.recordings.items()}
+    return {(kind, together): list(judged(task, recordings, kind, together))
             for together in (1, TOGETHER) for kind in KINDS}
 
 
-def judge_all(of_kinds):
+def tasks(measured, machine):
+    """Of all programs, in the turns that count."""
+    turns = measured.turns
+    for made in UNSEEN:
+        recordings = {(threads, turn): read_one for (program, threads, turn), read_one in measured.recordings.items()
+                      if program == made.name and turn in turns}
+        yield Task(made, recordings, runs_of(measured, turns, made.name), machine)
+
+
+def judge_all(several):
+    found = defaultdict(list)
     with ProcessPoolExecutor(len(os.sched_getaffinity(0))) as pool:
-        waiting = {key: [pool.submit(judged_list, task) for task in several] for key, several in of_kinds.items()}
-        return {key: [one for future in futures for one in future.result()] for key, futures in waiting.items()}
+        for of_program in pool.map(judge_program, several):
+            for key, predictions in of_program.items():
+                found[key] += predictions
+    return found
 
 
 def worst_program(of_case):
@@ -202,30 +200,29 @@ def times_cell(times):
     return "%.2f (%.2f to %.2f)" % (statistics.median(taken), min(taken), max(taken)) if taken else "none"
 
 
-def table(names, times, columns: List[Tuple[Kind, List[Judged]]]):
+def table(several, columns: List[Tuple[Kind, List[Judged]]]):
     """In Markdown: a program's true times in ms, where the column before is not of the same ones, and its errors."""
     is_new = [not i or columns[i - 1][0].version != kind.version for i, (kind, _) in enumerate(columns)]
     heads = ["True, ms | " * new + kind.name for (kind, _), new in zip(columns, is_new)]
     yield "| Program | %s |" % " | ".join(heads)
     yield "|" + "---|" * (1 + len(columns) + sum(is_new))
-    for name in names:
+    for task in several:
         cells = []
-        for (kind, several), new in zip(columns, is_new):
-            cells += [times_cell(times[name, kind.version])] * new + [cell(
-                [one for one in several if one.program == name])]
-        yield "| %s | %s |" % (name, " | ".join(cells))
+        for (kind, found), new in zip(columns, is_new):
+            cells += [times_cell(task.runs.get((kind.version, kind.case.threads), []))] * new + [cell(
+                [one for one in found if one.program == task.made.name])]
+        yield "| %s | %s |" % (task.made.name, " | ".join(cells))
 
 
 def judge(folder):
     """Prints a table and lines for each kind; the status is 0 where all is as near as it has to be."""
     measured, machine = read_folder(folder)
-    turns = measured.turns
-    found = judge_all(tasks(measured, machine, turns))
+    several = list(tasks(measured, machine))
+    found = judge_all(several)
     for together in (1, TOGETHER):
-        columns = [(kind, found[kind, together]) for kind in KINDS]
-        print("\n".join(table([made.name for made in UNSEEN], true_times(measured, turns), columns)))
-    told = [line(kind, several, together) for (kind, together), several in found.items()]
+        print("\n".join(table(several, [(kind, found[kind, together]) for kind in KINDS])))
+    told = [line(kind, predictions, together) for (kind, together), predictions in found.items()]
     print("\n".join(words for words, _ in told))
     if measured.watched:
-        print("%s; the times are those of %d turns" % (verdict(list(measured.watched.values())), len(turns)))
+        print("%s; the times are those of %d turns" % (verdict(list(measured.watched.values())), len(measured.turns)))
     return 0 if all(is_met for _, is_met in told) else 1

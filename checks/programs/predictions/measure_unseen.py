@@ -88,11 +88,12 @@ def add(folder, name, several):
 
 
 def turn_of(folder, turn):
-    """All runs, and then all recordings."""
+    """All runs, and then all recordings. Those on as many threads follow one another: behind one on a single thread the
+    other processors have had nothing to do, and runs are slow more often."""
     found = [(one.name, version, threads, turn, *region_time(folder, program_of(folder, one, version), threads))
-             for one in UNSEEN for version in VERSIONS for threads in THREADS]
+             for threads in THREADS for one in UNSEEN for version in VERSIONS]
     record_all(folder, [(program_of(folder, one, BEFORE), "%s.%d.%d" % (one.name, threads, turn), threads)
-                        for one in UNSEEN for threads in RECORDED])
+                        for threads in RECORDED for one in UNSEEN])
     return found
 
 

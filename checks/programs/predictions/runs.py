@@ -51,8 +51,7 @@ def record(folder, program, out, threads):
 
 
 def record_all(folder, several):
-    """Of programs, each with its log and threads, once the runs of a turn are over: right behind a recording the system
-    still writes its files."""
+    """Of programs, each with its log and threads; what they have written is on the disk before the next turn."""
     for program, out, threads in several:
         record(folder, program, out, threads)
     os.sync()

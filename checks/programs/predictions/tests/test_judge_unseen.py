@@ -4,13 +4,14 @@ import pathlib
 import re
 import tempfile
 import unittest
+from functools import partial
 from unittest import mock
 
 import judge_unseen
 import kept_unseen
 from changes import MADE
-from judge_unseen import (AFTER, BEFORE, KINDS, Measured, Task, cell, judge, judge_all, judged, line,
-                          read_measured, recordings_of, table, tasks, true_times, without_slow)
+from judge_unseen import (AFTER, BEFORE, KINDS, Measured, Task, cell, in_groups, judge, judge_all, judge_program,
+                          judged, line, read_measured, runs_of, table, tasks, without_slow)
 from judging import Judged
 from quiet import Used
 from runs import TOP
@@ -52,13 +53,16 @@ def measured(times=(1650, 1600, 1700), works=(1000, 1200, 1100)):
     found = {("words", version, threads, turn): time + 1000 * (4 - threads)
              for version in (BEFORE, AFTER) for threads in (4, 3) for turn, time in enumerate(times, 1)}
     return Measured(found, dict.fromkeys(range(1, len(times) + 1), QUIET),
-                    {("words", 4, turn): recorded(work) for turn, work in enumerate(works, 1)})
+                    {("words", 4, turn): partial(recorded, work) for turn, work in enumerate(works, 1)})
 
 
-def task(kind=FROM_FOUR, together=1):
-    found = measured()
-    times = [1650, 1600, 1700]
-    return Task(WORDS, kind, recordings_of(found, {1, 2, 3}, "words", kind.case), {4: times}, times, NOTHING, together)
+def task():
+    with mock.patch.object(judge_unseen, "UNSEEN", (WORDS,)):
+        return list(tasks(measured(), NOTHING))[0]
+
+
+def times_of(kind, together):
+    return [(one.time, one.true, one.recordings) for one in judge_program(task())[kind, together]]
 
 
 class Turns(unittest.TestCase):
@@ -68,27 +72,31 @@ class Turns(unittest.TestCase):
         self.assertEqual(Measured({}, {1: QUIET, 2: BUSY}, {}).turns, {1, 2})
         self.assertEqual(measured()._replace(watched={}).turns, {1, 2, 3})
 
-    def test_times_of_these_turns(self):
-        times = true_times(measured(), {1, 3})
-        self.assertEqual(times, {("words", BEFORE): [1650, 1700], ("words", AFTER): [1650, 1700]})
+    def test_runs_of_these_turns(self):
+        found = runs_of(measured(), {1, 3}, "words")
+        self.assertEqual(found[BEFORE, 4], [1650, 1700])
+        self.assertEqual(found[AFTER, 3], [2650, 2700])
+        self.assertEqual(runs_of(measured(), {1, 3}, "paths"), {})
 
-    def test_recordings_of_these_turns(self):
-        found = recordings_of(measured(), {1, 3}, "words", FROM_FOUR.case)
-        self.assertEqual([one.work for one in found[4]], [1600, 1700])
-        self.assertEqual(recordings_of(measured(), {1, 3}, "words", FROM_FEWER.case), {})
+    def test_groups_of_recordings(self):
+        """What is left over does not count, nor turns without all of the case."""
+        recordings = {(threads, turn): "%d.%d" % (threads, turn) for threads in (1, 2, 4) for turn in (1, 2, 3, 4)}
+        del recordings[2, 3]
+        self.assertEqual(list(in_groups(FROM_FOUR.case, recordings, 3)), [{4: ["4.1", "4.2", "4.3"]}])
+        self.assertEqual(list(in_groups(FROM_FEWER.case, recordings, 2)), [{1: ["1.1", "1.2"], 2: ["2.1", "2.2"]}])
+        self.assertEqual(list(in_groups(FROM_FOUR.case, {}, 1)), [])
 
 
 class Predictions(unittest.TestCase):
     def test_single_recordings(self):
         """The median of the runs is true."""
-        self.assertEqual([(one.program, one.time, one.true, one.recordings) for one in judged(task())],
-                         [("words", 1600, 1650, 1), ("words", 1800, 1650, 1), ("words", 1700, 1650, 1)])
+        self.assertEqual(times_of(FROM_FOUR, 1), [(1600, 1650, 1), (1800, 1650, 1), (1700, 1650, 1)])
+        self.assertEqual(times_of(FROM_FEWER, 1), [])
 
     def test_several(self):
-        """What is left over does not count."""
-        self.assertEqual([(one.time, one.recordings) for one in judged(task(together=3))], [(1700, 3)])
-        self.assertEqual([one.time for one in judged(task(together=2))], [1600])
-        self.assertEqual(list(judged(task(together=4))), [])
+        recordings = {(4, turn): recorded(work) for turn, work in enumerate((1000, 1200, 1100), 1)}
+        self.assertEqual([(one.time, one.recordings) for one in judged(task(), recordings, FROM_FOUR, 3)], [(1700, 3)])
+        self.assertEqual([one.time for one in judged(task(), recordings, FROM_FOUR, 2)], [1600])
 
     def test_those_that_took_far_longer_are_left_out(self):
         several = [recorded(work) for work in (1000, 1200, 1100)]
@@ -100,14 +108,11 @@ class Predictions(unittest.TestCase):
 
     def test_the_change_is_made_to_the_text(self):
         """What follows the wait is a task, which nothing waits for."""
-        self.assertEqual([one.time for one in judged(task(CHANGED, together=3))], [1700])
-
-    def test_recordings_that_are_missing(self):
-        self.assertEqual(list(judged(task(FROM_FEWER))), [])
+        recordings = {(4, 1): recorded(1100)}
+        self.assertEqual([one.time for one in judged(task(), recordings, CHANGED, 1)], [1700])
 
     def test_all_kinds(self):
-        with mock.patch.object(judge_unseen, "UNSEEN", (WORDS,)):
-            found = judge_all(tasks(measured(), NOTHING, {1, 2, 3}))
+        found = judge_all([task()])
         self.assertEqual([(kind.name, together, len(several)) for (kind, together), several in found.items()], [
             ("4 from 4", 1, 3), ("4 from 1 and 2", 1, 0), ("changed, 4 from 4", 1, 3),
             ("4 from 4", 5, 0), ("4 from 1 and 2", 5, 0), ("changed, 4 from 4", 5, 0)])
@@ -129,13 +134,14 @@ class Told(unittest.TestCase):
 
     def test_a_table(self):
         columns = [(FROM_FOUR, [predicted(101e6, "a", 100e6), predicted(98e6, "a", 100e6)]), (FROM_FEWER, [])]
-        self.assertEqual(list(table(["a"], {("a", BEFORE): [100e6, 99e6, 102e6]}, columns)), [
+        one = Task(unseen("a"), {}, {(BEFORE, 4): [100e6, 99e6, 102e6]}, NOTHING)
+        self.assertEqual(list(table([one], columns)), [
             "| Program | True, ms | 4 from 4 | 4 from 1 and 2 |", "|---|---|---|---|",
             "| a | 100.00 (99.00 to 102.00) | -0.5 (-2.0 to +1.0) | none |"])
 
     def test_a_table_of_both_versions(self):
-        columns, times = [(FROM_FOUR, []), (CHANGED, [])], {("a", BEFORE): [2e6], ("a", AFTER): [1e6]}
-        self.assertEqual(list(table(["a"], times, columns)), [
+        one = Task(unseen("a"), {}, {(BEFORE, 4): [2e6], (AFTER, 4): [1e6]}, NOTHING)
+        self.assertEqual(list(table([one], [(FROM_FOUR, []), (CHANGED, [])])), [
             "| Program | True, ms | 4 from 4 | True, ms | changed, 4 from 4 |", "|---|---|---|---|---|",
             "| a | 2.00 (2.00 to 2.00) | none | 1.00 (1.00 to 1.00) | none |"])
         self.assertEqual(cell([]), "none")
