@@ -33,8 +33,8 @@ class Expected:
     def fits(self, runtime, failure, usual="kmp"):
         """Whether a failure of a runtime is one of them; `usual` is its family where its file's name does not tell."""
         traits = {"family": family_of(runtime, usual), "runtime": runtime, "kind": failure.verdict.kind,
-                  "rule": failure.rule, "tasks": failure.case.variant, "program": failure.case.name, "setting": failure.conditions.setting,
-                  "threads": str(failure.conditions.threads)}
+                  "rule": failure.rule, "tasks": failure.case.variant, "program": failure.case.name,
+                  "setting": failure.conditions.setting, "threads": str(failure.conditions.threads)}
         traits = {**{name: [trait] for name, trait in traits.items()}, "has": constructs(failure.case.body)}
         return all(any(fnmatch.fnmatchcase(trait, pattern) for trait in traits[name])
                    for name, pattern in self.patterns)
