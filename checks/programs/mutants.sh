@@ -7,18 +7,20 @@
 #                                                  `apt-get source --download-only --tar-only llvm-toolchain-16` gets
 #
 # FOLDER (out-mutants) keeps the libraries, so that a second call builds none. The words go to
-# `spanprof-conformance mutants`. JOBS (2) programs run side by side. It takes half an hour on four free processors.
+# `spanprof-conformance mutants`. JOBS (4) mutants are tried side by side, each by the programs, threads and settings of
+# the five minutes of docs/CONFORMANCE.md. A call that was stopped goes on where it was.
 set -euo pipefail
 cd "$(dirname "$0")/../.."
 family=${1:?gomp or kmp}
 folder=$(realpath -m "${2:-out-mutants}")/$family
 shift $(($# < 2 ? $# : 2))
 compiler=${CC:-$([ "$family" = gomp ] && echo gcc || echo clang-16)}
-jobs=${JOBS:-2}
+jobs=${JOBS:-4}
 [ -f "$folder/mutants.json" ] ||
     checks/programs/mutants/build.py "$family" "$folder" --jobs "$jobs" ${ARCHIVE:+--archive "$ARCHIVE"}
 wrong=0
-tools/spanprof-conformance mutants --cc "$compiler" --built "$folder" --jobs "$jobs" --threads 1,2,4 --timeout 3 \
+tools/spanprof-conformance mutants --cc "$compiler" --built "$folder" --jobs "$jobs" --threads 1,2,4,16 --runs 4 \
+    --programs 20 --timeout 3 --keep "$folder/programs" --state "$folder/campaigns.jsonl" \
     --report "$folder/seen.json" "$@" || wrong=$?
 own=()
 if [ "$family" = gomp ]; then

@@ -35,11 +35,15 @@ def put_together(reports):
     return seen
 
 
+def by_two(seen):
+    """Whether two programs failed in one campaign."""
+    return any(len(programs) > 1 for programs in seen["campaigns"])
+
+
 def is_caught(seen, campaigns):
     """Whether two programs failed, or something did in half of the campaigns: of those it had, or was to have."""
-    programs = set().union(*seen["campaigns"])
     most = max(campaigns, len(seen["campaigns"]))
-    return len(programs) > 1 or 2 * sum(bool(some) for some in seen["campaigns"]) >= most
+    return by_two(seen) or 2 * sum(bool(some) for some in seen["campaigns"]) >= most
 
 
 class Counts:
@@ -47,21 +51,20 @@ class Counts:
 
     def __init__(self, mutants, seen, own, campaigns):
         wrong = [name for name, fields in mutants.items() if fields["breaks"] == "yes" and name in seen]
-        self.wrong = len(wrong)
-        self.kept = sum(name in seen for name in mutants) - self.wrong
-        self.surely = sum(is_caught(seen[name], campaigns) for name in wrong)
-        self.once = sum(any(seen[name]["campaigns"]) for name in wrong) - self.surely
+        surely = [name for name in wrong if is_caught(seen[name], campaigns)]
+        self.wrong, self.kept = len(wrong), sum(name in seen for name in mutants) - len(wrong)
+        self.by_two = sum(by_two(seen[name]) for name in surely)
+        self.often = len(surely) - self.by_two
         self.escaped = [name for name in wrong if not any(seen[name]["campaigns"])]
+        self.rarely = [name for name in wrong if name not in surely and name not in self.escaped]
         self.false = [name for name, fields in mutants.items()
                       if fields["breaks"] != "yes" and any(seen.get(name, {"campaigns": []})["campaigns"])]
         self.own = sum(bool(own.get(name)) for name in wrong)
-        self.campaigns = sorted(len(seen[name]["campaigns"]) for name in mutants if name in seen)
 
     def cells(self, has_own):
-        names = ", ".join(f"`{name}`" for name in self.escaped)
-        given = " to ".join(map(str, dict.fromkeys(self.campaigns[:1] + self.campaigns[-1:])))
-        return [self.wrong, self.surely, self.once, names, *([self.own] if has_own else []), self.kept, len(self.false),
-                given]
+        rarely, escaped = (", ".join(f"`{name}`" for name in names) for names in (self.rarely, self.escaped))
+        return [self.wrong, self.by_two, self.often, rarely, escaped, *([self.own] if has_own else []), self.kept,
+                len(self.false)]
 
 
 def rows(mutants, seen, own, campaigns):
@@ -94,8 +97,8 @@ def main():
     mutants = json.loads((options.folder / "mutants.json").read_text())
     seen = put_together(json.loads(path.read_text()) for path in [options.seen, *options.more])
     own = json.loads(options.own.read_text()) if options.own else {}
-    heads = ["rule", "break it", "caught", "caught once", "escaped", *(["own tests"] if own else []), "break nothing",
-             "of these refused", "campaigns"]
+    heads = ["rule", "break it", "by two programs", "in half of the campaigns", "more rarely", "not",
+             *(["by its own tests"] if own else []), "break nothing", "of these refused"]
     print("\n".join(lines_of(heads, rows(mutants, seen, own, options.campaigns))))
     if options.names:
         heads = ["mutant", "rule", "breaks it", "programs", "seen as", "own tests"]

@@ -1,8 +1,6 @@
 """Runs many cases side by side."""
 import concurrent.futures
-import contextlib
 import fnmatch
-import math
 import sys
 import time
 
@@ -56,9 +54,9 @@ class Progress:
             sys.stderr.flush()
 
 
-def tried(bench, cases, plan, jobs, until=math.inf):
+def tried(bench, cases, plan, jobs):
     """Each of the cases with its tallies, as it ends; each is run as the plan says. What may only have been slow comes
-    last, after a second try. No case is waited for after a time of the monotonic clock."""
+    last, after a second try."""
     progress, pool, slow = Progress(len(cases)), concurrent.futures.ThreadPoolExecutor(jobs), []
     try:
         futures = {pool.submit(bench.try_case, case, plan.conditions(case)): case for case in cases}
@@ -68,27 +66,11 @@ def tried(bench, cases, plan, jobs, until=math.inf):
                 slow.append((futures[future], future.result()))
             else:
                 yield futures[future], future.result()
-            if until < math.inf and time.monotonic() > until:
-                pool.shutdown(cancel_futures=True)
-                break
         tries = SecondTries(lambda case, conditions: bench.try_case(case, [conditions])[0])
         for case, tallies in slow:
             yield case, tries.settled(case, tallies)
     finally:
         pool.shutdown(cancel_futures=True)
-
-
-def some_failing(bench, cases, plan, jobs, enough, seconds=math.inf):
-    """The results of cases, which end once so many programs have failed, or after so many seconds."""
-    begun, outcomes, failed = time.monotonic(), [], set()
-    with contextlib.closing(tried(bench, cases, plan, jobs, begun + seconds)) as running:
-        for case, tallies in running:
-            outcomes.append((case, tallies))
-            if any(tally.failures for tally in tallies):
-                failed.add(case.name)
-            if len(failed) >= enough:
-                break
-    return summed(outcomes, begun)
 
 
 def run_cases(bench, cases, plan, jobs):

@@ -1,5 +1,6 @@
 """Cases: a program in one variant, built, run under several conditions, and judged."""
 import collections
+import functools
 import itertools
 import shutil
 import zlib
@@ -18,6 +19,7 @@ from spanprof.conformance.segments import Table
 from spanprof.conformance.text import text_of
 from spanprof.conformance.tied import moved, unconstrained
 from spanprof.conformance.toolchain import BuildFailed
+from spanprof.conformance.variants import VARIANTS
 
 # Settings that programs take for the first of every two numbers of threads, by how their names begin.
 FAVOURED = {"priority": "priorities", "memory": "perturbed", "cancel": "cancellable", "many": "priorities",
@@ -77,13 +79,15 @@ class Plan:
     settings: tuple = ("free",)
 
     def conditions(self, case):
-        """The conditions for a case; which setting goes with which number of threads differs from case to case."""
-        first = zlib.crc32(case.name.encode()) + self.seed * len(self.threads)
+        """The conditions for a case; which setting goes with which number of threads differs from case to case, and so
+        from tied to untied tasks of one program."""
+        variant = list(VARIANTS).index(case.variant)
+        first = zlib.crc32(case.name.encode()) + (self.seed + variant) * len(self.threads)
         settings = [self.settings[(first + number) % len(self.settings)] for number in range(len(self.threads))]
         favoured = next((setting for begin, setting in (*FULL.items(), *FAVOURED.items())
                          if case.name.startswith(begin) and setting in self.settings), "")
         if favoured in self.settings:
-            settings = [setting if number % 2 else favoured for number, setting in enumerate(settings)]
+            settings = [setting if (number + variant) % 2 else favoured for number, setting in enumerate(settings)]
         return [self.conditions_in(case, threads, setting) for threads, setting in zip(self.threads, settings)]
 
     def conditions_in(self, case, threads, setting):
@@ -100,8 +104,11 @@ class Examined:
         self.case, self.judge, self.text = case, judge, text_of(case.body)
         self.record = judge.record(self.text)
         self.table = Table(case.body)
-        self.coverage = Coverage(self.table)
         self.known = {}
+
+    @functools.cached_property
+    def coverage(self):
+        return Coverage(self.table)
 
     def source(self):
         return c_text(self.case.body, self.table, self.record.preds)

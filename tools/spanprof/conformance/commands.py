@@ -4,21 +4,22 @@ import contextlib
 import json
 import pathlib
 import sys
-from dataclasses import replace
 
 from spanprof.conformance import delays, gcov, store, tables
 from spanprof.conformance.bisect import UNTESTABLE, sample
-from spanprof.conformance.built import built_in, try_mutant
+from spanprof.conformance.built import built_in
 from spanprof.conformance.campaign import cases_of, directed_cases, random_cases, run_cases
 from spanprof.conformance.cases import Bench, Case
 from spanprof.conformance.directed import directed_programs, first_comment
 from spanprof.conformance.discarding import completed, record_of
 from spanprof.conformance.explain import explain
-from spanprof.conformance.facts import facts_of, tested
+from spanprof.conformance.facts import facts_of, of_mutants, tested
+from spanprof.conformance.generate import seeds_in_turn
 from spanprof.conformance.journal import Journal
 from spanprof.conformance.judge import Missing
 from spanprof.conformance.launch import read_logs
 from spanprof.conformance.long_campaign import run_campaign
+from spanprof.conformance.mutant_campaigns import Campaigns
 from spanprof.conformance.mutants import build_mutants, mutants_of, mutated
 from spanprof.conformance.opening import entry_points, judge_of, mutate, open_bench, plan_of, program_in
 from spanprof.conformance.program import KINDS
@@ -27,6 +28,7 @@ from spanprof.conformance.report import Report
 from spanprof.conformance.reproduce import Reproducer
 from spanprof.conformance.segments import Table
 from spanprof.conformance.shards import merged
+from spanprof.conformance.sparing import SparingBench
 from spanprof.conformance.text import text_of
 from spanprof.conformance.toolchain import BuildFailed
 from spanprof.conformance.variants import in_variant
@@ -66,7 +68,7 @@ def run_once(options, bench, plan):
     """The results of the directed part and of so many random programs, or of a part of them."""
     kinds = bench.toolchain.kinds
     cases = directed_cases(kinds, options.tasks, options.match)[0] if options.directed else []
-    seeds = range(options.seed, options.seed + options.programs)
+    seeds = seeds_in_turn(options.seed, options.programs)
     cases += random_cases(seeds, kinds, options.tasks, options.without)
     return run_cases(bench, options.shard.part(cases), plan, options.jobs)
 
@@ -112,17 +114,21 @@ def command_mutants(options, folder):
 
 def try_built(options, bench):
     """The same with runtimes that were built from changed sources, in campaigns."""
-    plain, plan, seen = bench.environment, plan_of(options, bench), {}
+    mutants, plan, seen = built_in(options.built, options.only), plan_of(options, bench), {}
     wrong = False
     print("\n".join(tables.table(tables.BUILT_HEADS, [])))
-    for mutant in built_in(options.built, options.only):
-        bench.environment = mutant.environment(plain)
-        caught = try_mutant(bench, options, lambda seed: replace(plan, seed=seed), mutant.rule)
-        print(tables.built_line(mutant, caught), flush=True)
-        seen[mutant.name] = caught.as_json()
-        if options.report:
-            pathlib.Path(options.report).write_text(json.dumps(seen, indent=1) + "\n")
-        wrong |= mutant.is_wrong != caught.surely(options.campaigns)
+    with contextlib.ExitStack() as stack:
+        journal = options.state and Journal(options.state, of_mutants(options, bench, plan.settings))
+        kept = [(batch["mutant"], batch["campaign"]) for batch in journal.batches] if journal else []
+        keep = stack.enter_context(contextlib.closing(journal)).add if journal else lambda batch: None
+        campaigns = Campaigns(SparingBench(bench), options, plan, kept,
+                              lambda name, fields: keep({"mutant": name, "campaign": fields}))
+        for mutant, caught in campaigns.run(mutants):
+            print(tables.built_line(mutant, caught), flush=True)
+            seen[mutant.name] = caught.as_json()
+            if options.report:
+                pathlib.Path(options.report).write_text(json.dumps(seen, indent=1) + "\n")
+            wrong |= mutant.is_wrong != caught.surely(campaigns.most(mutant))
     return 1 if wrong else 0
 
 

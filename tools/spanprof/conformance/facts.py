@@ -1,7 +1,9 @@
 """What a report says of the test itself, as pairs of a name and what is so."""
+import hashlib
 import os
 
 from spanprof.conformance.campaign import directed_cases
+from spanprof.conformance.directed import FOLDER
 from spanprof.conformance.settings import SETTINGS
 
 # How the variables begin by which whoever calls tells runtimes and sanitizers something.
@@ -31,6 +33,18 @@ def tested(options, bench, settings):
              "left out of random programs": ", ".join(options.without),
              "left out, as the compiler lacks a kind of item": lacking(options, toolchain.kinds)}
     return {name: fact for name, fact in facts.items() if fact}
+
+
+def of_mutants(options, bench, settings):
+    """The same of campaigns on mutants."""
+    texts = b"".join(path.read_bytes() for path in sorted(FOLDER.glob("*.tasks")))
+    return {"compiler": bench.toolchain.version(), "flags": " ".join(bench.toolchain.shown_flags),
+            "settings": ", ".join(settings), "threads": ", ".join(map(str, options.threads)),
+            "runs each": str(options.runs), "seed": str(options.seed), "timeout": str(options.timeout),
+            "tasks": ", ".join(options.tasks), "random programs": str(options.programs),
+            "directed programs": options.match if options.directed else "none",
+            "texts of directed programs": hashlib.sha256(texts).hexdigest(),
+            "left out of random programs": ", ".join(options.without), "seconds": str(options.seconds)}
 
 
 def lacking(options, kinds):

@@ -1,4 +1,5 @@
 """Random programs. One seed, one program."""
+import itertools
 import random
 from dataclasses import dataclass, replace
 
@@ -188,6 +189,23 @@ class Generator:
         if self.rng.random() < (.2 if loops else self.shape.plain):
             return None
         return Index(self.rng.choice((None, *loops)) if loops else None, self.rng.choice(self.shape.offsets))
+
+
+def shape_of(seed):
+    """The name of the shape or form of a seed's program."""
+    return random.Random(seed).choice([*SHAPES, *RECIPES])
+
+
+def seeds_in_turn(first, count):
+    """So many seeds from the first on, whose programs are of a form and of a shape in turn, and of another one each time
+    as long as there are others."""
+    def seeds_of(name):
+        return (seed for seed in itertools.count(first) if shape_of(seed) == name)
+
+    pairs = itertools.zip_longest(RECIPES, reversed(SHAPES))
+    names = [name for pair in pairs for name in pair if name]
+    seeds = {name: seeds_of(name) for name in names}
+    return [next(seeds[name]) for name in itertools.islice(itertools.cycle(names), count)]
 
 
 def random_program(seed, kinds, without=()):

@@ -69,7 +69,7 @@ def add_options(name, parser):
         add("--report", default="", help=REPORT)
     if name == "judge":
         add("log", help="what a run of it wrote")
-    if name == "run":
+    if name in ("run", "mutants"):
         add("--tasks", type=some_of(VARIANTS), default=list(VARIANTS), metavar="tied,untied,mixed",
             help="how tasks are written (all three; mixed: every other task is untied)")
     if name in ("shrink", "bisect", "emit"):
@@ -91,7 +91,7 @@ def add_bench_options(name, parser):
     add("--expected", type=lambda word: [word], default=[], metavar="FILE",
         help="failures that do not count, beside those of expected.txt")
     add("--no-known-faults", dest="known_faults", action="store_false", help="count the failures of expected.txt too")
-    add("--seed", type=natural, default=1, help="the first random program's number, and the delays' seed (1)")
+    add("--seed", type=natural, default=1, help="the least number of a random program, and the delays' seed (1)")
     add("--timeout", type=positive, default=10, help="seconds until a run counts as hung (10)")
     add("--jobs", type=positive, default=max(1, (os.cpu_count() or 1) // 2), help="programs that run side by side")
     add("--match", default="*", metavar="PATTERN", help="only the directed programs whose names fit it (*)")
@@ -114,10 +114,11 @@ def add_mutant_options(parser):
     add("--built", default="", metavar="FOLDER",
         help="runtimes built from changed sources, as checks/programs/mutants leaves them, in place of entry points")
     add("--only", type=lambda words: words.split(","), default=[], metavar="NAME,..", help="these of them alone")
-    add("--programs", type=natural, default=30, help="random programs of a campaign on each of them (30)")
+    add("--programs", type=natural, default=20, help="random programs of a campaign on each of them (20)")
     add("--campaigns", type=positive, default=5,
-        help="campaigns on each of them, until two programs have failed (5)")
-    add("--seconds", type=positive, default=math.inf, help="of a campaign at most, what is slow apart (no limit)")
+        help="campaigns on each of them, until two programs of one have failed, or half of these (5)")
+    add("--seconds", type=positive, default=math.inf, help="of a campaign at most (no limit)")
+    add("--state", default="", metavar="FILE", help="keep each campaign there, and take those that are there")
     add("--no-directed", dest="directed", action="store_false", help="leave the directed part out of campaigns")
     add("--without", type=some_of(CONSTRUCTS), default=[], metavar="CONSTRUCT,..",
         help="constructs that random programs do not have")

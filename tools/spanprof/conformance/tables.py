@@ -89,8 +89,8 @@ def built_line(mutant, caught):
     """The row of one runtime that was built from a changed source."""
     programs = caught.programs()
     return line_of((f"`{mutant.name}`", mutant.rule, mutant.breaks.split(":")[0],
-                    f"{caught.times()} of {len(caught.campaigns)}", len(programs), "; ".join(sorted(caught.ways)),
-                    first_few(programs), f"{caught.seconds:.0f}"))
+                    f"{caught.times()} of {len(caught.campaigns)}", len(programs), "; ".join(caught.ways()),
+                    first_few(programs), f"{caught.seconds():.0f}"))
 
 
 def matrix(caught):

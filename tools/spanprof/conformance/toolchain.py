@@ -69,10 +69,11 @@ class Toolchain:
     def move(made, target):
         """Puts a file where other processes may look for it, which then find the whole of it or none."""
         target.parent.mkdir(parents=True, exist_ok=True)
+        copied = f"{target}.{os.getpid()}.{pathlib.Path(made).name}"
         # A copy by this process would be open for writing in whatever another thread starts just then, and a program
         # that is open for writing cannot be run.
-        subprocess.run(["cp", "--", str(made), f"{target}.{os.getpid()}"], check=True)
-        os.rename(f"{target}.{os.getpid()}", target)
+        subprocess.run(["cp", "--", str(made), copied], check=True)
+        os.rename(copied, target)
 
     def kept_kinds(self):
         """The kinds of depend items that the compiler knows, as another process may have found out."""

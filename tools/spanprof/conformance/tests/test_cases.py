@@ -9,6 +9,7 @@ from spanprof.conformance.cases import Bench, Plan
 from spanprof.conformance.judge import Record, Verdict
 from spanprof.conformance.toolchain import BuildFailed
 from spanprof.conformance.tests.helpers import PLAN, case_of
+from spanprof.conformance.variants import VARIANTS
 
 LOG = "start 0 0\nfinish 0 0\nstart 1 1\nstart 0 2\nfinish 0 2\nfinish 1 1\nstart 0 3\nfinish 0 3\n"
 EARLY = "start 0 0\nfinish 0 0\nstart 1 1\nstart 0 2\nfinish 0 2\nstart 0 3\nfinish 0 3\nfinish 1 1\n"
@@ -106,7 +107,14 @@ class Cases(unittest.TestCase):
         plan = Plan((1, 2, 4), 1, 1, 1, ("free", "perturbed", "priorities"))
         for name, setting in (("memory_of_parents", "perturbed"), ("priority_flat", "priorities")):
             self.assertEqual([plan.conditions(case_of(name))[at].setting for at in (0, 2)], [setting, setting])
+        untied = plan.conditions(case_of("memory_of_parents", variant="untied"))
+        self.assertEqual(untied[1].setting, "perturbed")
         self.assertEqual({at.setting for at in Plan((1, 2), 1, 1, 1).conditions(case_of("memory_x"))}, {"free"})
+
+    def test_tied_and_untied_tasks_of_a_program_take_other_settings(self):
+        plan = Plan((1, 2), 1, 1, 1, ("free", "pinned", "bound", "active", "passive", "sleepy"))
+        settings = [at.setting for variant in VARIANTS for at in plan.conditions(case_of(variant=variant))]
+        self.assertEqual(set(settings), set(plan.settings))
 
     def test_short_programs_run_very_often_where_logs_are_equal(self):
         (often,) = Plan((4,), 3, 7, 1, ("free", "hurried")).conditions(case_of("hurry-1"))

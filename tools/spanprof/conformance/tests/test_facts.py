@@ -2,7 +2,7 @@
 import types
 import unittest
 
-from spanprof.conformance.facts import facts_of, tested, told_runtimes
+from spanprof.conformance.facts import facts_of, of_mutants, tested, told_runtimes
 from spanprof.conformance.results import Results
 from spanprof.conformance.shards import Shard
 
@@ -33,6 +33,13 @@ class Facts(unittest.TestCase):
             "compiler": "cc 1.0, flags `-O1 -fopenmp`", "runtime": "/lib/libgomp.so", "threads": "2, 4",
             "runs each": "3", "seed": "7", "setting free": "as the runtime is by itself",
             "setting priorities": "priorities count: `OMP_MAX_TASK_PRIORITY=9`", "tasks": "tied"})
+
+    def test_of_mutants(self):
+        options = types.SimpleNamespace(threads=(2, 4), runs=3, seed=7, tasks=["tied"], without=[], match="*",
+                                        timeout=3, programs=20, directed=True, seconds=60)
+        found = of_mutants(options, types.SimpleNamespace(toolchain=StubToolchain()), ["free"])
+        self.assertEqual((found["threads"], found["random programs"], found["settings"]), ("2, 4", "20", "free"))
+        self.assertEqual(len(found["texts of directed programs"]), 64)
 
     def test_what_is_left_out(self):
         found = facts(without=["loop"])

@@ -2,7 +2,7 @@
 import unittest
 
 from spanprof.conformance.constructs import constructs
-from spanprof.conformance.generate import CONSTRUCTS, SHAPES, random_program
+from spanprof.conformance.generate import CONSTRUCTS, RECIPES, SHAPES, random_program, seeds_in_turn
 from spanprof.conformance.program import C_KINDS, Task, nodes, segment_count
 from spanprof.conformance.reader import read_program
 from spanprof.conformance.text import text_of
@@ -31,6 +31,15 @@ class Generation(unittest.TestCase):
         for left_out in CONSTRUCTS:
             found = set().union(*(constructs(random_program(seed, C_KINDS, [left_out])[1]) for seed in SEEDS))
             self.assertNotIn(left_out, found)
+
+    def test_seeds_in_turn(self):
+        seeds = seeds_in_turn(7, 30)
+        self.assertTrue(all(seed >= 7 for seed in seeds))
+        self.assertEqual(len(set(seeds)), 30)
+        names = [random_program(seed, C_KINDS)[0] for seed in seeds]
+        self.assertEqual(names[:2 * len(RECIPES):2], list(RECIPES))
+        self.assertEqual({*names[:len(RECIPES) + len(SHAPES)]}, {*RECIPES, *SHAPES})
+        self.assertEqual(seeds_in_turn(7, 4), seeds[:4])
 
     def test_kinds_of_items(self):
         kinds = {item.kind for seed in SEEDS for node in nodes(random_program(seed, {"in", "out"})[1])
