@@ -44,7 +44,7 @@ test_runtime() { # COMPILER TASKS [FLAGS] of the compiler
 test_parts() {
     for part in 1/2 2/2; do
         ../spanprof-conformance run --cc gcc --tasks tied --threads 2 --runs 1 --programs 4 --no-directed \
-            --shard "$part" --state "$folder/part-${part%/2}.jsonl" > "$folder/part.txt" || return 1
+            --settings free --shard "$part" --state "$folder/part-${part%/2}.jsonl" > "$folder/part.txt" || return 1
     done
     ../spanprof-conformance merge "$folder"/part-*.jsonl --report "$folder/parts.xml" > "$folder/parts.txt"
     grep -q '^| all | 2 | 4 | 4 |' "$folder/parts.txt" && grep -q 'tests="4"' "$folder/parts.xml"

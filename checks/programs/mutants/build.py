@@ -35,7 +35,8 @@ def described(mutants):
 
 
 def built(options, mutants, trees):
-    """Names of what was built, as it ends, and what went wrong with it. Each build has one of the trees to itself."""
+    """Names of what was built, as it ends, and what went wrong with it. Each build has one of the trees to itself. The
+    runtime as it is comes last, so that a tree that is kept is that of its library."""
     free = queue.Queue()
     for tree in trees:
         free.put(tree)
@@ -51,7 +52,7 @@ def built(options, mutants, trees):
             free.put(tree)
 
     with concurrent.futures.ThreadPoolExecutor(len(trees)) as pool:
-        futures = [pool.submit(build, mutant) for mutant in (None, *mutants)]
+        futures = [pool.submit(build, mutant) for mutant in (*mutants, None)]
         for future in concurrent.futures.as_completed(futures):
             yield future.result()
 

@@ -24,6 +24,8 @@ from spanprof.conformance.variants import VARIANTS
 # Settings that programs take for the first of every two numbers of threads, by how their names begin.
 FAVOURED = {"priority": "priorities", "memory": "perturbed", "cancel": "cancellable", "many": "priorities",
             "rounds": "interrupted", "pressure": "interrupted", "hurry": "hurried"}
+# The same of LLVM's runtime, whose full queues grow in this setting alone.
+FULL = {"pressure_throttled": "unthrottled", "pressure_queue": "unthrottled", "crowd": "unthrottled"}
 # Programs so short that so many times as many runs take no longer than those of others: in the setting that they
 # favour, in which logs are equal, and without delays.
 HURRIED, TIMES_AS_MANY = "hurry", 10
@@ -82,7 +84,8 @@ class Plan:
         variant = list(VARIANTS).index(case.variant)
         first = zlib.crc32(case.name.encode()) + (self.seed + variant) * len(self.threads)
         settings = [self.settings[(first + number) % len(self.settings)] for number in range(len(self.threads))]
-        favoured = next((FAVOURED[begin] for begin in FAVOURED if case.name.startswith(begin)), "")
+        favoured = next((setting for begin, setting in (*FULL.items(), *FAVOURED.items())
+                         if case.name.startswith(begin) and setting in self.settings), "")
         if favoured in self.settings:
             settings = [setting if (number + variant) % 2 else favoured for number, setting in enumerate(settings)]
         return [self.conditions_in(case, threads, setting) for threads, setting in zip(self.threads, settings)]

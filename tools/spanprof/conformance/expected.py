@@ -30,10 +30,11 @@ class Expected:
     patterns: tuple  # pairs of a name and a pattern
     why: str
 
-    def fits(self, runtime, failure):
-        traits = {"family": family_of(runtime), "runtime": runtime, "kind": failure.verdict.kind, "rule": failure.rule,
-                  "tasks": failure.case.variant, "program": failure.case.name, "setting": failure.conditions.setting,
-                  "threads": str(failure.conditions.threads)}
+    def fits(self, runtime, failure, usual="kmp"):
+        """Whether a failure of a runtime is one of them; `usual` is its family where its file's name does not tell."""
+        traits = {"family": family_of(runtime, usual), "runtime": runtime, "kind": failure.verdict.kind,
+                  "rule": failure.rule, "tasks": failure.case.variant, "program": failure.case.name,
+                  "setting": failure.conditions.setting, "threads": str(failure.conditions.threads)}
         traits = {**{name: [trait] for name, trait in traits.items()}, "has": constructs(failure.case.body)}
         return all(any(fnmatch.fnmatchcase(trait, pattern) for trait in traits[name])
                    for name, pattern in self.patterns)
@@ -55,14 +56,15 @@ def read_expected(paths):
 
 
 class Expectations:
-    """What is expected of a runtime, whose file is known."""
+    """What is expected of a runtime, whose file is known, and whose family that of the compiler where the file's name
+    does not tell it."""
 
-    def __init__(self, runtime, expected):
-        self.runtime, self.expected = runtime, expected
+    def __init__(self, runtime, expected, usual="kmp"):
+        self.runtime, self.expected, self.usual = runtime, expected, usual
 
     def why(self, failure):
         """What is known of an expected failure, or None."""
-        return next((one.why for one in self.expected if one.fits(self.runtime, failure)), None)
+        return next((one.why for one in self.expected if one.fits(self.runtime, failure, self.usual)), None)
 
     def settled(self, tally):
         """Takes the expected failures of a tally from those that count."""

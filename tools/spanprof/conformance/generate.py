@@ -197,11 +197,13 @@ def shape_of(seed):
 
 
 def seeds_in_turn(first, count):
-    """So many seeds from the first on, whose programs have each of the forms and then each of the shapes in turn."""
+    """So many seeds from the first on, whose programs are of a form and of a shape in turn, and of another one each time
+    as long as there are others."""
     def seeds_of(name):
         return (seed for seed in itertools.count(first) if shape_of(seed) == name)
 
-    names = [*RECIPES, *reversed(SHAPES)]
+    pairs = itertools.zip_longest(RECIPES, reversed(SHAPES))
+    names = [name for pair in pairs for name in pair if name]
     seeds = {name: seeds_of(name) for name in names}
     return [next(seeds[name]) for name in itertools.islice(itertools.cycle(names), count)]
 

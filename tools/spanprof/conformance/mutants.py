@@ -41,9 +41,10 @@ def mutants_of(family):
     return {name: meaning for name, meaning in MEANINGS.items() if name not in LACKING[family]}
 
 
-def family_of(runtime):
-    """Which of the sources fits a runtime's file."""
-    return "gomp" if "gomp" in pathlib.Path(runtime).name else "kmp"
+def family_of(runtime, usual="kmp"):
+    """Whose runtime a file is, by its name; the usual one's where that does not tell."""
+    name = pathlib.Path(runtime).name
+    return "gomp" if "gomp" in name else "kmp" if "omp" in name else usual
 
 
 def build_mutants(family, folder):

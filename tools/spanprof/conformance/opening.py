@@ -20,7 +20,8 @@ def open_bench(options, folder):
     toolchain = Toolchain(options.cc, options.cflags.split(), folder, options.keep)
     environment = {**os.environ, "LD_PRELOAD": options.preload} if options.preload else dict(os.environ)
     files = [USUAL] * options.known_faults + options.expected
-    expectations = Expectations(toolchain.runtime(environment), read_expected(files))
+    usual = family_of(toolchain.runtime(dict(os.environ)))
+    expectations = Expectations(toolchain.runtime(environment), read_expected(files), usual)
     return Bench(toolchain, judge_of(options), environment, expectations)
 
 

@@ -52,6 +52,18 @@ class StubJudge:
         return Verdict("accepted")
 
 
+class Plans(unittest.TestCase):
+    def settings(self, name, *settings):
+        plan = Plan((1, 2, 4, 16), 1, 1, 5, settings)
+        return {at.setting for at in plan.conditions(case_of(name))}
+
+    def test_settings_that_programs_favour(self):
+        self.assertIn("unthrottled", self.settings("pressure_queue", *["free"] * 40, "interrupted", "unthrottled"))
+        self.assertIn("interrupted", self.settings("pressure_queue", *["free"] * 40, "interrupted"))
+        self.assertIn("interrupted", self.settings("pressure_waits", *["free"] * 40, "interrupted", "unthrottled"))
+        self.assertEqual(self.settings("crowd-7", "free"), {"free"})
+
+
 class Cases(unittest.TestCase):
     def setUp(self):
         folder = tempfile.TemporaryDirectory()

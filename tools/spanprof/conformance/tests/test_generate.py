@@ -37,7 +37,7 @@ class Generation(unittest.TestCase):
         self.assertTrue(all(seed >= 7 for seed in seeds))
         self.assertEqual(len(set(seeds)), 30)
         names = [random_program(seed, C_KINDS)[0] for seed in seeds]
-        self.assertEqual(names[:len(RECIPES)], list(RECIPES))
+        self.assertEqual(names[:2 * len(RECIPES):2], list(RECIPES))
         self.assertEqual({*names[:len(RECIPES) + len(SHAPES)]}, {*RECIPES, *SHAPES})
         self.assertEqual(seeds_in_turn(7, 4), seeds[:4])
 

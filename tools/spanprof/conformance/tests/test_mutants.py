@@ -24,6 +24,8 @@ class Tables(unittest.TestCase):
         self.assertEqual(family_of("/usr/lib/x86_64-linux-gnu/libgomp.so.1.0.0"), "gomp")
         self.assertEqual(family_of("/usr/lib/llvm-16/lib/libomp.so.5"), "kmp")
         self.assertEqual(family_of("/opt/lib/libiomp5.so"), "kmp")
+        self.assertEqual(family_of("/tmp/out-mutants/gomp/none.so", "gomp"), "gomp")
+        self.assertEqual(family_of("/opt/lib/libomp.so", "gomp"), "kmp")
 
     def test_environment(self):
         self.assertEqual(mutated({"A": "b"}, "m.so", "hang"), {"A": "b", "LD_PRELOAD": "m.so", "MUTANT": "hang"})
