@@ -45,9 +45,10 @@ done
 installed pyflakes3 tools checks bench examples
 # E402 is an import below sys.path, and style.py looks at long lines.
 installed pycodestyle --ignore=E126,E402,E501,W291,W503,W504 tools checks bench examples
-# What nothing but tests uses, apart from names that Python, argparse or a table of methods calls.
+# What nothing but tests uses, apart from names that Python, argparse or a table of methods calls, and of programs that
+# are kept for what was measured.
 installed vulture --exclude '*/tests/*,*test_*.py' tools checks bench examples \
-    --ignore-names 'write_*,dont_write_bytecode,__getattr__,namespace,option_string,only_first'
+    --ignore-names 'write_*,dont_write_bytecode,__getattr__,namespace,option_string,only_first,FORMERLY'
 # shellcheck disable=SC2046
 installed shellcheck -S warning demo .ci/run $(git ls-files '*.sh')
 passes cpp_format.sh checks/sources/cpp_format.sh
