@@ -15,12 +15,13 @@ family=${1:?gomp or kmp}
 folder=$(realpath -m "${2:-out-mutants}")/$family
 shift $(($# < 2 ? $# : 2))
 compiler=${CC:-$([ "$family" = gomp ] && echo gcc || echo clang-16)}
+tasks=$([ "$family" = gomp ] && echo tied,untied,mixed || echo tied) # known faults with untied ones
 jobs=${JOBS:-4}
 [ -f "$folder/mutants.json" ] ||
     checks/programs/mutants/build.py "$family" "$folder" --jobs "$jobs" ${ARCHIVE:+--archive "$ARCHIVE"}
 wrong=0
 tools/spanprof-conformance mutants --cc "$compiler" --built "$folder" --jobs "$jobs" --threads 1,2,4,16 --runs 4 \
-    --programs 20 --timeout 3 --keep "$folder/programs" --state "$folder/campaigns.jsonl" \
+    --programs 20 --tasks "$tasks" --timeout 3 --keep "$folder/programs" --state "$folder/campaigns.jsonl" \
     --report "$folder/seen.json" "$@" || wrong=$?
 own=()
 if [ "$family" = gomp ]; then

@@ -63,7 +63,6 @@ def main():
         mutants = mutants_of(options.family, options.names)
         options.folder.mkdir(parents=True, exist_ok=True)
         options.folder = options.folder.resolve()
-        (options.folder / "mutants.json").write_text(json.dumps(described(mutants), indent=1) + "\n")
         with tempfile.TemporaryDirectory(prefix="mutants-") as folder:
             folder = pathlib.Path(folder)
             source = unpack(options.family, archive_of(options.family, options.archive), folder)
@@ -72,6 +71,7 @@ def main():
             with concurrent.futures.ThreadPoolExecutor(jobs) as pool:
                 trees = list(pool.map(lambda tree: tree_of(options.family, source, tree, options.flags), folders))
             wrong = [f"{name}: {reason}" for name, reason in built(options, mutants, trees) if reason]
+        (options.folder / "mutants.json").write_text(json.dumps(described(mutants), indent=1) + "\n")
     except (NoMutant, NoSource, OSError) as reason:
         print(f"build.py: {reason}", file=sys.stderr)
         return 2
