@@ -197,7 +197,7 @@ def shape_of(seed):
 
 
 def seeds_in_turn(first, count):
-    """So many seeds from the first on, whose programs are of a form and of a shape in turn, and of another one each time
+    """So many seeds from the first on, whose programs are of a form and of a shape in turn: of another one each time,
     as long as there are others."""
     def seeds_of(name):
         return (seed for seed in itertools.count(first) if shape_of(seed) == name)
