@@ -20,7 +20,7 @@ class Cases(unittest.TestCase):
 
     def test_directed_programs_by_their_names(self):
         names = {case.name for case in directed_cases(set(C_KINDS), ["tied"], "taskwait_depend_*")[0]}
-        self.assertEqual(names, {f"taskwait_depend_{which}" for which in ("in", "out", "several")})
+        self.assertEqual(names, {f"taskwait_depend_{which}" for which in ("between", "in", "out", "several")})
 
     def test_directed_programs_that_need_an_unknown_kind(self):
         cases, skipped = directed_cases({"in", "out", "inout"}, ["tied"])
