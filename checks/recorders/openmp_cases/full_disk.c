@@ -13,7 +13,7 @@ int main(void) {
     setrlimit(RLIMIT_FSIZE, &most);
 #pragma omp parallel
 #pragma omp single
-    for (int i = 0; i < 5000; i++) {
+    for (int i = 0; i < 20000; i++) {
 #pragma omp task
         spend(0);
     }
