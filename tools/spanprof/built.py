@@ -45,6 +45,9 @@ def build(folder, product):
     if done.returncode:
         raise Fault("%s cannot be built: %s (packages %s); `make -C %s` tells more"
                     % (product.name, why_not_built(done.stdout), product.packages, folder))
+    made = os.path.join(folder, product.file)
+    if os.access(made, os.W_OK):
+        os.utime(made)      # a source that it is not made of may be newer
 
 
 def find_or_build(product, folders, tell):

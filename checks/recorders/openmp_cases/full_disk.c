@@ -1,5 +1,6 @@
 // There is no room for the whole log: a word says so when it happens, and the text says so too. The limit stands for a
-// full disk. One thread makes all records, so that its log meets the limit however fast the machine is.
+// full disk. One thread makes all records, so that its log meets the limit however fast the machine is, and before there
+// are more tasks than a text of spanprof may have.
 // env: OMP_NUM_THREADS=1
 // says: spanprof recorder: the disk is full, and what follows is not recorded
 // says: the disk was full \d+.\d ms after recording began, and what followed is not recorded
@@ -13,9 +14,11 @@ int main(void) {
     setrlimit(RLIMIT_FSIZE, &most);
 #pragma omp parallel
 #pragma omp single
-    for (int i = 0; i < 20000; i++) {
+    for (int i = 0; i < 5000; i++) {
 #pragma omp task
         spend(0);
+#pragma omp taskwait
+#pragma omp taskwait
     }
     return 0;
 }
