@@ -1,5 +1,5 @@
 #!/usr/bin/env python3
-"""Finds names in docs/PROVED.md that no clause and no law has.
+"""Finds names in docs/PROVED.md that no clause and no law has, and crates that neither it nor README.md names.
 
     checks/sources/clauses.py
 After a function with its path, as in `span_cert::check` (`accepted`), the names in parentheses are those of its
@@ -75,12 +75,19 @@ def faults(page, crates):
         yield from wrong_in_part(text, own or crates, ", ".join(own) or "outside the sections")
 
 
+def unnamed(crates, pages):
+    """A line for each crate of which no page says what is proved."""
+    named = set(re.findall(r"\w+", " ".join(pages)))
+    return ["%s is in neither README.md nor docs/PROVED.md" % crate for crate in sorted(crates) if crate not in named]
+
+
 def main():
     crates = {}
     for folder in (TOP / "crates").iterdir():
         files = (folder / "src").rglob("*.rt")
         crates[folder.name] = Crate((str(path.relative_to(folder / "src")), path.read_text()) for path in files)
-    wrong = list(faults((TOP / "docs" / "PROVED.md").read_text(), crates))
+    proved = (TOP / "docs" / "PROVED.md").read_text()
+    wrong = [*faults(proved, crates), *unnamed(crates, [proved, (TOP / "README.md").read_text()])]
     for line in wrong:
         print(line)
     print("%d wrong" % len(wrong))

@@ -4,7 +4,7 @@ import sys
 import unittest
 
 sys.path.insert(0, str(pathlib.Path(__file__).resolve().parent))
-from clauses import Crate, faults
+from clauses import Crate, faults, unnamed
 
 LIST = """
 pub fn push(list: &mut List, one: u32) -> Result<(), Full>
@@ -51,6 +51,10 @@ class Clauses(unittest.TestCase):
         self.assertEqual(found("**`list`**: full (law `push`)."), ["list: no law push"])
         self.assertEqual(found("**A promise.** A: laws `never_full`, `always_full`."),
                          ["outside the sections: no law always_full"])
+
+    def test_each_crate_is_named(self):
+        self.assertEqual(unnamed(["one", "one_tests", "two"], ["`one::call` holds.", "two"]),
+                         ["one_tests is in neither README.md nor docs/PROVED.md"])
 
 
 if __name__ == "__main__":
