@@ -16,6 +16,7 @@ ITEM = re.compile(r"^( *)pub (fn|struct|enum|trait|type|const) (\w+)", re.M)
 METHOD = re.compile(r"^    fn (\w+)", re.M)
 IMPL = re.compile(r"^impl(?:<[^{]*?>)? (\w+)(?:<[^{]*>)? \{$", re.M)
 END_OF_SIGNATURE = re.compile(r"\n *(?:requires|ensures|where)\b|\s*\{|;")
+ANEW = re.compile(r"^pub use ([\w:]+) as (\w+);", re.M)   # a type under another name
 NAMES = re.compile(r"^pub use (\w+)::(?:\{([^}]*)\}|(\w+));", re.M)
 MODULE = re.compile(r"^(pub )?mod (\w+);", re.M)
 # A type at the limits of the commands, and how a type or a function that takes any limits names them.
@@ -33,7 +34,7 @@ def one_line(code):
 def without_remarks(source):
     """The source without comments, attributes and what only the prover reads."""
     lines = [line.split("//")[0] for line in source.splitlines() if not re.match(r"\s*(#\[|#!\[|ghost )", line)]
-    return "\n".join(line for line in lines if line.strip()) + "\n"
+    return ANEW.sub(r"pub type \2 = \1;", "\n".join(line for line in lines if line.strip()) + "\n")
 
 
 def at_limits(crates):

@@ -8,7 +8,7 @@ sys.path.insert(0, str(pathlib.Path(__file__).resolve().parent))
 from signatures import at_limits, faults, of_crate, promised
 
 LOWER = {
-    "lib.rt": "pub mod list;\npub type Full = std::alloc::AllocError;\n",
+    "lib.rt": "pub mod list;\npub use std::alloc::AllocError as Full;\n",
     "list.rt": '''
 /// A list.
 #[derive(Drop)]

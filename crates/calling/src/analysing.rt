@@ -8,7 +8,7 @@ use dispatch_core::graph::Graph;
 use dispatch_core::replay::in_order;
 use span_analysis::analysis::{Analysis, analyse};
 use span_cert::{WriteFault, write_certificate};
-use std::alloc::{AllocError, Global};
+use std::alloc::Global;
 use std::io::Write;
 use task_program::AllocFault;
 use task_program::program::Program;
@@ -22,7 +22,7 @@ fn analysis_of(alloc: Global, program: &Program) -> Result<Analysis, AllocFault>
 {
     let graph = match in_order(alloc, cut(alloc, program)?) {
         Ok(graph) => graph,
-        Err(_) => return Err(AllocError),
+        Err(_) => return Err(AllocFault),
     };
     analyse(alloc, &graph)
 }

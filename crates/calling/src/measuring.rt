@@ -1,5 +1,5 @@
 //! The span of a text that is gone through once.
-ghost use Rattle.std.specs.Prelude.{IfErr, IfOk, ◌+◌, ◌<◌, ◌^◌, ◌≢◌, List, length};
+ghost use Rattle.std.specs.Prelude.{IfErr, IfOk, ◌+◌, ◌<◌, ◌^◌, ◌≢◌, length};
 ghost use Rattle.large_text.specs.LargeTexts.{IsLargeFault, StandsForLarge};
 ghost use Rattle.online_span.specs.Spans.{IsSpanOf};
 ghost use Rattle.task_program.specs.ProgramMarks.{ProgramMarks};

@@ -1,5 +1,5 @@
 //! The rows of a table that is written row by row, where it does not stand in memory whole.
-ghost use Rattle.std.specs.Prelude.{◌≡◌, ◌+◌, ◌-◌, ◌^◌, ◌<◌, ◌++◌};
+ghost use Rattle.std.specs.Prelude.{◌+◌, ◌-◌, ◌^◌, ◌<◌, ◌++◌};
 ghost use Rattle.counted_io.specs.Counted.{faults_of};
 ghost use Rattle.counted_io.specs.Parts.{PutsText};
 ghost use Rattle.csv_table.specs.Row.{number_field, row_line};

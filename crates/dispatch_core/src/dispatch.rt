@@ -1,15 +1,13 @@
 //! The core: starts and finishes are accepted exactly where they are legal, and the record is kept.
-ghost use Rattle.std.specs.Prelude.{ℕ, Bool, Option, List, Some, None, ◌≡◌, ◌<◌, ◌≤◌, ◌↔◌, ◌++◌};
-ghost use Rattle.std.specs.Prelude.{◌∷◌, ◌*◌, [], length, IsTrue, IsSome, IsNone, IfOk, IfErr};
-ghost use Rattle.std.specs.Prelude.{OnErr, OnOk, IsOk, IfSome, MatchOption, MatchResult};
-ghost use Rattle.task_segments.specs.Table.{Table};
+ghost use Rattle.std.specs.Prelude.{ℕ, Option, Some, None, ◌≡◌, ◌<◌, ◌≤◌, ◌↔◌, ◌++◌};
+ghost use Rattle.std.specs.Prelude.{◌∷◌, ◌*◌, [], length, IsTrue, IfOk, IfErr};
+ghost use Rattle.std.specs.Prelude.{OnErr, OnOk, MatchOption, MatchResult};
 ghost use Rattle.task_segments.specs.Precedence.{MustPrecede};
 ghost use Rattle.depend_table.specs.KeptEdges.{IsKeptEdge};
 ghost use Rattle.depend_table.specs.Lists.{Lists};
 ghost use Rattle.dispatch_core.specs.Run.{Run, HasStarted, HasFinished, Runs, MayStart, MayFollow};
 ghost use Rattle.dispatch_core.specs.Run.{IsLegalRun, IsFinished, IsOpen, IsReady};
 ghost use Rattle.dispatch_core.specs.Values.{IsValue, IsInput};
-ghost use Rattle.std.specs.Prelude.{◌≢◌};
 ghost use Rattle.dispatch_core.specs.Run.{BecomesReady};
 ghost use Rattle.dispatch_core.specs.Refusals.{RefusesStart, RefusesFinish, MayFinish, IsCost};
 ghost use Rattle.dispatch_core.specs.Refusals.{IsFirstUnfinished};

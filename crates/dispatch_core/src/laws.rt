@@ -1,5 +1,5 @@
 //! Laws of runs.
-ghost use Rattle.std.specs.Prelude.{ℕ, List, ◌≡◌, ◌<◌, ◌↔◌, ◌⊎◌, length, Some, slice_get};
+ghost use Rattle.std.specs.Prelude.{ℕ, List, ◌≡◌, ◌<◌, ◌↔◌, ◌⊎◌, Some, slice_get};
 ghost use Rattle.task_program.specs.ProgramMarks.{ProgramMarks};
 ghost use Rattle.task_program.specs.Programs.{IsProgram};
 ghost use Rattle.task_segments.specs.Table.{Table, table_of};

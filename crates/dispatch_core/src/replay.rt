@@ -1,7 +1,7 @@
 //! The graph of a program, and runs that are given as a list of events.
-ghost use Rattle.std.specs.Prelude.{ℕ, Some, ◌≡◌, ◌<◌, ◌≤◌, ◌+◌, ◌++◌, ◌∷◌, [], length, IfOk};
-ghost use Rattle.std.specs.Prelude.{IfErr, IsOk, OnOk, OnErr, false, take};
-ghost use Rattle.dispatch_core.specs.Run.{Run, Runs, IsLegalRun};
+ghost use Rattle.std.specs.Prelude.{Some, ◌≡◌, ◌<◌, ◌+◌, ◌++◌, ◌∷◌, [], IfOk};
+ghost use Rattle.std.specs.Prelude.{IfErr, OnOk, OnErr, false};
+ghost use Rattle.dispatch_core.specs.Run.{Runs, IsLegalRun};
 ghost use Rattle.dispatch_core.specs.Values.{IsInput};
 ghost use Rattle.dispatch_core.specs.Refusals.{IsCost};
 ghost use Rattle.dispatch_core.specs.Graph.{IsGraphOf};
@@ -11,7 +11,7 @@ use crate::dispatch::{BoundedCore, BoundedNewFault};
 use crate::event::{Event, FinishKind, StartRefusal};
 use crate::graph::{Graph, graph_of};
 use crate::kernel::{Kernel, MixKernel, SegResult};
-use std::alloc::{AllocError, Global};
+use std::alloc::Global;
 use task_program::AllocFault;
 use task_segments::table::BoundedTable;
 
@@ -83,7 +83,7 @@ fn finish_computed<K: Kernel, const SEGMENTS: u32, const TASKS: u32>(
         Err(refusal) => refusal.kind,
     };
     match kind {
-        FinishKind::OutOfMemory => Err(AllocError),
+        FinishKind::OutOfMemory => Err(AllocFault),
         _ => unreachable!(),
     }
 }

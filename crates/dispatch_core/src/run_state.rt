@@ -1,10 +1,9 @@
 //! What a core keeps of a run: lists with an entry for each segment or worker.
-ghost use Rattle.std.specs.Prelude.{◌≤◌, ◌++◌, ◌∷◌, [], vec_len, vec_capacity, OnOk, if◌then◌else◌};
-ghost use Rattle.std.specs.Prelude.{ℕ, Some, ◌≡◌, ◌<◌, ◌%◌, ◌^◌, length, slice_get, slice_set};
+ghost use Rattle.std.specs.Prelude.{Some, ◌≡◌, ◌<◌, ◌%◌, ◌^◌, length, slice_get};
 ghost use Rattle.std.specs.Prelude.{sum_by, unwrap_or};
 ghost use Rattle.open_segments.specs.Entry.{entry};
 ghost use Rattle.task_segments.specs.Table.{costs_of};
-ghost use Rattle.std.specs.Prelude.{List, IfOk, map, replicate};
+ghost use Rattle.std.specs.Prelude.{IfOk};
 ghost use Rattle.dispatch_core.specs.First.{AreFirst};
 
 use crate::event::{Event, MOST_WORKERS};

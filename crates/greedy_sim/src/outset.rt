@@ -5,8 +5,9 @@ ghost use Rattle.greedy_sim.specs.Simulation.{IsOutset};
 use dispatch_core::graph::Graph;
 use dispatch_core::successors::successors_of;
 use open_segments::flat_lists::FlatLists;
-use std::alloc::{AllocError, Global};
+use std::alloc::Global;
 use std::marker::Model;
+use task_program::AllocFault;
 
 /// For each segment those that wait for it, which are its successors, and for how many it waits.
 /// The first segment, which has no predecessor, waits for the beginning of the run.
@@ -26,7 +27,7 @@ impl Model for Outset {
 
 impl Outset {
     /// What the runs of a graph begin with.
-    pub fn new(alloc: Global, graph: &Graph) -> Result<Outset, AllocError>
+    pub fn new(alloc: Global, graph: &Graph) -> Result<Outset, AllocFault>
         ensures { IfOk result (IsOutset graph.now) }
     {
         let count = graph.len();

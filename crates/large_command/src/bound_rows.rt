@@ -1,5 +1,5 @@
 //! The table of bounds.
-ghost use Rattle.std.specs.Prelude.{◌≡◌, ◌+◌, ◌<◌, ◌≤◌, ◌^◌, IfOk};
+ghost use Rattle.std.specs.Prelude.{◌≡◌, ◌+◌, ◌<◌, ◌≤◌, IfOk};
 ghost use Rattle.command_words.specs.declared.large.MeterRequest.TheVariants.{Bounds};
 ghost use Rattle.csv_table.specs.Tables.{numbered_table};
 ghost use Rattle.large_command.specs.LargeReports.{IsOfProgram, TellsMeter, bounds_header};
@@ -8,17 +8,18 @@ ghost use Rattle.large_command.specs.LargeReports.{bounds_report, bounds_row};
 use csv_table::Table;
 use online_span::Meter;
 use spanprof_command::{Report, Status, bound, least};
-use std::alloc::{AllocError, Global};
+use std::alloc::Global;
+use task_program::AllocFault;
 
 /// The bounds of a program that a meter has taken, on one thread, two, and so on.
-pub(crate) fn bounds(alloc: Global, upto: u32, meter: &Meter) -> Result<Report, AllocError>
+pub(crate) fn bounds(alloc: Global, upto: u32, meter: &Meter) -> Result<Report, AllocFault>
     requires { IsOfProgram meter.now }
     ensures { IfOk result (λ report. TellsMeter (Bounds upto) meter.now report) }
 {
     bounds_report(alloc, upto, meter.total_work(), meter.span())
 }
 
-fn bounds_report(alloc: Global, upto: u32, work: u64, span: u64) -> Result<Report, AllocError>
+fn bounds_report(alloc: Global, upto: u32, work: u64, span: u64) -> Result<Report, AllocFault>
     requires { span ≤ work }
     ensures { IfOk result (λ report. report ≡ bounds_report upto work span) }
 {
@@ -26,7 +27,7 @@ fn bounds_report(alloc: Global, upto: u32, work: u64, span: u64) -> Result<Repor
     Ok(Report::new(text, Status::Done))
 }
 
-fn bounds_table(alloc: Global, upto: u32, work: u64, span: u64) -> Result<Vec<u8>, AllocError>
+fn bounds_table(alloc: Global, upto: u32, work: u64, span: u64) -> Result<Vec<u8>, AllocFault>
     requires { span ≤ work }
     ensures { IfOk result (λ text.
         text.items ≡ numbered_table bounds_header (bounds_row work span) 1 upto) }

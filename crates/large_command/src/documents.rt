@@ -15,7 +15,8 @@ use command_words::large::DocumentRequest;
 use large_documents::tell_rest;
 use large_text::TextMeter;
 use spanprof_command::{Report, Status};
-use std::alloc::{AllocError, Global};
+use std::alloc::Global;
+use task_program::AllocFault;
 use task_program::document::{Document, split_document};
 use task_program::name_key::NameKey;
 use task_segments::table::LargeTable;
@@ -27,7 +28,7 @@ pub(crate) fn answer_document(
     key: NameKey,
     asked: DocumentRequest,
     document: &[u8],
-) -> Result<Report, AllocError>
+) -> Result<Report, AllocFault>
     requires { FitsText document.now }
     ensures { IfOk result (λ report. Answers (OfDocument asked) document.now report) }
 {
@@ -43,7 +44,7 @@ fn read_table(
     alloc: Global,
     key: NameKey,
     text: &[u8],
-) -> Result<Result<LargeTable, Report>, AllocError>
+) -> Result<Result<LargeTable, Report>, AllocFault>
     requires { FitsText text.now }
     ensures { IfOk result (λ read.
         MatchResult read (IsTableOfText text.now) (RefusesText text.now)) }
@@ -54,7 +55,7 @@ fn read_table(
 }
 
 /// Hands a text to a meter, piece by piece.
-fn take_text(meter: &mut TextMeter, text: &[u8]) -> Result<(), AllocError>
+fn take_text(meter: &mut TextMeter, text: &[u8]) -> Result<(), AllocFault>
     requires fits { FitsText text.now }
     requires first { HasTaken [] meter.old }
     ensures { OnOk result (HasTaken text.now meter.new) }
@@ -75,7 +76,7 @@ fn tell_document(
     program: &[u8],
     rest: Option<&[u8]>,
     table: LargeTable,
-) -> Result<Report, AllocError>
+) -> Result<Report, AllocFault>
     requires program { length program.now < 2 ^ 63 - 1 }
     requires rest { IfSome (option_copied rest) (λ bytes. length bytes < 2 ^ 63) }
     ensures { IfOk result (λ report.
@@ -87,7 +88,7 @@ fn tell_document(
     }
 }
 
-fn bad_form(alloc: Global) -> Result<Report, AllocError>
+fn bad_form(alloc: Global) -> Result<Report, AllocFault>
     ensures { IfOk result (λ report. report ≡ bad_form) }
 {
     Report::of_line(alloc, b"error: BadForm\n", Status::Refused)
@@ -99,7 +100,7 @@ fn tell_behind(
     program: &[u8],
     rest: &[u8],
     table: LargeTable,
-) -> Result<Report, AllocError>
+) -> Result<Report, AllocFault>
     requires program { length program.now < 2 ^ 63 - 1 }
     requires rest { length rest.now < 2 ^ 63 }
     ensures { IfOk result (λ report. TellsRest asked program.now rest.now table report) }

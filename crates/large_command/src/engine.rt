@@ -31,9 +31,10 @@ use counted_io::{Counted, InputFault};
 use greedy_sim::greedy::MOST_THREADS;
 use large_text::TextMeter;
 use spanprof_command::{MOST_RETRIES, NoReport, Report, Status, finish};
-use std::alloc::{AllocError, AllocGlobal, Global};
+use std::alloc::{AllocGlobal, Global};
 use std::io::{Read, Write};
 use std::thread::Threads;
+use task_program::AllocFault;
 use task_program::name_key::NameKey;
 
 /// Reads a text of any size to its end, in either version. Without a further word it writes how many tasks
@@ -181,7 +182,7 @@ fn answer_text<H: AllocGlobal + Threads + Sync, R: Read>(
 }
 
 /// A meter that keeps what is asked of a text.
-fn meter_for(alloc: Global, key: NameKey, asked: &LargeRequest) -> Result<TextMeter, AllocError>
+fn meter_for(alloc: Global, key: NameKey, asked: &LargeRequest) -> Result<TextMeter, AllocFault>
     ensures taken { IfOk result (λ made. HasTaken [] made) }
     ensures keeps { IfOk result (KeepsFor asked.now) }
 {
@@ -199,7 +200,7 @@ fn tell_taken(
     alloc: Global,
     asked: &LargeRequest,
     text: TextMeter,
-) -> Result<Answer, AllocError>
+) -> Result<Answer, AllocFault>
     requires text { IsOfText asked.now }
     requires can { CanTakeBytes [] text }
     requires keeps { KeepsFor asked.now text }

@@ -14,7 +14,8 @@ use large_text::TextMeter;
 use large_text::fault::LargeFault;
 use online_span::Meter;
 use spanprof_command::{Report, Status, kind_name};
-use std::alloc::{AllocError, Global};
+use std::alloc::Global;
+use task_program::AllocFault;
 use task_program::fault::ReadKind;
 use task_segments::table::LargeTable;
 
@@ -23,7 +24,7 @@ pub(crate) fn answer_meter(
     alloc: Global,
     asked: MeterRequest,
     text: TextMeter,
-) -> Result<Report, AllocError>
+) -> Result<Report, AllocFault>
     requires { CanTakeBytes [] text }
     ensures { IfOk result (λ report. (bytes : List ℕ) → HasTaken bytes text
         → Answers (OfMeter asked) bytes report) }
@@ -32,7 +33,7 @@ pub(crate) fn answer_meter(
         Ok(meter) => tell(alloc, asked, &meter),
         Err(fault) => {
             if fault.kind == ReadKind::OutOfMemory {
-                return Err(AllocError);
+                return Err(AllocFault);
             }
             text_refusal(alloc, fault)
         }
@@ -43,7 +44,7 @@ pub(crate) fn answer_meter(
 pub(crate) fn table_or_refusal(
     alloc: Global,
     text: TextMeter,
-) -> Result<Result<LargeTable, Report>, AllocError>
+) -> Result<Result<LargeTable, Report>, AllocFault>
     requires { CanTakeBytes [] text }
     ensures { IfOk result (λ read. (bytes : List ℕ) → HasTaken bytes text
         → MatchResult read (IsTableOfText bytes) (RefusesText bytes)) }
@@ -51,10 +52,10 @@ pub(crate) fn table_or_refusal(
     match text.finish_table() {
         Ok(Some(table)) => Ok(Ok(table)),
         // There are more rows than are numbered.
-        Ok(None) => Err(AllocError),
+        Ok(None) => Err(AllocFault),
         Err(fault) => {
             if fault.kind == ReadKind::OutOfMemory {
-                return Err(AllocError);
+                return Err(AllocFault);
             }
             Ok(Err(text_refusal(alloc, fault)?))
         }
@@ -62,13 +63,13 @@ pub(crate) fn table_or_refusal(
 }
 
 /// The line of a text that is no program.
-pub(crate) fn text_refusal(alloc: Global, fault: LargeFault) -> Result<Report, AllocError>
+pub(crate) fn text_refusal(alloc: Global, fault: LargeFault) -> Result<Report, AllocFault>
     ensures { IfOk result (λ report. report ≡ program_refusal fault) }
 {
     refusal(alloc, fault.kind, fault.line)
 }
 
-fn refusal(alloc: Global, kind: ReadKind, line: u64) -> Result<Report, AllocError>
+fn refusal(alloc: Global, kind: ReadKind, line: u64) -> Result<Report, AllocFault>
     ensures { IfOk result (λ report.
         report ≡ program_refusal (record { kind = kind; line = line })) }
 {
@@ -78,7 +79,7 @@ fn refusal(alloc: Global, kind: ReadKind, line: u64) -> Result<Report, AllocErro
 }
 
 /// What is asked of a program that a meter has taken.
-fn tell(alloc: Global, asked: MeterRequest, meter: &Meter) -> Result<Report, AllocError>
+fn tell(alloc: Global, asked: MeterRequest, meter: &Meter) -> Result<Report, AllocFault>
     requires { IsOfProgram meter.now }
     ensures { IfOk result (λ report. TellsMeter asked meter.now report) }
 {
@@ -89,7 +90,7 @@ fn tell(alloc: Global, asked: MeterRequest, meter: &Meter) -> Result<Report, All
 }
 
 /// What a meter tells, once it has taken all of a text.
-fn numbers(alloc: Global, meter: &Meter) -> Result<Report, AllocError>
+fn numbers(alloc: Global, meter: &Meter) -> Result<Report, AllocFault>
     ensures { IfOk result (λ report. TellsMeter Numbers meter.now report) }
 {
     numbers_report(
@@ -108,7 +109,7 @@ fn numbers_report(
     segments: u64,
     work: u64,
     span: u64,
-) -> Result<Report, AllocError>
+) -> Result<Report, AllocFault>
     ensures { IfOk result (λ report. report ≡ numbers_report tasks segments work span) }
 {
     let text = format!(in alloc; "tasks {tasks}\nsegments {segments}\nwork {work}\nspan {span}\n")?;

@@ -11,8 +11,9 @@ use crate::numbers::table_or_refusal;
 use command_words::large::TableRequest;
 use large_text::TextMeter;
 use spanprof_command::{greedy_rows, slack_rows, tell_curve, try_changes};
-use std::alloc::{AllocError, Global};
+use std::alloc::Global;
 use std::thread::Threads;
+use task_program::AllocFault;
 use task_segments::table::LargeTable;
 
 /// What is asked of the table of a text that a meter has taken, or the line of its first fault.
@@ -21,7 +22,7 @@ pub(crate) fn answer_table(
     alloc: Global,
     asked: &TableRequest,
     text: TextMeter,
-) -> Result<Answer, AllocError>
+) -> Result<Answer, AllocFault>
     requires { CanTakeBytes [] text }
     ensures { IfOk result (λ report. (bytes : List ℕ) → HasTaken bytes text
         → Answers (OfTable asked.now) bytes report) }
@@ -37,7 +38,7 @@ fn tell_table(
     alloc: Global,
     asked: &TableRequest,
     table: LargeTable,
-) -> Result<Answer, AllocError>
+) -> Result<Answer, AllocFault>
     ensures { IfOk result (λ report. TellsTable asked.now table report) }
 {
     // Does nothing when it runs: its clauses tell the proof how many rows there are at most.
@@ -51,7 +52,7 @@ fn say_of_table(
     alloc: Global,
     asked: &TableRequest,
     table: LargeTable,
-) -> Result<Answer, AllocError>
+) -> Result<Answer, AllocFault>
     ensures { IfOk result (λ report. SaysOfTable asked.now table report) }
 {
     match asked {
@@ -68,7 +69,7 @@ fn say_of_table(
 }
 
 /// A greedy run of a table on so many threads, or why there is none.
-fn say_greedy(alloc: Global, threads: u32, table: LargeTable) -> Result<Answer, AllocError>
+fn say_greedy(alloc: Global, threads: u32, table: LargeTable) -> Result<Answer, AllocFault>
     ensures { IfOk result (λ report. SaysGreedyRun threads table report) }
 {
     match greedy_rows(alloc, threads, table)? {

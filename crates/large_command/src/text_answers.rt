@@ -13,7 +13,8 @@ use crate::numbers::text_refusal;
 use command_words::large::TextRequest;
 use large_text::TextMeter;
 use spanprof_command::{Report, Status, tell_certificate};
-use std::alloc::{AllocError, Global};
+use std::alloc::Global;
+use task_program::AllocFault;
 use task_program::fault::ReadKind;
 use task_segments::table::LargeTable;
 
@@ -22,7 +23,7 @@ pub(crate) fn answer_printed(
     alloc: Global,
     asked: TextRequest,
     text: TextMeter,
-) -> Result<Report, AllocError>
+) -> Result<Report, AllocFault>
     requires can { CanTakeBytes [] text }
     requires keeps { KeepsText text }
     ensures { IfOk result (λ report. (bytes : List ℕ) → HasTaken bytes text
@@ -35,7 +36,7 @@ pub(crate) fn answer_printed(
         },
         Err(fault) => {
             if fault.kind == ReadKind::OutOfMemory {
-                return Err(AllocError);
+                return Err(AllocFault);
             }
             text_refusal(alloc, fault)
         }
@@ -48,7 +49,7 @@ fn tell_printed(
     asked: TextRequest,
     written: Vec<u8>,
     table: Option<LargeTable>,
-) -> Result<Report, AllocError>
+) -> Result<Report, AllocFault>
     ensures { IfOk result (λ report. (program : ProgramMarks)
         → written.items ≡ canonical_text program
         → IfSome table (λ table. table ≡ table_of program.marks)
@@ -59,12 +60,12 @@ fn tell_printed(
         TextRequest::Certify => match table {
             Some(table) => certify(alloc, written, table),
             // There are more rows than are numbered.
-            None => Err(AllocError),
+            None => Err(AllocFault),
         },
     }
 }
 
-fn certify(alloc: Global, written: Vec<u8>, table: LargeTable) -> Result<Report, AllocError>
+fn certify(alloc: Global, written: Vec<u8>, table: LargeTable) -> Result<Report, AllocFault>
     ensures { IfOk result (λ report. (program : ProgramMarks)
         → written.items ≡ canonical_text program
         → table ≡ table_of program.marks

@@ -1,5 +1,5 @@
 //! A text that is taken as it comes.
-ghost use Rattle.std.specs.Prelude.{◌≡◌, ◌≢◌, ◌+◌, ◌-◌, ◌^◌, ◌<◌, ◌≤◌, Err, OnOk, []};
+ghost use Rattle.std.specs.Prelude.{◌≡◌, ◌+◌, ◌-◌, ◌^◌, ◌<◌, Err, OnOk, []};
 ghost use Rattle.counted_io.specs.Counted.{inner_of, faults_of};
 ghost use Rattle.counted_io.specs.Input.{ConsumesAtMost};
 ghost use Rattle.large_text.specs.declared.limits.TheConstants.{LARGEST_TEXT};

@@ -8,7 +8,8 @@ use crate::time_refusals::{text_refused, times_refused};
 use command_words::large::AccountRequest;
 use dispatch_core::graph::{Graph, graph_of};
 use spanprof_command::Report;
-use std::alloc::{AllocError, Global};
+use std::alloc::Global;
+use task_program::AllocFault;
 use task_segments::table::LargeTable;
 use time_accounts::checks::check_times;
 use time_accounts::fault::TimesFault;
@@ -25,7 +26,7 @@ pub(crate) fn tell_account(
     program: &[u8],
     rest: &[u8],
     table: LargeTable,
-) -> Result<Report, AllocError>
+) -> Result<Report, AllocFault>
     requires program { length program.now < 2 ^ 63 - 1 }
     requires rest { length rest.now < 2 ^ 63 }
     ensures { IfOk result (λ report. SaysOfTimes asked program.now rest.now table report) }
@@ -35,7 +36,7 @@ pub(crate) fn tell_account(
     dispatch_core::laws::is_graph(&graph);
     match read_times(alloc, rest, graph.len()) {
         Ok(times) => answer_run(alloc, asked, &graph, &times),
-        Err(TimeTextFault::OutOfMemory) => Err(AllocError),
+        Err(TimeTextFault::OutOfMemory) => Err(AllocFault),
         Err(fault) => text_refused(alloc, program, fault),
     }
 }
@@ -46,7 +47,7 @@ fn answer_run(
     asked: AccountRequest,
     graph: &Graph,
     told: &TimesText,
-) -> Result<Report, AllocError>
+) -> Result<Report, AllocFault>
     requires { length told.now.segments.items ≡ length graph.now.costs }
     ensures { IfOk result (λ report.
         AcceptsRun asked graph.now told.now.region told.now.segments.items report
@@ -60,13 +61,13 @@ fn answer_run(
     let times = times_of(alloc, told.segments.as_slice())?;
     match check_times(alloc, graph, region, &times) {
         Ok(()) => tell_run(alloc, asked, graph, told.region, &times),
-        Err(TimesFault::OutOfMemory) => Err(AllocError),
+        Err(TimesFault::OutOfMemory) => Err(AllocFault),
         Err(fault) => times_refused(alloc, fault),
     }
 }
 
 /// The times of a run in three lists.
-fn times_of(alloc: Global, segments: &[SegmentTimes]) -> Result<Times, AllocError>
+fn times_of(alloc: Global, segments: &[SegmentTimes]) -> Result<Times, AllocFault>
     ensures { IfOk result (λ times. times ≡ run_of segments.now) }
 {
     let mut threads = Vec::with_capacity(alloc, segments.len())?;

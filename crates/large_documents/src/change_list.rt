@@ -11,7 +11,8 @@ ghost use Rattle.large_documents.specs.declared.change_list.ListFault.TheVariant
 
 use command_words::changes::{Change, read_change};
 use dispatch_core::graph::Graph;
-use std::alloc::{AllocError, Global};
+use std::alloc::Global;
+use task_program::AllocFault;
 use time_text::first_words;
 use whatif_costs::fault::{WhatFault, refusal_at};
 
@@ -42,12 +43,12 @@ pub enum ListFault {
     OutOfMemory,
 }
 
-impl From<AllocError> for ListFault {
+impl From<AllocFault> for ListFault {
     ghost use Rattle.large_documents.specs.declared.change_list.ListFault.TheVariants.{OutOfMemory};
 
     ghost from_gives = { λ _ fault. fault ≡ OutOfMemory };
 
-    fn from(_error: AllocError) -> ListFault {
+    fn from(_error: AllocFault) -> ListFault {
         ListFault::OutOfMemory
     }
 }
@@ -79,7 +80,7 @@ pub(crate) fn read_list(alloc: Global, graph: &Graph, text: &[u8]) -> Result<Vec
 }
 
 /// No changes, and the costs of a graph.
-fn new_listing(alloc: Global, graph: &Graph) -> Result<Listing, AllocError>
+fn new_listing(alloc: Global, graph: &Graph) -> Result<Listing, AllocFault>
     ensures none { IfOk result (λ list. list.changes.items ≡ []) }
     ensures costs { IfOk result (λ list. list.costs.items ≡ graph.now.costs) }
     ensures work { IfOk result (λ list. list.work ≡ sum list.costs.items) }
@@ -94,7 +95,7 @@ fn new_listing(alloc: Global, graph: &Graph) -> Result<Listing, AllocError>
 }
 
 /// What a line says, if anything.
-fn read_line(alloc: Global, line: &[u8]) -> Result<Option<ChangeLine>, AllocError>
+fn read_line(alloc: Global, line: &[u8]) -> Result<Option<ChangeLine>, AllocFault>
     ensures { IfOk result (λ said. said ≡ line_says line.now) }
 {
     // One more than a line may have.

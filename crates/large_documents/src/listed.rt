@@ -8,7 +8,8 @@ use crate::change_list::{ListFault, WrongLine, read_list};
 use crate::time_refusals::at_line;
 use dispatch_core::graph::graph_of;
 use spanprof_command::{Report, try_on_graph};
-use std::alloc::{AllocError, Global};
+use std::alloc::Global;
+use task_program::AllocFault;
 use task_segments::table::LargeTable;
 use whatif_costs::fault::WhatFault;
 
@@ -19,7 +20,7 @@ pub(crate) fn tell_listed(
     table: LargeTable,
     program: &[u8],
     list: &[u8],
-) -> Result<Report, AllocError>
+) -> Result<Report, AllocFault>
     requires program { length program.now < 2 ^ 63 - 1 }
     requires list { length list.now < 2 ^ 63 }
     ensures { IfOk result (λ report. SaysOfList program.now list.now table report) }
@@ -34,14 +35,14 @@ pub(crate) fn tell_listed(
 }
 
 /// Why a list is refused that stands behind a program of this text.
-fn list_refused(alloc: Global, program: &[u8], fault: ListFault) -> Result<Report, AllocError>
+fn list_refused(alloc: Global, program: &[u8], fault: ListFault) -> Result<Report, AllocFault>
     requires short { length program.now < 2 ^ 63 - 1 }
     requires line { NamesLine (2 ^ 63) fault }
     ensures { IfOk result (λ report. TellsFault program.now fault report) }
 {
     match fault {
         ListFault::Wrong { line, why } => at_line(alloc, program, line, word_of(why)),
-        ListFault::OutOfMemory => Err(AllocError),
+        ListFault::OutOfMemory => Err(AllocFault),
     }
 }
 

@@ -6,7 +6,8 @@ use crate::accounts::tell_account;
 use crate::listed::tell_listed;
 use command_words::large::DocumentRequest;
 use spanprof_command::{Report, tell_claim, tell_replay};
-use std::alloc::{AllocError, Global};
+use std::alloc::Global;
+use task_program::AllocFault;
 use task_segments::table::LargeTable;
 
 /// The most events that a replay document of any size has: a start and a finish for each segment that a
@@ -22,7 +23,7 @@ pub fn tell_rest(
     program: &[u8],
     rest: &[u8],
     table: LargeTable,
-) -> Result<Report, AllocError>
+) -> Result<Report, AllocFault>
     requires program { length program.now < 2 ^ 63 - 1 }
     requires rest { length rest.now < 2 ^ 63 }
     ensures { IfOk result (λ report. SaysOfRest asked program.now rest.now table report) }

@@ -14,7 +14,8 @@ use command_words::large::AccountRequest;
 use csv_table::Table;
 use dispatch_core::graph::Graph;
 use spanprof_command::{Report, Status};
-use std::alloc::{AllocError, Global};
+use std::alloc::Global;
+use task_program::AllocFault;
 use time_accounts::account::{Account, account_of};
 use time_accounts::path::own_path;
 use time_accounts::ready::ready_moments;
@@ -29,7 +30,7 @@ pub(crate) fn tell_run(
     graph: &Graph,
     region: RegionTimes,
     times: &Times,
-) -> Result<Report, AllocError>
+) -> Result<Report, AllocFault>
     requires { IsTimedRun (length graph.now.costs) (Precedes graph.now)
         region.threads region.first region.last times.now }
     ensures { IfOk result (λ report. TellsRun asked graph.now region times.now report) }
@@ -46,7 +47,7 @@ fn tell_sums(
     graph: &Graph,
     region: RegionTimes,
     times: &Times,
-) -> Result<Report, AllocError>
+) -> Result<Report, AllocFault>
     requires { region.first ≤ region.last }
     ensures { IfOk result (λ report. report ≡ sums_of graph.now region times.now) }
 {
@@ -62,7 +63,7 @@ fn tell_sums(
     };
     match account_of(alloc, graph, within, times) {
         Ok(account) => sums_report(alloc, threads, last - first, &account),
-        Err(_) => Err(AllocError),
+        Err(_) => Err(AllocFault),
     }
 }
 
@@ -72,7 +73,7 @@ fn sums_report(
     threads: u32,
     elapsed: u64,
     account: &Account,
-) -> Result<Report, AllocError>
+) -> Result<Report, AllocFault>
     ensures { IfOk result (λ report. report ≡ sums_report threads elapsed account.now) }
 {
     let mut text = region_lines(alloc, threads, elapsed, account.busy())?;
@@ -87,7 +88,7 @@ fn sums_report(
 }
 
 /// How many threads, for how long, and how long they ran segments.
-fn region_lines(alloc: Global, threads: u32, elapsed: u64, busy: u64) -> Result<Vec<u8>, AllocError>
+fn region_lines(alloc: Global, threads: u32, elapsed: u64, busy: u64) -> Result<Vec<u8>, AllocFault>
     ensures { IfOk result (λ text. text.items ≡ region_lines threads elapsed busy) }
 {
     let text = format!(in alloc; "threads {threads}\nelapsed {elapsed}\nbusy {busy}\n")?;
@@ -100,7 +101,7 @@ fn idle_lines(
     delayed: u64,
     starved: u64,
     outside: u64,
-) -> Result<Vec<u8>, AllocError>
+) -> Result<Vec<u8>, AllocFault>
     ensures { IfOk result (λ text. text.items ≡ idle_lines delayed starved outside) }
 {
     let text = format!(in alloc; "delayed {delayed}\nstarved {starved}\noutside {outside}\n")?;
@@ -112,7 +113,7 @@ fn tell_rows(
     graph: &Graph,
     region: RegionTimes,
     times: &Times,
-) -> Result<Report, AllocError>
+) -> Result<Report, AllocFault>
     requires { AreTimes (length graph.now.costs) times.now }
     ensures { IfOk result (λ report. report ≡ rows_report graph.now region times.now) }
 {
@@ -128,7 +129,7 @@ fn rows_table(
     first: u64,
     readies: &[u64],
     times: &Times,
-) -> Result<Vec<u8>, AllocError>
+) -> Result<Vec<u8>, AllocFault>
     requires times { AreTimes count times.now }
     requires readies { length readies.now ≡ count }
     ensures { IfOk result (λ text. text.items
@@ -161,7 +162,7 @@ fn rows_row(first: u64, readies: &[u64], times: &Times, segment: u32) -> [Option
     ]
 }
 
-fn tell_path(alloc: Global, graph: &Graph, times: &Times) -> Result<Report, AllocError>
+fn tell_path(alloc: Global, graph: &Graph, times: &Times) -> Result<Report, AllocFault>
     requires { AreTimes (length graph.now.costs) times.now }
     ensures { IfOk result (λ report. TellsPath graph.now times.now report) }
 {
@@ -171,7 +172,7 @@ fn tell_path(alloc: Global, graph: &Graph, times: &Times) -> Result<Report, Allo
 }
 
 /// A row for each member of a path.
-fn path_table(alloc: Global, times: &Times, path: &[u32]) -> Result<Vec<u8>, AllocError>
+fn path_table(alloc: Global, times: &Times, path: &[u32]) -> Result<Vec<u8>, AllocFault>
     requires { AreMembers times.now path.now }
     ensures { IfOk result (λ text. text.items
         ≡ numbered_table path_header (path_row times.now path.now) 0 (length path.now)) }

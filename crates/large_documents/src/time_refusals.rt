@@ -7,7 +7,8 @@ ghost use Rattle.large_documents.specs.AccountReports.{at_line, numbered, of_seg
 ghost use Rattle.large_documents.specs.AccountReports.{text_refusal, times_refusal};
 
 use spanprof_command::{Report, Status};
-use std::alloc::{AllocError, Global};
+use std::alloc::Global;
+use task_program::AllocFault;
 use time_accounts::fault::TimesFault;
 use time_text::TimeTextFault;
 
@@ -16,7 +17,7 @@ pub(crate) fn text_refused(
     alloc: Global,
     program: &[u8],
     fault: TimeTextFault,
-) -> Result<Report, AllocError>
+) -> Result<Report, AllocFault>
     requires short { length program.now < 2 ^ 63 - 1 }
     requires line { NamesLineBelow (2 ^ 63) fault }
     ensures { IfOk result (λ report. report ≡ text_refusal program.now fault) }
@@ -26,12 +27,12 @@ pub(crate) fn text_refused(
         TimeTextFault::UnknownSegment { line } => at_line(alloc, program, line, "UnknownSegment"),
         TimeTextFault::TimedTwice { line } => at_line(alloc, program, line, "TimedTwice"),
         TimeTextFault::NotTimed { segment } => of_segment(alloc, "NotTimed", segment),
-        TimeTextFault::OutOfMemory => Err(AllocError),
+        TimeTextFault::OutOfMemory => Err(AllocFault),
     }
 }
 
 /// Why times are not those of a legal run.
-pub(crate) fn times_refused(alloc: Global, fault: TimesFault) -> Result<Report, AllocError>
+pub(crate) fn times_refused(alloc: Global, fault: TimesFault) -> Result<Report, AllocFault>
     ensures { IfOk result (λ report. report ≡ times_refusal fault) }
 {
     match fault {
@@ -43,25 +44,25 @@ pub(crate) fn times_refused(alloc: Global, fault: TimesFault) -> Result<Report, 
         TimesFault::OutOfTime(segment) => of_segment(alloc, "OutOfTime", segment),
         TimesFault::TooSoon(segment, before) => refused_pair(alloc, "TooSoon", segment, before),
         TimesFault::NotApart(segment) => of_segment(alloc, "NotApart", segment),
-        TimesFault::OutOfMemory => Err(AllocError),
+        TimesFault::OutOfMemory => Err(AllocFault),
     }
 }
 
-fn refused_as(alloc: Global, word: &str) -> Result<Report, AllocError>
+fn refused_as(alloc: Global, word: &str) -> Result<Report, AllocFault>
     ensures { IfOk result (λ report. report ≡ refused_as word.now) }
 {
     let text = format!(in alloc; "error: {word}\n")?;
     Ok(Report::new(text.into_bytes(), Status::Refused))
 }
 
-fn of_segment(alloc: Global, word: &str, segment: u32) -> Result<Report, AllocError>
+fn of_segment(alloc: Global, word: &str, segment: u32) -> Result<Report, AllocFault>
     ensures { IfOk result (λ report. report ≡ of_segment word.now segment) }
 {
     let text = format!(in alloc; "error: {word} {segment}\n")?;
     Ok(Report::new(text.into_bytes(), Status::Refused))
 }
 
-fn refused_pair(alloc: Global, word: &str, s: u32, t: u32) -> Result<Report, AllocError>
+fn refused_pair(alloc: Global, word: &str, s: u32, t: u32) -> Result<Report, AllocFault>
     ensures { IfOk result (λ report. report ≡ refused_pair word.now s t) }
 {
     let text = format!(in alloc; "error: {word} {s} {t}\n")?;
@@ -74,7 +75,7 @@ pub(crate) fn at_line(
     program: &[u8],
     line: usize,
     word: &str,
-) -> Result<Report, AllocError>
+) -> Result<Report, AllocFault>
     requires short { length program.now < 2 ^ 63 - 1 }
     requires line { line < 2 ^ 63 }
     ensures { IfOk result (λ report. report ≡ at_line program.now line word.now) }
@@ -83,7 +84,7 @@ pub(crate) fn at_line(
     numbered(alloc, number, word)
 }
 
-fn numbered(alloc: Global, number: usize, word: &str) -> Result<Report, AllocError>
+fn numbered(alloc: Global, number: usize, word: &str) -> Result<Report, AllocFault>
     ensures { IfOk result (λ report. report ≡ numbered number word.now) }
 {
     let text = format!(in alloc; "error: line {number}: {word}\n")?;

@@ -1,5 +1,5 @@
 //! Texts of either version, of any size.
-ghost use Rattle.std.specs.Prelude.{◌≡◌, ◌≢◌, true, IfOk, IfErr, length};
+ghost use Rattle.std.specs.Prelude.{◌≡◌, ◌≢◌, true, IfOk, IfErr};
 ghost use Rattle.program_text.specs.declared.fault.ReadKind.TheVariants.{OutOfMemory};
 ghost use Rattle.large_text.specs.LargeTexts.{is_large_two, IsLargeFault};
 ghost use Rattle.large_text.specs.Measured.{TalliesText};

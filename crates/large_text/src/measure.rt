@@ -2,11 +2,10 @@
 ghost use Rattle.std.specs.Prelude.{ℕ, ◌≡◌, ◌≢◌, ◌+◌, ◌<◌, ◌≤◌, ◌^◌, [], ◌∷◌, ◌++◌, List, IfOk, IfErr, OnOk};
 ghost use Rattle.std.specs.Prelude.{length, false};
 ghost use Rattle.program_text.specs.declared.fault.ReadKind.TheVariants.{OutOfMemory};
-ghost use Rattle.program_text.specs.Marks.{Mark};
 ghost use Rattle.program_text.specs.Tokens as tokens;
-ghost use Rattle.program_text.specs.Tokens.{tokens_of, tokens_from, line_at_end};
+ghost use Rattle.program_text.specs.Tokens.{tokens_from, line_at_end};
 ghost use Rattle.large_text.specs.declared.limits.TheConstants.{LARGEST_TEXT};
-ghost use Rattle.large_text.specs.LargeReading.{mark_seen, token_on};
+ghost use Rattle.large_text.specs.LargeReading.{token_on};
 ghost use Rattle.large_text.specs.LargeTexts.{is_large_two, IsLargeFault};
 ghost use Rattle.large_text.specs.LargeTrees.{IsLargeFirstFault};
 ghost use Rattle.large_text.specs.Measured.{MeasuresText, MeasuresSoFar, CanMeasure};

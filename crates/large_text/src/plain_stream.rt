@@ -1,5 +1,5 @@
 //! Work and span of a text of version 1 that comes in pieces.
-ghost use Rattle.std.specs.Prelude.{◌≡◌, ◌≢◌, ◌+◌, ◌<◌, ◌≤◌, ◌^◌, [], ◌∷◌, false, ◌++◌, List, ℕ, IfOk, IfErr};
+ghost use Rattle.std.specs.Prelude.{◌≡◌, ◌≢◌, ◌<◌, ◌≤◌, [], List, ℕ, IfOk, IfErr};
 ghost use Rattle.std.specs.Prelude.{OnOk, None, length, take, drop};
 ghost use Rattle.program_text.specs.declared.fault.ReadKind.TheVariants.{OutOfMemory};
 ghost use Rattle.program_text.specs.Tokens.{tokens_of, line_at_end};
@@ -14,7 +14,7 @@ use crate::fault::LargeFault;
 use crate::measure::take_tokens;
 use crate::reader::MarkReader;
 use crate::tally::Tally;
-use std::alloc::{AllocError, Global};
+use std::alloc::Global;
 use task_program::AllocFault;
 use task_program::fault::ReadKind;
 use task_program::name_key::NameKey;
@@ -104,7 +104,7 @@ impl PlainMeter {
             }
             Err(fault) => {
                 if fault.kind == ReadKind::OutOfMemory {
-                    return Err(AllocError);
+                    return Err(AllocFault);
                 }
                 self.fault = Some(fault);
                 Ok(())

@@ -1,9 +1,8 @@
 //! What is kept of the marks of a text: its work and its span, and its rows and its canonical text,
 //! where they are wanted.
-ghost use Rattle.std.specs.Prelude.{◌≡◌, ◌≤◌, ◌∷◌, [], false, IfOk, OnOk, IsTrue, List};
+ghost use Rattle.std.specs.Prelude.{◌≡◌, ◌≤◌, ◌∷◌, [], IfOk, OnOk, IsTrue, List};
 ghost use Rattle.std.specs.Option.{IfSome, is_some};
 ghost use Rattle.program_text.specs.Marks.{Mark};
-ghost use Rattle.program_text.specs.Marks.Mark.{Begins};
 ghost use Rattle.task_segments.specs.MarkCutting.{AreWithin, Tables};
 ghost use Rattle.task_segments.specs.MarksTable.{IsReading};
 ghost use Rattle.online_span.specs.Measuring.{Measures, CanTake};
@@ -24,7 +23,7 @@ ghost use Rattle.task_segments.specs.Table.{table_of};
 use crate::marks::TextMark;
 use crate::printer::Printer;
 use online_span::Meter;
-use std::alloc::{AllocError, Global};
+use std::alloc::Global;
 use task_program::AllocFault;
 use task_program::limits::MOST_WORK;
 use task_program::version::Version;
@@ -263,7 +262,7 @@ fn enter(rows: &mut MarkCutter, mark: TextMark) -> Result<(), AllocFault>
         → Tables rows.new (mark_seen mark ∷ moment)) }
 {
     if !rows.has_room() {
-        return Err(AllocError);
+        return Err(AllocFault);
     }
     match mark {
         TextMark::TaskBegins { undeferred, items } => rows.begin_task(undeferred, items),

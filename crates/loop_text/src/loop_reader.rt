@@ -1,6 +1,6 @@
 //! The first pass over a text of version 2, token by token.
-ghost use Rattle.std.specs.Prelude.{◌≡◌, ◌≤◌, ◌<◌, ◌+◌, ◌∷◌, ◌++◌, [], true, false, codes, length};
-ghost use Rattle.std.specs.Prelude.{OnOk, IfOk, Some, None, Ok};
+ghost use Rattle.std.specs.Prelude.{◌≡◌, ◌<◌, ◌+◌, true, false, codes};
+ghost use Rattle.std.specs.Prelude.{Some, None, Ok};
 ghost use Rattle.program_text.specs.Answers.{Gives};
 ghost use Rattle.program_text.specs.Words.{is_number};
 ghost use Rattle.program_text.specs.ScannerSeen.{token_seen};
@@ -151,9 +151,8 @@ fn step_of(digits: &[u8]) -> u32
 }
 
 impl LoopReader {
-    ghost use Rattle.std.specs.Prelude.{reverse, ℕ};
     ghost use Rattle.program_text.specs.Words.{is_text};
-    ghost use Rattle.loop_text.specs.FirstPass.{State, after_header, step, place_step};
+    ghost use Rattle.loop_text.specs.FirstPass.{after_header, step, place_step};
     ghost use Rattle.loop_text.specs.FirstPass.{tree_or_fault, end_at, at, with_item, open_step};
     ghost use Rattle.loop_text.specs.LoopReaderSeen.{loop_state_of};
     ghost use Rattle.program_text.specs.ScannerSeen.{token_seen};

@@ -3,10 +3,10 @@
 ghost use Rattle.std.specs.Prelude.{ℕ, Option, Some, None, ◌≡◌, ◌<◌, ◌≤◌, ◌+◌, ◌↔◌, ◌++◌, ◌∷◌, []};
 ghost use Rattle.std.specs.Prelude.{List, length, replicate, slice_get, slice_set, vec_len};
 ghost use Rattle.std.specs.Prelude.{vec_capacity, Contains, AllPairs, ◌≢◌, IsTrue, IfOk, OnOk};
-ghost use Rattle.std.specs.Prelude.{OnErr, ◌==◌, if◌then◌else◌};
+ghost use Rattle.std.specs.Prelude.{OnErr, ◌==◌};
 ghost use Rattle.task_segments.specs.declared.limits.TheConstants.{MOST_ROWS};
 ghost use Rattle.task_segments.specs.Precedence.{IsSegment};
-ghost use Rattle.task_segments.specs.Table.{Table, segment};
+ghost use Rattle.task_segments.specs.Table.{segment};
 ghost use Rattle.task_segments.specs.InPlace.{IsOf};
 ghost use Rattle.depend_table.specs.Lists.{Lists};
 ghost use Rattle.open_segments.specs.Counters.{AreLowered, HasValue, IsCounted, unfinished_count};

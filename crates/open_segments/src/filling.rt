@@ -5,7 +5,7 @@ ghost use Rattle.open_segments.specs.FilledLists.{rooms_from};
 ghost use Rattle.open_segments.specs.FlatLists.{AreEnds};
 
 use crate::flat_lists::{FlatLists, begin_of};
-use std::alloc::{AllocError, Global};
+use std::alloc::Global;
 use std::marker::Model;
 use task_program::AllocFault;
 
@@ -92,7 +92,7 @@ fn ends_of(alloc: Global, rooms: &[u32]) -> Result<Vec<usize>, AllocFault>
     for room in rooms {
         end = match end.checked_add(*room as usize) {
             Some(end) => end,
-            None => return Err(AllocError),
+            None => return Err(AllocFault),
         };
         ends.push(end)?;
     }

@@ -1,6 +1,6 @@
 //! Lists of numbers with a place for each number.
-ghost use Rattle.std.specs.Prelude.{ℕ, ◌≡◌, ◌≢◌, ◌<◌, ◌≤◌, ◌+◌, ◌++◌, ◌∷◌, [], List, None, length};
-ghost use Rattle.std.specs.Prelude.{replicate, vec_len, vec_capacity, Contains, AllPairs, IfOk};
+ghost use Rattle.std.specs.Prelude.{ℕ, ◌≡◌, ◌≢◌, ◌<◌, [], None, length};
+ghost use Rattle.std.specs.Prelude.{replicate, Contains, AllPairs, IfOk};
 ghost use Rattle.std.specs.Prelude.{OnOk};
 ghost use Rattle.open_segments.specs.Entry.{entry};
 ghost use Rattle.open_segments.specs.NumberLists.{lists_of, ArePushed};

@@ -1,16 +1,15 @@
 //! The segments that open when another finishes, each with its kept predecessors.
 ghost use Rattle.std.specs.Prelude.{ℕ, ◌≡◌, ◌<◌, ◌∷◌, [], Some, None, length, replicate, slice_get};
 ghost use Rattle.std.specs.Prelude.{slice_set, vec_len, vec_capacity, IfOk, OnOk, OnErr};
-ghost use Rattle.task_segments.specs.Table.{Table, segment, task};
+ghost use Rattle.task_segments.specs.Table.{segment, task};
 ghost use Rattle.task_segments.specs.Precedence.{IsSegment, IsTask, Continues, Creation};
 ghost use Rattle.task_segments.specs.InPlace.{IsOf};
-ghost use Rattle.depend_table.specs.Siblings.{Sibling};
 ghost use Rattle.depend_table.specs.KeptEdges.{children_below};
 ghost use Rattle.open_segments.specs.Entry.{entry};
 ghost use Rattle.open_segments.specs.WaysToOpen.{AreKeptSiblings};
 ghost use Rattle.open_segments.specs.Counters.{HasValue, AreSiblings};
 ghost use Rattle.open_segments.specs.Openings.{IsOpening, IsRoomFor};
-ghost use Rattle.open_segments.specs.Rooms.{HasRoom, IsRoomier};
+ghost use Rattle.open_segments.specs.Rooms.{IsRoomier};
 
 use crate::continuing::next_predecessors;
 use crate::number_lists::make_room;

@@ -1,5 +1,5 @@
 //! The kept predecessors of all segments of a program, without a run.
-ghost use Rattle.std.specs.Prelude.{ℕ, ◌≡◌, ◌<◌, ◌+◌, ◌-◌, IfOk, OnOk, length};
+ghost use Rattle.std.specs.Prelude.{◌≡◌, ◌<◌, ◌+◌, ◌-◌, IfOk, OnOk, length};
 ghost use Rattle.task_segments.specs.Table.{segment};
 ghost use Rattle.task_segments.specs.declared.table.Closing.TheVariants as closings;
 ghost use Rattle.task_segments.specs.Precedence.{Continues, IsSegment};

@@ -1,5 +1,5 @@
 //! The kept predecessors of a segment, as it opens.
-ghost use Rattle.std.specs.Prelude.{ℕ, ◌≡◌, ◌<◌, ◌≤◌, ◌++◌, ◌∷◌, [], map, vec_len, vec_capacity};
+ghost use Rattle.std.specs.Prelude.{ℕ, ◌≡◌, ◌<◌, ◌≤◌, map, vec_len, vec_capacity};
 ghost use Rattle.std.specs.Prelude.{Contains};
 ghost use Rattle.task_segments.specs.Table.{task};
 ghost use Rattle.task_segments.specs.Precedence.{IsTask};

@@ -12,4 +12,4 @@ pub mod statement;
 pub mod words;
 
 /// Out of memory, and nothing else.
-pub type AllocFault = std::alloc::AllocError;
+pub use std::alloc::AllocError as AllocFault;

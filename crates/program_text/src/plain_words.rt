@@ -1,5 +1,5 @@
 //! Words between blanks, without comments, and the numbers among them.
-ghost use Rattle.std.specs.Prelude.{◌≡◌, ◌≤◌, ◌^◌};
+ghost use Rattle.std.specs.Prelude.{◌≡◌, ◌≤◌};
 ghost use Rattle.program_text.specs.declared.limits.TheConstants.{LARGEST_READABLE};
 ghost use Rattle.program_text.specs.PlainWords.{number_in_word};
 

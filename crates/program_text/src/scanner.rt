@@ -1,9 +1,8 @@
 //! The tokens of a text, one after another.
-ghost use Rattle.std.specs.Prelude.{◌≡◌, ◌+◌, ◌<◌, ◌≤◌, ◌^◌, ◌∷◌, [], length, true, false, not};
-ghost use Rattle.std.specs.Prelude.{count_by};
+ghost use Rattle.std.specs.Prelude.{◌≡◌, ◌+◌, ◌<◌, ◌≤◌, ◌^◌, ◌∷◌, [], length, not};
 ghost use Rattle.std.specs.List.{prefix_len};
 ghost use Rattle.program_text.specs.Tokens.{is_blank, is_run_byte};
-ghost use Rattle.program_text.specs.Tokens.{tokens_from, line_at_end, line_after, is_line_feed};
+ghost use Rattle.program_text.specs.Tokens.{line_after, is_line_feed};
 ghost use Rattle.program_text.specs.Tokens.{StandsAtToken};
 ghost use Rattle.program_text.specs.Words.{is_number, is_run};
 

@@ -1,6 +1,5 @@
 //! What a segment can have to wait for, as far as it tells by itself.
-ghost use Rattle.std.specs.Prelude.{◌≡◌, ◌<◌, ◌↔◌, ◌⊎◌, IfOk, IsTrue};
-ghost use Rattle.task_segments.specs.Nesting.{IsNestedTable};
+ghost use Rattle.std.specs.Prelude.{◌<◌, ◌↔◌, IfOk, IsTrue};
 ghost use Rattle.task_segments.specs.Precedence.{IsSegment, MustPrecede};
 ghost use Rattle.span_cert.specs.NameMarks.{AreMarkedFor, IsCut, IsOpening};
 

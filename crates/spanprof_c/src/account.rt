@@ -7,7 +7,8 @@ ghost use Rattle.spanprof_c.specs.Runs.{Accounts, times_number, times_place, tim
 
 use crate::told::{Accounted, Place, put_place};
 use dispatch_core::graph::Graph;
-use std::alloc::{AllocError, Global};
+use std::alloc::Global;
+use task_program::AllocFault;
 use time_accounts::account::account_of;
 use time_accounts::fault::TimesFault;
 use time_accounts::ready::ready_moments;
@@ -20,7 +21,7 @@ pub(crate) fn times_of(
     threads: &[u32],
     begins: &[u64],
     ends: &[u64],
-) -> Result<Times, AllocError>
+) -> Result<Times, AllocFault>
     ensures { IfOk result (λ times. times ≡ timed_run threads.now begins.now ends.now) }
 {
     let threads = threads.to_vec(alloc)?;

@@ -1,5 +1,5 @@
 //! What calls tell of a graph.
-ghost use Rattle.std.specs.Prelude.{ℕ, ◌≡◌, ◌⊎◌, ◌<◌, IfErr, OnOk, [], ◌∷◌, length, IsTrue, ◌↔◌};
+ghost use Rattle.std.specs.Prelude.{◌≡◌, ◌<◌, IfErr, OnOk, [], ◌∷◌, length};
 ghost use Rattle.dispatch_core.specs.RecordedGraph.{Precedes};
 ghost use Rattle.greedy_sim.specs.declared.greedy.TheConstants.{MOST_THREADS};
 ghost use Rattle.span_analysis.specs.Findings.{AreFindings};

@@ -1,5 +1,5 @@
 //! Bounds of schedules on a number of threads, by work and span.
-ghost use Rattle.std.specs.Prelude.{ℕ, ◌≡◌, ◌*◌, ◌≤◌};
+ghost use Rattle.std.specs.Prelude.{ℕ, ◌*◌, ◌≤◌};
 
 /// The least T with `work <= threads * T` and `span <= T`: no schedule on so many threads ends
 /// sooner.

@@ -1,9 +1,6 @@
 //! The graph of a text's program, under its own costs or under others.
 ghost use Rattle.std.specs.Prelude.{ℕ, ◌≡◌, ◌≢◌, ◌<◌, ◌≤◌, List, IfErr, IfOk, MatchOption, MatchResult};
 ghost use Rattle.std.specs.Prelude.{[], false, length, sum};
-ghost use Rattle.dispatch_core.specs.Graph.{IsGraphOf};
-ghost use Rattle.dispatch_core.specs.RecordedGraph.{RecordedGraph};
-ghost use Rattle.open_segments.specs.Facts.{IsSoundTable};
 ghost use Rattle.program_text.specs.declared.fault.ReadKind.TheVariants.{OutOfMemory};
 ghost use Rattle.program_text.specs.declared.limits.TheConstants.{MOST_WORK};
 ghost use Rattle.spanprof_c.specs.Programs.{IsFaultOf, OfText, source};

@@ -2,6 +2,7 @@
 use Rattle.std.proofs.Common.{◌≡◌, ◌≤◌, ◌∙◌, ◌-◌, ℕ, List, Option, Result, Ok, Err, ap, arith}
 use Rattle.std.proofs.Common.{inl, inr, refl, subst, sym, OnErr, OnOk}
 use Rattle.std.specs.Prelude.{IfOk}
+use Rattle.std.specs.Io.KnownBytes.{Appends}
 use Rattle.counted_io.proofs.Joined.{as_bytes}
 use Rattle.counted_io.specs.Counted.{faults_of, inner_of}
 use Rattle.counted_io.specs.Parts.{WritesText}
@@ -53,6 +54,14 @@ sends_told made output retries left held held_after WriterFaults status is few s
       Sends report held held_after WriterFaults (retries - left) status)
       (sym is) sent;
 }
+
+pub appends_told : (made : Result Report NoReport) (output : Report)
+    (held held_after : Option (List ℕ))
+    → told made ≡ output
+    → Appends held held_after output.text
+    → Appends held held_after (told made).text
+appends_told made output held held_after is appends =
+    subst (λ (report : Report). Appends held held_after report.text) (sym is) appends
 
 pub ends_as_made : (IsReport : Report → Type 0) (made : Result Report NoReport)
     (faults faults_after left : ℕ) (held held_after : Option (List ℕ))

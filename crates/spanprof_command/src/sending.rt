@@ -8,8 +8,8 @@ ghost use Rattle.spanprof_command.specs.declared.sending.NoReport.TheVariants.{O
 
 use crate::report::{Report, Status};
 use counted_io::{Counted, write_text};
-use std::alloc::AllocError;
 use std::io::Write;
+use task_program::AllocFault;
 
 /// Why there is no report.
 #[derive(Clone, Copy, Debug, PartialEq, Eq)]
@@ -20,10 +20,10 @@ pub enum NoReport {
     ReadFault,
 }
 
-impl From<AllocError> for NoReport {
+impl From<AllocFault> for NoReport {
     ghost from_gives = { λ _ fault. fault ≡ OutOfMemory };
 
-    fn from(_error: AllocError) -> NoReport {
+    fn from(_error: AllocFault) -> NoReport {
         NoReport::OutOfMemory
     }
 }
@@ -40,6 +40,10 @@ pub fn finish<W: Write>(
         (W.contents (inner_of writer.old)) (W.contents (inner_of writer.new))
         (HadFaults (faults_of writer.old) (faults_of writer.new)) result }
     ensures flushed { result ≢ Status.Fault → is_flushed writer.new ≡ true }
+    // A text that is not whole is not flushed.
+    ensures flushed_last { flushes_of writer.old < flushes_of writer.new
+        → Appends (W.contents (inner_of writer.old)) (W.contents (inner_of writer.new))
+        (told made).text }
     // Whatever the status.
     ensures flushed_without_fault { faults_of writer.new ≡ faults_of writer.old
         → is_flushed writer.new ≡ true }

@@ -1,7 +1,6 @@
 //! The cutting of a program whose marks come one after another.
-ghost use Rattle.std.specs.Prelude.{ℕ, ◌≡◌, ◌+◌, ◌<◌, ◌∷◌, [], false, true, IfOk, OnOk, List, length};
+ghost use Rattle.std.specs.Prelude.{◌≡◌, ◌<◌, ◌∷◌, [], false, IfOk, OnOk, List};
 ghost use Rattle.std.specs.Prelude.{◌↔◌, IsTrue};
-ghost use Rattle.program_text.specs.declared.statement.Item.{Item};
 ghost use Rattle.task_program.specs.Marks.{Mark};
 ghost use Rattle.task_program.specs.Marks.Mark.{Begins, Ends, GroupBegins, GroupEnds, Waits, Works};
 ghost use Rattle.task_segments.specs.MarkCutting.{AreWithin, CanTake, IsWhole, Tables, HasRoomForOne};

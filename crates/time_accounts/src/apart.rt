@@ -11,10 +11,11 @@ use crate::fault::TimesFault;
 use crate::region::Region;
 use crate::times::Times;
 use dispatch_core::graph::Graph;
-use std::alloc::{AllocError, Global};
+use std::alloc::Global;
+use task_program::AllocFault;
 
 /// All segments, each behind its begin, by begins, and of one begin by numbers.
-fn by_begin(alloc: Global, begins: &[u64]) -> Result<Vec<(u64, u32)>, AllocError>
+fn by_begin(alloc: Global, begins: &[u64]) -> Result<Vec<(u64, u32)>, AllocFault>
     requires { length begins.now < 2 ^ 32 }
     ensures { IfOk result (λ order. AreByBegin begins.now order.items) }
 {

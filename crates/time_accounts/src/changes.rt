@@ -5,7 +5,8 @@ ghost use Rattle.time_accounts.specs.Sweep.{AreChanges};
 use crate::ready::ready_moments;
 use crate::times::Times;
 use dispatch_core::graph::Graph;
-use std::alloc::{AllocError, Global};
+use std::alloc::Global;
+use task_program::AllocFault;
 
 /// The moments at which segments become ready, begin and end, each list ascending.
 #[derive(Drop)]
@@ -19,7 +20,7 @@ pub(crate) fn sorted_changes(
     alloc: Global,
     graph: &Graph,
     times: &Times,
-) -> Result<Changes, AllocError>
+) -> Result<Changes, AllocFault>
     requires { length times.now.ends ≡ length graph.now.costs }
     ensures { IfOk result (λ found. AreChanges graph.now times.now
         found.readies.items found.begins.items found.ends.items) }

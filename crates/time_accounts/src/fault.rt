@@ -1,7 +1,7 @@
 //! Why times are refused.
 ghost use Rattle.std.specs.Prelude.{◌≡◌};
 
-use std::alloc::AllocError;
+use task_program::AllocFault;
 use thiserror::Error;
 
 /// Why there is no account: the first fault of the times of a run, in this order.
@@ -39,12 +39,12 @@ pub enum TimesFault {
     OutOfMemory,
 }
 
-impl From<AllocError> for TimesFault {
+impl From<AllocFault> for TimesFault {
     ghost use Rattle.time_accounts.specs.declared.fault.TimesFault.TheVariants.{OutOfMemory};
 
     ghost from_gives = { λ _ fault. fault ≡ OutOfMemory };
 
-    fn from(_error: AllocError) -> TimesFault {
+    fn from(_error: AllocFault) -> TimesFault {
         TimesFault::OutOfMemory
     }
 }

@@ -115,7 +115,7 @@ pub fn some_own_path()
 /// A timed run is legal under a program's graph exactly where it is legal under all pairs of
 /// segments of which the first must precede the second, though the graph keeps fewer. A segment is
 /// ready by the graph exactly when it is ready by all pairs. So the bounds hold under all pairs too.
-pub fn of_program<const SEGMENTS: u32, const TASKS: u32>(table: &BoundedTable<SEGMENTS, TASKS>)
+pub fn same_timed_runs<const SEGMENTS: u32, const TASKS: u32>(table: &BoundedTable<SEGMENTS, TASKS>)
     ensures legal { (graph : RecordedGraph) (n p first last : ℕ) (run : TimedRun)
         → IsGraphOf table.now graph
         → IsTimedRun n (MustPrecede table.now) p first last run

@@ -1,5 +1,5 @@
 //! The path on which a run's elapsed time lay.
-ghost use Rattle.std.specs.Prelude.{ℕ, ◌≡◌, ◌<◌, ◌≤◌, ◌^◌, [], length, Contains, IfOk, MatchOption};
+ghost use Rattle.std.specs.Prelude.{ℕ, ◌≡◌, ◌<◌, ◌≤◌, ◌^◌, length, Contains, IfOk, MatchOption};
 ghost use Rattle.std.specs.List.Sorted.{IsStrictlyIncreasing};
 ghost use Rattle.task_segments.specs.Schedule.{at};
 ghost use Rattle.dispatch_core.specs.RecordedGraph.{Precedes};
@@ -8,7 +8,8 @@ ghost use Rattle.time_accounts.specs.OwnPath.{IsLastBefore, IsOwnPath};
 
 use crate::times::Times;
 use dispatch_core::graph::Graph;
-use std::alloc::{AllocError, Global};
+use std::alloc::Global;
+use task_program::AllocFault;
 
 /// The segment that ends last, the smallest of several.
 fn last_to_end(ends: &[u64]) -> u32
@@ -61,7 +62,7 @@ fn last_before(graph: &Graph, times: &Times, segment: u32) -> Option<u32>
 /// The path on which a run's elapsed time lay, its first member first: back from the segment that
 /// ends last, to its predecessor that ends last, and so on, to segment 0. Of several that end last
 /// it takes the smallest. It fails only if memory runs out.
-pub fn own_path(alloc: Global, graph: &Graph, times: &Times) -> Result<Vec<u32>, AllocError>
+pub fn own_path(alloc: Global, graph: &Graph, times: &Times) -> Result<Vec<u32>, AllocFault>
     requires { length times.now.ends ≡ length graph.now.costs }
     ensures { IfOk result (λ path.
         IsOwnPath (length graph.now.costs) (Precedes graph.now) times.now path.items) }

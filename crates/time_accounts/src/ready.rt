@@ -4,7 +4,8 @@ ghost use Rattle.time_accounts.specs.Shares.{last_end, ready_moments as ready_mo
 
 use crate::times::Times;
 use dispatch_core::graph::Graph;
-use std::alloc::{AllocError, Global};
+use std::alloc::Global;
+use task_program::AllocFault;
 
 /// When the last of some segments ends, 0 of none.
 pub(crate) fn last_end_of(ends: &[u64], segments: &[u32]) -> u64
@@ -20,7 +21,7 @@ pub(crate) fn last_end_of(ends: &[u64], segments: &[u32]) -> u64
 
 /// When each segment becomes ready: when its last predecessor ends. It is 0 for segment 0, which has
 /// none. It fails only if memory runs out.
-pub fn ready_moments(alloc: Global, graph: &Graph, times: &Times) -> Result<Vec<u64>, AllocError>
+pub fn ready_moments(alloc: Global, graph: &Graph, times: &Times) -> Result<Vec<u64>, AllocFault>
     requires { length times.now.ends ≡ length graph.now.costs }
     ensures { IfOk result (λ moments. moments.items ≡ ready_moments_of graph.now times.now) }
 {

@@ -2,7 +2,8 @@
 ghost use Rattle.std.specs.Prelude.{◌≡◌};
 ghost use Rattle.time_text.specs.declared.fault.TimeTextFault.TheVariants.{OutOfMemory};
 
-use std::alloc::{AllocError, AllocFailed};
+use program_text::AllocFault;
+use std::alloc::AllocFailed;
 use thiserror::Error;
 
 /// Why a text does not tell the times of a run: its first wrong line, by its index from 0, or else
@@ -27,10 +28,10 @@ pub enum TimeTextFault {
     OutOfMemory,
 }
 
-impl From<AllocError> for TimeTextFault {
+impl From<AllocFault> for TimeTextFault {
     ghost from_gives = { λ _ fault. fault ≡ OutOfMemory };
 
-    fn from(_error: AllocError) -> TimeTextFault {
+    fn from(_error: AllocFault) -> TimeTextFault {
         TimeTextFault::OutOfMemory
     }
 }

@@ -3,8 +3,9 @@ ghost use Rattle.std.specs.Prelude.{◌≡◌, IfOk, map, take};
 ghost use Rattle.program_text.specs.PlainWords.{words_of};
 ghost use Rattle.time_text.specs.TimeLines.{line_says, region_said, segment_said, words_say};
 
+use program_text::AllocFault;
 use program_text::plain_words::{is_blank, read_number};
-use std::alloc::{AllocError, Global};
+use std::alloc::Global;
 
 /// The largest number of threads, of a thread and of a segment that a line can tell.
 pub const LARGEST_NUMBER: u64 = 4_294_967_295;
@@ -44,7 +45,7 @@ pub enum TimeLine {
 const MOST_WORDS: usize = 5;
 
 /// What a line says, if anything.
-pub(crate) fn read_line(alloc: Global, line: &[u8]) -> Result<Option<TimeLine>, AllocError>
+pub(crate) fn read_line(alloc: Global, line: &[u8]) -> Result<Option<TimeLine>, AllocFault>
     ensures { IfOk result (λ said. said ≡ line_says line.now) }
 {
     // One more than a line may have.
@@ -57,7 +58,7 @@ pub fn first_words<'a>(
     alloc: Global,
     line: &'a [u8],
     most: usize,
-) -> Result<Vec<&'a [u8]>, AllocError>
+) -> Result<Vec<&'a [u8]>, AllocFault>
     ensures { IfOk result (λ words.
         map (λ word. word.now) words.items ≡ take most (words_of line.now)) }
 {

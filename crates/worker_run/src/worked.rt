@@ -13,7 +13,7 @@ use crate::worker::{Ending, Job, WorkerEnd};
 use dispatch_core::dispatch::Core;
 use dispatch_core::event::Event;
 use dispatch_core::kernel::Kernel;
-use std::alloc::{AllocError, Global};
+use std::alloc::Global;
 use task_program::AllocFault;
 use task_segments::table::SegTable;
 
@@ -91,7 +91,7 @@ fn fitting_core<K: Kernel>(
     }
     match Core::new(alloc, table) {
         Ok(fresh) => Ok(fresh),
-        Err(_) => Err(AllocError),
+        Err(_) => Err(AllocFault),
     }
 }
 

@@ -10,7 +10,7 @@ use counted_io::Counted;
 use dispatch_core::replay::in_order;
 use span_analysis::analysis::{Analysis, analyse};
 use span_cert::{CheckFault, Checked, WriteFault, certificate_text, check, write_certificate};
-use std::alloc::{AllocError, AllocGlobal, Global};
+use std::alloc::{AllocGlobal, Global};
 use std::io;
 use std::io::Write;
 use std::process::Abort;
@@ -72,7 +72,7 @@ fn analysis_of(alloc: Global, program: &Program) -> Result<Analysis, AllocFault>
 {
     let graph = match in_order(alloc, cut(alloc, program)?) {
         Ok(graph) => graph,
-        Err(_) => return Err(AllocError),
+        Err(_) => return Err(AllocFault),
     };
     analyse(alloc, &graph)
 }

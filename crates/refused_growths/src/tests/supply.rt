@@ -1,6 +1,7 @@
 //! What memory the process can still have, and from which call on.
 use super::short::{SIZES, Short};
-use std::alloc::{AllocError, Global};
+use std::alloc::Global;
+use task_program::AllocFault;
 
 /// What is left when memory is taken.
 #[derive(Clone, Copy)]
@@ -72,7 +73,7 @@ impl Supply {
     }
 
     /// No more than `AMPLE`, and as little as a turn leaves.
-    pub(super) fn scarce(alloc: Global) -> Result<Supply, AllocError> {
+    pub(super) fn scarce(alloc: Global) -> Result<Supply, AllocFault> {
         let mut supply = Supply {
             blocks: Vec::with_capacity(alloc, MOST_BLOCKS)?,
             pieces: Vec::with_capacity(alloc, MOST_PIECES)?,

@@ -4,7 +4,7 @@ use super::supply::Supply;
 use command_words::request::{Request, WordsFault, read_words};
 use counted_io::{Counted, InputFault, LARGEST_INPUT, read_input};
 use csv_table::Table;
-use std::alloc::{AllocError, AllocGlobal, Global};
+use std::alloc::{AllocGlobal, Global};
 use std::process::Abort;
 use std::test::Fail;
 use task_program::AllocFault;
@@ -144,7 +144,7 @@ pub(super) fn program<H: AllocGlobal + Abort>(rt: &H, supply: &mut Supply) -> Re
     assert_unopened(rt, supply)
 }
 
-fn words_of(alloc: Global, words: &[&str]) -> Result<Vec<String>, AllocError> {
+fn words_of(alloc: Global, words: &[&str]) -> Result<Vec<String>, AllocFault> {
     let mut list = Vec::new(alloc);
     for word in words {
         list.push(String::from_str(alloc, word)?)?;
@@ -226,7 +226,7 @@ pub(super) fn input<H: AllocGlobal + Abort>(rt: &H, supply: &mut Supply) -> Resu
     Ok(())
 }
 
-fn table_text(alloc: Global) -> Result<Vec<u8>, AllocError> {
+fn table_text(alloc: Global) -> Result<Vec<u8>, AllocFault> {
     Table::new(alloc, &["threads", "end"])?
         .with_row(&[Some(1), None])?
         .with_row(&[Some(u64::MAX), Some(0)])?

@@ -8,7 +8,7 @@ use counted_io::Counted;
 use dispatch_core::replay::in_order;
 use span_analysis::analysis::{Analysis, analyse};
 use span_cert::{Checked, WriteFault, write_certificate};
-use std::alloc::{AllocError, Global};
+use std::alloc::Global;
 use std::io;
 use std::io::{ErrorKind, Write};
 use std::process::Abort;
@@ -67,7 +67,7 @@ fn analysis_of(alloc: Global, program: &Program) -> Result<Analysis, AllocFault>
 {
     let graph = match in_order(alloc, cut(alloc, program)?) {
         Ok(graph) => graph,
-        Err(_) => return Err(AllocError),
+        Err(_) => return Err(AllocFault),
     };
     analyse(alloc, &graph)
 }

@@ -7,7 +7,7 @@ use Rattle.dispatch_core.specs.RecordedGraph.{Precedes, RecordedGraph}
 use Rattle.time_accounts.specs.TimedRun.{durations}
 use Rattle.time_accounts.proofs.AllShares.{starved-le}
 use Rattle.time_accounts.proofs.OfProgram.{there, back, ready_there, ready_back, bounds_there}
-use Rattle.time_accounts.proofs.laws.of_program.Goals as goal
+use Rattle.time_accounts.proofs.laws.same_timed_runs.Goals as goal
 
 pub returns : goal.returns
 returns g c =
