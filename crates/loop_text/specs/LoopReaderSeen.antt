@@ -1,7 +1,13 @@
--- Carried out: the parts of the reader of version 2 as a state of the first pass.
+-- Carried out: the parts of the reader of version 2 as a state of the first pass, and what it does
+-- with a token.
+use Rattle.std.specs.Prelude.{Result}
+use Rattle.program_text.specs.Answers.{Gives}
+use Rattle.program_text.specs.ScannerSeen.{token_seen}
+use Rattle.program_text.specs.declared.fault.ReadFault.{ReadFault}
+use Rattle.program_text.specs.declared.scanner.Token.{Token}
 use Rattle.loop_text.specs.declared.loop_place.LoopPlace.{LoopPlace}
 use Rattle.loop_text.specs.declared.loop_reader.LoopReader.{LoopReader}
-use Rattle.loop_text.specs.FirstPass.{State}
+use Rattle.loop_text.specs.FirstPass.{State, place_step}
 
 abbrev pub loop_state_of : LoopReader → LoopPlace → State
 loop_state_of reader place = record {
@@ -12,3 +18,8 @@ loop_state_of reader place = record {
   bounds = reader.bounds;
   tree = reader.tree;
 }
+
+-- the token at this place took the reader to its next place, or is at fault
+abbrev pub StepsAt : LoopPlace → Token → (old new : LoopReader) → Result LoopPlace ReadFault → Type 0
+StepsAt place token old new next =
+    Gives (loop_state_of new) next (place_step (loop_state_of old place) (token_seen token))

@@ -152,9 +152,9 @@ fn step_of(digits: &[u8]) -> u32
 
 impl LoopReader {
     ghost use Rattle.program_text.specs.Words.{is_text};
-    ghost use Rattle.loop_text.specs.FirstPass.{after_header, step, place_step};
+    ghost use Rattle.loop_text.specs.FirstPass.{after_header, step};
     ghost use Rattle.loop_text.specs.FirstPass.{tree_or_fault, end_at, at, with_item, open_step};
-    ghost use Rattle.loop_text.specs.LoopReaderSeen.{loop_state_of};
+    ghost use Rattle.loop_text.specs.LoopReaderSeen.{loop_state_of, StepsAt};
     ghost use Rattle.program_text.specs.ScannerSeen.{token_seen};
 
     /// A block begins.
@@ -192,8 +192,7 @@ impl LoopReader {
     }
 
     fn statement(&mut self, token: Token<'_>) -> Result<LoopPlace, ReadFault>
-        ensures { Gives (loop_state_of self.new) result (place_step
-            (loop_state_of self.old LoopPlace.Statement) (token_seen token.entry)) }
+        ensures { StepsAt LoopPlace.Statement token.entry self.old self.new result }
     {
         if token.is(b"work") {
             Ok(LoopPlace::WorkNumber)
@@ -218,8 +217,7 @@ impl LoopReader {
 
     fn close(&mut self, token: Token<'_>) -> Result<LoopPlace, ReadFault>
         requires word { is_text token.text.now (codes "}") ≡ true }
-        ensures { Gives (loop_state_of self.new) result (place_step
-            (loop_state_of self.old LoopPlace.Statement) (token_seen token.entry)) }
+        ensures { StepsAt LoopPlace.Statement token.entry self.old self.new result }
     {
         if self.tree.depth() == 0 {
             return Err(token.fault(ReadKind::Unopened));
@@ -229,8 +227,7 @@ impl LoopReader {
     }
 
     fn work_number(&mut self, token: Token<'_>) -> Result<LoopPlace, ReadFault>
-        ensures { Gives (loop_state_of self.new) result (place_step
-            (loop_state_of self.old LoopPlace.WorkNumber) (token_seen token.entry)) }
+        ensures { StepsAt LoopPlace.WorkNumber token.entry self.old self.new result }
     {
         if !token.is_number() {
             return Err(token.fault(ReadKind::BadWord));
@@ -243,8 +240,7 @@ impl LoopReader {
     }
 
     fn group_brace(&mut self, token: Token<'_>) -> Result<LoopPlace, ReadFault>
-        ensures { Gives (loop_state_of self.new) result (place_step
-            (loop_state_of self.old LoopPlace.GroupBrace) (token_seen token.entry)) }
+        ensures { StepsAt LoopPlace.GroupBrace token.entry self.old self.new result }
     {
         if !token.is(b"{") {
             return Err(token.fault(ReadKind::BadWord));
@@ -261,8 +257,7 @@ impl LoopReader {
     }
 
     fn for_variable(&mut self, token: Token<'_>) -> Result<LoopPlace, ReadFault>
-        ensures { Gives (loop_state_of self.new) result (place_step
-            (loop_state_of self.old LoopPlace.ForVariable) (token_seen token.entry)) }
+        ensures { StepsAt LoopPlace.ForVariable token.entry self.old self.new result }
     {
         if !token.is_word() || self.tree.variable(token).is_some() {
             return Err(token.fault(ReadKind::BadWord));
@@ -272,24 +267,21 @@ impl LoopReader {
     }
 
     fn for_from(&mut self, token: Token<'_>) -> Result<LoopPlace, ReadFault>
-        ensures { Gives (loop_state_of self.new) result (place_step
-            (loop_state_of self.old LoopPlace.ForFrom) (token_seen token.entry)) }
+        ensures { StepsAt LoopPlace.ForFrom token.entry self.old self.new result }
     {
         self.bounds.from = bound(token)?;
         Ok(LoopPlace::ForTo)
     }
 
     fn for_to(&mut self, token: Token<'_>) -> Result<LoopPlace, ReadFault>
-        ensures { Gives (loop_state_of self.new) result (place_step
-            (loop_state_of self.old LoopPlace.ForTo) (token_seen token.entry)) }
+        ensures { StepsAt LoopPlace.ForTo token.entry self.old self.new result }
     {
         self.bounds.to = bound(token)?;
         Ok(LoopPlace::ForBrace)
     }
 
     fn for_brace(&mut self, token: Token<'_>) -> Result<LoopPlace, ReadFault>
-        ensures { Gives (loop_state_of self.new) result (place_step
-            (loop_state_of self.old LoopPlace.ForBrace) (token_seen token.entry)) }
+        ensures { StepsAt LoopPlace.ForBrace token.entry self.old self.new result }
     {
         if !token.is(b"{") {
             return Err(token.fault(ReadKind::BadWord));
@@ -310,8 +302,7 @@ impl LoopReader {
     }
 
     fn clause(&mut self, token: Token<'_>) -> Result<LoopPlace, ReadFault>
-        ensures { Gives (loop_state_of self.new) result (place_step
-            (loop_state_of self.old LoopPlace.Clause) (token_seen token.entry)) }
+        ensures { StepsAt LoopPlace.Clause token.entry self.old self.new result }
     {
         if token.is(b"{") {
             self.task_brace(token)
@@ -328,8 +319,7 @@ impl LoopReader {
 
     fn task_brace(&mut self, token: Token<'_>) -> Result<LoopPlace, ReadFault>
         requires word { is_text token.text.now (codes "{") ≡ true }
-        ensures { Gives (loop_state_of self.new) result (place_step
-            (loop_state_of self.old LoopPlace.Clause) (token_seen token.entry)) }
+        ensures { StepsAt LoopPlace.Clause token.entry self.old self.new result }
     {
         let head = mem::replace(&mut self.head, LoopHead::new(self.alloc));
         let task = LoopTask {
@@ -344,8 +334,7 @@ impl LoopReader {
     }
 
     fn if_opens(&self, token: Token<'_>) -> Result<LoopPlace, ReadFault>
-        ensures { Gives (loop_state_of self.now) result (place_step
-            (loop_state_of self.now LoopPlace.IfOpens) (token_seen token.entry)) }
+        ensures { StepsAt LoopPlace.IfOpens token.entry self.now self.now result }
     {
         if !token.is(b"(") {
             return Err(token.fault(ReadKind::BadWord));
@@ -354,8 +343,7 @@ impl LoopReader {
     }
 
     fn if_number(&mut self, token: Token<'_>) -> Result<LoopPlace, ReadFault>
-        ensures { Gives (loop_state_of self.new) result (place_step
-            (loop_state_of self.old LoopPlace.IfNumber) (token_seen token.entry)) }
+        ensures { StepsAt LoopPlace.IfNumber token.entry self.old self.new result }
     {
         let number = zero_or_one(token)?;
         self.head.has_if = true;
@@ -364,8 +352,7 @@ impl LoopReader {
     }
 
     fn if_closes(&self, token: Token<'_>) -> Result<LoopPlace, ReadFault>
-        ensures { Gives (loop_state_of self.now) result (place_step
-            (loop_state_of self.now LoopPlace.IfCloses) (token_seen token.entry)) }
+        ensures { StepsAt LoopPlace.IfCloses token.entry self.now self.now result }
     {
         if !token.is(b")") {
             return Err(token.fault(ReadKind::BadWord));
@@ -374,8 +361,7 @@ impl LoopReader {
     }
 
     fn final_opens(&self, token: Token<'_>) -> Result<LoopPlace, ReadFault>
-        ensures { Gives (loop_state_of self.now) result (place_step
-            (loop_state_of self.now LoopPlace.FinalOpens) (token_seen token.entry)) }
+        ensures { StepsAt LoopPlace.FinalOpens token.entry self.now self.now result }
     {
         if !token.is(b"(") {
             return Err(token.fault(ReadKind::BadWord));
@@ -384,8 +370,7 @@ impl LoopReader {
     }
 
     fn final_number(&mut self, token: Token<'_>) -> Result<LoopPlace, ReadFault>
-        ensures { Gives (loop_state_of self.new) result (place_step
-            (loop_state_of self.old LoopPlace.FinalNumber) (token_seen token.entry)) }
+        ensures { StepsAt LoopPlace.FinalNumber token.entry self.old self.new result }
     {
         let number = zero_or_one(token)?;
         self.head.has_final = true;
@@ -394,8 +379,7 @@ impl LoopReader {
     }
 
     fn final_closes(&self, token: Token<'_>) -> Result<LoopPlace, ReadFault>
-        ensures { Gives (loop_state_of self.now) result (place_step
-            (loop_state_of self.now LoopPlace.FinalCloses) (token_seen token.entry)) }
+        ensures { StepsAt LoopPlace.FinalCloses token.entry self.now self.now result }
     {
         if !token.is(b")") {
             return Err(token.fault(ReadKind::BadWord));
@@ -404,8 +388,7 @@ impl LoopReader {
     }
 
     fn depend_opens(&self, token: Token<'_>) -> Result<LoopPlace, ReadFault>
-        ensures { Gives (loop_state_of self.now) result (place_step
-            (loop_state_of self.now LoopPlace.DependOpens) (token_seen token.entry)) }
+        ensures { StepsAt LoopPlace.DependOpens token.entry self.now self.now result }
     {
         if !token.is(b"(") {
             return Err(token.fault(ReadKind::BadWord));
@@ -414,8 +397,7 @@ impl LoopReader {
     }
 
     fn depend_type(&self, token: Token<'_>) -> Result<LoopPlace, ReadFault>
-        ensures { Gives (loop_state_of self.now) result (place_step
-            (loop_state_of self.now LoopPlace.DependType) (token_seen token.entry)) }
+        ensures { StepsAt LoopPlace.DependType token.entry self.now self.now result }
     {
         let kind = if token.is(b"in") {
             DependKind::DependIn
@@ -432,8 +414,7 @@ impl LoopReader {
     }
 
     fn depend_colon(&self, kind: DependKind, token: Token<'_>) -> Result<LoopPlace, ReadFault>
-        ensures { Gives (loop_state_of self.now) result (place_step
-            (loop_state_of self.now (LoopPlace.DependColon kind)) (token_seen token.entry)) }
+        ensures { StepsAt (LoopPlace.DependColon kind) token.entry self.now self.now result }
     {
         if !token.is(b":") {
             return Err(token.fault(ReadKind::BadWord));
@@ -442,8 +423,7 @@ impl LoopReader {
     }
 
     fn depend_name(&mut self, kind: DependKind, token: Token<'_>) -> Result<LoopPlace, ReadFault>
-        ensures { Gives (loop_state_of self.new) result (place_step
-            (loop_state_of self.old (LoopPlace.DependName kind)) (token_seen token.entry)) }
+        ensures { StepsAt (LoopPlace.DependName kind) token.entry self.old self.new result }
     {
         if !token.is_word() {
             return Err(token.fault(ReadKind::BadWord));
@@ -457,8 +437,7 @@ impl LoopReader {
     }
 
     fn subscript(&mut self, kind: DependKind, token: Token<'_>) -> Result<LoopPlace, ReadFault>
-        ensures { Gives (loop_state_of self.new) result (place_step
-            (loop_state_of self.old (LoopPlace.Subscript kind)) (token_seen token.entry)) }
+        ensures { StepsAt (LoopPlace.Subscript kind) token.entry self.old self.new result }
     {
         if token.is(b"[") {
             Ok(LoopPlace::IndexStart(kind))
@@ -472,8 +451,7 @@ impl LoopReader {
     }
 
     fn index_start(&mut self, kind: DependKind, token: Token<'_>) -> Result<LoopPlace, ReadFault>
-        ensures { Gives (loop_state_of self.new) result (place_step
-            (loop_state_of self.old (LoopPlace.IndexStart kind)) (token_seen token.entry)) }
+        ensures { StepsAt (LoopPlace.IndexStart kind) token.entry self.old self.new result }
     {
         if token.is_number() {
             self.pending.index = Index {
@@ -497,8 +475,7 @@ impl LoopReader {
     fn index_variable(&mut self, kind: DependKind, token: Token<'_>) -> Result<LoopPlace, ReadFault>
         requires number { is_number token.text.now ≡ false }
         requires minus { is_text token.text.now (codes "-") ≡ false }
-        ensures { Gives (loop_state_of self.new) result (place_step
-            (loop_state_of self.old (LoopPlace.IndexStart kind)) (token_seen token.entry)) }
+        ensures { StepsAt (LoopPlace.IndexStart kind) token.entry self.old self.new result }
     {
         let variable = self.tree.variable(token);
         if !token.is_word() || variable.is_none() {
@@ -513,8 +490,7 @@ impl LoopReader {
     }
 
     fn index_number(&mut self, kind: DependKind, token: Token<'_>) -> Result<LoopPlace, ReadFault>
-        ensures { Gives (loop_state_of self.new) result (place_step
-            (loop_state_of self.old (LoopPlace.IndexNumber kind)) (token_seen token.entry)) }
+        ensures { StepsAt (LoopPlace.IndexNumber kind) token.entry self.old self.new result }
     {
         if !token.is_number() {
             return Err(token.fault(ReadKind::BadWord));
@@ -524,8 +500,7 @@ impl LoopReader {
     }
 
     fn index_sign(&mut self, kind: DependKind, token: Token<'_>) -> Result<LoopPlace, ReadFault>
-        ensures { Gives (loop_state_of self.new) result (place_step
-            (loop_state_of self.old (LoopPlace.IndexSign kind)) (token_seen token.entry)) }
+        ensures { StepsAt (LoopPlace.IndexSign kind) token.entry self.old self.new result }
     {
         if token.is(b"]") {
             let index = self.pending.index;
@@ -539,8 +514,7 @@ impl LoopReader {
     }
 
     fn index_closes(&mut self, kind: DependKind, token: Token<'_>) -> Result<LoopPlace, ReadFault>
-        ensures { Gives (loop_state_of self.new) result (place_step
-            (loop_state_of self.old (LoopPlace.IndexCloses kind)) (token_seen token.entry)) }
+        ensures { StepsAt (LoopPlace.IndexCloses kind) token.entry self.old self.new result }
     {
         if !token.is(b"]") {
             return Err(token.fault(ReadKind::BadWord));
@@ -550,8 +524,7 @@ impl LoopReader {
     }
 
     fn depend_more(&self, kind: DependKind, token: Token<'_>) -> Result<LoopPlace, ReadFault>
-        ensures { Gives (loop_state_of self.now) result (place_step
-            (loop_state_of self.now (LoopPlace.DependMore kind)) (token_seen token.entry)) }
+        ensures { StepsAt (LoopPlace.DependMore kind) token.entry self.now self.now result }
     {
         if token.is(b",") {
             Ok(LoopPlace::DependName(kind))
@@ -592,8 +565,7 @@ impl LoopReader {
 
     /// The same for a token that is well formed by itself.
     fn take_formed(&mut self, place: LoopPlace, token: Token<'_>) -> Result<LoopPlace, ReadFault>
-        ensures { Gives (loop_state_of self.new) result (place_step (loop_state_of self.old place)
-            (token_seen token.entry)) }
+        ensures { StepsAt place token.entry self.old self.new result }
     {
         match place {
             LoopPlace::Statement => self.statement(token),
