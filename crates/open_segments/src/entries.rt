@@ -1,9 +1,7 @@
 //! Lists with an entry for each segment.
-ghost use Rattle.std.specs.Prelude.{◌++◌, ◌∷◌, [], ◌≡◌, if◌then◌else◌, OnOk, OnErr, IfOk};
-ghost use Rattle.std.specs.Prelude.{replicate};
+ghost use Rattle.std.specs.Prelude.{◌++◌, ◌∷◌, [], ◌≡◌, if◌then◌else◌, OnOk, OnErr};
 ghost use Rattle.open_segments.specs.Entry.{entry};
 
-use std::alloc::Global;
 use task_program::AllocFault;
 
 /// Adds a number to a list, if it is to be kept. It is refused only when memory runs out, and then
@@ -24,15 +22,4 @@ pub fn value_entry(values: &[Option<u64>], at: u32) -> Option<u64>
     ensures { result ≡ entry values.now at }
 {
     values.get(at as usize).copied().flatten()
-}
-
-/// A list of so many copies of one thing.
-pub fn copies_of<T: Copy + Drop>(alloc: Global, one: T, count: u32) -> Result<Vec<T>, AllocFault>
-    ensures { IfOk result (λ list. list.items ≡ replicate count one) }
-{
-    let mut list = Vec::with_capacity(alloc, count as usize)?;
-    for _ in 0..count {
-        list.push(one)?;
-    }
-    Ok(list)
 }
