@@ -21,8 +21,8 @@ ghost use Rattle.task_segments.specs.Precedence.{Continues, IsEarlierChild, IsSe
 ghost use Rattle.depend_table.specs.KeptEdges.{IsKeptEdge, KeptGroupEnd, KeptWait};
 ghost use Rattle.depend_table.specs.Lists.{Lists};
 
-use crate::entries::push_if;
 use crate::opener::opener;
+use crate::picked::push_if;
 use std::alloc::Global;
 use task_program::AllocFault;
 use task_segments::table::{BoundedTable, Closing};

@@ -15,9 +15,10 @@ ghost use Rattle.open_segments.specs.UpToDate.{IsUpToDate, IsFreed};
 ghost use Rattle.open_segments.specs.NumberLists.{lists_of};
 ghost use Rattle.open_segments.specs.Openings.{AreMade, IsOpened, IsRoomToOpen, AreReady};
 
-use crate::entries::{push_if, value_entry};
+use crate::entries::value_entry;
 use crate::number_lists::{no_lists, push_on};
 use crate::opening::{Opening, empty_tables, first_opening, next_opening};
+use crate::picked::push_if;
 use depend_table::table::SiblingTable;
 use std::alloc::Global;
 use task_program::AllocFault;

@@ -13,5 +13,6 @@ pub mod laws;
 mod number_lists;
 pub mod opener;
 mod opening;
+pub mod picked;
 pub mod predecessors;
 mod waiting_groups;
