@@ -8,7 +8,7 @@ ghost use Rattle.dispatch_core.specs.First.{AreFirst};
 
 use crate::event::{Event, MOST_WORKERS};
 use open_segments::counters::Counters;
-use open_segments::entries::{copies_of, value_entry};
+use open_segments::entries::value_entry;
 use std::alloc::Global;
 use task_program::AllocFault;
 use task_segments::table::BoundedTable;
@@ -60,9 +60,9 @@ pub fn first_state<const SEGMENTS: u32, const TASKS: u32>(
     let segments = table.len();
     Ok(RunState {
         history: Vec::with_capacity(alloc, 2 * segments as usize)?,
-        started: copies_of(alloc, false, segments)?,
-        running: copies_of(alloc, None, MOST_WORKERS)?,
-        values: copies_of(alloc, None, segments)?,
+        started: vec![in alloc; false; segments as usize]?,
+        running: vec![in alloc; None; MOST_WORKERS as usize]?,
+        values: vec![in alloc; None; segments as usize]?,
         counters: Counters::new(alloc, table)?,
         costs: costs(alloc, table)?,
     })

@@ -9,7 +9,7 @@ ghost use Rattle.spanprof_command.specs.Replaying.{bad_form};
 ghost use Rattle.large_command.specs.DocumentReports.{TellsBehind, TellsRest};
 ghost use Rattle.large_command.specs.LargeReports.{Answers, RefusesText};
 
-use crate::numbers::table_or_refusal;
+use crate::meter_answers::table_or_refusal;
 use crate::text_input::PIECE;
 use command_words::large::DocumentRequest;
 use large_documents::tell_rest;

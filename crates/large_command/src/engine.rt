@@ -19,7 +19,7 @@ ghost use Rattle.large_text.specs.declared.limits.TheConstants.{LARGEST_TEXT};
 use crate::answer::Answer;
 use crate::document_input::read_document;
 use crate::documents::answer_document;
-use crate::numbers::answer_meter;
+use crate::meter_answers::answer_meter;
 use crate::table_answers::answer_table;
 use crate::text_answers::answer_printed;
 use crate::text_input::take_input;

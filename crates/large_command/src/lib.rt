@@ -9,7 +9,7 @@ mod documents;
 mod engine;
 mod entry;
 pub mod laws;
-mod numbers;
+mod meter_answers;
 mod room;
 mod table_answers;
 mod text_answers;

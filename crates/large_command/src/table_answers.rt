@@ -7,7 +7,7 @@ ghost use Rattle.large_command.specs.TableReports.{SaysOfTable, TellsTable};
 ghost use Rattle.spanprof_command.specs.GreedyRuns.{SaysGreedyRun};
 
 use crate::answer::Answer;
-use crate::numbers::table_or_refusal;
+use crate::meter_answers::table_or_refusal;
 use command_words::large::TableRequest;
 use large_text::TextMeter;
 use spanprof_command::{greedy_rows, slack_rows, tell_curve, try_changes};

@@ -9,7 +9,7 @@ ghost use Rattle.task_segments.specs.Table.{table_of};
 ghost use Rattle.large_command.specs.LargeReports.{Answers};
 ghost use Rattle.large_command.specs.TextReports.{TellsText};
 
-use crate::numbers::text_refusal;
+use crate::meter_answers::text_refusal;
 use command_words::large::TextRequest;
 use large_text::TextMeter;
 use spanprof_command::{Report, Status, tell_certificate};

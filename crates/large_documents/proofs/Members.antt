@@ -16,7 +16,7 @@ use Rattle.time_text.specs.declared.line.RegionTimes.{RegionTimes}
 use Rattle.time_text.specs.declared.line.SegmentTimes.{SegmentTimes}
 use Rattle.large_documents.specs.AccountReports.{AcceptsRun, RefusesRun, TakesTimes}
 use Rattle.large_documents.specs.Accounts.{wait_at}
-use Rattle.large_documents.specs.Places.{AreMembers, AreTimes}
+use Rattle.large_documents.specs.TimesOfEach.{AreMembers, AreTimes}
 use Rattle.command_words.specs.declared.large.AccountRequest.{AccountRequest}
 
 pub times_of_legal : (n p first last : ℕ) (R : ℕ → ℕ → Type 0) (run : TimedRun)

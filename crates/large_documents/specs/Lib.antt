@@ -6,4 +6,4 @@ pub mod Listing
 pub mod ListReports
 pub mod RestReports
 pub mod OneRest
-pub mod Places
+pub mod TimesOfEach

@@ -7,7 +7,7 @@ ghost use Rattle.large_documents.specs.Accounts.{TellsPath, TellsRun, path_heade
 ghost use Rattle.large_documents.specs.Accounts.{path_table, rows_header, rows_report, rows_row};
 ghost use Rattle.large_documents.specs.Accounts.{idle_lines, region_lines, sums_of, sums_report};
 ghost use Rattle.large_documents.specs.Accounts.{wait_at};
-ghost use Rattle.large_documents.specs.Places.{AreMembers, AreTimes};
+ghost use Rattle.large_documents.specs.TimesOfEach.{AreMembers, AreTimes};
 ghost use Rattle.csv_table.specs.Tables.{numbered_table};
 
 use command_words::large::AccountRequest;

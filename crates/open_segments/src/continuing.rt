@@ -9,7 +9,7 @@
 //!   the task's own segments, from `wait_begin` on, meets these children where it creates them. At
 //!   the end of a group: the last segments of the tasks whose innermost group it is, and then the
 //!   finished segment. One pass over all segments from `group_begin` on finds them.
-//! - of the first one in `record`: the last segments of the kept siblings, as the table of its
+//! - of the first one in `beginning`: the last segments of the kept siblings, as the table of its
 //!   parent's children tells them (`depend_table`), and then the finished segment.
 //!
 //! `counters` keeps each list, and counts how many in it are not finished.
@@ -21,8 +21,8 @@ ghost use Rattle.task_segments.specs.Precedence.{Continues, IsEarlierChild, IsSe
 ghost use Rattle.depend_table.specs.KeptEdges.{IsKeptEdge, KeptGroupEnd, KeptWait};
 ghost use Rattle.depend_table.specs.Lists.{Lists};
 
-use crate::entries::push_if;
 use crate::opener::opener;
+use crate::picked::push_if;
 use std::alloc::Global;
 use task_program::AllocFault;
 use task_segments::table::{BoundedTable, Closing};

@@ -15,9 +15,10 @@ ghost use Rattle.open_segments.specs.UpToDate.{IsUpToDate, IsFreed};
 ghost use Rattle.open_segments.specs.NumberLists.{lists_of};
 ghost use Rattle.open_segments.specs.Openings.{AreMade, IsOpened, IsRoomToOpen, AreReady};
 
-use crate::entries::{copies_of, push_if, value_entry};
+use crate::entries::value_entry;
 use crate::number_lists::{no_lists, push_on};
 use crate::opening::{Opening, empty_tables, first_opening, next_opening};
+use crate::picked::push_if;
 use depend_table::table::SiblingTable;
 use std::alloc::Global;
 use task_program::AllocFault;
@@ -57,7 +58,7 @@ impl Counters {
         Ok(Counters {
             preds: no_lists(alloc, table.len() as usize)?,
             successors: no_lists(alloc, table.len() as usize)?,
-            counts: copies_of(alloc, 0, table.len())?,
+            counts: vec![in alloc; 0u32; table.len() as usize]?,
             siblings: empty_tables(alloc, table.tasks())?,
         })
     }

@@ -1,38 +1,10 @@
-//! Lists with an entry for each segment.
-ghost use Rattle.std.specs.Prelude.{◌++◌, ◌∷◌, [], ◌≡◌, if◌then◌else◌, OnOk, OnErr, IfOk};
-ghost use Rattle.std.specs.Prelude.{replicate};
+//! What stands at a place of a list of options, if anything.
+ghost use Rattle.std.specs.Prelude.{◌≡◌};
 ghost use Rattle.open_segments.specs.Entry.{entry};
-
-use std::alloc::Global;
-use task_program::AllocFault;
-
-/// Adds a number to a list, if it is to be kept. It is refused only when memory runs out, and then
-/// the list stays.
-pub fn push_if(list: &mut Vec<u32>, number: u32, keep: bool) -> Result<(), AllocFault>
-    ensures kept { OnOk result (list.new.items
-        ≡ (if keep then list.old.items ++ number ∷ [] else list.old.items)) }
-    ensures refused { OnErr result (list.new.items ≡ list.old.items) }
-{
-    if keep {
-        list.push(number)?;
-    }
-    Ok(())
-}
 
 /// The value at a place; none where none stands there, or past the last place.
 pub fn value_entry(values: &[Option<u64>], at: u32) -> Option<u64>
     ensures { result ≡ entry values.now at }
 {
     values.get(at as usize).copied().flatten()
-}
-
-/// A list of so many copies of one thing.
-pub fn copies_of<T: Copy + Drop>(alloc: Global, one: T, count: u32) -> Result<Vec<T>, AllocFault>
-    ensures { IfOk result (λ list. list.items ≡ replicate count one) }
-{
-    let mut list = Vec::with_capacity(alloc, count as usize)?;
-    for _ in 0..count {
-        list.push(one)?;
-    }
-    Ok(list)
 }

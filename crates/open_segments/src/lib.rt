@@ -2,6 +2,7 @@
 //! and what opens when a segment gets its value. It knows nothing of runs.
 #![tactic(auto)]
 
+mod beginning;
 mod continuing;
 pub mod counters;
 pub mod entries;
@@ -12,6 +13,6 @@ pub mod laws;
 mod number_lists;
 pub mod opener;
 mod opening;
+pub mod picked;
 pub mod predecessors;
-mod record;
 mod waiting_groups;

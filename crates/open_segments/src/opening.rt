@@ -11,9 +11,9 @@ ghost use Rattle.open_segments.specs.Counters.{HasValue, AreSiblings};
 ghost use Rattle.open_segments.specs.Openings.{IsOpening, IsRoomFor};
 ghost use Rattle.open_segments.specs.Rooms.{IsRoomier};
 
+use crate::beginning::first_predecessors;
 use crate::continuing::next_predecessors;
 use crate::number_lists::make_room;
-use crate::record::first_predecessors;
 use depend_table::table::SiblingTable;
 use std::alloc::Global;
 use task_program::AllocFault;

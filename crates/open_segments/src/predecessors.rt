@@ -9,11 +9,11 @@ ghost use Rattle.open_segments.specs.Families.{AreInFamilies};
 ghost use Rattle.open_segments.specs.KeptLists.{AreFirstLists};
 ghost use Rattle.open_segments.specs.Members.{AreMembers};
 
+use crate::beginning::first_predecessors;
 use crate::continuing::next_predecessors;
 use crate::families::{Families, enter_depending, kept_children, no_families};
 use crate::flat_lists::FlatLists;
 use crate::opener::opener;
-use crate::record::first_predecessors;
 use crate::waiting_groups::{Members, after_members, group_members};
 use std::alloc::Global;
 use task_program::AllocFault;

@@ -12,8 +12,8 @@ ghost use Rattle.depend_table.specs.Lists.{Lists};
 ghost use Rattle.open_segments.specs.Members.{AreMembers, AreMembersBelow};
 ghost use Rattle.open_segments.specs.NumberLists.{lists_of};
 
-use crate::entries::push_if;
 use crate::number_lists::no_lists;
+use crate::picked::push_if;
 use std::alloc::Global;
 use task_program::AllocFault;
 use task_segments::table::{BoundedTable, Closing};

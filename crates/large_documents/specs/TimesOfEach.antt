@@ -1,4 +1,4 @@
--- Carried out: how many times there are, and that each member of a path has some.
+-- Carried out: that each segment, and each member of a path, has times.
 use Rattle.std.specs.Prelude.{ℕ, ◌≡◌, ◌<◌, List, length}
 use Rattle.task_segments.specs.Schedule.{at}
 use Rattle.time_accounts.specs.TimedRun.{TimedRun}

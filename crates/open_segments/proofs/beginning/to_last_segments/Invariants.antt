@@ -1,7 +1,7 @@
 use Rattle.std.proofs.Common.{◌≡◌, ◌≤◌, ◌++◌, map}
 use Rattle.std.specs.Prelude.{take, drop, vec_capacity}
 use Rattle.open_segments.specs.WaysToOpen.{last_segment}
-use Rattle.open_segments.proofs.record.to_last_segments.Given as goal
+use Rattle.open_segments.proofs.beginning.to_last_segments.Given as goal
 
 abbrev pub invariant-loop-at : goal.invariant-loop-at
 invariant-loop-at g l =

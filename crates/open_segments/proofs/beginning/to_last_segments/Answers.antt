@@ -5,7 +5,7 @@ use Rattle.std.proofs.lemmas.List.Edits.{map_over_more}
 use Rattle.std.proofs.lemmas.List.Elements.{Contains-get_or}
 use Rattle.open_segments.specs.WaysToOpen.{last_segment}
 use Rattle.open_segments.proofs.ListLemmas.{read_over}
-use Rattle.open_segments.proofs.record.to_last_segments.Goals as goal
+use Rattle.open_segments.proofs.beginning.to_last_segments.Goals as goal
 
 pub last-requires : goal.last-requires
 last-requires g c = (

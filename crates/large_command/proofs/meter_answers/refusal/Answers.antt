@@ -2,7 +2,7 @@ use Rattle.std.proofs.Common.{◌∙◌, ◌≡◌, ap, append_assoc, ℕ, List}
 use Rattle.std.specs.String.{string_bytes}
 use Rattle.spanprof_command.specs.Report.{Report, program_refusal}
 use Rattle.spanprof_command.specs.declared.report.Status.TheVariants.{Refused}
-use Rattle.large_command.proofs.numbers.refusal.Goals as goal
+use Rattle.large_command.proofs.meter_answers.refusal.Goals as goal
 
 pub returns : goal.returns
 returns c =

@@ -1,7 +1,7 @@
 use Rattle.std.proofs.Common.{inr, rules}
 use Rattle.std.proofs.lemmas.Result.{IfOk-weaker}
 use Rattle.large_command.proofs.Told.{accepts, is_of_program, refuses}
-use Rattle.large_command.proofs.numbers.answer_meter.Goals as goal
+use Rattle.large_command.proofs.meter_answers.answer_meter.Goals as goal
 
 pub tell-requires : goal.tell-requires
 tell-requires c =

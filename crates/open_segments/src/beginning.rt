@@ -1,4 +1,4 @@
-//! The kept predecessors of a segment, as it opens.
+//! The kept predecessors of the first segment of a task.
 ghost use Rattle.std.specs.Prelude.{ℕ, ◌≡◌, ◌<◌, ◌≤◌, map, vec_len, vec_capacity};
 ghost use Rattle.std.specs.Prelude.{Contains};
 ghost use Rattle.task_segments.specs.Table.{task};

@@ -1,4 +1,5 @@
-//! What the program answers to a text.
+//! What the program answers where it takes work and span of a text, and the line of a text that is
+//! no program.
 ghost use Rattle.std.specs.Prelude.{◌≡◌, [], List, ℕ, IfOk, MatchResult};
 ghost use Rattle.command_words.specs.declared.large.LargeRequest.TheVariants.{OfMeter};
 ghost use Rattle.command_words.specs.declared.large.MeterRequest.TheVariants.{Numbers};

@@ -1,6 +1,6 @@
 use Rattle.std.proofs.Common.{◌≡◌, Some, rules}
 use Rattle.large_command.proofs.Told.{found_table, refuses}
-use Rattle.large_command.proofs.numbers.table_or_refusal.Goals as goal
+use Rattle.large_command.proofs.meter_answers.table_or_refusal.Goals as goal
 
 pub returns-in-Ok-Some : goal.returns-in-Ok-Some
 returns-in-Ok-Some c =

@@ -5,7 +5,7 @@ use Rattle.depend_table.specs.Lists.{Lists}
 use Rattle.depend_table.specs.KeptEdges.{IsKeptEdge}
 use Rattle.open_segments.specs.WaysToOpen.{last_segment}
 use Rattle.open_segments.proofs.Edges
-use Rattle.open_segments.proofs.record.first_predecessors.Goals as goal
+use Rattle.open_segments.proofs.beginning.first_predecessors.Goals as goal
 
 pub to_last_segments-requires : goal.to_last_segments-requires
 to_last_segments-requires g c = (
