@@ -1,4 +1,5 @@
-//! The dispatch core: which segments may start, what each computes on, and the record of a run.
+//! The dispatch core: which segments may start, what each computes on, and the record of a run. The
+//! record is a graph, so `graph` stands here, and makes a program's graph without a run too.
 #![tactic(auto)]
 
 pub mod dispatch;
