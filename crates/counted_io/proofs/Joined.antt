@@ -5,7 +5,8 @@ use Rattle.std.proofs.Common.{OnErr, OnOk, false, refl, subst, true}
 use Rattle.std.proofs.Math.Seq.{take-append_seam}
 use Rattle.std.proofs.KnownBytes.{Appends-nil, Appends-trans}
 use Rattle.std.specs.Io.KnownBytes.{Appends}
-use Rattle.counted_io.specs.Counted.{faults_of, flushes_of, inner_of, is_flushed}
+use Rattle.counted_io.specs.Counted.{faults_of, failures_of, flushes_of, inner_of, is_flushed}
+use Rattle.counted_io.specs.Retries.{GivesUp}
 use Rattle.counted_io.specs.Parts.{PutsText, WritesAllBut, WritesPrefix, WritesText}
 use Rattle.counted_io.specs.declared.counted.Counted.{Counted}
 
@@ -76,6 +77,14 @@ as_bytes held after text (rest, h) = (
       ∙ take-append_seam h.written rest)) h.wrote,
 )
 
+-- nothing failed before the call that gave up
+gives_up_from : (first second third left : ℕ)
+    → second ≡ first
+    → GivesUp second third left
+    → GivesUp first third left
+gives_up_from first second third left same up =
+    subst (λ (failures : ℕ). GivesUp failures third left) same up
+
 -- ---- one part more
 
 -- a part that was written at once
@@ -83,28 +92,36 @@ pub puts_part : {W T E : Type 0} (contents : W → Option (List ℕ)) (first sec
     (r s : ℕ) (part : List ℕ) (answer : Result T E)
     → OnOk answer (Appends (contents (inner_of first)) (contents (inner_of second)) part)
     → OnOk answer (faults_of second + s ≡ faults_of first + r)
+    → OnOk answer (failures_of second ≡ failures_of first)
     → OnErr answer ((n : ℕ)
     × Appends (contents (inner_of first)) (contents (inner_of second)) (take n part))
     → OnErr answer (faults_of second + s ≡ faults_of first + r + 1)
+    → OnErr answer (GivesUp (failures_of first) (failures_of second) s)
     → OnErr answer (is_flushed second ≡ false)
     → s ≤ r
     → flushes_of second ≡ flushes_of first
     → PutsText contents first second r s part [] answer
-puts_part contents first second r s part (Ok x) all paid prefix failed unflushed few flushes = record {
-  wrote = record { written = part; wrote = all; is = sym (append-nil part) };
-  paid = paid;
-  prefix = tt;
-  failed = tt;
-  unflushed = tt;
-  retried = few;
-  flushes = flushes;
-}
-puts_part contents first second r s part (Err e) all paid (n, prefix) failed unflushed few flushes =
+puts_part contents first second r s part (Ok x) all paid again prefix failed gave unflushed few
+    flushes = record {
+      wrote = record { written = part; wrote = all; is = sym (append-nil part) };
+      paid = paid;
+      tried_again = again;
+      prefix = tt;
+      failed = tt;
+      gave_up = tt;
+      unflushed = tt;
+      retried = few;
+      flushes = flushes;
+    }
+puts_part contents first second r s part (Err e) all paid again (n, prefix) failed gave unflushed
+    few flushes =
     record {
       wrote = tt;
       paid = tt;
+      tried_again = tt;
       prefix = first_bytes _ _ part n prefix;
       failed = failed;
+      gave_up = gave;
       unflushed = unflushed;
       retried = few;
       flushes = flushes;
@@ -117,8 +134,10 @@ pub puts_nothing : {W T E : Type 0} (contents : W → Option (List ℕ)) (writer
 puts_nothing contents writer r text x = record {
   wrote = record { written = []; wrote = Appends-nil _; is = refl };
   paid = refl;
+  tried_again = refl;
   prefix = tt;
   failed = tt;
+  gave_up = tt;
   unflushed = tt;
   retried = omega arith;
   flushes = refl;
@@ -145,8 +164,10 @@ pub puts_more : {W T E : Type 0} (contents : W → Option (List ℕ))
 puts_more contents first second third r s t text rest part left x (Ok y) before after = record {
   wrote = further _ _ _ text rest part left before.wrote after.wrote;
   paid = omega (arith, before.paid, after.paid);
+  tried_again = after.tried_again ∙ before.tried_again;
   prefix = tt;
   failed = tt;
+  gave_up = tt;
   unflushed = tt;
   retried = omega (arith, before.retried, after.retried);
   flushes = after.flushes ∙ before.flushes;
@@ -154,8 +175,10 @@ puts_more contents first second third r s t text rest part left x (Ok y) before 
 puts_more contents first second third r s t text rest part left x (Err e) before after = record {
   wrote = tt;
   paid = tt;
+  tried_again = tt;
   prefix = (after.prefix.0, further _ _ _ text rest part _ before.wrote after.prefix.1);
   failed = omega (arith, before.paid, after.failed);
+  gave_up = gives_up_from _ _ _ _ before.tried_again after.gave_up;
   unflushed = after.unflushed;
   retried = omega (arith, before.retried, after.retried);
   flushes = after.flushes ∙ before.flushes;
@@ -170,8 +193,10 @@ pub puts_failed : {W T E : Type 0} (contents : W → Option (List ℕ))
 puts_failed contents first second r s text rest part left fault cause before = record {
   wrote = tt;
   paid = tt;
+  tried_again = tt;
   prefix = (before.prefix.0 ++ part, longer _ _ text part _ before.prefix.1);
   failed = before.failed;
+  gave_up = before.gave_up;
   unflushed = before.unflushed;
   retried = before.retried;
   flushes = before.flushes;
@@ -190,8 +215,10 @@ puts_end contents first second third r s t text rest x (Ok y) before after = rec
   whole = whole _ _ _ text rest before.wrote after.whole;
   flushed = after.flushed;
   paid = omega (arith, before.paid, after.paid);
+  tried_again = after.tried_again ∙ before.tried_again;
   prefix = tt;
   failed = tt;
+  gave_up = tt;
   unflushed = tt;
   retried = omega (arith, before.retried, after.retried);
   flushes = omega (arith, before.flushes, after.flushes);
@@ -201,8 +228,10 @@ puts_end contents first second third r s t text rest x (Err e) before after = re
   whole = tt;
   flushed = tt;
   paid = tt;
+  tried_again = tt;
   prefix = some_of _ _ _ text rest before.wrote after.prefix;
   failed = omega (arith, before.paid, after.failed);
+  gave_up = gives_up_from _ _ _ _ before.tried_again after.gave_up;
   unflushed = after.unflushed;
   retried = omega (arith, before.retried, after.retried);
   flushes = omega (arith, before.flushes, after.flushes);
@@ -220,8 +249,10 @@ puts_failed_end contents first second r s text rest fault cause before = record 
   whole = tt;
   flushed = tt;
   paid = tt;
+  tried_again = tt;
   prefix = before.prefix;
   failed = before.failed;
+  gave_up = before.gave_up;
   unflushed = before.unflushed;
   retried = before.retried;
   flushes = omega (arith, before.flushes);
@@ -235,38 +266,44 @@ pub writes_text : {W T E : Type 0} (contents : W → Option (List ℕ)) (first s
     → OnOk answer (Appends (contents (inner_of first)) (contents (inner_of second)) part)
     → OnOk answer (is_flushed second ≡ true)
     → OnOk answer (faults_of second + s ≡ faults_of first + r)
+    → OnOk answer (failures_of second ≡ failures_of first)
     → OnErr answer ((n : ℕ)
     × Appends (contents (inner_of first)) (contents (inner_of second)) (take n part))
     → OnErr answer (faults_of second + s ≡ faults_of first + r + 1)
+    → OnErr answer (GivesUp (failures_of first) (failures_of second) s)
     → OnErr answer (is_flushed second ≡ false)
     → s ≤ r
     → flushes_of second ≤ flushes_of first + 1
     → (flushes_of first < flushes_of second
     → Appends (contents (inner_of first)) (contents (inner_of second)) part)
     → WritesText contents first second r s text answer
-writes_text {W} {T} {E} contents first second r s part text (Ok x) is all flushed paid prefix failed unflushed
-    few flushes last =
+writes_text {W} {T} {E} contents first second r s part text (Ok x) is all flushed paid again prefix
+    failed gave unflushed few flushes last =
     subst (λ (t : List ℕ). let done : Result T E = Ok x in WritesText contents first second r s t done) is
     (record {
       whole = all;
       flushed = flushed;
       paid = paid;
+      tried_again = again;
       prefix = tt;
       failed = tt;
+      gave_up = tt;
       unflushed = tt;
       retried = few;
       flushes = flushes;
       flushed_last = last;
     })
-writes_text {W} {T} {E} contents first second r s part text (Err e) is all flushed paid (n, prefix) failed
-    unflushed few flushes last =
+writes_text {W} {T} {E} contents first second r s part text (Err e) is all flushed paid again
+    (n, prefix) failed gave unflushed few flushes last =
     subst (λ (t : List ℕ). let done : Result T E = Err e in WritesText contents first second r s t done) is
     (record {
       whole = tt;
       flushed = tt;
       paid = tt;
+      tried_again = tt;
       prefix = first_bytes _ _ part n prefix;
       failed = failed;
+      gave_up = gave;
       unflushed = unflushed;
       retried = few;
       flushes = flushes;

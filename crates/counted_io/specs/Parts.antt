@@ -2,7 +2,8 @@
 use Rattle.std.specs.Prelude.{◌+◌, ◌++◌, ◌<◌, ◌≡◌, ◌≤◌, ℕ, List, Option, Result, OnOk, OnErr}
 use Rattle.std.specs.Prelude.{false, true}
 use Rattle.std.specs.Io.KnownBytes.{Appends}
-use Rattle.counted_io.specs.Counted.{faults_of, flushes_of, inner_of, is_flushed}
+use Rattle.counted_io.specs.Counted.{faults_of, failures_of, flushes_of, inner_of, is_flushed}
+use Rattle.counted_io.specs.Retries.{GivesUp}
 use Rattle.counted_io.specs.declared.counted.Counted.{Counted}
 
 -- all of the text but this rest was written
@@ -26,10 +27,14 @@ pub record PutsText {W T E : Type 0} (contents : W → Option (List ℕ))
       (WritesAllBut (contents (inner_of writer)) (contents (inner_of writer_after)) text rest)
   pub paid : OnOk answer
       (faults_of writer_after + retries_after ≡ faults_of writer + retries)
+  -- only an interruption of a write was tried again
+  pub tried_again : OnOk answer (failures_of writer_after ≡ failures_of writer)
   pub prefix : OnErr answer
       (WritesPrefix (contents (inner_of writer)) (contents (inner_of writer_after)) text)
   pub failed : OnErr answer
       (faults_of writer_after + retries_after ≡ faults_of writer + retries + 1)
+  pub gave_up : OnErr answer
+      (GivesUp (failures_of writer) (failures_of writer_after) retries_after)
   pub unflushed : OnErr answer (is_flushed writer_after ≡ false)
   pub retried : retries_after ≤ retries
   pub flushes : flushes_of writer_after ≡ flushes_of writer
@@ -45,10 +50,14 @@ pub record WritesText {W T E : Type 0} (contents : W → Option (List ℕ))
   pub flushed : OnOk answer (is_flushed writer_after ≡ true)
   pub paid : OnOk answer
       (faults_of writer_after + retries_after ≡ faults_of writer + retries)
+  -- only an interruption of a write was tried again
+  pub tried_again : OnOk answer (failures_of writer_after ≡ failures_of writer)
   pub prefix : OnErr answer
       (WritesPrefix (contents (inner_of writer)) (contents (inner_of writer_after)) text)
   pub failed : OnErr answer
       (faults_of writer_after + retries_after ≡ faults_of writer + retries + 1)
+  pub gave_up : OnErr answer
+      (GivesUp (failures_of writer) (failures_of writer_after) retries_after)
   pub unflushed : OnErr answer (is_flushed writer_after ≡ false)
   pub retried : retries_after ≤ retries
   pub flushes : flushes_of writer_after ≤ flushes_of writer + 1

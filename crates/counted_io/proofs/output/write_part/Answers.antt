@@ -12,4 +12,5 @@ writes-preserved-in-Ok g c = record {
   fewer = omega arith;
   unflushed = grind (arith, common_steps);
   paid = grind (arith, nat_tests);
+  interrupted = grind (arith, nat_tests);
 }

@@ -10,7 +10,8 @@ returns-in-Err g c =
     (ap (λ text. text ++ c.args.part.now) same) refl
     (puts_failed _ _ _ _ _ c.as_slice.result.now _ c.args.part.now _ c.in-Err.fault c.in-Err.fault
     (puts_part _ _ _ _ _ c.as_slice.result.now (Err c.in-Err.fault) wrote.whole wrote.paid
-    wrote.prefix wrote.failed wrote.unflushed wrote.retried wrote.flushes))
+    wrote.tried_again wrote.prefix wrote.failed wrote.gave_up wrote.unflushed wrote.retried
+    wrote.flushes))
 
 pub returns : goal.returns
 returns g c =
@@ -25,7 +26,9 @@ returns g c =
     (ap (λ text. text ++ c.args.part.now) same) none
     (puts_more g.W.Write.contents first second third _ _ _ c.as_slice.result.now [] c.args.part.now
     [] c.in-Ok.field-0 c.write_part-2.result
-    (puts_part g.W.Write.contents first second _ _ c.as_slice.result.now (Ok c.in-Ok.field-0) before.whole before.paid
-    before.prefix before.failed before.unflushed before.retried before.flushes)
-    (puts_part g.W.Write.contents second third _ _ c.args.part.now c.write_part-2.result after.whole after.paid after.prefix
-    after.failed after.unflushed after.retried after.flushes))
+    (puts_part g.W.Write.contents first second _ _ c.as_slice.result.now (Ok c.in-Ok.field-0)
+    before.whole before.paid before.tried_again before.prefix before.failed before.gave_up
+    before.unflushed before.retried before.flushes)
+    (puts_part g.W.Write.contents second third _ _ c.args.part.now c.write_part-2.result
+    after.whole after.paid after.tried_again after.prefix after.failed after.gave_up
+    after.unflushed after.retried after.flushes))
