@@ -10,13 +10,13 @@ returns g c =
     (record {
       preds = c.in_ok-no_lists.field-0;
       successors = c.in_ok-no_lists-2.field-0;
-      counts = c.in_ok-from_elem.field-0;
+      counts = c.in_ok-vec.field-0;
       siblings = c.in_ok-empty_tables.field-0;
     })
     c.serves_runs.ensures
     (c.in_ok-no_lists.ensures ∙ ap (λ (n : ℕ). replicate {A = List ℕ} n []) c.len.ensures)
     (c.in_ok-no_lists-2.ensures ∙ ap (λ (n : ℕ). replicate {A = List ℕ} n []) c.len-2.ensures)
-    (c.in_ok-from_elem.ensures.items_if_clones_equal (λ y h. h)
+    (c.in_ok-vec.ensures.items_if_clones_equal (λ y h. h)
     ∙ ap (λ (n : ℕ). replicate {A = ℕ} n 0) c.len-3.ensures)
     (c.in_ok-empty_tables.ensures
     ∙ ap (λ (n : ℕ). replicate {A = List Sibling} n []) c.tasks.ensures)
