@@ -19,7 +19,7 @@ loop_state_of reader place = record {
   tree = reader.tree;
 }
 
--- the token at this place took the reader to its next place, or is at fault, or memory ran out
+-- the token at this place took the reader to its next place, or is at fault
 abbrev pub StepsAt : LoopPlace → Token → (old new : LoopReader) → Result LoopPlace ReadFault → Type 0
 StepsAt place token old new next =
     Gives (loop_state_of new) next (place_step (loop_state_of old place) (token_seen token))
