@@ -48,16 +48,16 @@ pub record WritesText {W T E : Type 0} (contents : W → Option (List ℕ))
   pub whole : OnOk answer
       (Appends (contents (inner_of writer)) (contents (inner_of writer_after)) text)
   pub flushed : OnOk answer (is_flushed writer_after ≡ true)
-  pub paid : OnOk answer
-      (faults_of writer_after + retries_after ≡ faults_of writer + retries)
   -- only an interruption of a write was tried again
   pub tried_again : OnOk answer (failures_of writer_after ≡ failures_of writer)
+  pub gave_up : OnErr answer
+      (GivesUp (failures_of writer) (failures_of writer_after) retries_after)
+  pub paid : OnOk answer
+      (faults_of writer_after + retries_after ≡ faults_of writer + retries)
   pub prefix : OnErr answer
       (WritesPrefix (contents (inner_of writer)) (contents (inner_of writer_after)) text)
   pub failed : OnErr answer
       (faults_of writer_after + retries_after ≡ faults_of writer + retries + 1)
-  pub gave_up : OnErr answer
-      (GivesUp (failures_of writer) (failures_of writer_after) retries_after)
   pub unflushed : OnErr answer (is_flushed writer_after ≡ false)
   pub retried : retries_after ≤ retries
   pub flushes : flushes_of writer_after ≤ flushes_of writer + 1
