@@ -130,6 +130,7 @@ def add_failure_options(name, parser):
     add("--shrink", type=natural, default=8, help="how many kinds of failures are shrunk (8)")
     add("--shrink-runs", type=positive, default=20, help="runs in which a smaller program has to fail once (20)")
     add("--shrink-tries", type=natural, default=300, help="smaller programs to try at most (300)")
+    add("--shrink-seconds", type=natural, default=90, help="seconds for each of these kinds at most (90)")
     if name == "run":
         add("--programs", type=natural, default=100, help="how many random programs (100); with --hours: of a batch")
         add("--hours", type=float, default=0, help="go on with batch after batch until so many hours are full")
