@@ -62,6 +62,16 @@ test_slow_reader() {
     [ "$(grep -c '^done' "$folder/slow.log")" = 4 ]
 }
 
+# A run in which all threads sleep takes a third of its time to hang.
+test_asleep() {
+    local begun=$SECONDS
+    ../spanprof-conformance emit directed/taskwait_at_each_level.tasks > "$folder/asleep.c"
+    cc -O1 -fopenmp -Iharness "$folder/asleep.c" harness/*.c -o "$folder/asleep"
+    cc -O1 -fPIC -shared mutants/gomp.c -o "$folder/mutants.so" -ldl
+    MUTANT=hang LD_PRELOAD=$folder/mutants.so "$folder/asleep" 2 9 0 0 30 > "$folder/asleep.log" || true
+    grep -q '^hung asleep$' "$folder/asleep.log" && ((SECONDS - begun < 25))
+}
+
 test_futures() { # FLAGS of the compiler
     cc -O1 -Wall -Wextra -Werror -pthread "$@" -Iharness examples/futures.c harness/log.c harness/output.c \
         -o "$folder/futures"
@@ -76,6 +86,7 @@ test_futures -DDONE_TOO_EARLY && fail "the broken pool of threads is accepted"
 grep -q '^run 0: refused: ' "$folder/judged.txt" || fail "the broken pool of threads is not refused"
 test_parts || fail "the report of two parts is not that of the whole"
 test_slow_reader || fail "a program hangs while nobody reads"
+test_asleep || fail "a run in which all threads sleep does not hang soon"
 test_bisect || fail "a program that is fine fails for git bisect"
 [ -n "$short" ] || ../../checks/programs/conformance_resumed.py || fail "a campaign does not go on"
 if [ -n "$short" ]; then

@@ -9,7 +9,8 @@
 #include <time.h>
 #include <unistd.h>
 
-enum { LONGEST = 10 }; /* times as long as nothing may happen */
+enum { LONGEST = 10 };    /* times as long as nothing may happen */
+enum { LOOKS = 3, SOONER = 3 }; /* that all threads sleep through, in one of so many parts of the time, are enough */
 
 void next_run(struct watch *watch) {
     atomic_fetch_add(&watch->run, 1);
@@ -63,7 +64,9 @@ static void *watching(void *handed) {
         }
         rest_from_interrupts(true);
         asleep = all_sleep() && asleep;
-        if (++quiet >= watch->seconds || age >= LONGEST * watch->seconds) watch->hangs(asleep);
+        quiet++;
+        bool surely = asleep && quiet >= LOOKS && quiet * SOONER >= watch->seconds;
+        if (surely || quiet >= watch->seconds || age >= LONGEST * watch->seconds) watch->hangs(asleep);
     }
     return NULL;
 }

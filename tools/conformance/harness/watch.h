@@ -1,5 +1,5 @@
-/* Sees that runs end. A run hangs where no segment begins or ends for so many seconds, or where it goes on for ten
- * times as long as that. */
+/* Sees that runs end. A run hangs where no segment begins or ends for so many seconds, or for a third of them while all
+ * threads sleep, or where it goes on for ten times as long as that. */
 #ifndef WATCH_H
 #define WATCH_H
 #include "counts.h"

@@ -1,12 +1,14 @@
 """Runs many cases side by side."""
 import concurrent.futures
 import fnmatch
-import sys
+import os
+import random
 import time
 
 from spanprof.conformance.cases import Case
 from spanprof.conformance.directed import directed_programs, kinds_of
 from spanprof.conformance.generate import random_program
+from spanprof.conformance.progress import Progress, say
 from spanprof.conformance.results import Results
 from spanprof.conformance.second_try import SecondTries, doubtful
 from spanprof.conformance.variants import in_variant
@@ -38,28 +40,19 @@ def random_cases(seeds, kinds, variants, without):
     return cases
 
 
-class Progress:
-    """A line on standard error, where that is a terminal."""
-
-    def __init__(self, cases):
-        self.cases, self.done, self.failed = cases, 0, 0
-        self.shown = sys.stderr.isatty()
-
-    def add(self, tallies):
-        self.done += 1
-        self.failed += any(tally.failures for tally in tallies)
-        if self.shown:
-            end = "\n" if self.done == self.cases else ""
-            sys.stderr.write(f"\r{self.done} of {self.cases} cases, {self.failed} with failures{end}")
-            sys.stderr.flush()
+def spread(cases):
+    """The cases in another order, always the same one. What takes long, or hangs until its time is over, stands side by
+    side in the directed part; here it stands far apart."""
+    return random.Random(len(cases)).sample(cases, len(cases))
 
 
 def tried(bench, cases, plan, jobs):
-    """Each of the cases with its tallies, as it ends; each is run as the plan says. What may only have been slow comes
-    last, after a second try."""
-    progress, pool, slow = Progress(len(cases)), concurrent.futures.ThreadPoolExecutor(jobs), []
+    """Each of the cases with its tallies, as it ends; each is run as the plan says. The bench has so many programs run
+    side by side, and every processor builds and judges. What may only have been slow comes last, after a second try."""
+    progress, slow = Progress(len(cases)), []
+    pool = concurrent.futures.ThreadPoolExecutor(max(jobs, os.cpu_count() or 1))
     try:
-        futures = {pool.submit(bench.try_case, case, plan.conditions(case)): case for case in cases}
+        futures = {pool.submit(bench.try_case, case, plan.conditions(case)): case for case in spread(cases)}
         for future in concurrent.futures.as_completed(futures):
             progress.add(future.result())
             if doubtful(future.result()):
@@ -67,7 +60,8 @@ def tried(bench, cases, plan, jobs):
             else:
                 yield futures[future], future.result()
         tries = SecondTries(lambda case, conditions: bench.try_case(case, [conditions])[0])
-        for case, tallies in slow:
+        for number, (case, tallies) in enumerate(slow, 1):
+            say(f"a hang that may only have been slow is tried again: {number} of {len(slow)}, {case.name}")
             yield case, tries.settled(case, tallies)
     finally:
         pool.shutdown(cancel_futures=True)

@@ -3,6 +3,7 @@ import collections
 import functools
 import itertools
 import shutil
+import threading
 import zlib
 from dataclasses import dataclass, field, replace
 
@@ -66,6 +67,7 @@ class Tally:
     schedules: collections.Counter = field(default_factory=collections.Counter)  # runs by the schedule's name
     coverage: collections.Counter = field(default_factory=collections.Counter)   # as Coverage.of_run
     seen_once: int = 0  # hangs that a second try did not show
+    judged: int = 0     # logs about which spanprof was asked; the others equal one of these, or have no order
     expected: collections.Counter = field(default_factory=collections.Counter)   # failures by what is known of them
 
 
@@ -104,7 +106,7 @@ class Examined:
         self.case, self.judge, self.text = case, judge, text_of(case.body)
         self.record = judge.record(self.text)
         self.table = Table(case.body)
-        self.known = {}
+        self.known, self.judged_logs = {}, 0
 
     @functools.cached_property
     def coverage(self):
@@ -118,6 +120,7 @@ class Examined:
         Where the events have an order: whether tied tasks stayed on their threads, whether tasks that exclude one
         another ran one at a time and, where the runtime was not told otherwise, whether threads began tied tasks only
         where they may."""
+        self.judged_logs += not log.unlogged
         verdict = self.judge.verdict(self.text, record_of(self.record, self.table, log), log)
         if not verdict.accepted:
             return verdict
@@ -143,11 +146,11 @@ class Examined:
 
 
 class Bench:
-    """Where cases are built, run and judged."""
+    """Where cases are built, run and judged. At most `at_once` programs run side by side."""
 
-    def __init__(self, toolchain, judge, environment, expectations=Expectations("", ())):
+    def __init__(self, toolchain, judge, environment, expectations=Expectations("", ()), at_once=1):
         self.toolchain, self.judge, self.environment = toolchain, judge, environment
-        self.expectations = expectations
+        self.expectations, self.running = expectations, threading.BoundedSemaphore(at_once)
         self.programs, self.numbers = {}, itertools.count()
 
     def build(self, source):
@@ -180,12 +183,17 @@ class Bench:
         if not shutil.which("gdb"):
             return []
         program = self.build(self.examined(case).source())
-        logs = launch(program, conditions, {**self.environment, "CONFORMANCE_STACKS": "1"})
+        logs = self.logs_of(program, conditions, {"CONFORMANCE_STACKS": "1"})
         return next((log.stacks for log in logs if log.stacks), [])
 
+    def logs_of(self, program, conditions, more=None):
+        """The logs of a program's runs, with more variables in its environment, once it may run."""
+        with self.running:
+            return launch(program, conditions, {**self.environment, **(more or {})})
+
     def tally(self, examined, program, conditions):
-        tally = Tally(conditions)
-        for log in launch(program, conditions, self.environment):
+        tally, before = Tally(conditions), examined.judged_logs
+        for log in self.logs_of(program, conditions):
             tally.runs += 1
             tally.events += len(log.events)
             tally.schedules[log.schedule] += 1
@@ -195,4 +203,5 @@ class Bench:
             if not verdict.accepted:
                 told = explain(examined.text, verdict, log, conditions.threads)
                 tally.failures.append(Failure(examined.case, conditions, verdict, told.rule, told.words, log))
+        tally.judged = examined.judged_logs - before
         return self.expectations.settled(tally)

@@ -25,11 +25,12 @@ from spanprof.conformance.opening import entry_points, judge_of, mutate, open_be
 from spanprof.conformance.program import KINDS
 from spanprof.conformance.publish import publish
 from spanprof.conformance.report import Report
-from spanprof.conformance.reproduce import Reproducer
+from spanprof.conformance.reproduce import Limits, reproduce_all
 from spanprof.conformance.segments import Table
 from spanprof.conformance.shards import merged
 from spanprof.conformance.sparing import SparingBench
 from spanprof.conformance.text import text_of
+from spanprof.conformance.took import taken
 from spanprof.conformance.toolchain import BuildFailed
 from spanprof.conformance.variants import in_variant
 from spanprof.errors import Fault
@@ -54,7 +55,8 @@ def command_run(options, folder):
     found = shrink_failures(options, bench, results)
     sources = reached_sources(options) if options.gcov else []
     waits = list(delays.tables_of(measured_delays(options, bench, []))) if options.delays else []
-    publish(options.report, Report(facts_of(what, results), bench.toolchain.kinds, results, found, sources, waits))
+    facts = facts_of(what, results)
+    publish(options.report, Report(facts, bench.toolchain.kinds, results, found, sources, waits, taken()))
     return 1 if results.groups else 0
 
 
@@ -82,13 +84,9 @@ def keep_part(options, what, results):
 
 def shrink_failures(options, bench, results):
     """One small program for each kind of failure, the most frequent kinds first."""
-    groups = [group for _, group in results.most_frequent()[:options.shrink]]
-    found = []
-    for number, group in enumerate(groups, 1):
-        if sys.stderr.isatty():
-            sys.stderr.write(f"shrinking {number} of {len(groups)}\n")
-        found.append(Reproducer(bench, group.smallest, options.shrink_runs, options.shrink_tries).reproduce())
-    return found
+    failures = [group.smallest for _, group in results.most_frequent()[:options.shrink]]
+    limits = Limits(options.shrink_runs, options.shrink_tries, options.shrink_seconds)
+    return reproduce_all(bench, failures, limits)
 
 
 def command_mutants(options, folder):

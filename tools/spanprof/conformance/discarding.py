@@ -41,9 +41,11 @@ class Discarded:
 
 def completed(table, log):
     """The log with the events of the tasks that were discarded."""
+    if not any(task.cancellers for task in table.tasks):
+        return log
     events = [event for event in log.events if event != "overflow"]
     known = all(int(event.split()[2]) < len(table.cost) for event in events)
-    if not known or len(events) < len(log.events) or not any(task.cancellers for task in table.tasks):
+    if not known or len(events) < len(log.events):
         return log
     left_out = Discarded(table, events)
     thread = 1 + max((int(event.split()[1]) for event in events), default=0)

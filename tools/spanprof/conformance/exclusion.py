@@ -7,6 +7,8 @@ def overlapping(table, events):
     """In words, the first event in which a task begins while one that excludes it has begun and is not complete; None
     without one."""
     begun = []
+    if not any(task.exclusive for task in table.tasks):
+        return None
     for place, event in enumerate(events):
         what, thread, segment = event.split()
         task = table.task_of[int(segment)]

@@ -53,6 +53,13 @@ def lacking(options, kinds):
 
 
 def facts_of(what, results):
-    """All facts, after a test: on which machine, and how long it took."""
+    """All facts, after a test: what was judged, on which machine, and how long the runs took."""
     machine = f"{os.cpu_count()} processors, load {os.getloadavg()[0]:.1f} at the end"
-    return [*what.items(), ("machine", machine), ("time", f"{results.seconds:.0f} s")]
+    return [*what.items(), ("judged by spanprof", judged(results)), ("machine", machine),
+            ("time", f"{results.seconds:.0f} s")]
+
+
+def judged(results):
+    """How many logs spanprof itself judged, and why not those of all runs."""
+    return f"{results.judged} logs of {results.runs} runs; each other run had a log equal to one of these, or one " \
+           "without an order of events"

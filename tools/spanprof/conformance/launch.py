@@ -42,7 +42,7 @@ ENDS = {"done": "done", "hung": "hung", "signal": "crashed"}
 
 def cut_moment(line):
     """The line of an event, and its moment where it has one."""
-    words = line.split()
+    words = line.split() if line.count(" ") > 2 else ()
     return (" ".join(words[:3]), [int(words[3])]) if len(words) == 4 else (line, [])
 
 

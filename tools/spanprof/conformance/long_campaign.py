@@ -3,6 +3,7 @@ import sys
 
 from spanprof.conformance import store
 from spanprof.conformance.campaign import directed_cases, random_cases, run_cases
+from spanprof.conformance.progress import say
 from spanprof.conformance.results import Results
 
 SECONDS_OF_HOUR = 3600
@@ -28,11 +29,6 @@ def run_batch(options, bench, plan, seeds):
     results = run_cases(bench, cases, plan, options.jobs)
     bench.forget()
     return results
-
-
-def say(words):
-    if sys.stderr.isatty():
-        print(words, file=sys.stderr)
 
 
 def run_campaign(options, bench, plan, journal):

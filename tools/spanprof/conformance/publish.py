@@ -11,8 +11,8 @@ FORMS = {".json": as_json, ".xml": lambda report, _: junit(report.results),
 
 
 def publish(names, report):
-    """Writes the reports that are asked for, names with commas, with a text and a C file for each small program; prints
-    the tables."""
+    """Prints the tables, and the small programs where no report is asked for; writes the reports that are, names with
+    commas."""
     results = report.results
     for lines in (tables.summary(results, ["all"]), coverage_lines(report), report.delays, tables.expected(results),
                   tables.kinds_of_failure(results)):
@@ -20,9 +20,16 @@ def publish(names, report):
     if not names:
         for number, one in enumerate(report.found, 1):
             print("\n".join(reproducer(number, one, "FILE")))
-        return
-    for path in map(pathlib.Path, names.split(",")):
+    if report.took:
+        print(report.took.told())
+    if names:
+        write_reports([pathlib.Path(name) for name in names.split(",")], report)
+
+
+def write_reports(paths, report):
+    """Writes the reports, and a text and a C file for each small program beside the last one."""
+    for path in paths:
         path.write_text(FORMS.get(path.suffix, markdown)(report, path.stem) + "\n")
     for number, one in enumerate(report.found, 1):
-        path.with_name(f"{path.stem}-{number}.tasks").write_text(one.text)
-        path.with_name(f"{path.stem}-{number}.c").write_text(one.source)
+        paths[-1].with_name(f"{paths[-1].stem}-{number}.tasks").write_text(one.text)
+        paths[-1].with_name(f"{paths[-1].stem}-{number}.c").write_text(one.source)

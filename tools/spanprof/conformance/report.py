@@ -1,6 +1,6 @@
 """Reports in Markdown and JSON."""
 import json
-from dataclasses import dataclass, field
+from dataclasses import asdict, dataclass, field
 
 from spanprof.conformance import tables
 
@@ -22,6 +22,7 @@ class Report:
     found: list
     sources: list = field(default_factory=list)
     delays: list = field(default_factory=list)  # lines on how long ready segments waited, where that was asked for
+    took: object = None  # how long all of it took, where that is told
 
 
 def reproducer(number, found, name):
@@ -70,6 +71,8 @@ def markdown(report, stem):
         lines += ["## Smallest programs found", ""]
         for number, one in enumerate(report.found, 1):
             lines += reproducer(number, one, f"{stem}-{number}.tasks")
+    if report.took:
+        lines.append(report.took.told())
     return "\n".join(lines)
 
 
@@ -85,7 +88,8 @@ def as_json(report, stem):
                 for (variant, kind, rule), group in results.most_frequent()]
     smallest = [{"file": f"{stem}-{number}.tasks", **found_fields(one)} for number, one in enumerate(report.found, 1)]
     return json.dumps({"facts": dict(report.facts), "rows": rows, "tried": tried, "failures": failures,
-                       "expected": dict(results.expected), "smallest": smallest}, indent=1)
+                       "expected": dict(results.expected), "smallest": smallest,
+                       "seconds": asdict(report.took) if report.took else {}}, indent=1)
 
 
 def found_fields(found):

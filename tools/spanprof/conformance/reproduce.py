@@ -1,8 +1,13 @@
 """Shrinks failures to programs that a person can read."""
+import concurrent.futures
+import os
+import threading
+import time
 from dataclasses import dataclass, field, replace
 
 from spanprof.conformance.cases import Failure
 from spanprof.conformance.judge import Refused
+from spanprof.conformance.progress import say
 from spanprof.conformance.shrink import Shrinker, Trial
 
 MOST_EVENTS = 60        # of a log that is shown
@@ -45,18 +50,46 @@ class Found:
         return ""
 
 
-class Reproducer:
-    """Shrinks a failure on a bench. A program still fails if one of `runs` runs does: in the same way as the first,
-    or in any way where that way is not seen again."""
+@dataclass(frozen=True)
+class Limits:
+    """Of the shrinking of one failure: runs in which a smaller program has to fail once, smaller programs to try, and
+    seconds after which no more are tried."""
+    runs: int
+    tries: int
+    seconds: float
 
-    def __init__(self, bench, failure, runs, tries):
-        self.bench, self.failure, self.tries, self.any_way = bench, failure, tries, False
+
+def reproduce_all(bench, failures, limits):
+    """What is found for each of the failures, which are shrunk side by side."""
+    interrupted = threading.Event()
+
+    def reproduce(failure):
+        over = time.monotonic() + limits.seconds
+        found = Reproducer(bench, failure, limits, lambda: interrupted.is_set() or time.monotonic() > over).reproduce()
+        say(f"made smaller: {failure.case.name}, {failure.verdict.kind}, {failure.rule}")
+        return found
+
+    pool = concurrent.futures.ThreadPoolExecutor(os.cpu_count() or 1)
+    try:
+        return list(pool.map(reproduce, failures))
+    finally:
+        interrupted.set()
+        pool.shutdown(cancel_futures=True)
+
+
+class Reproducer:
+    """Shrinks a failure on a bench, until that is over. A program still fails if one of so many runs does: in the same
+    way as the first, or in any way where that way is not seen again."""
+
+    def __init__(self, bench, failure, limits, is_over=lambda: False):
+        self.bench, self.failure, self.tries, self.is_over = bench, failure, limits.tries, is_over
+        self.any_way = False
         timeout = min(failure.conditions.timeout, LONGEST_TIMEOUT)
-        self.conditions = replace(failure.conditions, runs=runs, timeout=timeout)
+        self.conditions = replace(failure.conditions, runs=limits.runs, timeout=timeout)
 
     def reproduce(self):
         """The smallest program found; where the failure is not seen again, the one that it was seen in."""
-        shrinker, small = Shrinker(self.again, self.tries), self.failure
+        shrinker, small = Shrinker(self.again, self.tries, self.is_over), self.failure
         first = self.first_again()
         if first:
             small = shrinker.shrink(self.failure.case.body, first)[1].failure

@@ -67,6 +67,7 @@ class Results:
         self.expected = collections.Counter()                           # by what is known of a failure
         self.outcomes = {}                                              # by program and how its tasks are written
         self.groups, self.seen, self.seconds = {}, set(), 0
+        self.judged = 0                                                 # logs about which spanprof was asked
 
     def add(self, case, tallies):
         """Counts a case. The construct `all` is every case."""
@@ -82,6 +83,7 @@ class Results:
         for tally in tallies:
             self.add_conditions(tally)
             self.expected.update(tally.expected)
+            self.judged += tally.judged
             self.outcomes.setdefault((case.name, case.variant), Outcome()).add(tally)
             for failure in tally.failures:
                 self.groups.setdefault(failure.signature, Group(failure)).add(failure)
@@ -107,6 +109,11 @@ class Results:
         for signature, group in other.groups.items():
             self.groups.setdefault(signature, Group(group.smallest)).merge(group)
         self.seconds += other.seconds
+        self.judged += other.judged
+
+    @property
+    def runs(self):
+        return sum(counts["runs"] for (construct, _), counts in self.rows.items() if construct == "all")
 
     def failed_programs(self):
         """The names of the programs that failed."""

@@ -4,6 +4,7 @@ spanprof decides whether a run is legal. What stands here only puts its answer i
 has tried, so it follows the table of docs/MODEL.md pair by pair and not the kept edges.
 """
 from dataclasses import dataclass, field
+from typing import NamedTuple
 
 from spanprof.conformance.chunks import Taskloop
 from spanprof.conformance.emit_loops import counts_down
@@ -46,8 +47,7 @@ class Cut:
     tasks: tuple = ()
 
 
-@dataclass(frozen=True)
-class Need:
+class Need(NamedTuple):
     """A segment that has to precede another, by which rule and construct."""
     before: int
     rule: str

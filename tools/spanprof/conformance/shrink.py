@@ -101,10 +101,11 @@ class Trial:
 
 
 class Shrinker:
-    """`fails` answers the trial of a program if it still fails, else None; at most `tries` programs are tried."""
+    """`fails` answers the trial of a program if it still fails, else None; at most `tries` programs are tried, and none
+    once `is_over` answers so."""
 
-    def __init__(self, fails, tries):
-        self.fails, self.left, self.seen = fails, tries, set()
+    def __init__(self, fails, tries, is_over=lambda: False):
+        self.fails, self.left, self.is_over, self.seen = fails, tries, is_over, set()
 
     def shrink(self, body, trial):
         """The smallest failing program found, and its trial."""
@@ -118,7 +119,7 @@ class Shrinker:
         for candidate in smaller(body):
             if candidate in self.seen:
                 continue
-            if self.left <= 0:
+            if self.left <= 0 or self.is_over():
                 return None
             self.seen.add(candidate)
             self.left -= 1

@@ -12,7 +12,7 @@ from spanprof.conformance.text import text_of
 
 def as_json(results):
     """All that results are."""
-    return {"seconds": results.seconds,
+    return {"seconds": results.seconds, "judged": results.judged,
             "rows": [[*key, dict(counts)] for key, counts in sorted(results.rows.items())],
             "conditions": [[*key, dict(counts)] for key, counts in sorted(results.conditions.items())],
             "tried": [[*key, count] for key, count in sorted(results.coverage.items())],
@@ -34,7 +34,7 @@ def group_as_json(group):
 def from_json(fields):
     """The results that were written so."""
     results = Results()
-    results.seconds = fields["seconds"]
+    results.seconds, results.judged = fields["seconds"], fields.get("judged", 0)
     results.expected.update(fields["expected"])
     for name, variant, counts, words, known in fields["outcomes"]:
         results.outcomes[name, variant] = Outcome(collections.Counter(counts), words, known)

@@ -1,9 +1,7 @@
 """Cases of a campaign, their conditions, and their running side by side."""
-import io
 import unittest
-from unittest import mock
 
-from spanprof.conformance.campaign import Progress, cases_of, directed_cases, random_cases, run_cases
+from spanprof.conformance.campaign import cases_of, directed_cases, random_cases, run_cases, spread
 from spanprof.conformance.cases import Plan
 from spanprof.conformance.program import C_KINDS
 from spanprof.conformance.tests.helpers import PLAN, StubBench, body_of, case_of
@@ -65,13 +63,12 @@ class Running(unittest.TestCase):
         with self.assertRaises(OSError):
             run_cases(StubBench(breaks), [case_of("a"), case_of("b")], PLAN, 1)
 
-    def test_progress_on_a_terminal_alone(self):
-        for is_terminal in (False, True):
-            with mock.patch("sys.stderr", new=io.StringIO()) as said:
-                said.isatty = lambda: is_terminal
-                progress = Progress(1)
-                progress.add([])
-            self.assertEqual(said.getvalue(), "\r1 of 1 cases, 0 with failures\n" if is_terminal else "")
+    def test_neighbours_are_spread_and_all_are_there(self):
+        cases = list(range(600))
+        order = spread(cases)
+        self.assertEqual(sorted(order), cases)
+        self.assertEqual(order, spread(cases))
+        self.assertLess(sum(abs(one - other) == 1 for one, other in zip(order, order[1:])), 20)
 
 
 if __name__ == "__main__":

@@ -2,9 +2,11 @@
 import types
 import unittest
 
+from spanprof.conformance.cases import Tally
 from spanprof.conformance.facts import facts_of, of_mutants, tested, told_runtimes
 from spanprof.conformance.results import Results
 from spanprof.conformance.shards import Shard
+from spanprof.conformance.tests.helpers import case_of, conditions
 
 
 class StubToolchain:
@@ -57,8 +59,14 @@ class Facts(unittest.TestCase):
     def test_machine_and_time_come_after_the_test(self):
         results = Results()
         results.seconds = 61.4
-        self.assertEqual([name for name, _ in facts_of({"seed": "1"}, results)], ["seed", "machine", "time"])
+        self.assertEqual([name for name, _ in facts_of({"seed": "1"}, results)],
+                         ["seed", "judged by spanprof", "machine", "time"])
         self.assertEqual(facts_of({}, results)[-1], ("time", "61 s"))
+
+    def test_how_many_logs_spanprof_judged(self):
+        results = Results()
+        results.add(case_of(), [Tally(conditions(), 4, 40, judged=3), Tally(conditions(4), 4, 40, judged=2)])
+        self.assertTrue(facts_of({}, results)[0][1].startswith("5 logs of 8 runs; "))
 
 
 if __name__ == "__main__":

@@ -8,6 +8,7 @@ from spanprof.conformance.reproduce import Found
 from spanprof.conformance.results import Results
 from spanprof.conformance.tests.helpers import case_of, failure_of
 from spanprof.conformance.tests.test_results import LARGE, SMALL, results_of
+from spanprof.conformance.took import Took
 
 
 def found_of(failure, ways=("refused, taskwait",), failed=3):
@@ -70,6 +71,12 @@ class Reports(unittest.TestCase):
         self.assertNotIn("## Delayed time", markdown(report, "report"))
         report.delays = ["| creation | task | 7: 1.0, 2.0 |"]
         self.assertIn("waits of ready segments\n\n| creation | task |", markdown(report, "report"))
+
+    def test_the_last_line_is_how_long_it_took(self):
+        report = report_of(found=[found_of(failure_of(SMALL))])
+        report.took = Took(3, 1, 4)
+        self.assertEqual(markdown(report, "report").split("\n")[-1], report.took.told())
+        self.assertEqual(json.loads(as_json(report, "report"))["seconds"], {"wall": 3, "tester": 1, "started": 4})
 
     def test_no_failures_no_chapters_of_them(self):
         text = markdown(report_of(results_of(LARGE)), "report")

@@ -5,7 +5,7 @@ from spanprof.conformance.cases import Tally
 from spanprof.conformance.judge import Refused, Verdict
 from spanprof.conformance.launch import Log
 from spanprof.conformance.program import Wait, nodes
-from spanprof.conformance.reproduce import MOST_EVENTS, Found, Reproducer, is_like
+from spanprof.conformance.reproduce import MOST_EVENTS, Found, Limits, Reproducer, is_like, reproduce_all
 from spanprof.conformance.tests.helpers import StubBench, body_of, case_of, failure_of
 
 
@@ -45,7 +45,7 @@ def waits(body):
 class Reproducing(unittest.TestCase):
     def reproduced(self, bench, tries=100):
         case = case_of("large", "task { work 3 } taskgroup { task { } taskwait } task { }")
-        return Reproducer(bench, failure_of(case), 5, tries).reproduce()
+        return Reproducer(bench, failure_of(case), Limits(5, tries, 60)).reproduce()
 
     def test_smallest(self):
         found = self.reproduced(Bench(waits))
@@ -71,6 +71,21 @@ class Reproducing(unittest.TestCase):
                 raise Refused("line 1")
             return True
         self.assertEqual(self.reproduced(Bench(refuses)).failure.case.name, "large")
+
+
+class All(unittest.TestCase):
+    def reproduced(self, seconds):
+        failures = [failure_of(case_of(name, "task { work 3 } taskgroup { taskwait } task { }"), rule=name)
+                    for name in ("taskwait", "dependence", "order")]
+        return reproduce_all(Bench(waits), failures, Limits(5, 100, seconds))
+
+    def test_each_in_the_order_of_the_failures(self):
+        found = self.reproduced(60)
+        self.assertEqual([one.origin for one in found], ["taskwait", "dependence", "order"])
+        self.assertEqual([one.failure.case.body for one in found], [body_of("taskwait")] * 3)
+
+    def test_no_more_tries_once_the_seconds_are_over(self):
+        self.assertEqual([one.tried for one in self.reproduced(0)], [0] * 3)
 
 
 class Alike(unittest.TestCase):

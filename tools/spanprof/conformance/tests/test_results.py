@@ -17,7 +17,7 @@ def results_of(*cases, failing=(), threads=(2, 4)):
         for number in threads:
             failures = [failure_of(case, number)] if case.name in failing else []
             tallies.append(Tally(conditions(number), 4, 40, failures, collections.Counter(plain=3, late=1),
-                                 collections.Counter({("taskwait", "taskwait", "close"): 2})))
+                                 collections.Counter({("taskwait", "taskwait", "close"): 2}), judged=3))
         results.add(case, tallies)
     return results
 
@@ -61,6 +61,7 @@ class Sums(unittest.TestCase):
         apart.merge(results_of(SMALL, failing=("small",)))
         together = results_of(LARGE, SMALL, failing=("large", "small"))
         together.seconds = 7
+        self.assertEqual((together.runs, together.judged), (16, 12))
         self.assertEqual(store.as_json(apart), store.as_json(together))
 
     def test_merging_changes_only_the_sum(self):

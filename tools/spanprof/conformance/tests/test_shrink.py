@@ -72,6 +72,11 @@ class Shrinking(unittest.TestCase):
         _, shrinker = self.shrunk(lambda body: has(body, Wait), tries=7)
         self.assertLessEqual(len(shrinker.seen), 7)
 
+    def test_nothing_is_tried_once_it_is_over(self):
+        tried = []
+        Shrinker(tried.append, 2000, lambda: len(tried) == 2).shrink(LARGE, Trial(LARGE, 5))
+        self.assertEqual(len(tried), 2)
+
     def test_work_stays_where_the_failure_would_fade(self):
         body = body_of("task { work 8 } taskwait")
         rates = {8: 10, 4: 9, 2: 8, 1: 3}
